@@ -1,0 +1,24 @@
+//! The chess board: squares, men, moves and castling rights.
+#![tactic(auto)]
+
+mod attacks;
+mod boards;
+mod castles;
+mod memory;
+mod men;
+mod moves;
+mod orders;
+mod squares;
+mod texts;
+mod unmoves;
+
+pub use attacks::{files_between, is_ahead, is_clear, is_same, man_attacks, ranks_between};
+pub use boards::Board;
+pub use castles::{Castle, CastleSet};
+pub use memory::Memory;
+pub use men::{Colour, Kind, Man};
+pub use moves::Move;
+pub use orders::{cmp_move, cmp_unmove};
+pub use squares::Square;
+pub use texts::{read_move, read_unmove, write_move, write_unmove};
+pub use unmoves::Unmove;

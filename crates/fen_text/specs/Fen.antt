@@ -1,0 +1,106 @@
+-- FEN: placement, side to move, castling rights, the square en_passant_victim by a double step, and two numbers or none.
+use Rattle.std.specs.Prelude.{ℕ, zero, suc, ◌+◌, ◌-◌, ◌*◌, Bool, true, false, cond, ◌&&◌, ◌==◌, not, nat_le, List, [], ◌∷◌, ◌++◌, length, Option, Some, None}
+use Rattle.std.specs.List.{list_all, fold}
+use Rattle.std.specs.Option.{option_map}
+use Rattle.board_base.specs.Board.{Places}
+use Rattle.board_base.specs.Rights.{Rights}
+use Rattle.board_base.specs.declared.men.Colour.{Colour}
+use Rattle.board_base.specs.declared.men.Colour.TheVariants.{White, Black}
+use Rattle.board_base.specs.declared.moves.Move.{Move}
+use Rattle.query_base.specs.Asked.{Asked}
+use Rattle.fen_text.specs.Parts.{parted}
+use Rattle.fen_text.specs.Rows.{row}
+
+-- so many ranks and one more, the highest first, with a slash between two; the places from the lowest rank up
+unfoldable pub ranks : ℕ → List ℕ → Option Places
+ranks zero text = row text
+ranks (suc n) text = parted 47 row (λ r. None) (λ r below. option_map (λ places. places ++ r) (ranks n below)) text
+
+unfoldable pub placement : List ℕ → Option Places
+placement text = ranks 7 text
+
+-- w or b
+abbrev pub turn : List ℕ → Option Colour
+turn [] = None
+turn (c ∷ []) = cond (c == 119) (Some White) (cond (c == 98) (Some Black) None)
+turn (c ∷ d ∷ text) = None
+
+-- whether the text begins with the letter, and what follows it
+abbrev pub mark : ℕ → List ℕ → Bool × List ℕ
+mark letter [] = (false, [])
+mark letter (b ∷ text) = cond (b == letter) (true, text) (false, b ∷ text)
+
+-- which of the letters begin the text, each at most once and in their order, and what follows them
+abbrev pub marks : List ℕ → List ℕ → List Bool × List ℕ
+marks [] text = ([], text)
+marks (l ∷ letters) text = let m : Bool × List ℕ = mark l text in let ms : List Bool × List ℕ = marks letters m.1 in (m.0 ∷ ms.0, ms.1)
+
+abbrev pub rights_of : List Bool → Rights
+rights_of (k ∷ q ∷ kk ∷ qq ∷ []) = record { white_short = k; white_long = q; black_short = kk; black_long = qq }
+rights_of _ = record { white_short = false; white_long = false; black_short = false; black_long = false }
+
+abbrev pub is_nothing : List ℕ → Bool
+is_nothing [] = true
+is_nothing (b ∷ text) = false
+
+abbrev pub is_dash : List ℕ → Bool
+is_dash [] = false
+is_dash (b ∷ text) = (b == 45) && is_nothing text
+
+abbrev pub no_rights : Rights
+no_rights = record { white_short = false; white_long = false; black_short = false; black_long = false }
+
+-- a dash, or one or more of K, Q, k and q
+unfoldable pub rights : List ℕ → Option Rights
+rights text =
+    let ms : List Bool × List ℕ = marks (75 ∷ 81 ∷ 107 ∷ 113 ∷ []) text
+    in cond (is_dash text) (Some no_rights) (cond (not (is_nothing text) && is_nothing ms.1) (Some (rights_of ms.0)) None)
+
+-- the rank, as its digit, and its number from 0, on which this colour takes en passant
+abbrev pub en_passant_digit : Colour → ℕ
+en_passant_digit White = 54
+en_passant_digit Black = 51
+
+-- the double step of the other side over this file
+abbrev pub double_over : Colour → ℕ → Move
+double_over White f = record { from = 48 + f; to = 32 + f; promo = None }
+double_over Black f = record { from = 8 + f; to = 24 + f; promo = None }
+
+-- a dash, or the square en_passant_victim by a double step of the other side
+abbrev pub en_passant : Colour → List ℕ → Option (Option Move)
+en_passant c [] = None
+en_passant c (b ∷ []) = cond (b == 45) (Some None) None
+en_passant c (f ∷ r ∷ []) = cond (nat_le 97 f && nat_le f 104 && (r == en_passant_digit c)) (Some (Some (double_over c (f - 97)))) None
+en_passant c (f ∷ r ∷ b ∷ text) = None
+
+abbrev pub is_digit : ℕ → Bool
+is_digit b = nat_le 48 b && nat_le b 57
+
+abbrev pub value : List ℕ → ℕ
+value text = fold (λ n d. 10 * n + (d - 48)) 0 text
+
+-- one to nine digits
+unfoldable pub number : List ℕ → Option ℕ
+number text = cond (nat_le 1 (length text) && nat_le (length text) 9 && list_all is_digit text) (Some (value text)) None
+
+-- a query, and the two numbers where they are given
+abbrev pub Position : Type 0
+Position = Asked × Option (ℕ × ℕ)
+
+abbrev pub asked : Places → Colour → Rights → Option Move → Asked
+asked b t r e = record { board = b; turn = t; held = r; only = e; barred = None }
+
+unfoldable pub from_numbers : Asked → List ℕ → Option Position
+from_numbers q text = parted 32 number (λ h. None) (λ h last. option_map (λ f. (q, Some (h, f))) (number last)) text
+
+unfoldable pub from_en_passant : Places → Colour → Rights → List ℕ → Option Position
+from_en_passant b t r text = parted 32 (en_passant t) (λ e. Some (asked b t r e, None)) (λ e. from_numbers (asked b t r e)) text
+
+unfoldable pub from_rights : Places → Colour → List ℕ → Option Position
+from_rights b t text = parted 32 rights (λ r. None) (from_en_passant b t) text
+
+unfoldable pub from_turn : Places → List ℕ → Option Position
+from_turn b text = parted 32 turn (λ t. None) (from_rights b) text
+
+unfoldable pub fen : List ℕ → Option Position
+fen text = parted 32 placement (λ b. None) from_turn text

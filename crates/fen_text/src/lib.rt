@@ -1,0 +1,19 @@
+//! FEN: reading and writing a position as one line of text.
+#![tactic(auto)]
+
+mod faults;
+mod fields;
+mod parts;
+mod positions;
+mod ranks;
+mod rows;
+mod writing;
+
+pub use faults::FenFault;
+pub use fields::{read_number, read_en_passant, read_rights, read_turn};
+pub use parts::split_part;
+pub use positions::read_fen;
+pub use ranks::read_placement;
+
+#[cfg(test)]
+mod tests;

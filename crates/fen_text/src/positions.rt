@@ -1,0 +1,153 @@
+ghost use Rattle.std.specs.Prelude.{◌≡◌, ◌+◌, ◌<◌, ◌≤◌, ◌^◌, length, IfErr, IfOk, None};
+ghost use Rattle.fen_text.specs.Fen.{from_numbers, from_en_passant, from_rights, from_turn, fen};
+ghost use Rattle.fen_text.specs.Faults.{Reads};
+
+use crate::faults::FenFault;
+use crate::fields::{read_number, read_en_passant, read_rights, read_turn};
+use crate::parts::split_part;
+use crate::ranks::read_placement;
+use board_base::{Board, CastleSet, Colour};
+use query_base::Query;
+
+/// A fault in the first field of a text.
+fn here(at: usize) -> FenFault
+    requires { at < 2 ^ 32 }
+    ensures field { result.field ≡ 1 }
+    ensures at { result.at ≡ at }
+{
+    FenFault {
+        field: 1,
+        at: at as u32,
+    }
+}
+
+/// A fault in what follows a first field of so many bytes.
+fn behind(len: usize, fault: FenFault) -> FenFault
+    requires at { len + 1 + fault.at < 2 ^ 32 }
+    requires field { fault.field < 255 }
+    ensures field { result.field ≡ fault.field + 1 }
+    ensures at { result.at ≡ len + 1 + fault.at }
+{
+    FenFault {
+        field: fault.field + 1,
+        at: (len + 1) as u32 + fault.at,
+    }
+}
+
+fn read_from_numbers(query: &Query, text: &[u8]) -> Result<(Query, Option<(u32, u32)>), FenFault>
+    requires short { length text.now < 2 ^ 32 }
+    requires plain { query.now.barred ≡ None }
+    ensures read { Reads (from_numbers query.now) text.now result }
+    ensures field { IfErr result (λ f. f.field ≤ 2) }
+    ensures plain { IfOk result (λ p. p.0.barred ≡ None) }
+{
+    let (part, rest) = split_part(text, b' ');
+    let half = match read_number(part) {
+        Ok(half) => half,
+        Err(at) => return Err(here(at)),
+    };
+    let Some(rest) = rest else {
+        return Err(here(part.len()));
+    };
+    match read_number(rest) {
+        Ok(full) => Ok((*query, Some((half, full)))),
+        Err(at) => Err(behind(part.len(), here(at))),
+    }
+}
+
+fn read_from_en_passant(
+    board: &Board,
+    turn: Colour,
+    held: CastleSet,
+    text: &[u8],
+) -> Result<(Query, Option<(u32, u32)>), FenFault>
+    requires { length text.now < 2 ^ 32 }
+    ensures read { Reads (from_en_passant board.now turn held) text.now result }
+    ensures field { IfErr result (λ f. f.field ≤ 3) }
+    ensures plain { IfOk result (λ p. p.0.barred ≡ None) }
+{
+    let (part, rest) = split_part(text, b' ');
+    let only = match read_en_passant(turn, part) {
+        Ok(only) => only,
+        Err(at) => return Err(here(at)),
+    };
+    let query = Query {
+        board: *board,
+        turn,
+        held,
+        only,
+        barred: None,
+    };
+    let Some(rest) = rest else {
+        return Ok((query, None));
+    };
+    match read_from_numbers(&query, rest) {
+        Ok(position) => Ok(position),
+        Err(fault) => Err(behind(part.len(), fault)),
+    }
+}
+
+fn read_from_rights(
+    board: &Board,
+    turn: Colour,
+    text: &[u8],
+) -> Result<(Query, Option<(u32, u32)>), FenFault>
+    requires { length text.now < 2 ^ 32 }
+    ensures read { Reads (from_rights board.now turn) text.now result }
+    ensures field { IfErr result (λ f. f.field ≤ 4) }
+    ensures plain { IfOk result (λ p. p.0.barred ≡ None) }
+{
+    let (part, rest) = split_part(text, b' ');
+    let held = match read_rights(part) {
+        Ok(held) => held,
+        Err(at) => return Err(here(at)),
+    };
+    let Some(rest) = rest else {
+        return Err(here(part.len()));
+    };
+    match read_from_en_passant(board, turn, held, rest) {
+        Ok(position) => Ok(position),
+        Err(fault) => Err(behind(part.len(), fault)),
+    }
+}
+
+fn read_from_turn(board: &Board, text: &[u8]) -> Result<(Query, Option<(u32, u32)>), FenFault>
+    requires { length text.now < 2 ^ 32 }
+    ensures read { Reads (from_turn board.now) text.now result }
+    ensures field { IfErr result (λ f. f.field ≤ 5) }
+    ensures plain { IfOk result (λ p. p.0.barred ≡ None) }
+{
+    let (part, rest) = split_part(text, b' ');
+    let turn = match read_turn(part) {
+        Ok(turn) => turn,
+        Err(at) => return Err(here(at)),
+    };
+    let Some(rest) = rest else {
+        return Err(here(part.len()));
+    };
+    match read_from_rights(board, turn, rest) {
+        Ok(position) => Ok(position),
+        Err(fault) => Err(behind(part.len(), fault)),
+    }
+}
+
+/// The query of a text, with fields five and six where they are given. An `Err` says how much of the text begins
+/// some FEN.
+pub fn read_fen(text: &[u8]) -> Result<(Query, Option<(u32, u32)>), FenFault>
+    requires { length text.now < 2 ^ 32 }
+    ensures read { Reads fen text.now result }
+    ensures plain { IfOk result (λ p. p.0.barred ≡ None) }
+{
+    let (part, rest) = split_part(text, b' ');
+    let board = match read_placement(part) {
+        Ok(board) => board,
+        Err(at) => return Err(here(at)),
+    };
+    let Some(rest) = rest else {
+        return Err(here(part.len()));
+    };
+    match read_from_turn(&board, rest) {
+        Ok(position) => Ok(position),
+        Err(fault) => Err(behind(part.len(), fault)),
+    }
+}

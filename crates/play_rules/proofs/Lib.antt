@@ -1,0 +1,10 @@
+pub mod Games
+pub mod Legality
+pub mod Kings
+pub mod EnPassant
+pub mod Doubles
+pub mod Standing
+pub mod Ends
+pub mod Attacked
+pub mod Skipped
+pub mod Order

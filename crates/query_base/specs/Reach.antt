@@ -1,0 +1,40 @@
+-- Which games reach a query, and which contradict a claim about it.
+use Rattle.std.specs.Prelude.{◌≡◌, Bool, false, ◌&&◌, IsTrue, IfSome, List, Some}
+use Rattle.board_base.specs.Board.{no_odds, at, is_a}
+use Rattle.board_base.specs.Rights.{holds}
+use Rattle.board_base.specs.Legal.{pawn_captures_en_passant}
+use Rattle.board_base.specs.Game.{IsGame, board_after, turn_after, last_move, unmoved, legal_after}
+use Rattle.board_base.specs.declared.men.Kind.TheVariants.{Pawn}
+use Rattle.board_base.specs.declared.moves.Move.{Move}
+use Rattle.board_base.specs.declared.castles.Castle.{Castle}
+use Rattle.query_base.specs.Asked.{Asked}
+use Rattle.query_base.specs.declared.claims.Claim.{Claim}
+use Rattle.query_base.specs.declared.claims.Claim.TheVariants.{Illegal, Last, Lost, Ep}
+
+-- the game ends with this move
+abbrev pub EndsWith : List Move → Move → Type 0
+EndsWith g m = last_move g ≡ Some m
+
+-- the game ends at the query's board, and meets its demands
+pub record Reaches (g : List Move) (q : Asked) : Type 0 where
+  pub game : IsGame no_odds g
+  pub board : board_after no_odds g ≡ q.board
+  pub turn : turn_after g ≡ q.turn
+  pub held : (x : Castle) → IsTrue (holds q.held x) → IsTrue (unmoved no_odds g x)
+  pub only : IfSome q.only (λ m. EndsWith g m × IsTrue (is_a Pawn (at q.board m.to)))
+  pub barred : IfSome q.barred (λ m. EndsWith g m → ⊥)
+
+-- the move is a legal capture en passant after this game
+abbrev pub may_capture_en_passant : List Move → Move → Bool
+may_capture_en_passant g m = legal_after no_odds g m && pawn_captures_en_passant (board_after no_odds g) (turn_after g) (last_move g) m
+
+-- the game reaches the query, and what is claimed of it is false
+abbrev pub Contradicts : List Move → Claim → Asked → Type 0
+Contradicts g Illegal q = Reaches g q
+Contradicts g (Last m) q = Reaches g q × (EndsWith g m → ⊥)
+Contradicts g (Lost x) q = Reaches g q × IsTrue (unmoved no_odds g x)
+Contradicts g (Ep m) q = Reaches g q × (may_capture_en_passant g m ≡ false)
+
+-- no game, of any length, contradicts the claim
+abbrev pub Holds : Claim → Asked → Type 0
+Holds claim q = (g : List Move) → Contradicts g claim q → ⊥
