@@ -1,0 +1,43 @@
+-- What the program answers.
+use Rattle.std.specs.Prelude.{ℕ, ◌≤◌, List, length, String, Option}
+use Rattle.std.specs.Global.{Global}
+use Rattle.std.specs.Io.KnownBytes.{Appends, Consumes, IsAtEnd}
+use Rattle.retro_ports.specs.Ends.{TakesPrefix}
+use Rattle.query_base.specs.Reach.{Holds}
+use Rattle.retro_top.specs.Lines.{cut}
+use Rattle.retro_top.specs.Certificate.{Certificate}
+use Rattle.retro_top.specs.Commands.{Call}
+use Rattle.retro_top.specs.Checks.{AnswersCheck, IsSupported, accepted}
+use Rattle.retro_top.specs.declared.statuses.Status.{Status}
+use Rattle.retro_top.specs.declared.commands.Command.{Command}
+use Rattle.retro_top.specs.declared.commands.Command.TheVariants.{Check}
+
+-- the status and the text with which a command answers an input
+abbrev pub AnswersAs : Command → List ℕ → Status → List ℕ → Type 0
+AnswersAs Check input status text = AnswersCheck input status text
+
+-- the status and the text with which the words answer an input
+abbrev pub Answers : List (String Global) → List ℕ → Status → List ℕ → Type 0
+Answers words input status text = (command : Command) × Call words command × AnswersAs command input status text
+
+-- what was taken grew by the text that answers the input with this status
+abbrev pub WritesAnswer : List (String Global) → List ℕ → Status → Option (List ℕ) → Option (List ℕ) → Type 0
+WritesAnswer words input status old new = (text : List ℕ) × Answers words input status text × Appends old new text
+
+-- what was taken grew by a part of a text that answers the input, from its front on
+abbrev pub WritesPart : List (String Global) → List ℕ → Option (List ℕ) → Option (List ℕ) → Type 0
+WritesPart words input old new = (status : Status) × (text : List ℕ) × Answers words input status text × TakesPrefix old new text
+
+-- An input of at most so many bytes was read to its end, and this holds of it. Where the source tells its bytes, it is all of
+-- them.
+abbrev pub ReadsAll : ℕ → Option (List ℕ) → Option (List ℕ) → (List ℕ → Type 0) → Type 0
+ReadsAll limit old new holds = (input : List ℕ) × Consumes old new input × IsAtEnd new × (length input ≤ limit) × holds input
+
+-- What was taken grew by one line, with the claim and the position that the input carries, and no game contradicts that claim.
+abbrev pub Accepts : List ℕ → Option (List ℕ) → Option (List ℕ) → Type 0
+Accepts input old new =
+    (cert : Certificate) × IsSupported input cert × Appends old new (accepted (cut input)) × Holds cert.claim cert.query
+
+-- no certificate is supported whose text these bytes are
+abbrev pub HasNoSupport : List ℕ → Type 0
+HasNoSupport input = (cert : Certificate) → IsSupported input cert → ⊥

@@ -1,0 +1,38 @@
+ghost use Rattle.std.specs.Prelude.{◌≡◌};
+ghost use Rattle.retro_top.specs.Statuses.{code_of};
+
+/// How a run of the program ended.
+#[derive(Clone, Copy, PartialEq, Eq, Debug)]
+pub enum Status {
+    /// The command did what it was asked to.
+    Done,
+    /// What was read is refused, and the line that was written says why.
+    Refused,
+    /// The search found neither a proof nor a game against the claim.
+    Undecided,
+    /// The search visited as many queries as it was allowed to.
+    Spent,
+    /// The search found a game against the claim.
+    Countered,
+    /// The words call no command.
+    BadWords,
+    /// The input isn't of the command's form.
+    BadInput,
+    /// A read failed.
+    ReadFault,
+    /// A write failed.
+    WriteFault,
+    /// Memory was wanting.
+    Memory,
+    /// The input has more bytes than a command reads.
+    TooLong,
+}
+
+impl Status {
+    /// The number with which the program ends, from 0 to 10 in the order of the variants.
+    pub fn code(self) -> u8
+        ensures { result ≡ code_of self }
+    {
+        self as u8
+    }
+}
