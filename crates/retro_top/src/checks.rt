@@ -29,16 +29,16 @@ pub fn check(alloc: Global, input: &[u8]) -> Result<(Status, Vec<u8>), AllocErro
     match read_certificate(input) {
         Ok(certificate) => {
             if breaks_kings(&certificate.query) {
-                let line = write_accepted(alloc, certificate.fen)?;
-                Ok((Status::Done, line))
+                let accepted = write_accepted(alloc, certificate.fen)?;
+                Ok((Status::Done, accepted))
             } else {
-                let line = Vec::from_slice(alloc, b"refused line 4 unsupported rule\n")?;
-                Ok((Status::Refused, line))
+                let unsupported = Vec::from_slice(alloc, b"refused line 4 unsupported rule\n")?;
+                Ok((Status::Refused, unsupported))
             }
         }
         Err(line) => {
-            let line = write_bad_text(alloc, line)?;
-            Ok((Status::Refused, line))
+            let bad = write_bad_text(alloc, line)?;
+            Ok((Status::Refused, bad))
         }
     }
 }

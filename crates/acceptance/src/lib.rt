@@ -1,0 +1,5 @@
+//! Tests that cross crates: boards, games, texts and runs whose right answers come from outside.
+#![tactic(auto)]
+
+#[cfg(test)]
+mod runs;
