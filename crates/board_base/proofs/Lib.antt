@@ -2,3 +2,4 @@ mod Examples
 pub mod Ranges
 pub mod Without
 pub mod TextLemmas
+pub mod BitSets

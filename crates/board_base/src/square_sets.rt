@@ -1,0 +1,63 @@
+ghost use Rattle.std.specs.Prelude.{◌≡◌, length, slice_set, true};
+ghost use Rattle.board_base.specs.Board.{is_in};
+ghost use Rattle.board_base.specs.Squares.{squares_of, number_of};
+
+use crate::squares::Square;
+use std::marker::Model;
+
+/// A set of squares, seen as its 64 truth values: the one at `s` says whether square `s` is in the set.
+#[derive(Clone, Copy, PartialEq, Eq, Debug)]
+pub struct SquareSet {
+    bits: u64,
+}
+
+impl Model for SquareSet {
+    ghost use Rattle.std.specs.Prelude.{List, Bool, ◌<◌, ◌^◌};
+    ghost use Rattle.board_base.specs.Squares.{squares_of, number_of};
+    ghost use Rattle.board_base.specs.SquareNumbers.{number_of-squares_of};
+
+    ghost Value = { List Bool };
+
+    ghost view = { λ set. squares_of set.bits };
+
+    ghost invariant = { λ set. set.bits < 2 ^ 64 };
+
+    ghost inverse = { λ set. record { bits = number_of set } };
+
+    ghost inverse_ok = { λ set fits i. record { bits = number_of-squares_of set.bits fits i } };
+}
+
+impl SquareSet {
+    /// The set of each square `s` whose bit `s` in `bits` is 1; bit 0, the lowest, stands for a1.
+    pub fn from_bits(bits: u64) -> SquareSet
+        ensures squares { result ≡ squares_of bits }
+        ensures number { number_of result ≡ bits }
+    {
+        SquareSet { bits }
+    }
+
+    /// The number whose bit `s` is 1 exactly where square `s` is in the set.
+    pub fn bits(self) -> u64
+        ensures number { result ≡ number_of self }
+        ensures squares { squares_of result ≡ self }
+    {
+        self.bits
+    }
+
+    /// Whether the square is in the set.
+    pub fn has(self, s: Square) -> bool
+        ensures member { result ≡ is_in self s }
+        ensures size { length self ≡ 64 }
+    {
+        self.bits >> s.index() & 1 == 1
+    }
+
+    /// The set with this square added.
+    pub fn with(self, s: Square) -> SquareSet
+        ensures { result ≡ slice_set self s true }
+    {
+        SquareSet {
+            bits: self.bits | 1 << s.index(),
+        }
+    }
+}
