@@ -3,3 +3,4 @@ pub mod Ranges
 pub mod Without
 pub mod TextLemmas
 pub mod BitSets
+pub mod OneText
