@@ -1,13 +1,13 @@
 -- What is read as a value is the value's one text.
-use Rattle.std.proofs.Common.{◌≡◌, ℕ, ◌+◌, ◌-◌, ◌*◌, ◌/◌, ◌%◌, ◌<◌, ◌≤◌, ◌==◌, Bool, true, false, cond, ◌&&◌, List, [], ◌∷◌, ◌++◌, refl, sym, ap, ◌∙◌, arith, option_map, Option, Some, None, is_none}
+use Rattle.std.proofs.Common.{◌≡◌, ℕ, ◌+◌, ◌-◌, ◌*◌, ◌/◌, ◌%◌, ◌<◌, ◌≤◌, ◌==◌, Bool, true, false, cond, ◌&&◌, List, [], ◌∷◌, ◌++◌, refl, sym, ap, ◌∙◌, arith, option_map, subst, Option, Some, None, is_none}
 use Rattle.std.proofs.lemmas.Bool.{and_parts, cond_both, leb-true, eqb-true}
 use Rattle.std.proofs.lemmas.Option.{cond_some}
 use Rattle.std.specs.Prelude.{nat_le}
 use Rattle.board_base.specs.declared.men.Kind.{Kind}
-use Rattle.board_base.specs.declared.men.Kind.TheVariants.{Pawn, Knight, Bishop, Rook, Queen}
+use Rattle.board_base.specs.declared.men.Kind.TheVariants.{Pawn, Knight, Bishop, Rook, Queen, King}
 use Rattle.board_base.specs.declared.moves.Move.{Move}
 use Rattle.board_base.specs.declared.unmoves.Unmove.{Unmove}
-use Rattle.board_base.specs.Texts.{◌>>=◌, square_at, officer_of, taken_of, promo_of, move_of, letter_of, promo_text, move_text, promo_head, after_promo, capture_of, unmove_as, unmove_from, capture_text, unmove_text}
+use Rattle.board_base.specs.Texts.{◌>>=◌, square_at, officer_of, taken_of, promo_of, move_of, letter_of, promo_text, move_text, promo_head, after_promo, capture_of, unmove_as, unmove_from, capture_text, unmove_text, can_promote, can_capture}
 
 -- o and then f of its value give y, through this value
 record Through {A B : Type 0} (o : Option A) (f : A → Option B) (y : B) : Type 0 where
@@ -70,19 +70,6 @@ promo_text_of (b ∷ c ∷ rest) p e = absurd cc
 four : (a b c d from to : ℕ) (rest end : List ℕ) → SquareText a b from → SquareText c d to → rest ≡ end → a ∷ b ∷ c ∷ d ∷ rest ≡ (97 + from % 8) ∷ (49 + from / 8) ∷ (97 + to % 8) ∷ (49 + to / 8) ∷ end
 four a b c d from to rest end f t e = cc (f.file, f.rank, t.file, t.rank, e)
 
-pub text_of_a_move : (text : List ℕ) (m : Move) → move_of text ≡ Some m → text ≡ move_text m
-unfolding move_of
-text_of_a_move [] m e = absurd cc
-text_of_a_move (a ∷ []) m e = absurd cc
-text_of_a_move (a ∷ b ∷ []) m e = absurd cc
-text_of_a_move (a ∷ b ∷ c ∷ []) m e = absurd cc
-text_of_a_move (a ∷ b ∷ c ∷ d ∷ rest) m e =
-    let f = through (square_at a b) (λ from. square_at c d >>= (λ to. option_map (λ p. record { from = from; to = to; promo = p }) (promo_of rest))) m e in
-    let t = through (square_at c d) (λ to. option_map (λ p. record { from = f.value; to = to; promo = p }) (promo_of rest)) m f.gives in
-    let p = through_map (promo_of rest) (λ p. record { from = f.value; to = t.value; promo = p }) m t.gives in
-    four a b c d f.value t.value rest (promo_text p.value) (square_text_of a b f.value f.is) (square_text_of c d t.value t.is) (promo_text_of rest p.value p.is)
-    ∙ ap move_text (some_is _ m p.gives)
-
 -- the letter of a promotion, if there is one, and what follows it
 promo_split : (text : List ℕ) → text ≡ promo_text (promo_head text) ++ after_promo text
 promo_split [] = refl
@@ -115,17 +102,107 @@ capture_text_of promo (a ∷ b ∷ []) x e =
         ∙ ap (λ (y : Option Kind × Bool). capture_text y.0 y.1) (some_is (Some Pawn, true) x e)
 capture_text_of promo (a ∷ b ∷ c ∷ rest) x e = absurd cc
 
-pub text_of_an_unmove : (text : List ℕ) (u : Unmove) → unmove_from text ≡ Some u → text ≡ unmove_text u
+abbrev MayPromoteTo : Option Kind → Type 0
+MayPromoteTo o = can_promote o ≡ true
+
+-- what a letter of a promotion stands for may be promoted to
+officer_promotes : (b : ℕ) → MayPromoteTo (officer_of b)
+officer_promotes b =
+    cond_both (b == 110) (Some Knight) _ MayPromoteTo (λ e. refl)
+    (λ n. cond_both (b == 98) (Some Bishop) _ MayPromoteTo (λ e. refl)
+      (λ n. cond_both (b == 114) (Some Rook) _ MayPromoteTo (λ e. refl)
+        (λ n. cond_both (b == 113) (Some Queen) None MayPromoteTo (λ e. refl) (λ n. refl))))
+
+head_promotes : (text : List ℕ) → MayPromoteTo (promo_head text)
+head_promotes [] = refl
+head_promotes (b ∷ rest) = officer_promotes b
+
+promo_promotes : (text : List ℕ) (p : Option Kind) → promo_of text ≡ Some p → MayPromoteTo p
+promo_promotes [] p e = ap can_promote (sym (some_is None p e))
+promo_promotes (b ∷ []) p e =
+    let t = through_map (officer_of b) (λ k. Some k) p e in
+    ap can_promote (sym (some_is (Some t.value) p t.gives) ∙ sym t.is) ∙ officer_promotes b
+promo_promotes (b ∷ c ∷ rest) p e = absurd cc
+
+none_captures : (promo : Option Kind) → is_none promo ≡ true → can_capture promo (Some Pawn) true ≡ true
+none_captures None e = refl
+none_captures (Some k) e = absurd cc
+
+captures : (promo : Option Kind) (k : Kind) → (k ≡ King → ⊥) → can_capture promo (Some k) false ≡ true
+captures promo Pawn other = refl
+captures promo Knight other = refl
+captures promo Bishop other = refl
+captures promo Rook other = refl
+captures promo Queen other = refl
+captures promo King other = absurd (other refl)
+
+no_king_taken : (b : ℕ) (k : Kind) → taken_of b ≡ Some k → k ≡ King → ⊥
+no_king_taken b k e king =
+    let letter : b ≡ 107 = taken_letter b k e ∙ ap letter_of king in
+    let none : taken_of b ≡ None = ap taken_of letter in
+    cc
+
+abbrev MayCapture : Option Kind → Option Kind × Bool → Option (Option Kind × Bool) → Type 0
+MayCapture promo x o = o ≡ Some x → can_capture promo x.0 x.1 ≡ true
+
+capture_fits : (promo : Option Kind) (text : List ℕ) (x : Option Kind × Bool) → capture_of promo text ≡ Some x → can_capture promo x.0 x.1 ≡ true
+capture_fits promo [] x e = ap (λ (y : Option Kind × Bool). can_capture promo y.0 y.1) (sym (some_is (None, false) x e))
+capture_fits promo (a ∷ []) x e = absurd cc
+capture_fits promo (a ∷ b ∷ []) x e =
+    cond_both (a == 120) _ _ (MayCapture promo x) captured
+    (λ n. cond_both ((a == 101) && (b == 112) && is_none promo) (Some (Some Pawn, true)) None (MayCapture promo x) en_passant (λ n h. absurd cc)) e
+  where
+    captured : (a == 120) ≡ true → MayCapture promo x (option_map (λ k. (Some k, false)) (taken_of b))
+    captured h e =
+        let t = through_map (taken_of b) (λ k. (Some k, false)) x e in
+        ap (λ (y : Option Kind × Bool). can_capture promo y.0 y.1) (sym (some_is (Some t.value, false) x t.gives)) ∙ captures promo t.value (no_king_taken b t.value t.is)
+
+    en_passant : ((a == 101) && (b == 112) && is_none promo) ≡ true → MayCapture promo x (Some (Some Pawn, true))
+    en_passant h e =
+        ap (λ (y : Option Kind × Bool). can_capture promo y.0 y.1) (sym (some_is (Some Pawn, true) x e))
+        ∙ none_captures promo (and_parts ((a == 101) && (b == 112)) (is_none promo) h).1
+capture_fits promo (a ∷ b ∷ c ∷ rest) x e = absurd cc
+
+-- the text is this move's, which may be written
+pub record IsTextOfMove (text : List ℕ) (m : Move) : Type 0 where
+  pub spelling : text ≡ move_text m
+  pub promotion : can_promote m.promo ≡ true
+
+pub move_read : (text : List ℕ) (m : Move) → move_of text ≡ Some m → IsTextOfMove text m
+unfolding move_of
+move_read [] m e = absurd cc
+move_read (a ∷ []) m e = absurd cc
+move_read (a ∷ b ∷ []) m e = absurd cc
+move_read (a ∷ b ∷ c ∷ []) m e = absurd cc
+move_read (a ∷ b ∷ c ∷ d ∷ rest) m e =
+    let f = through (square_at a b) (λ from. square_at c d >>= (λ to. option_map (λ p. record { from = from; to = to; promo = p }) (promo_of rest))) m e in
+    let t = through (square_at c d) (λ to. option_map (λ p. record { from = f.value; to = to; promo = p }) (promo_of rest)) m f.gives in
+    let p = through_map (promo_of rest) (λ p. record { from = f.value; to = t.value; promo = p }) m t.gives in
+    subst (IsTextOfMove (a ∷ b ∷ c ∷ d ∷ rest)) (some_is (record { from = f.value; to = t.value; promo = p.value }) m p.gives) (record {
+      spelling = four a b c d f.value t.value rest (promo_text p.value) (square_text_of a b f.value f.is) (square_text_of c d t.value t.is) (promo_text_of rest p.value p.is);
+      promotion = promo_promotes rest p.value p.is;
+    })
+
+-- the text is this unmove's, which may be written
+pub record IsTextOfUnmove (text : List ℕ) (u : Unmove) : Type 0 where
+  pub spelling : text ≡ unmove_text u
+  pub promotion : can_promote u.mv.promo ≡ true
+  pub capture : can_capture u.mv.promo u.captured u.ep ≡ true
+
+pub unmove_read : (text : List ℕ) (u : Unmove) → unmove_from text ≡ Some u → IsTextOfUnmove text u
 unfolding unmove_from
-text_of_an_unmove [] u e = absurd cc
-text_of_an_unmove (a ∷ []) u e = absurd cc
-text_of_an_unmove (a ∷ b ∷ []) u e = absurd cc
-text_of_an_unmove (a ∷ b ∷ c ∷ []) u e = absurd cc
-text_of_an_unmove (a ∷ b ∷ c ∷ d ∷ rest) u e =
+unmove_read [] u e = absurd cc
+unmove_read (a ∷ []) u e = absurd cc
+unmove_read (a ∷ b ∷ []) u e = absurd cc
+unmove_read (a ∷ b ∷ c ∷ []) u e = absurd cc
+unmove_read (a ∷ b ∷ c ∷ d ∷ rest) u e =
     let p : Option Kind = promo_head rest in
     let f = through (square_at a b) (λ from. square_at c d >>= (λ to. option_map (unmove_as from to p) (capture_of p (after_promo rest)))) u e in
     let t = through (square_at c d) (λ to. option_map (unmove_as f.value to p) (capture_of p (after_promo rest))) u f.gives in
     let x = through_map (capture_of p (after_promo rest)) (unmove_as f.value t.value p) u t.gives in
-    four a b c d f.value t.value rest (promo_text p ++ capture_text x.value.0 x.value.1) (square_text_of a b f.value f.is) (square_text_of c d t.value t.is)
-    (promo_split rest ∙ ap (λ (l : List ℕ). promo_text p ++ l) (capture_text_of p (after_promo rest) x.value x.is))
-    ∙ ap unmove_text (some_is _ u x.gives)
+    subst (IsTextOfUnmove (a ∷ b ∷ c ∷ d ∷ rest)) (some_is _ u x.gives) (record {
+      spelling = four a b c d f.value t.value rest (promo_text p ++ capture_text x.value.0 x.value.1) (square_text_of a b f.value f.is) (square_text_of c d t.value t.is)
+        (promo_split rest ∙ ap (λ (l : List ℕ). promo_text p ++ l) (capture_text_of p (after_promo rest) x.value x.is));
+      promotion = head_promotes rest;
+      capture = capture_fits p (after_promo rest) x.value x.is;
+    })
