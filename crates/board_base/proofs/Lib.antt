@@ -4,3 +4,4 @@ pub mod Without
 pub mod TextLemmas
 pub mod BitSets
 pub mod OneText
+pub mod Ordered

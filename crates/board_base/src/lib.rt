@@ -17,7 +17,7 @@ mod unmoves;
 pub use attacks::{files_between, is_ahead, is_clear, is_same, man_attacks, ranks_between};
 pub use boards::Board;
 pub use castles::{Castle, CastleSet};
-pub use laws::{one_text_of_a_move, one_text_of_an_unmove};
+pub use laws::{one_text_of_a_move, one_text_of_an_unmove, order_of_moves, order_of_unmoves};
 pub use memory::Memory;
 pub use men::{Colour, Kind, Man};
 pub use moves::Move;

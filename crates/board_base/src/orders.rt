@@ -1,5 +1,5 @@
 ghost use Rattle.std.specs.Prelude.{◌≡◌};
-ghost use Rattle.board_base.specs.Texts.{place_of, capture_place, move_order, unmove_order, and_then};
+ghost use Rattle.board_base.specs.Texts.{place_of, capture_place, move_order, unmove_order};
 
 use crate::men::Kind;
 use crate::moves::Move;
@@ -26,32 +26,24 @@ fn place_of_capture(unmove: &Unmove) -> u8
     if unmove.ep { 7 } else { place(unmove.captured) }
 }
 
-fn first_then(first: Ordering, second: Ordering) -> Ordering
-    ensures { result ≡ and_then first second }
-{
-    match first {
-        Ordering::Equal => second,
-        other => other,
-    }
-}
-
-/// By origin, then target, then promotion in the order none, n, b, r, q.
+/// The order of moves: by origin, then target, then promotion in the order none, n, b, r, q.
 pub fn cmp_move(a: &Move, b: &Move) -> Ordering
     ensures { result ≡ move_order a.now b.now }
 {
-    let targets = first_then(
-        a.to.index().cmp(&b.to.index()),
-        place(a.promo).cmp(&place(b.promo)),
-    );
-    first_then(a.from.index().cmp(&b.from.index()), targets)
+    let origins = a.from.index().cmp(&b.from.index());
+    let targets = a.to.index().cmp(&b.to.index());
+    let promotions = place(a.promo).cmp(&place(b.promo));
+    origins.then(targets.then(promotions))
 }
 
-/// By target, then origin, then promotion, then captured man in the order none, p, n, b, r, q, then en passant.
+/// The order of unmoves: by target, then origin, then promotion in the order none, n, b, r, q, then the captured man in the
+/// order none, p, n, b, r, q, and en passant after all of these.
 pub fn cmp_unmove(a: &Unmove, b: &Unmove) -> Ordering
     ensures { result ≡ unmove_order a.now b.now }
 {
+    let targets = a.mv.to.index().cmp(&b.mv.to.index());
+    let origins = a.mv.from.index().cmp(&b.mv.from.index());
+    let promotions = place(a.mv.promo).cmp(&place(b.mv.promo));
     let captures = place_of_capture(a).cmp(&place_of_capture(b));
-    let promotions = first_then(place(a.mv.promo).cmp(&place(b.mv.promo)), captures);
-    let origins = first_then(a.mv.from.index().cmp(&b.mv.from.index()), promotions);
-    first_then(a.mv.to.index().cmp(&b.mv.to.index()), origins)
+    targets.then(origins.then(promotions.then(captures)))
 }
