@@ -16,12 +16,12 @@ squares_of-or bits s below =
     let size : length (squares_of bits) ≡ 64 = length-squares_of bits in
     let inside : s < length (squares_of bits) = omega arith in
     ext_get_or false _ _ (length-squares_of more ∙ sym (length-set (squares_of bits) s true ∙ size)) (λ i low.
-        let i_low : i < 64 = omega (arith, length-squares_of more) in
-        is_in-squares_of more i i_low ∙ elim (cases_eq i s) [
-          | inl same ↦
-              ap (λ (b : ℕ). b == 1) (ap (bit_at more) same ∙ bit_at_set_same w64 bits s below)
-              ∙ sym (ap (is_in (slice_set (squares_of bits) s true)) same ∙ get_or-set_same (squares_of bits) s true false inside)
-          | inr other ↦
-              ap (λ (b : ℕ). b == 1) (bit_at_set_other w64 bits s below i other)
-              ∙ sym (get_or-set_other (squares_of bits) s i true false other ∙ is_in-squares_of bits i i_low)
-        ])
+    let i_low : i < 64 = omega (arith, length-squares_of more) in
+    is_in-squares_of more i i_low ∙ elim (cases_eq i s) [
+      | inl same ↦
+          ap (λ (b : ℕ). b == 1) (ap (bit_at more) same ∙ bit_at_set_same w64 bits s below)
+          ∙ sym (ap (is_in (slice_set (squares_of bits) s true)) same ∙ get_or-set_same (squares_of bits) s true false inside)
+      | inr other ↦
+          ap (λ (b : ℕ). b == 1) (bit_at_set_other w64 bits s below i other)
+          ∙ sym (get_or-set_other (squares_of bits) s i true false other ∙ is_in-squares_of bits i i_low)
+    ])

@@ -36,8 +36,8 @@ officer_letter : (b : ℕ) (k : Kind) → officer_of b ≡ Some k → b ≡ lett
 officer_letter b k =
     cond_both (b == 110) (Some Knight) _ (LetterOf b k) (letter_from b 110 Knight k refl)
     (λ n. cond_both (b == 98) (Some Bishop) _ (LetterOf b k) (letter_from b 98 Bishop k refl)
-      (λ n. cond_both (b == 114) (Some Rook) _ (LetterOf b k) (letter_from b 114 Rook k refl)
-        (λ n. cond_both (b == 113) (Some Queen) None (LetterOf b k) (letter_from b 113 Queen k refl) (λ n e. absurd cc))))
+    (λ n. cond_both (b == 114) (Some Rook) _ (LetterOf b k) (letter_from b 114 Rook k refl)
+    (λ n. cond_both (b == 113) (Some Queen) None (LetterOf b k) (letter_from b 113 Queen k refl) (λ n e. absurd cc))))
 
 taken_letter : (b : ℕ) (k : Kind) → taken_of b ≡ Some k → b ≡ letter_of k
 taken_letter b k = cond_both (b == 112) (Some Pawn) (officer_of b) (LetterOf b k) (letter_from b 112 Pawn k refl) (λ n. officer_letter b k)
@@ -110,8 +110,8 @@ officer_promotes : (b : ℕ) → MayPromoteTo (officer_of b)
 officer_promotes b =
     cond_both (b == 110) (Some Knight) _ MayPromoteTo (λ e. refl)
     (λ n. cond_both (b == 98) (Some Bishop) _ MayPromoteTo (λ e. refl)
-      (λ n. cond_both (b == 114) (Some Rook) _ MayPromoteTo (λ e. refl)
-        (λ n. cond_both (b == 113) (Some Queen) None MayPromoteTo (λ e. refl) (λ n. refl))))
+    (λ n. cond_both (b == 114) (Some Rook) _ MayPromoteTo (λ e. refl)
+    (λ n. cond_both (b == 113) (Some Queen) None MayPromoteTo (λ e. refl) (λ n. refl))))
 
 head_promotes : (text : List ℕ) → MayPromoteTo (promo_head text)
 head_promotes [] = refl
@@ -202,7 +202,7 @@ unmove_read (a ∷ b ∷ c ∷ d ∷ rest) u e =
     let x = through_map (capture_of p (after_promo rest)) (unmove_as f.value t.value p) u t.gives in
     subst (IsTextOfUnmove (a ∷ b ∷ c ∷ d ∷ rest)) (some_is _ u x.gives) (record {
       spelling = four a b c d f.value t.value rest (promo_text p ++ capture_text x.value.0 x.value.1) (square_text_of a b f.value f.is) (square_text_of c d t.value t.is)
-        (promo_split rest ∙ ap (λ (l : List ℕ). promo_text p ++ l) (capture_text_of p (after_promo rest) x.value x.is));
+          (promo_split rest ∙ ap (λ (l : List ℕ). promo_text p ++ l) (capture_text_of p (after_promo rest) x.value x.is));
       promotion = head_promotes rest;
       capture = capture_fits p (after_promo rest) x.value x.is;
     })

@@ -12,40 +12,42 @@ use Rattle.board_base.specs.declared.moves.Move.{Move}
 use Rattle.board_base.specs.declared.castles.Castle.{Castle}
 use Rattle.board_base.specs.declared.castles.Castle.TheVariants.{WhiteShort, WhiteLong, BlackShort, BlackLong}
 
+-- the colour whose castling it is
 abbrev pub side : Castle → Colour
 side WhiteShort = White
 side WhiteLong = White
 side BlackShort = Black
 side BlackLong = Black
 
--- e1 and e8
+-- Article 3.8: where the king of the castling stands at first, e1 or e8
 abbrev pub king_home : Castle → ℕ
 king_home WhiteShort = 4
 king_home WhiteLong = 4
 king_home BlackShort = 60
 king_home BlackLong = 60
 
--- h1, a1, h8, a8
+-- Article 3.8: where the rook of the castling stands at first, h1, a1, h8 or a8
 abbrev pub rook_home : Castle → ℕ
 rook_home WhiteShort = 7
 rook_home WhiteLong = 0
 rook_home BlackShort = 63
 rook_home BlackLong = 56
 
--- g1, c1, g8, c8
+-- Article 3.8: where the king goes, two squares towards the rook: g1, c1, g8 or c8
 abbrev pub king_target : Castle → ℕ
 king_target WhiteShort = 6
 king_target WhiteLong = 2
 king_target BlackShort = 62
 king_target BlackLong = 58
 
--- f1, d1, f8, d8: the square that the king crosses, where the rook comes to stand
+-- Article 3.8: the square that the king crosses, where the rook comes to stand: f1, d1, f8 or d8
 abbrev pub crossed : Castle → ℕ
 crossed WhiteShort = 5
 crossed WhiteLong = 3
 crossed BlackShort = 61
 crossed BlackLong = 59
 
+-- the four castlings, in the order K, Q, k, q
 abbrev pub all_castles : List Castle
 all_castles = WhiteShort ∷ WhiteLong ∷ BlackShort ∷ BlackLong ∷ []
 
@@ -53,19 +55,19 @@ all_castles = WhiteShort ∷ WhiteLong ∷ BlackShort ∷ BlackLong ∷ []
 abbrev pub castling_from : ℕ → ℕ → Option Castle
 castling_from from to = find (λ x. (king_home x == from) && (king_target x == to)) all_castles
 
--- the castling that the move is on this board
+-- the castling that the move is on this board: a king goes two squares from e1 or e8 along its rank
 abbrev pub castling : Places → Move → Option Castle
 castling board m = cond (is_a King (at board m.from)) (castling_from m.from m.to) None
 
--- a pawn goes diagonally to an empty square
+-- a pawn goes to an empty square on another file
 abbrev pub goes_en_passant : Places → Move → Bool
 goes_en_passant board m = is_a Pawn (at board m.from) && not (file m.from == file m.to) && is_empty (at board m.to)
 
--- the target's file and the origin's rank
+-- Article 3.7: where the pawn stands that a capture en passant takes: the target's file and the origin's rank
 abbrev pub en_passant_victim : Move → ℕ
 en_passant_victim m = 8 * rank m.from + file m.to
 
--- what a man becomes
+-- Article 3.7: what a man becomes, of its own colour
 abbrev pub promoted : Option Kind → Option Man → Option Man
 promoted None place = place
 promoted (Some k) None = None
@@ -91,20 +93,21 @@ carry board from to promo = carried (promoted promo) board from to
 abbrev pub played_as : Places → Move → Option Castle → Places
 played_as board m castle = moved (promoted m.promo) m castle (goes_en_passant board m) board
 
--- the board after the move
+-- Articles 3.1, 3.7 and 3.8: the board after the move
 unfoldable pub play : Places → Move → Places
 play board m = played_as board m (castling board m)
 
--- one rank back from s and one rank on, as this colour sees it
+-- the square one rank back from s, as this colour sees it
 abbrev pub behind : Colour → ℕ → ℕ
 behind White s = s - 8
 behind Black s = s + 8
 
+-- the square one rank on from s, as this colour sees it
 abbrev pub ahead : Colour → ℕ → ℕ
 ahead White s = s + 8
 ahead Black s = s - 8
 
--- the ranks, counted from 0, between which a pawn of this colour takes en passant
+-- Article 3.7: the rank from which a pawn of this colour takes en passant, counted from 0: the fifth that it sees
 abbrev pub en_passant_rank : Colour → ℕ
 en_passant_rank White = 4
 en_passant_rank Black = 3
@@ -113,7 +116,7 @@ en_passant_rank Black = 3
 abbrev pub double_step : Move → Colour → Move
 double_step m c = record { from = ahead c m.to; to = behind c m.to; promo = None }
 
--- the double step that a capture en passant by this colour answers, if the move may be one
+-- Article 3.7: the double step that a capture en passant by this colour answers, if the move may be one
 abbrev pub double_of : Move → Colour → Option Move
 double_of m c =
     cond ((rank m.from == en_passant_rank c) && one_ahead c m.from m.to && (files_apart m.from m.to == 1) && is_none m.promo) (Some (double_step m c)) None

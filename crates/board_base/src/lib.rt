@@ -1,4 +1,6 @@
-//! The chess board: squares, men, moves and castling rights.
+//! The chess board: squares and sets of them, men, boards and attacks, moves and castlings, their texts and orders. It takes no memory.
+//!
+//! Articles are those of the FIDE Laws of Chess, in force from 1 January 2023.
 #![tactic(auto)]
 
 mod attacks;

@@ -13,8 +13,8 @@ loop-i-preserved c =
     record {
       size = ap (λ (board : Places). length board) put ∙ length-set c.loop-i.board i c.recoloured.result ∙ c.loop-i.invariant.size;
       done = below_more _ _
-      (λ k low. let other : k ≡ i → ⊥ = omega arith in
-        ap (λ (board : Places). at board k) put ∙ get_or-set_other c.loop-i.board i k c.recoloured.result None other ∙ c.loop-i.invariant.done k low)
-      (ap (λ (board : Places). at board i) put ∙ get_or-set_same c.loop-i.board i c.recoloured.result None inside
-        ∙ c.recoloured.ensures ∙ ap recoloured (c.at.ensures.man ∙ ap (at c.args.self.now) from));
+          (λ k low. let other : k ≡ i → ⊥ = omega arith in
+          ap (λ (board : Places). at board k) put ∙ get_or-set_other c.loop-i.board i k c.recoloured.result None other ∙ c.loop-i.invariant.done k low)
+          (ap (λ (board : Places). at board i) put ∙ get_or-set_same c.loop-i.board i c.recoloured.result None inside
+          ∙ c.recoloured.ensures ∙ ap recoloured (c.at.ensures.man ∙ ap (at c.args.self.now) from));
     }
