@@ -6,5 +6,6 @@ pub mod Doubles
 pub mod Standing
 pub mod Ends
 pub mod Attacked
+pub mod Ways
 pub mod Skipped
 pub mod Order

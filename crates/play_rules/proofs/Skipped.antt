@@ -19,10 +19,9 @@ use Rattle.board_base.specs.declared.castles.Castle.{Castle}
 use Rattle.board_base.specs.declared.castles.Castle.TheVariants.{WhiteShort, WhiteLong, BlackShort, BlackLong}
 use Rattle.play_rules.specs.States.{Position, legal_at}
 use Rattle.play_rules.specs.Listed.{moves_between, moves_from, move_of}
-use Rattle.play_rules.specs.Near.{may_reach}
+use Rattle.play_rules.specs.Reach.{may_reach, may_step}
 use Rattle.play_rules.proofs.Legality.{Manner, moves, steps, doubles, takes, passes, castles, legality}
 use Rattle.play_rules.proofs.Kings.{castle-ends}
-use Rattle.play_rules.proofs.Attacked.{reach, attack-reach}
 
 -- where no move between two squares passes, none is kept
 pub none-between : (p : Move → Bool) (s t : ℕ) → ((promo : Option Kind) → p (move_of s t promo) ≡ false) → filter p (moves_between s t) ≡ []
@@ -85,25 +84,26 @@ king_same Bishop h = cc
 king_same Rook h = cc
 king_same Queen h = cc
 
-reach-near : (c : Colour) (k : Kind) (s t : ℕ) → same_kind Pawn k ≡ false → reach c k s t ≡ true → may_reach c k s t ≡ true
-unfolding may_reach king_distance
-reach-near c Pawn s t other h = cc
-reach-near c Knight s t other h = h
-reach-near c Bishop s t other h = (and_parts _ _ h).1
-reach-near c Rook s t other h = (and_parts _ _ h).1
-reach-near c Queen s t other h = (and_parts _ _ h).1
-reach-near c King s t other h =
+reach-near : (board : Places) (c : Colour) (k : Kind) (s t : ℕ) → same_kind Pawn k ≡ false → kind_attacks board c k s t ≡ true → may_reach board c k s t ≡ true
+unfolding may_reach may_step kind_attacks king_distance
+reach-near board c Pawn s t other h = cc
+reach-near board c Knight s t other h = h
+reach-near board c Bishop s t other h = h
+reach-near board c Rook s t other h = h
+reach-near board c Queen s t other h = h
+reach-near board c King s t other h =
     let one : max (files_apart s t) (ranks_apart s t) ≡ 1 = eqb-true _ 1 h in
     let f : files_apart s t < 3 = omega arith in
     let r : ranks_apart s t < 2 = omega arith in
     and_from _ _ (lt-ltb _ _ f) (lt-ltb _ _ r)
 
-pawn-near : (c : Colour) (man : Man) (s t : ℕ) → same_colour c man.colour ≡ true → same_kind Pawn man.kind ≡ true → may_reach c Pawn s t ≡ true → may_reach man.colour man.kind s t ≡ true
-pawn-near c man s t own pawn h =
-    subst (λ (d : Colour). may_reach d man.kind s t ≡ true) (colour_same c man.colour own) (subst (λ (k : Kind). may_reach c k s t ≡ true) (pawn_same man.kind pawn) h)
-
-ahead-near : (c : Colour) (s t : ℕ) → one_ahead c s t ≡ true → files_apart s t < 2 → may_reach c Pawn s t ≡ true
+pawn-near : (board : Places) (c : Colour) (man : Man) (s t : ℕ) → same_colour c man.colour ≡ true → same_kind Pawn man.kind ≡ true → may_step c Pawn s t ≡ true → may_reach board man.colour man.kind s t ≡ true
 unfolding may_reach
+pawn-near board c man s t own pawn h =
+    subst (λ (d : Colour). may_reach board d man.kind s t ≡ true) (colour_same c man.colour own) (subst (λ (k : Kind). may_reach board c k s t ≡ true) (pawn_same man.kind pawn) h)
+
+ahead-near : (c : Colour) (s t : ℕ) → one_ahead c s t ≡ true → files_apart s t < 2 → may_step c Pawn s t ≡ true
+unfolding may_step
 ahead-near c s t up close = or_left _ _ (and_from _ _ up (lt-ltb _ _ close))
 
 same-file : (s t : ℕ) → file s ≡ file t → files_apart s t < 2
@@ -113,54 +113,54 @@ same-file s t e = omega arith
 one-apart : (s t : ℕ) → files_apart s t ≡ 1 → files_apart s t < 2
 one-apart s t e = omega arith
 
-en_passant-near : (board : Places) (c : Colour) (last : Option Move) (m : Move) (o : Option Move) → double_of m c ≡ o → elim o as (λ _. Bool) [ None ↦ false | Some d ↦ is_move last d && is_the (opponent c) Pawn (at board d.to) ] ≡ true → may_reach c Pawn m.from m.to ≡ true
+en_passant-near : (board : Places) (c : Colour) (last : Option Move) (m : Move) (o : Option Move) → double_of m c ≡ o → elim o as (λ _. Bool) [ None ↦ false | Some d ↦ is_move last d && is_the (opponent c) Pawn (at board d.to) ] ≡ true → may_step c Pawn m.from m.to ≡ true
 en_passant-near board c last m None e h = absurd (both_ways false refl h)
 en_passant-near board c last m (Some d) e h =
     let p = and_parts _ _ (and_parts _ _ (cond_some _ (double_step m c) d e).0).0 in
     ahead-near c m.from m.to (and_parts _ _ p.0).1 (one-apart m.from m.to (eqb-true _ 1 p.1))
 
-castle-near : (x : Castle) (c : Colour) → may_reach c King (king_home x) (king_target x) ≡ true
-unfolding may_reach distance
-castle-near WhiteShort c = refl
-castle-near WhiteLong c = refl
-castle-near BlackShort c = refl
-castle-near BlackLong c = refl
+castle-near : (x : Castle) (board : Places) (c : Colour) → may_reach board c King (king_home x) (king_target x) ≡ true
+unfolding may_reach may_step distance
+castle-near WhiteShort board c = refl
+castle-near WhiteLong board c = refl
+castle-near BlackShort board c = refl
+castle-near BlackLong board c = refl
 
-castles-near : (board : Places) (c : Colour) (rights : Castle → Bool) (m : Move) (man : Man) (o : Option Castle) → castling board m ≡ o → at board m.from ≡ Some man → castles_as board c rights o ≡ true → may_reach man.colour man.kind m.from m.to ≡ true
+castles-near : (board : Places) (c : Colour) (rights : Castle → Bool) (m : Move) (man : Man) (o : Option Castle) → castling board m ≡ o → at board m.from ≡ Some man → castles_as board c rights o ≡ true → may_reach board man.colour man.kind m.from m.to ≡ true
 castles-near board c rights m man None e here h = absurd (both_ways false refl h)
 castles-near board c rights m man (Some x) e here h =
     let ends = castle-ends board m x e in
     let king : same_kind King man.kind ≡ true = ap (is_a King) (sym here) ∙ ends.king in
-    subst (λ (k : Kind). may_reach man.colour k m.from m.to ≡ true) (king_same man.kind king)
-    (subst (λ (t : ℕ). may_reach man.colour King m.from t ≡ true) ends.to (subst (λ (s : ℕ). may_reach man.colour King s (king_target x) ≡ true) ends.from (castle-near x man.colour)))
+    subst (λ (k : Kind). may_reach board man.colour k m.from m.to ≡ true) (king_same man.kind king)
+    (subst (λ (t : ℕ). may_reach board man.colour King m.from t ≡ true) ends.to (subst (λ (s : ℕ). may_reach board man.colour King s (king_target x) ≡ true) ends.from (castle-near x board man.colour)))
 
-near : (board : Places) (c : Colour) (rights : Castle → Bool) (last : Option Move) (m : Move) (man : Man) → at board m.from ≡ Some man → same_colour c man.colour ≡ true → Manner board c rights last m → may_reach man.colour man.kind m.from m.to ≡ true
-unfolding man_moves attacks_from pawn_steps pawn_doubles pawn_captures pawn_captures_en_passant king_castles may_reach
+near : (board : Places) (c : Colour) (rights : Castle → Bool) (last : Option Move) (m : Move) (man : Man) → at board m.from ≡ Some man → same_colour c man.colour ≡ true → Manner board c rights last m → may_reach board man.colour man.kind m.from m.to ≡ true
+unfolding man_moves attacks_from pawn_steps pawn_doubles pawn_captures pawn_captures_en_passant king_castles may_step
 near board c rights last m man here own (moves h) =
     let parts = and_parts _ _ h in
     let other : same_kind Pawn man.kind ≡ false = ap (is_a Pawn) (sym here) ∙ not-true _ parts.0 in
     let P : Option Man → Type 0 = λ o. elim o as (λ _. Bool) [ None ↦ false | Some n ↦ kind_attacks board n.colour n.kind m.from m.to ] ≡ true in
     let hits : kind_attacks board man.colour man.kind m.from m.to ≡ true = subst P here parts.1 in
-    reach-near man.colour man.kind m.from m.to other (attack-reach board man.colour man.kind m.from m.to hits)
+    reach-near board man.colour man.kind m.from m.to other hits
 near board c rights last m man here own (steps h) =
     let p2 = and_parts _ _ (and_parts _ _ h).0 in
     let p1 = and_parts _ _ p2.0 in
-    pawn-near c man m.from m.to own (ap (is_a Pawn) (sym here) ∙ p1.0) (ahead-near c m.from m.to p1.1 (same-file m.from m.to (eqb-true _ _ p2.1)))
+    pawn-near board c man m.from m.to own (ap (is_a Pawn) (sym here) ∙ p1.0) (ahead-near c m.from m.to p1.1 (same-file m.from m.to (eqb-true _ _ p2.1)))
 near board c rights last m man here own (doubles h) =
     let p4 = and_parts _ _ (and_parts _ _ (and_parts _ _ h).0).0 in
     let p3 = and_parts _ _ p4.0 in
-    pawn-near c man m.from m.to own (ap (is_a Pawn) (sym here) ∙ (and_parts _ _ p3.0).0) (or_right _ _ (and_from _ _ p3.1 p4.1))
+    pawn-near board c man m.from m.to own (ap (is_a Pawn) (sym here) ∙ (and_parts _ _ p3.0).0) (or_right _ _ (and_from _ _ p3.1 p4.1))
 near board c rights last m man here own (takes h) =
     let p2 = and_parts _ _ (and_parts _ _ h).0 in
     let p1 = and_parts _ _ p2.0 in
-    pawn-near c man m.from m.to own (ap (is_a Pawn) (sym here) ∙ p1.0) (ahead-near c m.from m.to p1.1 (one-apart m.from m.to (eqb-true _ 1 p2.1)))
+    pawn-near board c man m.from m.to own (ap (is_a Pawn) (sym here) ∙ p1.0) (ahead-near c m.from m.to p1.1 (one-apart m.from m.to (eqb-true _ 1 p2.1)))
 near board c rights last m man here own (passes h) =
     let parts = and_parts _ _ h in
-    pawn-near c man m.from m.to own (ap (is_a Pawn) (sym here) ∙ (and_parts _ _ parts.0).0) (en_passant-near board c last m (double_of m c) refl parts.1)
+    pawn-near board c man m.from m.to own (ap (is_a Pawn) (sym here) ∙ (and_parts _ _ parts.0).0) (en_passant-near board c last m (double_of m c) refl parts.1)
 near board c rights last m man here own (castles h) = castles-near board c rights m man (castling board m) refl here h
 
 -- what a man can't reach is no legal move
-pub too-far : (p : Position) (man : Man) (s t : ℕ) → at p.board s ≡ Some man → may_reach man.colour man.kind s t ≡ false → (promo : Option Kind) → legal_at p (move_of s t promo) ≡ false
+pub too-far : (p : Position) (man : Man) (s t : ℕ) → at p.board s ≡ Some man → may_reach p.board man.colour man.kind s t ≡ false → (promo : Option Kind) → legal_at p (move_of s t promo) ≡ false
 too-far p man s t here far promo = false_from_ne_true _ (λ legal.
     let l = legality _ _ _ _ _ legal in
     both_ways _ far (near p.board p.turn _ _ (move_of s t promo) man here (ap (is_of p.turn) (sym here) ∙ l.mover) l.manner))

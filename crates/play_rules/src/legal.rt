@@ -71,13 +71,7 @@ fn ends_fit(board: &Board, colour: Colour, m: &Move) -> bool
 }
 
 #[tactic(auto, unfolding(board_base::specs::Legal::legal_on))]
-fn legal_on(
-    board: &Board,
-    colour: Colour,
-    rights: CastleSet,
-    last: &Option<Move>,
-    m: &Move,
-) -> bool
+fn legal_on(board: &Board, colour: Colour, rights: CastleSet, last: &Option<Move>, m: &Move) -> bool
     ensures { result ≡ legal_on board.now colour (λ x. holds rights x) last.now m.now }
 {
     ends_fit(board, colour, m)

@@ -32,9 +32,7 @@ fn carry(board: &mut Board, from: Square, to: Square, promo: Option<Kind>)
 fn goes_en_passant(board: &Board, m: &Move) -> bool
     ensures { result ≡ goes_en_passant board.now m.now }
 {
-    is_a(Kind::Pawn, board.at(m.from))
-        && m.from.file() != m.to.file()
-        && board.at(m.to).is_none()
+    is_a(Kind::Pawn, board.at(m.from)) && m.from.file() != m.to.file() && board.at(m.to).is_none()
 }
 
 /// The square on the target's file and the origin's rank, where a pawn captured en passant stands.

@@ -1,0 +1,164 @@
+ghost use Rattle.std.specs.Prelude.{◌≡◌, ◌<◌, ◌&&◌, ◌==◌, ℕ, not, true};
+ghost use Rattle.board_base.specs.Board.{is_in, rank};
+ghost use Rattle.board_base.specs.Attacks.{is_open, on_one_diagonal, on_one_line};
+ghost use Rattle.play_rules.specs.Reach.{IsWithin, may_reach, may_step};
+
+use crate::lines::{Change, Direction, add_line};
+use board_base::{Board, Kind, Man, Square, files_between, is_ahead, ranks_between};
+
+/// Adds the squares on the file and the rank up to the first men.
+fn add_straight(board: &Board, from: Square, targets: &mut [bool; 64])
+    ensures kept { IsWithin targets.old targets.new }
+    ensures added { (t : ℕ) → t < 64 → (not (from == t) && on_one_line from t && is_open board.now from t) ≡ true → is_in targets.new t ≡ true }
+{
+    let [falls, stays, rises] = [Change::Falls, Change::Stays, Change::Rises];
+    add_line(
+        board,
+        from,
+        Direction {
+            ranks: falls,
+            files: stays,
+        },
+        targets,
+    );
+    add_line(
+        board,
+        from,
+        Direction {
+            ranks: stays,
+            files: falls,
+        },
+        targets,
+    );
+    add_line(
+        board,
+        from,
+        Direction {
+            ranks: stays,
+            files: rises,
+        },
+        targets,
+    );
+    add_line(
+        board,
+        from,
+        Direction {
+            ranks: rises,
+            files: stays,
+        },
+        targets,
+    );
+}
+
+/// Adds the squares on the diagonals up to the first men.
+fn add_diagonal(board: &Board, from: Square, targets: &mut [bool; 64])
+    ensures kept { IsWithin targets.old targets.new }
+    ensures added { (t : ℕ) → t < 64 → (not (from == t) && on_one_diagonal from t && is_open board.now from t) ≡ true → is_in targets.new t ≡ true }
+{
+    let (falls, rises) = (Change::Falls, Change::Rises);
+    add_line(
+        board,
+        from,
+        Direction {
+            ranks: falls,
+            files: falls,
+        },
+        targets,
+    );
+    add_line(
+        board,
+        from,
+        Direction {
+            ranks: falls,
+            files: rises,
+        },
+        targets,
+    );
+    add_line(
+        board,
+        from,
+        Direction {
+            ranks: rises,
+            files: falls,
+        },
+        targets,
+    );
+    add_line(
+        board,
+        from,
+        Direction {
+            ranks: rises,
+            files: rises,
+        },
+        targets,
+    );
+}
+
+/// A pawn, a knight or a king may go so, whatever stands on the board.
+#[tactic(auto, unfolding(crate::specs::Reach::may_step))]
+fn may_step(man: Man, from: Square, to: Square) -> bool
+    ensures { result ≡ may_step man.colour man.kind from to }
+{
+    let files = files_between(from, to);
+    let ranks = ranks_between(from, to);
+    match man.kind {
+        Kind::Pawn => {
+            (is_ahead(man.colour, from, to) && files < 2)
+                || (from.file() == to.file() && ranks == 2)
+        }
+        Kind::Knight => files * ranks == 2,
+        Kind::King => files < 3 && ranks < 2,
+        _ => false,
+    }
+}
+
+/// Adds the square if the man may step there.
+fn add_step(man: Man, from: Square, to: Square, targets: &mut [bool; 64])
+    ensures kept { IsWithin targets.old targets.new }
+    ensures added { may_step man.colour man.kind from to ≡ true → is_in targets.new to ≡ true }
+{
+    if may_step(man, from, to) {
+        targets[to.index() as usize] = true;
+    }
+}
+
+/// Adds the squares on this rank that the man may step to.
+fn add_rank(man: Man, from: Square, row: u8, targets: &mut [bool; 64])
+    requires { row < 8 }
+    ensures kept { IsWithin targets.old targets.new }
+    ensures added { (t : ℕ) → rank t ≡ row → may_step man.colour man.kind from t ≡ true → is_in targets.new t ≡ true }
+{
+    let file = from.file();
+    for file in file.saturating_sub(2)..(file + 3).min(8) {
+        add_step(man, from, Square::known(8 * row + file), targets);
+    }
+}
+
+/// Adds the squares that the man may step to. They are at most two ranks and files away.
+fn add_steps(man: Man, from: Square, targets: &mut [bool; 64])
+    ensures kept { IsWithin targets.old targets.new }
+    ensures added { (t : ℕ) → t < 64 → may_step man.colour man.kind from t ≡ true → is_in targets.new t ≡ true }
+{
+    let rank = from.rank();
+    for row in rank.saturating_sub(2)..(rank + 3).min(8) {
+        add_rank(man, from, row, targets);
+    }
+}
+
+/// A set of squares outside which the man on `from` has no legal move.
+#[tactic(auto, unfolding(crate::specs::Reach::may_reach, board_base::specs::Attacks::kind_attacks))]
+pub fn targets_of(board: &Board, man: Man, from: Square) -> [bool; 64]
+    ensures { (t : ℕ) → t < 64 → may_reach board.now man.colour man.kind from t ≡ true → is_in result t ≡ true }
+{
+    let mut targets = [false; 64];
+    match man.kind {
+        Kind::Pawn | Kind::Knight | Kind::King => add_steps(man, from, &mut targets),
+        Kind::Bishop => add_diagonal(board, from, &mut targets),
+        Kind::Rook => add_straight(board, from, &mut targets),
+        Kind::Queen => {
+            add_straight(board, from, &mut targets);
+            add_diagonal(board, from, &mut targets);
+        }
+    }
+    targets
+}
