@@ -1,14 +1,17 @@
 use board_base::{Castle, Move};
 
-/// What is claimed of each game that reaches a query.
+/// What is said of each game that reaches a query. A claim holds where no list of moves, however long, contradicts it; so each
+/// claim holds of a query that no game reaches.
 #[derive(Clone, Copy, PartialEq, Eq, Debug)]
 pub enum Claim {
-    /// There is none.
+    /// There is no such game: the position is illegal (article 3.10.3). A game that reaches the query contradicts it.
     Illegal,
-    /// It ends with this move.
+    /// The game ends with this move. A game that reaches the query and ends with another move, or has no move, contradicts it.
     Last(Move),
-    /// The king or the rook of this castling has moved or been captured.
+    /// The right to this castling is lost: its king or its rook has moved (article 3.8.2.1), or that rook has been captured. A
+    /// game that reaches the query with both of them unmoved contradicts it.
     Lost(Castle),
-    /// This move is a legal capture en passant after it.
+    /// After the game this move is a legal capture en passant (articles 3.7.3.1 and 3.7.3.2). A game that reaches the query and
+    /// after which it isn't contradicts it.
     Ep(Move),
 }
