@@ -16,12 +16,12 @@ use Rattle.board_base.specs.declared.men.Kind.TheVariants.{Pawn, Knight, Bishop,
 use Rattle.board_base.specs.declared.moves.Move.{Move}
 use Rattle.query_base.specs.Asked.{Asked, is_of_other_side}
 use Rattle.fen_text.specs.Parts.{◌>>=◌}
-use Rattle.fen_text.specs.Rows.{is_run, places_of, is_symbol, runs_apart, row_places, is_row, row}
+use Rattle.fen_text.specs.Ranks.{is_run, places_of, is_symbol, runs_apart, rank_places, is_rank, rank}
 use Rattle.fen_text.specs.Fen.{ranks, placement, turn, rights, en_passant, en_passant_digit, double_over, asked, from_numbers, from_en_passant, from_rights, from_turn, fen}
-use Rattle.fen_text.specs.Spelling.{symbol, run_text, row_from, rank_of, ranks_text, turn_letter, rights_text, en_passant_text, spelling}
+use Rattle.fen_text.specs.Spelling.{symbol, run_text, rank_text, rank_of, ranks_text, turn_letter, rights_text, en_passant_text, spelling}
 use Rattle.fen_text.proofs.PartLemmas.{parted_next, parted_end}
-use Rattle.fen_text.proofs.RowLemmas.{run_places, run_symbol}
-use Rattle.fen_text.proofs.RankLemmas.{clean_row, slash_symbol}
+use Rattle.fen_text.proofs.RankLemmas.{run_places, run_symbol}
+use Rattle.fen_text.proofs.PlacementLemmas.{clean_rank, slash_symbol}
 use Rattle.fen_text.proofs.FieldLemmas.{clean_turn, clean_rights, clean_en_passant}
 use Rattle.fen_text.proofs.Stages.{clean_placement}
 
@@ -58,7 +58,7 @@ letter_good Black King = (refl, refl)
 run_good : (n : ℕ) → n < 8 → is_run (49 + n) ≡ true
 run_good n low = and_from _ _ (le-leb 49 (49 + n) (omega arith)) (le-leb (49 + n) 56 (omega arith))
 
-run_back : (k : ℕ) → k ≤ 8 → row_places (run_text k) ≡ replicate k None
+run_back : (k : ℕ) → k ≤ 8 → rank_places (run_text k) ≡ replicate k None
 run_back zero few = refl
 run_back (suc n) few = append-nil _ ∙ run_places (49 + n) (run_good n (omega arith)) ∙ ap (λ (j : ℕ). replicate j None) (let e : 49 + n - 48 ≡ suc n = omega arith in e)
 
@@ -66,20 +66,20 @@ run_symbols : (k : ℕ) → k ≤ 8 → list_all is_symbol (run_text k) ≡ true
 run_symbols zero few = refl
 run_symbols (suc n) few = and_from _ _ (run_symbol (49 + n) (run_good n (omega arith))) refl
 
-places_back : (ps : Places) (k : ℕ) → k + length ps ≤ 8 → row_places (row_from k ps) ≡ replicate k None ++ ps
+places_back : (ps : Places) (k : ℕ) → k + length ps ≤ 8 → rank_places (rank_text k ps) ≡ replicate k None ++ ps
 places_back [] k few = run_back k (omega arith) ∙ sym (append-nil _)
 places_back (None ∷ ps) k few = places_back ps (k + 1) (omega arith) ∙ ap (λ (l : Places). l ++ ps) (sym (replicate_more k None)) ∙ append_assoc (replicate k None) (None ∷ []) ps
 places_back (Some m ∷ ps) k few =
-    flat_map-append places_of (run_text k) (symbol m.colour m.kind ∷ row_from 0 ps)
-    ∙ ap (λ (l : Places). l ++ (places_of (symbol m.colour m.kind) ++ row_places (row_from 0 ps))) (run_back k (omega arith))
-    ∙ ap (λ (l : Places). replicate k None ++ (l ++ row_places (row_from 0 ps))) (letter_places m.colour m.kind)
+    flat_map-append places_of (run_text k) (symbol m.colour m.kind ∷ rank_text 0 ps)
+    ∙ ap (λ (l : Places). l ++ (places_of (symbol m.colour m.kind) ++ rank_places (rank_text 0 ps))) (run_back k (omega arith))
+    ∙ ap (λ (l : Places). replicate k None ++ (l ++ rank_places (rank_text 0 ps))) (letter_places m.colour m.kind)
     ∙ ap (λ (l : Places). replicate k None ++ Some m ∷ l) (places_back ps 0 (omega arith))
 
-symbols_back : (ps : Places) (k : ℕ) → k + length ps ≤ 8 → list_all is_symbol (row_from k ps) ≡ true
+symbols_back : (ps : Places) (k : ℕ) → k + length ps ≤ 8 → list_all is_symbol (rank_text k ps) ≡ true
 symbols_back [] k few = run_symbols k (omega arith)
 symbols_back (None ∷ ps) k few = symbols_back ps (k + 1) (omega arith)
 symbols_back (Some m ∷ ps) k few =
-    list_all-append is_symbol (run_text k) (symbol m.colour m.kind ∷ row_from 0 ps)
+    list_all-append is_symbol (run_text k) (symbol m.colour m.kind ∷ rank_text 0 ps)
     ∙ and_from _ _ (run_symbols k (omega arith)) (and_from _ _ ((letter_good m.colour m.kind).0) (symbols_back ps 0 (omega arith)))
 
 letter_next : (c : Colour) (k : Kind) (text : List ℕ) → runs_apart false text ≡ true → runs_apart (is_run (symbol c k)) text ≡ true
@@ -89,34 +89,34 @@ apart_run : (n : ℕ) (c : Colour) (k : Kind) (text : List ℕ) → runs_apart f
 apart_run zero c k text e = letter_next c k text e
 apart_run (suc n) c k text e = and_from _ _ (ap not (and_right (is_run (49 + n)) _ ((letter_good c k).1))) (letter_next c k text e)
 
-apart_back : (ps : Places) (k : ℕ) → runs_apart false (row_from k ps) ≡ true
+apart_back : (ps : Places) (k : ℕ) → runs_apart false (rank_text k ps) ≡ true
 apart_back [] zero = refl
 apart_back [] (suc n) = refl
 apart_back (None ∷ ps) k = apart_back ps (k + 1)
-apart_back (Some m ∷ ps) k = apart_run k m.colour m.kind (row_from 0 ps) (apart_back ps 0)
+apart_back (Some m ∷ ps) k = apart_run k m.colour m.kind (rank_text 0 ps) (apart_back ps 0)
 
-row_back : (ps : Places) → length ps ≡ 8 → row (row_from 0 ps) ≡ Some ps
-unfolding row
-row_back ps eight =
+rank_back : (ps : Places) → length ps ≡ 8 → rank (rank_text 0 ps) ≡ Some ps
+unfolding rank
+rank_back ps eight =
     let back = places_back ps 0 (omega arith) in
-    let good : is_row (row_from 0 ps) ≡ true = and_from _ _ (and_from _ _ (symbols_back ps 0 (omega arith)) (apart_back ps 0)) (eq-eqb _ 8 (zero-add _ ∙ ap length back ∙ eight)) in
-    cond-true _ (Some (row_places (row_from 0 ps))) None good ∙ ap (λ (l : Places). Some l) back
+    let good : is_rank (rank_text 0 ps) ≡ true = and_from _ _ (and_from _ _ (symbols_back ps 0 (omega arith)) (apart_back ps 0)) (eq-eqb _ 8 (zero-add _ ∙ ap length back ∙ eight)) in
+    cond-true _ (Some (rank_places (rank_text 0 ps))) None good ∙ ap (λ (l : Places). Some l) back
 
 known : {A : Type 0} (o : Option A) (x : A) → o ≡ Some x → IsTrue (is_some o)
 known o x e = ap is_some e
 
-rank_length : (n : ℕ) (board : Places) → n < 8 → length board ≡ 64 → length (rank_of n board) ≡ 8
-rank_length n board low size = length-take-le 8 (drop (8 * n) board) (omega (arith, length-drop (8 * n) board))
+rank_of_length : (n : ℕ) (board : Places) → n < 8 → length board ≡ 64 → length (rank_of n board) ≡ 8
+rank_of_length n board low size = length-take-le 8 (drop (8 * n) board) (omega (arith, length-drop (8 * n) board))
 
 ranks_back : (n : ℕ) (board : Places) → n < 8 → length board ≡ 64 → ranks n (ranks_text n board) ≡ Some (take (8 * n + 8) board)
 unfolding ranks ranks_text
-ranks_back zero board low size = row_back (rank_of 0 board) (rank_length 0 board (omega arith) size)
+ranks_back zero board low size = rank_back (rank_of 0 board) (rank_of_length 0 board (omega arith) size)
 ranks_back (suc n) board low size =
     let r : Places = rank_of (suc n) board in
-    let good : row (row_from 0 r) ≡ Some r = row_back r (rank_length (suc n) board low size) in
+    let good : rank (rank_text 0 r) ≡ Some r = rank_back r (rank_of_length (suc n) board low size) in
     let sum : 8 * n + 8 ≡ 8 * suc n = omega arith in
     let split : take (8 * suc n + 8) board ≡ take (8 * n + 8) board ++ r = take-add (8 * suc n) 8 board ∙ ap (λ (k : ℕ). take k board ++ r) (sym sum) in
-    parted_next 47 row (λ x. None) (λ r below. option_map (λ (places : Places). places ++ r) (ranks n below)) (row_from 0 r) (ranks_text n board) (clean_row 47 slash_symbol (row_from 0 r) (known _ _ good))
+    parted_next 47 rank (λ x. None) (λ r below. option_map (λ (places : Places). places ++ r) (ranks n below)) (rank_text 0 r) (ranks_text n board) (clean_rank 47 slash_symbol (rank_text 0 r) (known _ _ good))
     ∙ ap (λ (o : Option Places). o >>= (λ r. option_map (λ (places : Places). places ++ r) (ranks n (ranks_text n board)))) good
     ∙ ap (λ (o : Option Places). option_map (λ (places : Places). places ++ r) o) (ranks_back n board (omega arith) size)
     ∙ ap (λ (l : Places). Some l) (sym split)

@@ -14,7 +14,7 @@ use Rattle.fen_text.specs.Parts.{parted, Free, IsPart}
 use Rattle.fen_text.specs.Faults.{Begins, IsFault, IsFenFault, spaces}
 use Rattle.fen_text.specs.Fen.{number, rights, placement, Position, from_numbers, from_en_passant, from_rights, from_turn}
 use Rattle.fen_text.proofs.PartLemmas.{Clean, Opens, free_take, free_parts, part_fault, end_fault, more_fault}
-use Rattle.fen_text.proofs.RankLemmas.{clean_ranks, map_fault}
+use Rattle.fen_text.proofs.PlacementLemmas.{clean_ranks, map_fault}
 
 no_spaces : (text : List ℕ) → Free 32 text → spaces text ≡ 0
 no_spaces [] f = refl

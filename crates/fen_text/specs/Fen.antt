@@ -9,12 +9,12 @@ use Rattle.board_base.specs.declared.men.Colour.TheVariants.{White, Black}
 use Rattle.board_base.specs.declared.moves.Move.{Move}
 use Rattle.query_base.specs.Asked.{Asked}
 use Rattle.fen_text.specs.Parts.{parted}
-use Rattle.fen_text.specs.Rows.{row}
+use Rattle.fen_text.specs.Ranks.{rank}
 
 -- so many ranks and one more, the highest first, with a slash between two; the places from the lowest rank up
 unfoldable pub ranks : ℕ → List ℕ → Option Places
-ranks zero text = row text
-ranks (suc n) text = parted 47 row (λ r. None) (λ r below. option_map (λ places. places ++ r) (ranks n below)) text
+ranks zero text = rank text
+ranks (suc n) text = parted 47 rank (λ r. None) (λ r below. option_map (λ places. places ++ r) (ranks n below)) text
 
 unfoldable pub placement : List ℕ → Option Places
 placement text = ranks 7 text

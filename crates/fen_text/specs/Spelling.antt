@@ -30,10 +30,10 @@ run_text zero = []
 run_text (suc n) = (49 + n) ∷ []
 
 -- so many empty squares, and then these places
-abbrev pub row_from : ℕ → Places → List ℕ
-row_from run [] = run_text run
-row_from run (None ∷ places) = row_from (run + 1) places
-row_from run (Some m ∷ places) = run_text run ++ symbol m.colour m.kind ∷ row_from 0 places
+abbrev pub rank_text : ℕ → Places → List ℕ
+rank_text run [] = run_text run
+rank_text run (None ∷ places) = rank_text (run + 1) places
+rank_text run (Some m ∷ places) = run_text run ++ symbol m.colour m.kind ∷ rank_text 0 places
 
 -- the places of the rank with this number, from 0
 abbrev pub rank_of : ℕ → Places → Places
@@ -41,8 +41,8 @@ rank_of n board = take 8 (drop (8 * n) board)
 
 -- the rank with this number, and those below it
 unfoldable pub ranks_text : ℕ → Places → List ℕ
-ranks_text zero board = row_from 0 (rank_of 0 board)
-ranks_text (suc n) board = row_from 0 (rank_of (suc n) board) ++ 47 ∷ ranks_text n board
+ranks_text zero board = rank_text 0 (rank_of 0 board)
+ranks_text (suc n) board = rank_text 0 (rank_of (suc n) board) ++ 47 ∷ ranks_text n board
 
 abbrev pub turn_letter : Colour → ℕ
 turn_letter White = 119

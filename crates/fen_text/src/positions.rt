@@ -5,7 +5,7 @@ ghost use Rattle.fen_text.specs.Faults.{Reads};
 use crate::faults::FenFault;
 use crate::fields::{read_number, read_en_passant, read_rights, read_turn};
 use crate::parts::split_part;
-use crate::ranks::read_placement;
+use crate::placements::read_placement;
 use board_base::{Board, CastleSet, Colour};
 use query_base::Query;
 

@@ -1,6 +1,6 @@
 ghost use Rattle.std.specs.Prelude.{◌≡◌, ◌+◌, ◌*◌, ◌<◌, ◌≤◌, ◌++◌, ◌∷◌, [], length, slice_index_or, None, Some};
 ghost use Rattle.board_base.specs.Board.{at};
-ghost use Rattle.fen_text.specs.Spelling.{symbol, run_text, row_from, rank_of, ranks_text, turn_letter, letter_if, rights_text, en_passant_text, spelling};
+ghost use Rattle.fen_text.specs.Spelling.{symbol, run_text, rank_text, rank_of, ranks_text, turn_letter, letter_if, rights_text, en_passant_text, spelling};
 ghost use Rattle.fen_text.specs.Fen.{fen};
 
 use crate::fields::digit_of;
@@ -50,11 +50,11 @@ fn push_run(run: u8, out: &mut ArrayVec<u8, 128>)
     }
 }
 
-fn write_row(board: &Board, rank: u8, out: &mut ArrayVec<u8, 128>)
+fn write_rank(board: &Board, rank: u8, out: &mut ArrayVec<u8, 128>)
     requires rank { rank < 8 }
     requires size { length board.now ≡ 64 }
     requires room { length out.old.items + 8 < 128 }
-    ensures text { out.new.items ≡ out.old.items ++ row_from 0 (rank_of rank board.now) }
+    ensures text { out.new.items ≡ out.old.items ++ rank_text 0 (rank_of rank board.now) }
     ensures short { length out.new.items ≤ length out.old.items + 8 }
 {
     let mut run = 0;
@@ -78,11 +78,11 @@ fn write_ranks(board: &Board, out: &mut ArrayVec<u8, 128>)
     ensures short { length out.new.items ≤ 71 }
 {
     let mut rank = 7;
-    write_row(board, rank, out);
+    write_rank(board, rank, out);
     while rank > 0 {
         rank -= 1;
         out.push(b'/');
-        write_row(board, rank, out);
+        write_rank(board, rank, out);
     }
 }
 
