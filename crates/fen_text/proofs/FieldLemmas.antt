@@ -54,11 +54,11 @@ SameHead r [] = Unit {0}
 SameHead [] (b ∷ x) = ⊥
 SameHead (c ∷ r) (b ∷ x) = b ≡ c
 
-mark_miss : (l : ℕ) (text : List ℕ) → Misses l text → mark l text ≡ (false, text)
+pub mark_miss : (l : ℕ) (text : List ℕ) → Misses l text → mark l text ≡ (false, text)
 mark_miss l [] m = refl
 mark_miss l (b ∷ text) m = cond-false _ (true, text) (false, b ∷ text) (ne_eqb b l m)
 
-mark_hit : (l b : ℕ) (text : List ℕ) → b ≡ l → mark l (b ∷ text) ≡ (true, text)
+pub mark_hit : (l b : ℕ) (text : List ℕ) → b ≡ l → mark l (b ∷ text) ≡ (true, text)
 mark_hit l b text e = cond-true _ (true, text) (false, b ∷ text) (eq-eqb b l e)
 
 step : (l : ℕ) (ls text : List ℕ) (m : Bool × List ℕ) → mark l text ≡ m → marks (l ∷ ls) text ≡ (m.0 ∷ (marks ls m.1).0, (marks ls m.1).1)
@@ -201,11 +201,11 @@ letters_free (l ∷ ls) f (b ∷ text) g =
           letters_free ls fs.1 (b ∷ text) (subst (Free 32) left g)
     ]
 
-nothing_is : (text : List ℕ) → is_nothing text ≡ true → text ≡ []
+pub nothing_is : (text : List ℕ) → is_nothing text ≡ true → text ≡ []
 nothing_is [] e = refl
 nothing_is (b ∷ text) e = absurd (true≢false (sym e))
 
-dash_is : (text : List ℕ) → is_dash text ≡ true → text ≡ 45 ∷ []
+pub dash_is : (text : List ℕ) → is_dash text ≡ true → text ≡ 45 ∷ []
 dash_is [] e = absurd (true≢false (sym e))
 dash_is (b ∷ text) e =
     let es = and_parts _ _ e in

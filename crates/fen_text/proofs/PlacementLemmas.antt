@@ -12,22 +12,8 @@ use Rattle.fen_text.specs.Parts.{◌>>=◌, Free, IsPart}
 use Rattle.fen_text.specs.Faults.{Begins, IsFault}
 use Rattle.fen_text.specs.Fen.{ranks}
 use Rattle.fen_text.specs.Placed.{IsPlaced}
-use Rattle.fen_text.proofs.PartLemmas.{Clean, Opens, not_some, some_is, some_first, first_at, free_append, parted_next, parted_end, shift, part_fault, part_more, end_fault, more_fault}
+use Rattle.fen_text.proofs.PartLemmas.{Clean, Opens, not_some, some_is, some_first, some_value, some_map, map_some, first_at, free_append, parted_next, parted_end, map_fault, part_fault, part_more, end_fault, more_fault}
 use Rattle.fen_text.proofs.RankLemmas.{fill, rank_known, rank_unknown}
-
-some_map : {A B : Type 0} (f : A → B) (o : Option A) → IsTrue (is_some o) → IsTrue (is_some (option_map f o))
-some_map f None s = s
-some_map f (Some x) s = refl
-
-map_some : {A B : Type 0} (f : A → B) (o : Option A) → IsTrue (is_some (option_map f o)) → IsTrue (is_some o)
-map_some f None s = s
-map_some f (Some x) s = refl
-
--- what is made of the value does not change where a text is faulty
-pub map_fault : {A B : Type 0} (f : A → B) (decode : List ℕ → Option A) (text : List ℕ) (n : ℕ) → IsFault decode text n → IsFault (λ t. option_map f (decode t)) text n
-map_fault {A} f decode text n fault =
-    subst (IsFault (λ t. option_map f (decode t)) text) (zero-add n)
-    (shift (λ t. option_map f (decode t)) decode [] text n (λ x e. ap (λ (o : Option A). option_map f o) e) (λ x s. some_map f (decode x) s) (λ x s. map_some f (decode x) s) fault)
 
 then_some : {A B : Type 0} (o : Option A) (p : Option B) → IsTrue (is_some (o >>= (λ x. p))) → IsTrue (is_some p)
 then_some None p s = absurd (true≢false (sym s))
@@ -59,17 +45,13 @@ space_symbol = refl
 pub open_rank : Begins rank []
 open_rank = (replicate 8 75, rank_known (replicate 8 75) (fill 8 0 false refl))
 
-some_of : {A : Type 0} (o : Option A) → IsTrue (is_some o) → (x : A) × (o ≡ Some x)
-some_of None s = absurd (true≢false (sym s))
-some_of (Some x) s = (x, refl)
-
 pub open_ranks : (n : ℕ) → Begins (ranks n) []
 unfolding ranks
 open_ranks zero = open_rank
 open_ranks (suc n) =
     let a : List ℕ = open_rank.0 in
     let y : Begins (ranks n) [] = open_ranks n in
-    let v : (r : Places) × (rank a ≡ Some r) = some_of (rank a) open_rank.1 in
+    let v : (r : Places) × (rank a ≡ Some r) = some_value (rank a) open_rank.1 in
     let is = parted_next 47 rank (λ r. None) (λ r below. option_map (λ (places : Places). places ++ r) (ranks n below)) a y.0 (clean_rank 47 slash_symbol a open_rank.1)
     ∙ ap (λ (o : Option Places). o >>= (λ r. option_map (λ (places : Places). places ++ r) (ranks n y.0))) v.1 in
     (a ++ 47 ∷ y.0, some_is _ _ (sym is) (some_map _ (ranks n y.0) y.1))
@@ -82,7 +64,7 @@ clean_ranks (suc n) text s = elim (first_at 47 text) [
   | inr q ↦
       let s2 = some_is _ _ (ap (ranks (suc n)) q.2 ∙ parted_next 47 rank (λ r. None) (λ r below. option_map (λ (places : Places). places ++ r) (ranks n below)) q.0 q.1 q.3) s in
       let first : IsTrue (is_some (rank q.0)) = some_first (rank q.0) (λ r. option_map (λ (places : Places). places ++ r) (ranks n q.1)) s2 in
-      let v : (r : Places) × (rank q.0 ≡ Some r) = some_of (rank q.0) first in
+      let v : (r : Places) × (rank q.0 ≡ Some r) = some_value (rank q.0) first in
       let second : IsTrue (is_some (ranks n q.1)) = map_some _ (ranks n q.1) (some_is _ _ (ap (λ (o : Option Places). o >>= (λ r. option_map (λ (places : Places). places ++ r) (ranks n q.1))) v.1) s2) in
       subst (Free 32) (sym q.2) (free_append 32 q.0 (47 ∷ q.1) (clean_rank 32 space_symbol q.0 first) (clean_ranks n q.1 second))
 ]

@@ -11,10 +11,11 @@ use Rattle.board_base.specs.declared.men.Colour.{Colour}
 use Rattle.query_base.specs.Asked.{Asked}
 use Rattle.fen_text.specs.declared.faults.FenFault.{FenFault}
 use Rattle.fen_text.specs.Parts.{parted, Free, IsPart}
-use Rattle.fen_text.specs.Faults.{Begins, IsFault, IsFenFault, spaces}
+use Rattle.fen_text.specs.Faults.{IsFault}
+use Rattle.fen_text.specs.FenFaults.{IsFenFault, spaces}
 use Rattle.fen_text.specs.Fen.{number, rights, placement, Position, from_numbers, from_en_passant, from_rights, from_turn}
-use Rattle.fen_text.proofs.PartLemmas.{Clean, Opens, free_take, free_parts, part_fault, end_fault, more_fault}
-use Rattle.fen_text.proofs.PlacementLemmas.{clean_ranks, map_fault}
+use Rattle.fen_text.proofs.PartLemmas.{Clean, Opens, free_take, begun_free, map_fault, part_fault, end_fault, more_fault}
+use Rattle.fen_text.proofs.PlacementLemmas.{clean_ranks}
 
 no_spaces : (text : List ℕ) → Free 32 text → spaces text ≡ 0
 no_spaces [] f = refl
@@ -78,12 +79,9 @@ pub clean_placement : Clean 32 placement
 unfolding placement
 clean_placement = clean_ranks 7
 
-begun_free : {V : Type 0} (decode : List ℕ → Option V) (p : List ℕ) → Clean 32 decode → Begins decode p → Free 32 p
-begun_free decode p clean (rest, s) = (free_parts 32 p rest (clean (p ++ rest) s)).0
-
 -- a fault in the last field
 pub stage_last : {A B : Type 0} (value : A → B) (decode : List ℕ → Option A) (r : List ℕ) (n : ℕ) (g : FenFault) → Clean 32 decode → IsFault decode r n → g.field ≡ 1 → g.at ≡ n → IsFenFault (λ t. option_map value (decode t)) r g
 stage_last value decode r n g clean fault field place = record {
   place = subst (IsFault (λ t. option_map value (decode t)) r) (sym place) (map_fault value decode r n fault);
-  field = field ∙ ap (λ (k : ℕ). k + 1) (sym (ap (λ (m : ℕ). spaces (take m r)) place ∙ no_spaces (take n r) (begun_free decode (take n r) clean fault.begins)));
+  field = field ∙ ap (λ (k : ℕ). k + 1) (sym (ap (λ (m : ℕ). spaces (take m r)) place ∙ no_spaces (take n r) (begun_free 32 decode (take n r) clean fault.begins)));
 }

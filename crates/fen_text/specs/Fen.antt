@@ -1,5 +1,6 @@
--- FEN: placement, side to move, castling rights, the square en_passant_victim by a double step, and two numbers or none.
-use Rattle.std.specs.Prelude.{ℕ, zero, suc, ◌+◌, ◌-◌, ◌*◌, Bool, true, false, cond, ◌&&◌, ◌==◌, not, nat_le, List, [], ◌∷◌, ◌++◌, length, Option, Some, None}
+-- FEN, as section 16.1 of the PGN standard describes it: placement, side to move, castling rights, the square that a double step
+-- crossed, and two numbers or none, with one space between two fields.
+use Rattle.std.specs.Prelude.{ℕ, zero, suc, ◌+◌, ◌-◌, ◌*◌, Bool, true, false, cond, ◌&&◌, ◌==◌, not, nat_le, List, [], ◌∷◌, ◌++◌, length, slice_index_or, Option, Some, None}
 use Rattle.std.specs.List.{list_all, fold}
 use Rattle.std.specs.Option.{option_map}
 use Rattle.board_base.specs.Board.{Places}
@@ -35,9 +36,12 @@ abbrev pub marks : List ℕ → List ℕ → List Bool × List ℕ
 marks [] text = ([], text)
 marks (l ∷ letters) text = let m : Bool × List ℕ = mark l text in let ms : List Bool × List ℕ = marks letters m.1 in (m.0 ∷ ms.0, ms.1)
 
+-- the letter with this number, from 0, was given
+abbrev pub is_given : List Bool → ℕ → Bool
+is_given given n = slice_index_or given n false
+
 abbrev pub rights_of : List Bool → Rights
-rights_of (k ∷ q ∷ kk ∷ qq ∷ []) = record { white_short = k; white_long = q; black_short = kk; black_long = qq }
-rights_of _ = record { white_short = false; white_long = false; black_short = false; black_long = false }
+rights_of given = record { white_short = is_given given 0; white_long = is_given given 1; black_short = is_given given 2; black_long = is_given given 3 }
 
 abbrev pub is_nothing : List ℕ → Bool
 is_nothing [] = true
@@ -50,23 +54,23 @@ is_dash (b ∷ text) = (b == 45) && is_nothing text
 abbrev pub no_rights : Rights
 no_rights = record { white_short = false; white_long = false; black_short = false; black_long = false }
 
--- a dash, or one or more of K, Q, k and q
+-- a dash, or one or more of K, Q, k and q, in this order and each at most once
 unfoldable pub rights : List ℕ → Option Rights
 rights text =
     let ms : List Bool × List ℕ = marks (75 ∷ 81 ∷ 107 ∷ 113 ∷ []) text
     in cond (is_dash text) (Some no_rights) (cond (not (is_nothing text) && is_nothing ms.1) (Some (rights_of ms.0)) None)
 
--- the rank, as its digit, and its number from 0, on which this colour takes en passant
+-- the rank, as its digit, on which a capture en passant by this colour ends
 abbrev pub en_passant_digit : Colour → ℕ
 en_passant_digit White = 54
 en_passant_digit Black = 51
 
--- the double step of the other side over this file
+-- the double step of the other side on this file, from 0 for a
 abbrev pub double_over : Colour → ℕ → Move
 double_over White f = record { from = 48 + f; to = 32 + f; promo = None }
 double_over Black f = record { from = 8 + f; to = 24 + f; promo = None }
 
--- a dash, or the square en_passant_victim by a double step of the other side
+-- a dash, or the square that a double step of the other side crossed
 abbrev pub en_passant : Colour → List ℕ → Option (Option Move)
 en_passant c [] = None
 en_passant c (b ∷ []) = cond (b == 45) (Some None) None
@@ -79,7 +83,7 @@ is_digit b = nat_le 48 b && nat_le b 57
 abbrev pub value : List ℕ → ℕ
 value text = fold (λ n d. 10 * n + (d - 48)) 0 text
 
--- one to nine digits
+-- one to nine decimal digits
 unfoldable pub number : List ℕ → Option ℕ
 number text = cond (nat_le 1 (length text) && nat_le (length text) 9 && list_all is_digit text) (Some (value text)) None
 
@@ -87,9 +91,11 @@ number text = cond (nat_le 1 (length text) && nat_le (length text) 9 && list_all
 abbrev pub Position : Type 0
 Position = Asked × Option (ℕ × ℕ)
 
+-- what four fields ask for; no move is barred
 abbrev pub asked : Places → Colour → Rights → Option Move → Asked
 asked b t r e = record { board = b; turn = t; held = r; only = e; barred = None }
 
+-- From a field on: fields five and six, or none; fields four to six; fields three to six; fields two to six.
 unfoldable pub from_numbers : Asked → List ℕ → Option Position
 from_numbers q text = parted 32 number (λ h. None) (λ h last. option_map (λ f. (q, Some (h, f))) (number last)) text
 
@@ -102,5 +108,16 @@ from_rights b t text = parted 32 rights (λ r. None) (from_en_passant b t) text
 unfoldable pub from_turn : Places → List ℕ → Option Position
 from_turn b text = parted 32 turn (λ t. None) (from_rights b) text
 
+-- four fields, or six
 unfoldable pub fen : List ℕ → Option Position
 fen text = parted 32 placement (λ b. None) from_turn text
+
+-- the query, if no numbers come with it
+abbrev pub unnumbered : Option Position → Option Asked
+unnumbered None = None
+unnumbered (Some (q, None)) = Some q
+unnumbered (Some (q, Some numbers)) = None
+
+-- exactly four fields
+unfoldable pub fen_of_four : List ℕ → Option Asked
+fen_of_four text = unnumbered (fen text)

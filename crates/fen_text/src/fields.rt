@@ -8,7 +8,7 @@ ghost use Rattle.fen_text.specs.Faults.{ReadsPart};
 use board_base::{Castle, CastleSet, Colour, Move, Square};
 
 /// The side to move, or how many bytes begin one.
-pub fn read_turn(text: &[u8]) -> Result<Colour, usize>
+pub(crate) fn read_turn(text: &[u8]) -> Result<Colour, usize>
     ensures { ReadsPart turn text.now result }
 {
     if text.is_empty() {
@@ -45,7 +45,7 @@ fn with_given(set: CastleSet, castle: Castle, given: bool) -> CastleSet
 }
 
 /// The castling rights, or how many bytes begin such a field.
-pub fn read_rights(text: &[u8]) -> Result<CastleSet, usize>
+pub(crate) fn read_rights(text: &[u8]) -> Result<CastleSet, usize>
     ensures { ReadsPart rights text.now result }
 {
     if text.is_empty() {
@@ -78,7 +78,7 @@ fn is_file(byte: u8) -> bool
 }
 
 /// The rank on which this colour takes en passant, as its digit.
-pub fn digit_of(turn: Colour) -> u8
+pub(crate) fn digit_of(turn: Colour) -> u8
     ensures { result ≡ en_passant_digit turn }
 {
     match turn {
@@ -110,7 +110,7 @@ fn double_step(turn: Colour, file: u8) -> Option<Move>
 }
 
 /// The double step just made, or how many bytes begin such a field.
-pub fn read_en_passant(turn: Colour, text: &[u8]) -> Result<Option<Move>, usize>
+pub(crate) fn read_en_passant(turn: Colour, text: &[u8]) -> Result<Option<Move>, usize>
     ensures read { ReadsPart (en_passant turn) text.now result }
     ensures fits { IfOk result (λ e. IsTrue (is_of_other_side turn e)) }
 {
@@ -142,7 +142,7 @@ fn is_decimal(byte: u8) -> bool
 }
 
 /// A number of one to nine digits, or how many bytes begin one.
-pub fn read_number(text: &[u8]) -> Result<u32, usize>
+pub(crate) fn read_number(text: &[u8]) -> Result<u32, usize>
     ensures { ReadsPart number text.now result }
 {
     let mut value: u32 = 0;

@@ -3,6 +3,7 @@
 
 mod faults;
 mod fields;
+mod laws;
 mod parts;
 mod positions;
 mod placements;
@@ -10,10 +11,10 @@ mod ranks;
 mod writing;
 
 pub use faults::FenFault;
-pub use fields::{read_number, read_en_passant, read_rights, read_turn};
+pub use laws::one_text_each;
 pub use parts::split_part;
 pub use positions::read_fen;
-pub use placements::read_placement;
+pub use writing::write_fen;
 
 #[cfg(test)]
 mod tests;

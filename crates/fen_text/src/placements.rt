@@ -46,7 +46,7 @@ fn read_ranks(board: &mut Board, rank: u8, text: &[u8]) -> Result<(), usize>
 
 /// The board of a placement, or how many bytes begin one.
 #[tactic(auto, unfolding(crate::specs::Fen::placement))]
-pub fn read_placement(text: &[u8]) -> Result<Board, usize>
+pub(crate) fn read_placement(text: &[u8]) -> Result<Board, usize>
     ensures { ReadsPart placement text.now result }
 {
     let mut board = Board::empty();

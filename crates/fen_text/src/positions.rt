@@ -1,6 +1,6 @@
 ghost use Rattle.std.specs.Prelude.{◌≡◌, ◌+◌, ◌<◌, ◌≤◌, ◌^◌, length, IfErr, IfOk, None};
 ghost use Rattle.fen_text.specs.Fen.{from_numbers, from_en_passant, from_rights, from_turn, fen};
-ghost use Rattle.fen_text.specs.Faults.{Reads};
+ghost use Rattle.fen_text.specs.FenFaults.{Reads};
 
 use crate::faults::FenFault;
 use crate::fields::{read_number, read_en_passant, read_rights, read_turn};
