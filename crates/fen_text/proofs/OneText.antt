@@ -1,5 +1,5 @@
 -- Each query has one text of four fields.
-use Rattle.std.proofs.Common.{◌≡◌, ℕ, zero, suc, ◌+◌, ◌-◌, ◌*◌, ◌<◌, ◌≤◌, ◌==◌, min, Bool, true, false, cond, ◌&&◌, ◌||◌, not, List, [], ◌∷◌, ◌++◌, length, take, drop, replicate, inl, inr, refl, sym, ap, ◌∙◌, subst, arith, append_assoc, append-nil, length-append, length-drop, zero-add, take_all, true≢false, nat_le, Option, Some, None, is_some}
+use Rattle.std.proofs.Common.{◌≡◌, ℕ, zero, suc, ◌+◌, ◌-◌, ◌*◌, ◌<◌, ◌≤◌, ◌==◌, Bool, true, false, cond, ◌&&◌, not, List, [], ◌∷◌, ◌++◌, length, take, drop, replicate, inl, inr, refl, sym, ap, ◌∙◌, subst, arith, append_assoc, append-nil, length-append, length-drop, take_all, true≢false, nat_le, Option, Some, None}
 use Rattle.std.proofs.lemmas.Bool.{and_parts, not-true, cases_eq, cases_Bool, ne_eqb, eqb-true, eq-eqb, leb-true, cond-true, cond-false}
 use Rattle.std.proofs.lemmas.Option.{cond_some}
 use Rattle.std.proofs.lemmas.List.{take-append-le, drop-append-le, drop_at}
@@ -18,6 +18,7 @@ use Rattle.fen_text.specs.Spelling.{symbol, run_text, rank_text, rank_of, ranks_
 use Rattle.fen_text.proofs.PartLemmas.{some_value, parted_known, followed}
 use Rattle.fen_text.proofs.RankLemmas.{run_places, letter_len, letter_symbol}
 use Rattle.fen_text.proofs.PlacementLemmas.{rank_length}
+use Rattle.fen_text.proofs.Lengths.{spelling_bound}
 use Rattle.fen_text.proofs.FieldLemmas.{four, mark_hit, mark_miss, nothing_is, dash_is}
 
 -- one line of a table of bytes
@@ -121,8 +122,7 @@ ranks_spelled (suc n) text board good =
     let length_xs = again.1 in
     let last : rank_of (suc n) (xs ++ r) ≡ r = ap (take 8) (drop_at xs r (8 * suc n) (omega arith)) ∙ take_all 8 r (omega arith) in
     let top = rank_spelled parts.front r parts.good ∙ ap (rank_text 0) (sym last) in
-    let low = again.0 ∙ sym (ranks_front n xs r (omega arith)) in
-    (
+    let low = again.0 ∙ sym (ranks_front n xs r (omega arith)) in (
       parts.whole ∙ ap (λ (t : List ℕ). t ++ 47 ∷ parts.rest) top ∙ ap (λ (t : List ℕ). rank_text 0 (rank_of (suc n) (xs ++ r)) ++ 47 ∷ t) low ∙ ap (λ (b : Places). rank_text 0 (rank_of (suc n) b) ++ 47 ∷ ranks_text n b) below.2,
       omega (arith, ap length below.2, length-append xs r),
     )
@@ -210,8 +210,7 @@ last_spelled : (b : Places) (t : Colour) (r : Rights) (text : List ℕ) (q : Ask
 unfolding from_en_passant query_of
 last_spelled b t r text q e = elim (parted_known 32 (en_passant t) (λ e. Some (asked b t r e, None)) (λ e. from_numbers (asked b t r e)) text (q, None) e) [
   | inl alone ↦
-      let is : asked b t r alone.value ≡ q = ap (query_of q) alone.ends in
-      (
+      let is : asked b t r alone.value ≡ q = ap (query_of q) alone.ends in (
         ap (λ (a : Asked). a.board) is,
         ap (λ (a : Asked). a.turn) is,
         ap (λ (a : Asked). a.held) is,
@@ -224,8 +223,7 @@ from_rights_spelled : (b : Places) (t : Colour) (text : List ℕ) (q : Asked) �
 unfolding from_rights
 from_rights_spelled b t text q e =
     let parts = followed 32 rights (λ r. None) (from_en_passant b t) text (q, None) (λ r. refl) e in
-    let rest = last_spelled b t parts.value parts.rest q parts.goes_on in
-    (
+    let rest = last_spelled b t parts.value parts.rest q parts.goes_on in (
       rest.0,
       rest.1,
       parts.whole ∙ ap (λ (l : List ℕ). l ++ 32 ∷ parts.rest) (rights_spelled parts.front parts.value parts.good ∙ ap rights_text rest.2) ∙ ap (λ (l : List ℕ). rights_text q.held ++ 32 ∷ l) rest.3,
@@ -235,8 +233,7 @@ from_turn_spelled : (b : Places) (text : List ℕ) (q : Asked) → from_turn b t
 unfolding from_turn
 from_turn_spelled b text q e =
     let parts = followed 32 turn (λ t. None) (from_rights b) text (q, None) (λ t. refl) e in
-    let rest = from_rights_spelled b parts.value parts.rest q parts.goes_on in
-    (
+    let rest = from_rights_spelled b parts.value parts.rest q parts.goes_on in (
       rest.0,
       parts.whole ∙ ap (λ (l : List ℕ). l ++ 32 ∷ parts.rest) (turn_spelled parts.front parts.value parts.good ∙ ap (λ (t : Colour). turn_letter t ∷ []) rest.1) ∙ ap (λ (l : List ℕ). turn_letter q.turn ∷ 32 ∷ l) rest.2,
     )
@@ -246,8 +243,7 @@ unfolding fen placement spelling
 fen_spelled text q e =
     let parts = followed 32 placement (λ b. None) from_turn text (q, None) (λ b. refl) e in
     let rest = from_turn_spelled parts.value parts.rest q parts.goes_on in
-    let first = ranks_spelled 7 parts.front parts.value parts.good in
-    (
+    let first = ranks_spelled 7 parts.front parts.value parts.good in (
       parts.whole ∙ ap (λ (l : List ℕ). l ++ 32 ∷ parts.rest) (first.0 ∙ ap (ranks_text 7) rest.0) ∙ ap (λ (l : List ℕ). ranks_text 7 q.board ++ 32 ∷ l) rest.1,
       sym (ap length rest.0) ∙ first.1,
     )
@@ -266,3 +262,13 @@ four_spelled text q e = (fen_spelled text q (four_known text q e)).0
 
 pub four_equal : (a b : List ℕ) (q : Asked) → fen_of_four a ≡ Some q → fen_of_four b ≡ Some q → a ≡ b
 four_equal a b q known_a known_b = four_spelled a q known_a ∙ sym (four_spelled b q known_b)
+
+pub four_short : (text : List ℕ) (q : Asked) → fen_of_four text ≡ Some q → length text ≤ 81
+four_short text q e = let few = spelling_bound q in omega (arith, ap length (four_spelled text q e))
+
+-- a longer text has other fields than four
+pub four_long : (text : List ℕ) → 81 < length text → fen_of_four text ≡ None
+four_long text long = elim (fen_of_four text) as (λ o. fen_of_four text ≡ o → o ≡ None) [
+  | None ↦ λ e. refl
+  | Some q ↦ λ e. let short = four_short text q e in absurd (omega arith)
+] refl

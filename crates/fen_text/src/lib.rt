@@ -5,15 +5,15 @@ mod faults;
 mod fields;
 mod laws;
 mod parts;
-mod positions;
 mod placements;
+mod positions;
 mod ranks;
 mod writing;
 
 pub use faults::FenFault;
 pub use laws::one_text_each;
 pub use parts::split_part;
-pub use positions::read_fen;
+pub use positions::{read_fen, read_four_fields};
 pub use writing::write_fen;
 
 #[cfg(test)]

@@ -1,9 +1,9 @@
-ghost use Rattle.std.specs.Prelude.{◌≡◌, ◌+◌, ◌<◌, ◌≤◌, ◌^◌, length, IfErr, IfOk, None};
-ghost use Rattle.fen_text.specs.Fen.{from_numbers, from_en_passant, from_rights, from_turn, fen};
+ghost use Rattle.std.specs.Prelude.{◌≡◌, ◌+◌, ◌<◌, ◌≤◌, ◌^◌, length, IfErr, IfOk, IfSome, None, Some};
+ghost use Rattle.fen_text.specs.Fen.{from_numbers, from_en_passant, from_rights, from_turn, fen, unnumbered, fen_of_four};
 ghost use Rattle.fen_text.specs.FenFaults.{Reads};
 
 use crate::faults::FenFault;
-use crate::fields::{read_number, read_en_passant, read_rights, read_turn};
+use crate::fields::{read_en_passant, read_number, read_rights, read_turn};
 use crate::parts::split_part;
 use crate::placements::read_placement;
 use board_base::{Board, CastleSet, Colour};
@@ -149,5 +149,34 @@ pub fn read_fen(text: &[u8]) -> Result<(Query, Option<(u32, u32)>), FenFault>
     match read_from_turn(&board, rest) {
         Ok(position) => Ok(position),
         Err(fault) => Err(behind(part.len(), fault)),
+    }
+}
+
+/// The longest text of four fields: 64 men, seven slashes, three spaces, one letter, four letters and a square.
+const LONGEST: usize = 81;
+
+/// The query, if no numbers come with it.
+fn without_numbers(query: Query, numbers: Option<(u32, u32)>) -> Option<Query>
+    requires { query.barred ≡ None }
+    ensures read { result ≡ unnumbered (Some (query, numbers)) }
+    ensures plain { IfSome result (λ q. q.barred ≡ None) }
+{
+    match numbers {
+        None => Some(query),
+        Some(_) => None,
+    }
+}
+
+/// The query of a text of exactly four fields.
+pub fn read_four_fields(text: &[u8]) -> Option<Query>
+    ensures read { result ≡ fen_of_four text.now }
+    ensures plain { IfSome result (λ q. q.barred ≡ None) }
+{
+    if text.len() > LONGEST {
+        return None;
+    }
+    match read_fen(text) {
+        Ok((query, numbers)) => without_numbers(query, numbers),
+        Err(_) => None,
     }
 }
