@@ -1,4 +1,5 @@
-//! FEN: reading and writing a position as one line of text.
+//! Forsyth-Edwards Notation (FEN): a query as one line of text. What isn't FEN is refused with the place where it stops being so.
+//! The way in which a text is cut into parts, and the fault of a part becomes that of the whole, is stated for any grammar.
 #![tactic(auto)]
 
 mod faults;

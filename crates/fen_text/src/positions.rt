@@ -34,6 +34,7 @@ fn behind(len: usize, fault: FenFault) -> FenFault
     }
 }
 
+/// Fields five and six, after the query of those before.
 fn read_from_numbers(query: &Query, text: &[u8]) -> Result<(Query, Option<(u32, u32)>), FenFault>
     requires short { length text.now < 2 ^ 32 }
     requires plain { query.now.barred ≡ None }
@@ -55,6 +56,7 @@ fn read_from_numbers(query: &Query, text: &[u8]) -> Result<(Query, Option<(u32, 
     }
 }
 
+/// Fields four to six, or field four alone.
 fn read_from_en_passant(
     board: &Board,
     turn: Colour,
@@ -87,6 +89,7 @@ fn read_from_en_passant(
     }
 }
 
+/// The fields from the third on.
 fn read_from_rights(
     board: &Board,
     turn: Colour,
@@ -111,6 +114,7 @@ fn read_from_rights(
     }
 }
 
+/// The fields from the second on.
 fn read_from_turn(board: &Board, text: &[u8]) -> Result<(Query, Option<(u32, u32)>), FenFault>
     requires { length text.now < 2 ^ 32 }
     ensures read { Reads (from_turn board.now) text.now result }
@@ -131,8 +135,24 @@ fn read_from_turn(board: &Board, text: &[u8]) -> Result<(Query, Option<(u32, u32
     }
 }
 
-/// The query of a text, with fields five and six where they are given. An `Err` says how much of the text begins
-/// some FEN.
+/// Reads Forsyth-Edwards Notation, which section 16.1 of the PGN standard describes. Four fields or six are given, with one space
+/// between two, and no line end:
+///
+/// 1. The ranks from 8 to 1, with `/` between two. A rank is read from file a to file h: the letters `PNBRQK` are White's men and
+///    `pnbrqk` Black's, and a digit from 1 to 8 is so many empty squares. No digit follows a digit, and each rank has eight
+///    squares. Any number of men may stand anywhere.
+/// 2. The side to move, `w` or `b`.
+/// 3. `-`, or one or more of `K`, `Q`, `k` and `q` in this order, each at most once: the castlings whose right is demanded, `held`
+///    of the query. Of the others nothing is demanded.
+/// 4. `-`, or the square that a double step of the side not to move has just crossed: a file letter, and `6` where White is to
+///    move or `3` where Black is. It demands that this double step was the last move, `only` of the query: `d7d5` for `d6`, `e2e4`
+///    for `e3`. With `-` no last move is demanded.
+/// 5. One to nine decimal digits: the plies since the last capture or move of a pawn.
+/// 6. One to nine decimal digits: the number of the move, which rises after Black's.
+///
+/// `Ok` comes exactly where the text is so: the query, in which no move is barred, and the two numbers, from 0 to 999,999,999,
+/// where they are given. `Err` comes exactly otherwise, and says how far the text can be read. The text is shorter than 2^32
+/// bytes.
 pub fn read_fen(text: &[u8]) -> Result<(Query, Option<(u32, u32)>), FenFault>
     requires { length text.now < 2 ^ 32 }
     ensures read { Reads fen text.now result }
@@ -152,7 +172,7 @@ pub fn read_fen(text: &[u8]) -> Result<(Query, Option<(u32, u32)>), FenFault>
     }
 }
 
-/// The longest text of four fields: 64 men, seven slashes, three spaces, one letter, four letters and a square.
+/// The longest text of four fields: 64 men, seven slashes, three spaces, one letter, four letters, and a square's two.
 const LONGEST: usize = 81;
 
 /// The query, if no numbers come with it.
@@ -167,7 +187,8 @@ fn without_numbers(query: Query, numbers: Option<(u32, u32)>) -> Option<Query>
     }
 }
 
-/// The query of a text of exactly four fields.
+/// Reads the FEN of exactly four fields, as `read_fen` does. `Some` comes exactly where the text is one, and no move is barred
+/// then. The text may have any length.
 pub fn read_four_fields(text: &[u8]) -> Option<Query>
     ensures read { result ≡ fen_of_four text.now }
     ensures plain { IfSome result (λ q. q.barred ≡ None) }

@@ -8,6 +8,7 @@ use arrayvec::ArrayVec;
 use board_base::{Board, Castle, CastleSet, Colour, Kind, Man, Move, Square};
 use query_base::Query;
 
+/// A capital for White, a small letter for Black.
 fn letter_of(man: Man) -> u8
     ensures { result ≡ symbol man.colour man.kind }
 {
@@ -27,6 +28,7 @@ fn letter_of(man: Man) -> u8
     }
 }
 
+/// The man on the square of this rank and file, both from 0.
 fn place_on(board: &Board, rank: u8, file: u8) -> Option<Man>
     requires rank { rank < 8 }
     requires file { file < 8 }
@@ -50,6 +52,7 @@ fn push_run(run: u8, out: &mut ArrayVec<u8, 128>)
     }
 }
 
+/// The rank with this number, from 0.
 fn write_rank(board: &Board, rank: u8, out: &mut ArrayVec<u8, 128>)
     requires rank { rank < 8 }
     requires size { length board.now ≡ 64 }
@@ -71,6 +74,7 @@ fn write_rank(board: &Board, rank: u8, out: &mut ArrayVec<u8, 128>)
     push_run(run, out);
 }
 
+/// All ranks, the highest first.
 fn write_ranks(board: &Board, out: &mut ArrayVec<u8, 128>)
     requires size { length board.now ≡ 64 }
     requires empty { out.old.items ≡ [] }
@@ -96,6 +100,7 @@ fn push_if(given: bool, letter: u8, out: &mut ArrayVec<u8, 128>)
     }
 }
 
+/// The letters of the castlings, or a dash.
 fn write_rights(held: CastleSet, out: &mut ArrayVec<u8, 128>)
     requires room { length out.old.items + 4 < 128 }
     ensures text { out.new.items ≡ out.old.items ++ rights_text held }
@@ -124,6 +129,7 @@ fn letter_of_side(turn: Colour) -> u8
     }
 }
 
+/// The square that the double step crossed, or a dash.
 fn write_en_passant(turn: Colour, only: Option<Move>, out: &mut ArrayVec<u8, 128>)
     requires room { length out.old.items + 2 < 128 }
     ensures text { out.new.items ≡ out.old.items ++ en_passant_text turn only }
@@ -138,7 +144,8 @@ fn write_en_passant(turn: Colour, only: Option<Move>, out: &mut ArrayVec<u8, 128
     }
 }
 
-/// The one text of the query.
+/// Writes the one text of the query that has four fields, at most 81 bytes. `read_fen` reads it as this query, and so does
+/// `read_four_fields`. `out` is empty before, and no move is barred in the query, for which FEN has no word.
 pub fn write_fen(query: &Query, out: &mut ArrayVec<u8, 128>)
     requires empty { out.old.items ≡ [] }
     requires plain { query.now.barred ≡ None }
