@@ -23,7 +23,6 @@ fn write_bad_text(alloc: Global, line: u8) -> Result<Vec<u8>, AllocError>
 
 /// The status and the line with which `check` answers these bytes.
 pub fn check(alloc: Global, input: &[u8]) -> Result<(Status, Vec<u8>), AllocError>
-    requires { length input.now < 2 ^ 32 }
     ensures { IfOk result (λ a. AnswersCheck input.now a.0 a.1.items) }
 {
     match read_certificate(input) {
