@@ -1,5 +1,5 @@
 -- What is read as a value is the value's one text.
-use Rattle.std.proofs.Common.{◌≡◌, ℕ, ◌+◌, ◌-◌, ◌*◌, ◌/◌, ◌%◌, ◌<◌, ◌≤◌, ◌==◌, Bool, true, false, cond, ◌&&◌, List, [], ◌∷◌, ◌++◌, refl, sym, ap, ◌∙◌, arith, option_map, subst, Option, Some, None, is_none}
+use Rattle.std.proofs.Common.{◌≡◌, ℕ, ◌+◌, ◌-◌, ◌*◌, ◌/◌, ◌%◌, ◌≤◌, ◌==◌, Bool, true, false, cond, ◌&&◌, List, [], ◌∷◌, ◌++◌, refl, sym, ap, ◌∙◌, arith, option_map, subst, Option, Some, None, is_none}
 use Rattle.std.proofs.lemmas.Bool.{and_parts, cond_both, leb-true, eqb-true}
 use Rattle.std.proofs.lemmas.Option.{cond_some}
 use Rattle.std.specs.Prelude.{nat_le}

@@ -1,4 +1,4 @@
-use Rattle.std.proofs.Common.{◌≡◌, ℕ, ◌<◌, length, sym, ap, ◌∙◌, arith, below_more, get_or-set_same, get_or-set_other, length-set}
+use Rattle.std.proofs.Common.{◌≡◌, ℕ, ◌<◌, length, ap, ◌∙◌, arith, below_more, get_or-set_same, get_or-set_other, length-set}
 use Rattle.std.specs.Prelude.{None, slice_set}
 use Rattle.board_base.specs.Board.{Places, at, recoloured, reflected}
 use Rattle.board_base.proofs.boards.Board.mirror.Goals as goal

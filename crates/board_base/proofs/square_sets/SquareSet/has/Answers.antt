@@ -1,4 +1,4 @@
-use Rattle.std.proofs.Common.{◌==◌, ◌<◌, ap, sym, ◌∙◌, ℕ, Bool, List, length}
+use Rattle.std.proofs.Common.{◌==◌, ap, sym, ◌∙◌, ℕ, Bool, List, length}
 use Rattle.std.proofs.lemmas.Nat.Bits.{shr_and_one}
 use Rattle.board_base.specs.Board.{is_in}
 use Rattle.board_base.specs.SquareNumbers.{length-squares_of, is_in-squares_of}

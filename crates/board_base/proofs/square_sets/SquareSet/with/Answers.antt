@@ -1,4 +1,4 @@
-use Rattle.std.proofs.Common.{◌%◌, ◌*◌, ◌^◌, ◌<◌, true, ap, ◌∙◌, arith, ℕ, Bool, List}
+use Rattle.std.proofs.Common.{◌%◌, ◌*◌, ◌^◌, true, ap, ◌∙◌, arith, ℕ, Bool, List}
 use Rattle.std.specs.Prelude.{slice_set}
 use Rattle.std.proofs.lemmas.Nat.{or_lt}
 use Rattle.board_base.specs.Squares.{squares_of}
