@@ -23,15 +23,18 @@ through_map : {A B : Type 0} (o : Option A) (f : A → B) (y : B) → option_map
 through_map None f y e = absurd cc
 through_map (Some x) f y e = record { value = x; is = refl; gives = e }
 
+-- one value is not read as another
 some_is : {A : Type 0} (x y : A) → Some x ≡ Some y → x ≡ y
 some_is x y e = cc
 
+-- a letter that was tested for
 letter_from : (b n : ℕ) (j k : Kind) → letter_of j ≡ n → (b == n) ≡ true → Some j ≡ Some k → b ≡ letter_of k
 letter_from b n j k l e h = eqb-true b n e ∙ sym l ∙ ap letter_of (some_is j k h)
 
 abbrev LetterOf : ℕ → Kind → Option Kind → Type 0
 LetterOf b k o = o ≡ Some k → b ≡ letter_of k
 
+-- what is read of a letter is the kind with this letter
 officer_letter : (b : ℕ) (k : Kind) → officer_of b ≡ Some k → b ≡ letter_of k
 officer_letter b k =
     cond_both (b == 110) (Some Knight) _ (LetterOf b k) (letter_from b 110 Knight k refl)
@@ -42,10 +45,12 @@ officer_letter b k =
 taken_letter : (b : ℕ) (k : Kind) → taken_of b ≡ Some k → b ≡ letter_of k
 taken_letter b k = cond_both (b == 112) (Some Pawn) (officer_of b) (LetterOf b k) (letter_from b 112 Pawn k refl) (λ n. officer_letter b k)
 
+-- two bytes are the text of a square
 record SquareText (a b s : ℕ) : Type 0 where
   pub file : a ≡ 97 + s % 8
   pub rank : b ≡ 49 + s / 8
 
+-- what is read as a square is its text
 square_text_of : (a b s : ℕ) → square_at a b ≡ Some s → SquareText a b s
 square_text_of a b s e =
     let parts = cond_some (nat_le 97 a && nat_le a 104 && nat_le 49 b && nat_le b 56) (8 * (b - 49) + (a - 97)) s e in
@@ -58,13 +63,6 @@ square_text_of a b s e =
     let rank_high : b ≤ 56 = leb-true b 56 last.1 in
     let number : 8 * (b - 49) + (a - 97) ≡ s = parts.1 in
     record { file = omega arith; rank = omega arith }
-
-promo_text_of : (text : List ℕ) (p : Option Kind) → promo_of text ≡ Some p → text ≡ promo_text p
-promo_text_of [] p e = ap promo_text (some_is None p e)
-promo_text_of (b ∷ []) p e =
-    let t : Through (officer_of b) (λ k. Some (Some k)) p = through_map (officer_of b) (λ k. Some k) p e in
-    ap (λ (n : ℕ). n ∷ []) (officer_letter b t.value t.is) ∙ ap promo_text (some_is (Some t.value) p t.gives)
-promo_text_of (b ∷ c ∷ rest) p e = absurd cc
 
 -- the texts of two squares, then the rest
 four : (a b c d from to : ℕ) (rest end : List ℕ) → SquareText a b from → SquareText c d to → rest ≡ end → a ∷ b ∷ c ∷ d ∷ rest ≡ (97 + from % 8) ∷ (49 + from / 8) ∷ (97 + to % 8) ∷ (49 + to / 8) ∷ end
@@ -79,29 +77,6 @@ promo_split (b ∷ rest) = split (officer_of b) (officer_letter b)
     split None letter = refl
     split (Some k) letter = ap (λ (n : ℕ). n ∷ rest) (letter k refl)
 
-abbrev IsTextOf : List ℕ → Option Kind × Bool → Option (Option Kind × Bool) → Type 0
-IsTextOf text x o = o ≡ Some x → text ≡ capture_text x.0 x.1
-
-capture_text_of : (promo : Option Kind) (text : List ℕ) (x : Option Kind × Bool) → capture_of promo text ≡ Some x → text ≡ capture_text x.0 x.1
-capture_text_of promo [] x e = ap (λ (y : Option Kind × Bool). capture_text y.0 y.1) (some_is (None, false) x e)
-capture_text_of promo (a ∷ []) x e = absurd cc
-capture_text_of promo (a ∷ b ∷ []) x e =
-    cond_both (a == 120) _ _ (IsTextOf (a ∷ b ∷ []) x) captured
-    (λ n. cond_both ((a == 101) && (b == 112) && is_none promo) (Some (Some Pawn, true)) None (IsTextOf (a ∷ b ∷ []) x) en_passant (λ n h. absurd cc)) e
-  where
-    captured : (a == 120) ≡ true → IsTextOf (a ∷ b ∷ []) x (option_map (λ k. (Some k, false)) (taken_of b))
-    captured h e =
-        let t = through_map (taken_of b) (λ k. (Some k, false)) x e in
-        ap (λ (n : ℕ). n ∷ b ∷ []) (eqb-true a 120 h) ∙ ap (λ (n : ℕ). 120 ∷ n ∷ []) (taken_letter b t.value t.is)
-        ∙ ap (λ (y : Option Kind × Bool). capture_text y.0 y.1) (some_is (Some t.value, false) x t.gives)
-
-    en_passant : ((a == 101) && (b == 112) && is_none promo) ≡ true → IsTextOf (a ∷ b ∷ []) x (Some (Some Pawn, true))
-    en_passant h e =
-        let both = and_parts (a == 101) (b == 112) (and_parts ((a == 101) && (b == 112)) (is_none promo) h).0 in
-        ap (λ (n : ℕ). n ∷ b ∷ []) (eqb-true a 101 both.0) ∙ ap (λ (n : ℕ). 101 ∷ n ∷ []) (eqb-true b 112 both.1)
-        ∙ ap (λ (y : Option Kind × Bool). capture_text y.0 y.1) (some_is (Some Pawn, true) x e)
-capture_text_of promo (a ∷ b ∷ c ∷ rest) x e = absurd cc
-
 abbrev MayPromoteTo : Option Kind → Type 0
 MayPromoteTo o = can_promote o ≡ true
 
@@ -113,21 +88,36 @@ officer_promotes b =
     (λ n. cond_both (b == 114) (Some Rook) _ MayPromoteTo (λ e. refl)
     (λ n. cond_both (b == 113) (Some Queen) None MayPromoteTo (λ e. refl) (λ n. refl))))
 
+-- so may what begins a text
 head_promotes : (text : List ℕ) → MayPromoteTo (promo_head text)
 head_promotes [] = refl
 head_promotes (b ∷ rest) = officer_promotes b
 
-promo_promotes : (text : List ℕ) (p : Option Kind) → promo_of text ≡ Some p → MayPromoteTo p
-promo_promotes [] p e = ap can_promote (sym (some_is None p e))
-promo_promotes (b ∷ []) p e =
-    let t = through_map (officer_of b) (λ k. Some k) p e in
-    ap can_promote (sym (some_is (Some t.value) p t.gives) ∙ sym t.is) ∙ officer_promotes b
-promo_promotes (b ∷ c ∷ rest) p e = absurd cc
+-- the text is that of this promotion, which may be written
+record IsTextOfPromo (text : List ℕ) (promo : Option Kind) : Type 0 where
+  pub spelling : text ≡ promo_text promo
+  pub fits : can_promote promo ≡ true
 
+promo_read : (text : List ℕ) (promo : Option Kind) → promo_of text ≡ Some promo → IsTextOfPromo text promo
+promo_read [] promo e = subst (IsTextOfPromo []) (some_is None promo e) (record { spelling = refl; fits = refl })
+promo_read (b ∷ []) promo e =
+    let t = through_map (officer_of b) (λ k. Some k) promo e in
+    subst (IsTextOfPromo (b ∷ [])) (some_is (Some t.value) promo t.gives) (record {
+      spelling = ap (λ (n : ℕ). n ∷ []) (officer_letter b t.value t.is);
+      fits = ap can_promote (sym t.is) ∙ officer_promotes b;
+    })
+promo_read (b ∷ c ∷ rest) promo e = absurd cc
+
+-- en passant, without a promotion, a pawn is captured
 none_captures : (promo : Option Kind) → is_none promo ≡ true → can_capture promo (Some Pawn) true ≡ true
 none_captures None e = refl
 none_captures (Some k) e = absurd cc
 
+-- a move may capture nothing
+nothing_captured : (promo : Option Kind) → can_capture promo None false ≡ true
+nothing_captured promo = refl
+
+-- a move may capture all but a king
 captures : (promo : Option Kind) (k : Kind) → (k ≡ King → ⊥) → can_capture promo (Some k) false ≡ true
 captures promo Pawn other = refl
 captures promo Knight other = refl
@@ -136,37 +126,54 @@ captures promo Rook other = refl
 captures promo Queen other = refl
 captures promo King other = absurd (other refl)
 
+-- no letter stands for a captured king
 no_king_taken : (b : ℕ) (k : Kind) → taken_of b ≡ Some k → k ≡ King → ⊥
 no_king_taken b k e king =
     let letter : b ≡ 107 = taken_letter b k e ∙ ap letter_of king in
     let none : taken_of b ≡ None = ap taken_of letter in
     cc
 
-abbrev MayCapture : Option Kind → Option Kind × Bool → Option (Option Kind × Bool) → Type 0
-MayCapture promo x o = o ≡ Some x → can_capture promo x.0 x.1 ≡ true
+-- the text is that of this capture, which may be written where this is promoted
+record IsTextOfCapture (promo : Option Kind) (text : List ℕ) (x : Option Kind × Bool) : Type 0 where
+  pub spelling : text ≡ capture_text x.0 x.1
+  pub fits : can_capture promo x.0 x.1 ≡ true
 
-capture_fits : (promo : Option Kind) (text : List ℕ) (x : Option Kind × Bool) → capture_of promo text ≡ Some x → can_capture promo x.0 x.1 ≡ true
-capture_fits promo [] x e = ap (λ (y : Option Kind × Bool). can_capture promo y.0 y.1) (sym (some_is (None, false) x e))
-capture_fits promo (a ∷ []) x e = absurd cc
-capture_fits promo (a ∷ b ∷ []) x e =
-    cond_both (a == 120) _ _ (MayCapture promo x) captured
-    (λ n. cond_both ((a == 101) && (b == 112) && is_none promo) (Some (Some Pawn, true)) None (MayCapture promo x) en_passant (λ n h. absurd cc)) e
+abbrev ReadsCapture : Option Kind → List ℕ → Option Kind × Bool → Option (Option Kind × Bool) → Type 0
+ReadsCapture promo text x o = o ≡ Some x → IsTextOfCapture promo text x
+
+capture_read : (promo : Option Kind) (text : List ℕ) (x : Option Kind × Bool) → capture_of promo text ≡ Some x → IsTextOfCapture promo text x
+capture_read promo [] x e = subst (IsTextOfCapture promo []) (some_is (None, false) x e) (record { spelling = refl; fits = nothing_captured promo })
+capture_read promo (a ∷ []) x e = absurd cc
+capture_read promo (a ∷ b ∷ []) x e =
+    cond_both (a == 120) _ _ (ReadsCapture promo (a ∷ b ∷ []) x) captured
+    (λ n. cond_both ((a == 101) && (b == 112) && is_none promo) (Some (Some Pawn, true)) None (ReadsCapture promo (a ∷ b ∷ []) x) en_passant (λ n h. absurd cc)) e
   where
-    captured : (a == 120) ≡ true → MayCapture promo x (option_map (λ k. (Some k, false)) (taken_of b))
+    captured : (a == 120) ≡ true → ReadsCapture promo (a ∷ b ∷ []) x (option_map (λ k. (Some k, false)) (taken_of b))
     captured h e =
         let t = through_map (taken_of b) (λ k. (Some k, false)) x e in
-        ap (λ (y : Option Kind × Bool). can_capture promo y.0 y.1) (sym (some_is (Some t.value, false) x t.gives)) ∙ captures promo t.value (no_king_taken b t.value t.is)
+        subst (IsTextOfCapture promo (a ∷ b ∷ [])) (some_is (Some t.value, false) x t.gives) (record {
+          spelling = ap (λ (n : ℕ). n ∷ b ∷ []) (eqb-true a 120 h) ∙ ap (λ (n : ℕ). 120 ∷ n ∷ []) (taken_letter b t.value t.is);
+          fits = captures promo t.value (no_king_taken b t.value t.is);
+        })
 
-    en_passant : ((a == 101) && (b == 112) && is_none promo) ≡ true → MayCapture promo x (Some (Some Pawn, true))
+    en_passant : ((a == 101) && (b == 112) && is_none promo) ≡ true → ReadsCapture promo (a ∷ b ∷ []) x (Some (Some Pawn, true))
     en_passant h e =
-        ap (λ (y : Option Kind × Bool). can_capture promo y.0 y.1) (sym (some_is (Some Pawn, true) x e))
-        ∙ none_captures promo (and_parts ((a == 101) && (b == 112)) (is_none promo) h).1
-capture_fits promo (a ∷ b ∷ c ∷ rest) x e = absurd cc
+        let alone = and_parts ((a == 101) && (b == 112)) (is_none promo) h in
+        let letters = and_parts (a == 101) (b == 112) alone.0 in
+        subst (IsTextOfCapture promo (a ∷ b ∷ [])) (some_is (Some Pawn, true) x e) (record {
+          spelling = ap (λ (n : ℕ). n ∷ b ∷ []) (eqb-true a 101 letters.0) ∙ ap (λ (n : ℕ). 101 ∷ n ∷ []) (eqb-true b 112 letters.1);
+          fits = none_captures promo alone.1;
+        })
+capture_read promo (a ∷ b ∷ c ∷ rest) x e = absurd cc
 
 -- the text is this move's, which may be written
 pub record IsTextOfMove (text : List ℕ) (m : Move) : Type 0 where
   pub spelling : text ≡ move_text m
   pub promotion : can_promote m.promo ≡ true
+
+move_from_parts : (a b c d from to : ℕ) (rest : List ℕ) (promo : Option Kind) (m : Move) → SquareText a b from → SquareText c d to → IsTextOfPromo rest promo → Some (record { from = from; to = to; promo = promo }) ≡ Some m → IsTextOfMove (a ∷ b ∷ c ∷ d ∷ rest) m
+move_from_parts a b c d from to rest promo m f t p e =
+    subst (IsTextOfMove (a ∷ b ∷ c ∷ d ∷ rest)) (some_is (record { from = from; to = to; promo = promo }) m e) (record { spelling = four a b c d from to rest (promo_text promo) f t p.spelling; promotion = p.fits })
 
 pub move_read : (text : List ℕ) (m : Move) → move_of text ≡ Some m → IsTextOfMove text m
 unfolding move_of
@@ -178,16 +185,22 @@ move_read (a ∷ b ∷ c ∷ d ∷ rest) m e =
     let f = through (square_at a b) (λ from. square_at c d >>= (λ to. option_map (λ p. record { from = from; to = to; promo = p }) (promo_of rest))) m e in
     let t = through (square_at c d) (λ to. option_map (λ p. record { from = f.value; to = to; promo = p }) (promo_of rest)) m f.gives in
     let p = through_map (promo_of rest) (λ p. record { from = f.value; to = t.value; promo = p }) m t.gives in
-    subst (IsTextOfMove (a ∷ b ∷ c ∷ d ∷ rest)) (some_is (record { from = f.value; to = t.value; promo = p.value }) m p.gives) (record {
-      spelling = four a b c d f.value t.value rest (promo_text p.value) (square_text_of a b f.value f.is) (square_text_of c d t.value t.is) (promo_text_of rest p.value p.is);
-      promotion = promo_promotes rest p.value p.is;
-    })
+    move_from_parts a b c d f.value t.value rest p.value m (square_text_of a b f.value f.is) (square_text_of c d t.value t.is) (promo_read rest p.value p.is) p.gives
 
 -- the text is this unmove's, which may be written
 pub record IsTextOfUnmove (text : List ℕ) (u : Unmove) : Type 0 where
   pub spelling : text ≡ unmove_text u
   pub promotion : can_promote u.mv.promo ≡ true
   pub capture : can_capture u.mv.promo u.captured u.ep ≡ true
+
+unmove_from_parts : (a b c d from to : ℕ) (rest : List ℕ) (x : Option Kind × Bool) (u : Unmove) → SquareText a b from → SquareText c d to → IsTextOfCapture (promo_head rest) (after_promo rest) x → Some (unmove_as from to (promo_head rest) x) ≡ Some u → IsTextOfUnmove (a ∷ b ∷ c ∷ d ∷ rest) u
+unmove_from_parts a b c d from to rest x u f t capture e =
+    let ends : rest ≡ promo_text (promo_head rest) ++ capture_text x.0 x.1 = promo_split rest ∙ ap (λ (l : List ℕ). promo_text (promo_head rest) ++ l) capture.spelling in
+    subst (IsTextOfUnmove (a ∷ b ∷ c ∷ d ∷ rest)) (some_is (unmove_as from to (promo_head rest) x) u e) (record {
+      spelling = four a b c d from to rest (promo_text (promo_head rest) ++ capture_text x.0 x.1) f t ends;
+      promotion = head_promotes rest;
+      capture = capture.fits;
+    })
 
 pub unmove_read : (text : List ℕ) (u : Unmove) → unmove_from text ≡ Some u → IsTextOfUnmove text u
 unfolding unmove_from
@@ -200,9 +213,4 @@ unmove_read (a ∷ b ∷ c ∷ d ∷ rest) u e =
     let f = through (square_at a b) (λ from. square_at c d >>= (λ to. option_map (unmove_as from to p) (capture_of p (after_promo rest)))) u e in
     let t = through (square_at c d) (λ to. option_map (unmove_as f.value to p) (capture_of p (after_promo rest))) u f.gives in
     let x = through_map (capture_of p (after_promo rest)) (unmove_as f.value t.value p) u t.gives in
-    subst (IsTextOfUnmove (a ∷ b ∷ c ∷ d ∷ rest)) (some_is _ u x.gives) (record {
-      spelling = four a b c d f.value t.value rest (promo_text p ++ capture_text x.value.0 x.value.1) (square_text_of a b f.value f.is) (square_text_of c d t.value t.is)
-          (promo_split rest ∙ ap (λ (l : List ℕ). promo_text p ++ l) (capture_text_of p (after_promo rest) x.value x.is));
-      promotion = head_promotes rest;
-      capture = capture_fits p (after_promo rest) x.value x.is;
-    })
+    unmove_from_parts a b c d f.value t.value rest x.value u (square_text_of a b f.value f.is) (square_text_of c d t.value t.is) (capture_read p (after_promo rest) x.value x.is) x.gives
