@@ -1,14 +1,14 @@
 -- A pawn that has gone two ranks came from its home.
 use Rattle.std.proofs.Common.{◌≡◌, ℕ, ◌+◌, ◌%◌, ◌<◌, inl, inr, ◌==◌, Bool, true, false, cond, ◌&&◌, not, List, [], ◌∷◌, ◌++◌, length, set, refl, ap, sym, ◌∙◌, subst, arith}
-use Rattle.std.proofs.lemmas.Bool.{and_parts, not-true, eqb-true, eqb-false, eq-eqb, ne_eqb, cond-true, cond-false, cases_Bool, cases_eq, both_ways}
+use Rattle.std.proofs.lemmas.Bool.{and_parts, not-true, eqb-true, eqb-false, eq-eqb, ne_eqb, cond-true, cond-false, cases_Bool, cases_eq, both_ways, and_from, and_left, and_right, false_from_ne_true}
 use Rattle.std.proofs.lemmas.List.{length-append, length-set, get_or-set_same, get_or-set_other}
 use Rattle.std.proofs.lemmas.Option.{cond_some, same_Some}
 use Rattle.std.specs.Prelude.{Option, Some, None}
 use Rattle.std.specs.List.{last_or}
 use Rattle.board_base.specs.Board.{Places, at, is_a, is_the, same_kind, opponent, file, rank}
 use Rattle.board_base.specs.Attacks.{distance, ranks_apart, one_ahead}
-use Rattle.board_base.specs.Play.{play, played_as, carry, promoted, castling, goes_en_passant, en_passant_victim, double_of, double_step, king_home, king_target}
-use Rattle.board_base.specs.Legal.{promotion_fits, is_officer, last_rank, pawn_rank, man_moves, pawn_steps, pawn_doubles, pawn_captures, pawn_captures_en_passant, king_castles, castles_as, is_move}
+use Rattle.board_base.specs.Play.{play, played_as, moved, ahead, carry, promoted, castling, goes_en_passant, en_passant_victim, double_of, double_step, king_home, king_target}
+use Rattle.board_base.specs.Legal.{legal_on, promotion_fits, is_officer, last_rank, pawn_rank, man_moves, pawn_steps, pawn_doubles, pawn_captures, pawn_captures_en_passant, king_castles, castles_as, is_move}
 use Rattle.board_base.specs.declared.men.Man.{Man}
 use Rattle.board_base.specs.declared.men.Colour.{Colour}
 use Rattle.board_base.specs.declared.men.Colour.TheVariants.{White, Black}
@@ -16,7 +16,7 @@ use Rattle.board_base.specs.declared.men.Kind.{Kind}
 use Rattle.board_base.specs.declared.men.Kind.TheVariants.{Pawn, Knight, Bishop, Rook, Queen, King}
 use Rattle.board_base.specs.declared.moves.Move.{Move}
 use Rattle.board_base.specs.declared.castles.Castle.{Castle}
-use Rattle.play_rules.specs.States.{crossed_by, step_over}
+use Rattle.play_rules.specs.States.{crossed_by, double_crossing, step_over}
 use Rattle.play_rules.proofs.Legality.{Manner, moves, steps, doubles, takes, passes, castles, Legality}
 use Rattle.board_base.specs.declared.castles.Castle.TheVariants.{WhiteShort, WhiteLong, BlackShort, BlackLong}
 use Rattle.board_base.proofs.Without.{length-array}
@@ -53,9 +53,9 @@ double_no_promo board White l (Some k) home two h =
 double_no_promo board Black l (Some k) home two h =
     let e : rank l.to ≡ 0 = eqb-true _ 0 (and_parts _ _ (and_parts _ _ h).0).1 in absurd (omega arith)
 
-en_passant-no-double : (board : Places) (c : Colour) (last : Option Move) (m : Move) (o : Option Move) → double_of m c ≡ o → (ranks_apart m.from m.to == 2) ≡ true → elim o as (λ _. Bool) [ None ↦ false | Some d ↦ is_move last d && is_the (opponent c) Pawn (at board d.to) ] ≡ true → FitsDouble (opponent c) m
-en_passant-no-double board c last m None e two h = absurd (both_ways false refl h)
-en_passant-no-double board c last m (Some d) e two h =
+en_passant-no-double : {A : Type 0} (board : Places) (c : Colour) (last : Option Move) (m : Move) (o : Option Move) → double_of m c ≡ o → (ranks_apart m.from m.to == 2) ≡ true → elim o as (λ _. Bool) [ None ↦ false | Some d ↦ is_move last d && is_the (opponent c) Pawn (at board d.to) ] ≡ true → A
+en_passant-no-double {A} board c last m None e two h = absurd (both_ways false refl h)
+en_passant-no-double {A} board c last m (Some d) e two h =
     let parts = cond_some _ (double_step m c) d e in
     one_not_two c m.from m.to (and_parts _ _ (and_parts _ _ (and_parts _ _ parts.0).0).0).1 two
 
@@ -67,20 +67,34 @@ last_from : (o : Option Move) (g : List Move) (m : Move) → last_or o (g ++ m �
 last_from o [] m = refl
 last_from o (l ∷ g) m = last_from (Some l) g m
 
--- by the cases of a legal move
-fits-manner : (board : Places) (c : Colour) (rights : Castle → Bool) (last : Option Move) (m : Move) → m.to < 64 → promotion_fits board c m ≡ true → is_a Pawn (at board m.from) ≡ true → (ranks_apart m.from m.to == 2) ≡ true → Manner board c rights last m → FitsDouble (opponent c) m
-unfolding promotion_fits man_moves pawn_steps pawn_doubles pawn_captures pawn_captures_en_passant king_castles
-fits-manner board c rights last m small promo pawn two (moves h) = absurd (both_ways _ (not-true _ (and_parts _ _ h).0) pawn)
-fits-manner board c rights last m small promo pawn two (steps h) = one_not_two c m.from m.to (and_parts _ _ (and_parts _ _ (and_parts _ _ h).0).0).1 two
-fits-manner board c rights last m small promo pawn two (doubles h) =
+-- a pawn's move of two ranks is a double step, by the cases of a legal move
+double-manner : (board : Places) (c : Colour) (rights : Castle → Bool) (last : Option Move) (m : Move) → is_a Pawn (at board m.from) ≡ true → (ranks_apart m.from m.to == 2) ≡ true → Manner board c rights last m → pawn_doubles board c m ≡ true
+unfolding man_moves pawn_steps pawn_captures pawn_captures_en_passant king_castles
+double-manner board c rights last m pawn two (moves h) = absurd (both_ways _ (not-true _ (and_parts _ _ h).0) pawn)
+double-manner board c rights last m pawn two (steps h) = one_not_two c m.from m.to (and_parts _ _ (and_parts _ _ (and_parts _ _ h).0).0).1 two
+double-manner board c rights last m pawn two (doubles h) = h
+double-manner board c rights last m pawn two (takes h) = one_not_two c m.from m.to (and_parts _ _ (and_parts _ _ (and_parts _ _ h).0).0).1 two
+double-manner board c rights last m pawn two (passes h) = en_passant-no-double board c last m (double_of m c) refl two (and_parts _ _ h).1
+double-manner board c rights last m pawn two (castles h) = absurd (castles-no-pawn board c rights m (castling board m) refl pawn h)
+
+-- what a double step says of its squares
+pub record Doubles (board : Places) (c : Colour) (m : Move) : Type 0 where
+  pub pawn : is_a Pawn (at board m.from) ≡ true
+  pub home : rank m.from ≡ pawn_rank c
+  pub file_is : file m.from ≡ file m.to
+  pub apart : ranks_apart m.from m.to ≡ 2
+
+pub double-parts : (board : Places) (c : Colour) (m : Move) → pawn_doubles board c m ≡ true → Doubles board c m
+unfolding pawn_doubles
+double-parts board c m h =
     let p4 = and_parts _ _ (and_parts _ _ (and_parts _ _ h).0).0 in
-    let p2 = and_parts _ _ p4.0 in
-    let home = eqb-true (rank m.from) (pawn_rank c) (and_parts _ _ p2.0).1 in
-    let apart = eqb-true (ranks_apart m.from m.to) 2 two in
-    double_fits c m small home (eqb-true _ _ p2.1) apart (double_no_promo board c m m.promo home apart promo)
-fits-manner board c rights last m small promo pawn two (takes h) = one_not_two c m.from m.to (and_parts _ _ (and_parts _ _ (and_parts _ _ h).0).0).1 two
-fits-manner board c rights last m small promo pawn two (passes h) = en_passant-no-double board c last m (double_of m c) refl two (and_parts _ _ h).1
-fits-manner board c rights last m small promo pawn two (castles h) = absurd (castles-no-pawn board c rights m (castling board m) refl pawn h)
+    let p3 = and_parts _ _ p4.0 in
+    let p2 = and_parts _ _ p3.0 in
+    record { pawn = p2.0; home = eqb-true (rank m.from) (pawn_rank c) p2.1; file_is = eqb-true _ _ p3.1; apart = eqb-true (ranks_apart m.from m.to) 2 p4.1 }
+
+double-promo : (board : Places) (c : Colour) (m : Move) → promotion_fits board c m ≡ true → Doubles board c m → m.promo ≡ None
+unfolding promotion_fits
+double-promo board c m fits double = double_no_promo board c m m.promo double.home double.apart fits
 
 pub officer-no_pawn : (k : Kind) → is_officer k ≡ true → same_kind Pawn k ≡ false
 officer-no_pawn Pawn h = cc
@@ -119,18 +133,61 @@ castle-one-rank WhiteLong = refl
 castle-one-rank BlackShort = refl
 castle-one-rank BlackLong = refl
 
-pub fits-played : (board : Places) (c : Colour) (rights : Castle → Bool) (last : Option Move) (m : Move) (o : Option Castle) → castling board m ≡ o → length board ≡ 64 → Legality board c rights last m → FitsLast (played_as board m o) (opponent c) m
+-- the move left a pawn on its target, two ranks from its origin
+abbrev pub LeftDouble : Places → Move → Type 0
+LeftDouble after m = (is_a Pawn (at after m.to) && (ranks_apart m.from m.to == 2)) ≡ true
+
+-- then it was a double step
+double-played : (board : Places) (c : Colour) (rights : Castle → Bool) (last : Option Move) (m : Move) (o : Option Castle) → castling board m ≡ o → length board ≡ 64 → Legality board c rights last m → LeftDouble (played_as board m o) m → pawn_doubles board c m ≡ true
 unfolding promotion_fits
-fits-played board c rights last m None e len l h =
+double-played board c rights last m None e len l h =
     let parts = and_parts _ _ h in
     let inside : m.to < length board = let small : m.to < 64 = l.on_board in omega arith in
     let pawn = still_pawn m.promo (at board m.from) _ l.promotion (target-pawn board m (goes_en_passant board m) inside parts.0) in
-    fits-manner board c rights last m l.on_board l.promotion pawn parts.1 l.manner
-fits-played board c rights last m (Some x) e len l h =
+    double-manner board c rights last m pawn parts.1 l.manner
+double-played board c rights last m (Some x) e len l h =
     let ends = castle-ends board m x e in
     let flat : (ranks_apart m.from m.to == 2) ≡ false =
     ap (λ (n : ℕ). ranks_apart n m.to == 2) (sym ends.from) ∙ ap (λ (n : ℕ). ranks_apart (king_home x) n == 2) (sym ends.to) ∙ castle-one-rank x in
     absurd (both_ways _ flat (and_parts _ _ h).1)
+
+fits-played : (board : Places) (c : Colour) (rights : Castle → Bool) (last : Option Move) (m : Move) (o : Option Castle) → castling board m ≡ o → length board ≡ 64 → Legality board c rights last m → FitsLast (played_as board m o) (opponent c) m
+fits-played board c rights last m o e len l h =
+    let double = double-parts board c m (double-played board c rights last m o e len l h) in
+    double_fits c m l.on_board double.home double.file_is double.apart (double-promo board c m l.promotion double)
+
+-- a double step leaves its pawn on the target
+double-left : (board : Places) (c : Colour) (m : Move) (o : Option Castle) (promo : Option Kind) → castling board m ≡ o → m.to < length board → promo ≡ None → Doubles board c m → is_a Pawn (at (moved (promoted promo) m o (goes_en_passant board m) board) m.to) ≡ true
+double-left board c m (Some x) promo e inside none double = absurd (both_ways _ (pawn-no_king (at board m.from) double.pawn) (castle-ends board m x e).king)
+double-left board c m None promo e inside none double =
+    let straight : goes_en_passant board m ≡ false = and_left _ _ (and_right _ _ (ap not (eq-eqb _ _ double.file_is))) in
+    let t : m.to < length (set board m.from None) = omega (arith, length-set board m.from None) in
+    ap (λ (after : Places). is_a Pawn (at after m.to)) (cond-false _ (set (carry board m.from m.to promo) (en_passant_victim m) None) (carry board m.from m.to promo) straight)
+    ∙ ap (is_a Pawn) (get_or-set_same (set board m.from None) m.to (promoted promo (at board m.from)) None t)
+    ∙ ap (λ (p : Option Kind). is_a Pawn (promoted p (at board m.from))) none
+    ∙ double.pawn
+
+-- the square that a double step crosses, seen by either side
+crossing-same : (c : Colour) (m : Move) → m.to < 64 → rank m.from ≡ pawn_rank c → file m.from ≡ file m.to → ranks_apart m.from m.to ≡ 2 → ahead c m.from ≡ ahead (opponent c) m.to
+unfolding distance
+crossing-same White m small home same two = omega arith
+crossing-same Black m small home same two = omega arith
+
+-- a legal move crosses a square exactly where it is a double step
+pub crossing-played : (board : Places) (c : Colour) (rights : Castle → Bool) (last : Option Move) (m : Move) → length board ≡ 64 → legal_on board c rights last m ≡ true → double_crossing board c m ≡ crossed_by (play board m) (opponent c) (Some m)
+unfolding play
+crossing-played board c rights last m len legal =
+    let l = legality board c rights last m legal in
+    elim (cases_Bool (pawn_doubles board c m)) [
+      | inl doubled ↦
+          let double = double-parts board c m doubled in
+          let inside : m.to < length board = let small : m.to < 64 = l.on_board in omega arith in
+          let left : LeftDouble (played_as board m (castling board m)) m = and_from _ _ (double-left board c m (castling board m) m.promo refl inside (double-promo board c m l.promotion double) double) (eq-eqb _ 2 double.apart) in
+          cond-true _ (Some (ahead c m.from)) None doubled ∙ ap Some (crossing-same c m l.on_board double.home double.file_is double.apart) ∙ sym (cond-true _ (Some (ahead (opponent c) m.to)) None left)
+      | inr other ↦
+          let left = false_from_ne_true _ (λ h. both_ways _ other (double-played board c rights last m (castling board m) refl len l h)) in
+          cond-false _ (Some (ahead c m.from)) None other ∙ sym (cond-false _ (Some (ahead (opponent c) m.to)) None left)
+    ]
 
 -- the last move of a game
 record LastFits (o : List Bool) (g : List Move) : Type 0 where

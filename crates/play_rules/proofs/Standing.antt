@@ -10,7 +10,7 @@ use Rattle.board_base.specs.Play.{play, castling, ahead}
 use Rattle.board_base.specs.Legal.{legal_on, may_go, man_moves, pawn_steps, pawn_doubles, pawn_captures, pawn_captures_en_passant, king_castles, castles_as}
 use Rattle.board_base.specs.Game.{IsGame, board_after, turn_after, unmoved, last_move, legal_after, touches, lacks_home}
 use Rattle.play_rules.specs.States.{Position, StandsFor, Follows, crossing_rank, legal_at, step_over, crossed_by}
-use Rattle.play_rules.proofs.Doubles.{en_passant-in-game, fits-played, last_move-more, turn_after-more}
+use Rattle.play_rules.proofs.Doubles.{en_passant-in-game, last_move-more, turn_after-more}
 use Rattle.play_rules.proofs.Games.{board_after-more}
 use Rattle.play_rules.proofs.Legality.{legality}
 use Rattle.board_base.specs.declared.men.Colour.{Colour}
@@ -41,10 +41,6 @@ legal-stands p o g game stands m =
     ∙ ap (λ (e : Option ℕ). legal_on (board_after o g) (turn_after g) (holds p.rights) (step_over e (turn_after g)) m) stands.ep_is
     ∙ legal-same (board_after o g) (turn_after g) (holds p.rights) (unmoved o g) _ (last_move g) m stands.rights_are (en_passant-in-game o g game m)
 
-rank-inside : (c : Colour) (s : ℕ) → rank s ≡ crossing_rank c → s < 64
-rank-inside White s e = omega arith
-rank-inside Black s e = omega arith
-
 one_more : (a l t : Bool) → ((a && l) && t) ≡ (a && (l && (t && true)))
 one_more true true true = refl
 one_more true true false = refl
@@ -67,8 +63,3 @@ follows-stands p q o g m stands follows =
           follows.ep_is ∙ ap (λ (b : Places). crossed_by b (opponent p.turn) (Some m)) board ∙ ap (λ (c : Colour). crossed_by (board_after o (g ++ m ∷ [])) c (Some m)) turn
           ∙ ap (crossed_by (board_after o (g ++ m ∷ [])) (turn_after (g ++ m ∷ []))) (sym (last_move-more g m));
     }
-
--- the square crossed by a legal double step is on the board
-pub crossing-inside : (p : Position) (m : Move) → length p.board ≡ 64 → legal_at p m ≡ true → (is_a Pawn (at (play p.board m) m.to) && (ranks_apart m.from m.to == 2)) ≡ true → ahead (opponent p.turn) m.to < 64
-unfolding play
-crossing-inside p m len legal double = rank-inside (opponent p.turn) (ahead (opponent p.turn) m.to) (fits-played p.board p.turn _ _ m _ refl len (legality _ _ _ _ _ legal) double).rank_is

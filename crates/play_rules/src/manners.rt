@@ -48,7 +48,7 @@ fn pawn_steps(board: &Board, colour: Colour, m: &Move) -> bool
 }
 
 #[tactic(auto, unfolding(board_base::specs::Legal::pawn_doubles))]
-fn pawn_doubles(board: &Board, colour: Colour, m: &Move) -> bool
+pub fn pawn_doubles(board: &Board, colour: Colour, m: &Move) -> bool
     ensures { result ≡ pawn_doubles board.now colour m.now }
 {
     is_a(Kind::Pawn, board.at(m.from))
