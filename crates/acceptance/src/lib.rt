@@ -2,4 +2,6 @@
 #![tactic(auto)]
 
 #[cfg(test)]
+mod perft;
+#[cfg(test)]
 mod runs;
