@@ -1,21 +1,17 @@
 -- A state that stands for a game answers as the game does.
-use Rattle.std.proofs.Common.{◌≡◌, ℕ, Bool, true, false, ◌&&◌, ◌||◌, not, List, [], ◌∷◌, ◌++◌, length, ◌==◌, ◌<◌, refl, ap, sym, ◌∙◌, arith}
+use Rattle.std.proofs.Common.{◌≡◌, ℕ, Bool, true, false, ◌&&◌, ◌||◌, not, List, [], ◌∷◌, ◌++◌, refl, ap, sym, ◌∙◌}
 use Rattle.std.specs.Prelude.{Option, Some, None}
-use Rattle.board_base.specs.Board.{Places, at, is_a, opponent, rank}
+use Rattle.board_base.specs.Board.{Places, opponent}
 use Rattle.std.specs.List.{list_all}
 use Rattle.std.proofs.lemmas.List.Folds.{list_all-append}
-use Rattle.board_base.specs.Attacks.{ranks_apart}
 use Rattle.board_base.specs.Rights.{holds}
-use Rattle.board_base.specs.Play.{play, castling, ahead}
+use Rattle.board_base.specs.Play.{play, castling}
 use Rattle.board_base.specs.Legal.{legal_on, may_go, man_moves, pawn_steps, pawn_doubles, pawn_captures, pawn_captures_en_passant, king_castles, castles_as}
 use Rattle.board_base.specs.Game.{IsGame, board_after, turn_after, unmoved, last_move, legal_after, touches, lacks_home}
-use Rattle.play_rules.specs.States.{Position, StandsFor, Follows, crossing_rank, legal_at, step_over, crossed_by}
+use Rattle.play_rules.specs.States.{Position, StandsFor, Follows, legal_at, step_over, crossed_by}
 use Rattle.play_rules.proofs.Doubles.{en_passant-in-game, last_move-more, turn_after-more}
 use Rattle.play_rules.proofs.Games.{board_after-more}
-use Rattle.play_rules.proofs.Legality.{legality}
 use Rattle.board_base.specs.declared.men.Colour.{Colour}
-use Rattle.board_base.specs.declared.men.Colour.TheVariants.{White, Black}
-use Rattle.board_base.specs.declared.men.Kind.TheVariants.{Pawn}
 use Rattle.board_base.specs.declared.moves.Move.{Move}
 use Rattle.board_base.specs.declared.castles.Castle.{Castle}
 

@@ -1,7 +1,7 @@
 ghost use Rattle.std.specs.Prelude.{◌≡◌};
 ghost use Rattle.board_base.specs.Board.{is_a, is_of, is_the};
 
-use board_base::{Colour, Kind, Man, is_same};
+use board_base::{Colour, Kind, Man};
 
 /// A man of this kind stands on the place.
 pub fn is_a(kind: Kind, place: Option<Man>) -> bool
@@ -18,7 +18,7 @@ pub fn is_of(colour: Colour, place: Option<Man>) -> bool
     ensures { result ≡ is_of colour place }
 {
     match place {
-        Some(man) => is_same(colour, man.colour),
+        Some(man) => colour == man.colour,
         None => false,
     }
 }
