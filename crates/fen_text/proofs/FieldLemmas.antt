@@ -1,7 +1,5 @@
 -- The short fields.
-use Rattle.std.proofs.Common.{◌≡◌, ◌≢◌, ℕ, ◌-◌, ◌<◌, ◌==◌, Bool, true, false, cond, ◌&&◌, ◌||◌, not, List, [], ◌∷◌, ◌++◌, length, get_or, inl, inr, refl, sym, ap, ◌∙◌, subst, subst₂, arith, append-nil, length-append, true≢false, nat_le, Option, Some, None, is_some, IsTrue, MatchOption}
-use Rattle.board_base.specs.declared.moves.Move.{Move}
-use Rattle.query_base.specs.Asked.{is_of_other_side}
+use Rattle.std.proofs.Common.{◌≡◌, ◌≢◌, ℕ, ◌-◌, ◌<◌, ◌==◌, Bool, true, false, cond, ◌&&◌, ◌||◌, not, List, [], ◌∷◌, ◌++◌, length, get_or, inl, inr, refl, sym, ap, ◌∙◌, subst, subst₂, arith, append-nil, length-append, true≢false, nat_le, Some, None, is_some}
 use Rattle.std.proofs.lemmas.Bool.{and_parts, and_from, and_left, and_right, cases_eq, ne_eqb, cases_Bool, eqb-true, leb-true, eq-eqb, cond-true, cond-false}
 use Rattle.board_base.specs.Rights.{Rights, holds}
 use Rattle.board_base.specs.declared.castles.Castle.{Castle}
@@ -254,7 +252,7 @@ set_of s0 s1 s2 s3 s4 b1 b2 b3 b4 none a1 a2 a3 a4 BlackLong = sym (a4.here ∙ 
 pub rights_built : (s0 s1 s2 s3 s4 : Rights) (b1 b2 b3 b4 : Bool) → ((c : Castle) → holds s0 c ≡ false) → Added s0 s1 WhiteShort b1 → Added s1 s2 WhiteLong b2 → Added s2 s3 BlackShort b3 → Added s3 s4 BlackLong b4 → rights_of (b1 ∷ b2 ∷ b3 ∷ b4 ∷ []) ≡ s4
 rights_built s0 s1 s2 s3 s4 b1 b2 b3 b4 none a1 a2 a3 a4 = rights_equal _ _ (set_of s0 s1 s2 s3 s4 b1 b2 b3 b4 none a1 a2 a3 a4)
 
--- the square en_passant_victim
+-- the square that a double step crossed
 pub en_passant_none : (c : Colour) (text : List ℕ) → length text ≡ 0 → IsFault (en_passant c) text 0
 en_passant_none c [] e = stop_end (en_passant c) [] (45 ∷ [], refl) refl
 en_passant_none c (b ∷ text) e = absurd (omega arith)
@@ -333,11 +331,3 @@ clean_en_passant c (f ∷ r ∷ []) s = elim (cases_Bool (nat_le 97 f && nat_le 
   | inr e ↦ absurd (not_some (en_passant c (f ∷ r ∷ [])) (cond-false _ (Some (Some (double_over c (f - 97)))) None e) s)
 ]
 clean_en_passant c (f ∷ r ∷ d ∷ text) s = absurd (true≢false (sym s))
-
-pub step_is : (c : Colour) (o : Option Move) (d : Move) → MatchOption o ⊥ (λ m. (m ≡ d) × IsTrue (is_of_other_side c (Some m))) → o ≡ Some d
-step_is c None d h = absurd h
-step_is c (Some m) d h = ap (λ (x : Move). Some x) h.0
-
-pub step_fits : (c : Colour) (o : Option Move) (d : Move) → MatchOption o ⊥ (λ m. (m ≡ d) × IsTrue (is_of_other_side c (Some m))) → IsTrue (is_of_other_side c o)
-step_fits c None d h = absurd h
-step_fits c (Some m) d h = h.1

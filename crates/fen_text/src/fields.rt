@@ -1,4 +1,4 @@
-ghost use Rattle.std.specs.Prelude.{◌≡◌, ◌≢◌, ◌-◌, ◌+◌, ◌<◌, ◌≤◌, ◌&&◌, ◌||◌, nat_le, true, false, IfOk, IsTrue, MatchOption, Some};
+ghost use Rattle.std.specs.Prelude.{◌≡◌, ◌≢◌, ◌-◌, ◌+◌, ◌<◌, ◌≤◌, ◌&&◌, ◌||◌, nat_le, true, false, IfOk, IsTrue, Some};
 ghost use Rattle.board_base.specs.Rights.{holds};
 ghost use Rattle.board_base.specs.declared.castles.Castle.{Castle as AnyCastle};
 ghost use Rattle.query_base.specs.Asked.{is_of_other_side};
@@ -88,25 +88,20 @@ pub(crate) fn digit_of(turn: Colour) -> u8
 }
 
 /// The double step of the other side on this file, from 0 for a.
-fn double_step(turn: Colour, file: u8) -> Option<Move>
+fn double_step(turn: Colour, file: u8) -> Move
     requires { file < 8 }
-    ensures { MatchOption result ⊥ (λ m. (m ≡ double_over turn file) × IsTrue (is_of_other_side turn (Some m))) }
+    ensures step { result ≡ double_over turn file }
+    ensures fits { IsTrue (is_of_other_side turn (Some result)) }
 {
     let (from, to) = match turn {
         Colour::White => (48 + file, 32 + file),
         Colour::Black => (8 + file, 24 + file),
     };
-    let Some(from) = Square::new(from) else {
-        return None;
-    };
-    let Some(to) = Square::new(to) else {
-        return None;
-    };
-    Some(Move {
-        from,
-        to,
+    Move {
+        from: Square::known(from),
+        to: Square::known(to),
         promo: None,
-    })
+    }
 }
 
 /// The double step just made, or how many bytes begin such a field.
@@ -132,7 +127,7 @@ pub(crate) fn read_en_passant(turn: Colour, text: &[u8]) -> Result<Option<Move>,
     if text.len() > 2 {
         return Err(2);
     }
-    Ok(double_step(turn, text[0] - b'a'))
+    Ok(Some(double_step(turn, text[0] - b'a')))
 }
 
 fn is_decimal(byte: u8) -> bool
@@ -141,13 +136,16 @@ fn is_decimal(byte: u8) -> bool
     b'0' <= byte && byte <= b'9'
 }
 
+/// A number has at most so many digits, so that it is below 2^32.
+const MOST_DIGITS: usize = 9;
+
 /// A number of one to nine digits, or how many bytes begin one.
 pub(crate) fn read_number(text: &[u8]) -> Result<u32, usize>
     ensures { ReadsPart number text.now result }
 {
     let mut value: u32 = 0;
     for (i, byte) in text.iter().enumerate() {
-        if i >= 9 {
+        if i >= MOST_DIGITS {
             return Err(i);
         }
         if !is_decimal(*byte) {

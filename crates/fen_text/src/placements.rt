@@ -15,9 +15,7 @@ fn put_rank(board: &mut Board, rank: u8, places: &[Option<Man>; 8])
     ensures { board.new ≡ take (8 * rank) board.old ++ places.now ++ drop (8 * rank + 8) board.old }
 {
     for file in 0..8u8 {
-        if let Some(square) = Square::new(8 * rank + file) {
-            board.put(square, places[file as usize]);
-        }
+        board.put(Square::known(8 * rank + file), places[file as usize]);
     }
 }
 

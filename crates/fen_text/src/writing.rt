@@ -34,11 +34,7 @@ fn place_on(board: &Board, rank: u8, file: u8) -> Option<Man>
     requires file { file < 8 }
     ensures place { result ≡ at board.now (8 * rank + file) }
 {
-    let index = 8 * rank + file;
-    match Square::new(index) {
-        Some(square) => board.at(square),
-        None => None,
-    }
+    board.at(Square::known(8 * rank + file))
 }
 
 /// The digit of a run of empty squares, if there is one.

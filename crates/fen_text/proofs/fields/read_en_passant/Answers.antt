@@ -1,7 +1,7 @@
 use Rattle.std.proofs.Common.{sym, ap, ◌∙◌, arith, eqb-true}
 use Rattle.std.proofs.lemmas.Bool.{eqb-false}
-use Rattle.fen_text.proofs.FieldLemmas.{en_passant_none, en_passant_bad, en_passant_short, en_passant_rank, en_passant_over, en_passant_good, step_is, step_fits}
-use Rattle.std.specs.Prelude.{Option, Some}
+use Rattle.fen_text.proofs.FieldLemmas.{en_passant_none, en_passant_bad, en_passant_short, en_passant_rank, en_passant_over, en_passant_good}
+use Rattle.std.specs.Prelude.{Some}
 use Rattle.board_base.specs.declared.moves.Move.{Move}
 use Rattle.fen_text.proofs.fields.read_en_passant.Goals as goal
 
@@ -27,7 +27,4 @@ returns-then-text-gt2-clause-read c = en_passant_over c.args.turn c.args.text.no
 pub returns-clause-read : goal.returns-clause-read
 returns-clause-read c =
     let some = eqb-false _ _ (sym c.is_empty.ensures ∙ c.if-is_empty.false) in
-    en_passant_good c.args.turn c.args.text.now (omega arith) (sym c.is_file.ensures ∙ c.if-not-is_file.false) (c.if-text-digit_of.false ∙ c.digit_of.ensures) ∙ ap (λ (o : Option Move). Some o) (sym (step_is c.args.turn c.double_step.result _ c.double_step.ensures))
-
-pub returns-clause-fits : goal.returns-clause-fits
-returns-clause-fits c = step_fits c.args.turn c.double_step.result _ c.double_step.ensures
+    en_passant_good c.args.turn c.args.text.now (omega arith) (sym c.is_file.ensures ∙ c.if-not-is_file.false) (c.if-text-digit_of.false ∙ c.digit_of.ensures) ∙ ap (λ (m : Move). Some (Some m)) (sym c.double_step.ensures.step)
