@@ -8,7 +8,7 @@ use Rattle.board_base.specs.declared.men.Colour.{Colour}
 use Rattle.board_base.specs.declared.men.Colour.TheVariants.{White, Black}
 use Rattle.fen_text.specs.Parts.{Free}
 use Rattle.fen_text.specs.Faults.{Begins, IsFault}
-use Rattle.fen_text.specs.Fen.{turn, mark, marks, is_nothing, is_dash, no_rights, rights_of, rights, en_passant, en_passant_digit, double_over}
+use Rattle.fen_text.specs.Fen.{turn, mark, castle_letters, marks, is_nothing, is_dash, no_rights, rights_of, rights, en_passant, en_passant_digit, double_over}
 use Rattle.fen_text.proofs.PartLemmas.{Clean, not_some, some_is, stop, stop_at, stop_end}
 
 -- the side to move
@@ -119,18 +119,15 @@ eaten (l ∷ ls) (b ∷ text) = elim (cases_eq b l) [
       }
 ]
 
-abbrev pub four : List ℕ
-four = 75 ∷ 81 ∷ 107 ∷ 113 ∷ []
-
-rights_begun : (p : List ℕ) → (marks four p).1 ≡ [] → Begins rights p
+rights_begun : (p : List ℕ) → (marks castle_letters p).1 ≡ [] → Begins rights p
 unfolding rights
 rights_begun [] e = (45 ∷ [], refl)
 rights_begun (b ∷ p) e =
-    let good : is_nothing (marks four (b ∷ p)).1 ≡ true = ap is_nothing e in (
+    let good : is_nothing (marks castle_letters (b ∷ p)).1 ≡ true = ap is_nothing e in (
       [],
       ap (λ (y : List ℕ). is_some (rights y)) (append-nil (b ∷ p)) ∙ (elim (cases_Bool (is_dash (b ∷ p))) [
-        | inl d ↦ ap is_some (cond-true _ (Some no_rights) (cond (true && is_nothing (marks four (b ∷ p)).1) (Some (rights_of (marks four (b ∷ p)).0)) None) d)
-        | inr d ↦ ap is_some (cond-false _ (Some no_rights) (cond (true && is_nothing (marks four (b ∷ p)).1) (Some (rights_of (marks four (b ∷ p)).0)) None) d ∙ cond-true _ (Some (rights_of (marks four (b ∷ p)).0)) None good)
+        | inl d ↦ ap is_some (cond-true _ (Some no_rights) (cond (true && is_nothing (marks castle_letters (b ∷ p)).1) (Some (rights_of (marks castle_letters (b ∷ p)).0)) None) d)
+        | inr d ↦ ap is_some (cond-false _ (Some no_rights) (cond (true && is_nothing (marks castle_letters (b ∷ p)).1) (Some (rights_of (marks castle_letters (b ∷ p)).0)) None) d ∙ cond-true _ (Some (rights_of (marks castle_letters (b ∷ p)).0)) None good)
       ]),
     )
 
@@ -138,24 +135,24 @@ no_dash : (p r x text : List ℕ) (b : ℕ) → text ≡ p ++ b ∷ r → (get_o
 no_dash [] r x text b e ne = and_left _ _ (ne_eqb b 45 (λ d. ne (ap (λ (t : List ℕ). get_or t 0 0) e ∙ d)))
 no_dash (c ∷ p) r x text b e ne = and_left _ _ (ne_eqb c 45 (λ d. ne (ap (λ (t : List ℕ). get_or t 0 0) e ∙ d)))
 
-rights_none : (text left : List ℕ) (b : ℕ) → is_dash text ≡ false → (marks four text).1 ≡ b ∷ left → rights text ≡ None
+rights_none : (text left : List ℕ) (b : ℕ) → is_dash text ≡ false → (marks castle_letters text).1 ≡ b ∷ left → rights text ≡ None
 unfolding rights
 rights_none text left b dash more =
-    cond-false _ (Some no_rights) (cond (not (is_nothing text) && is_nothing (marks four text).1) (Some (rights_of (marks four text).0)) None) dash
-    ∙ cond-false _ (Some (rights_of (marks four text).0)) None (and_right _ _ (ap is_nothing more))
+    cond-false _ (Some no_rights) (cond (not (is_nothing text) && is_nothing (marks castle_letters text).1) (Some (rights_of (marks castle_letters text).0)) None) dash
+    ∙ cond-false _ (Some (rights_of (marks castle_letters text).0)) None (and_right _ _ (ap is_nothing more))
 
-rights_stop : (text rest : List ℕ) → (marks four text).1 ≡ rest → 0 < length rest → (get_or text 0 0 ≡ 45 → ⊥) → IsFault rights text (length text - length rest)
+rights_stop : (text rest : List ℕ) → (marks castle_letters text).1 ≡ rest → 0 < length rest → (get_or text 0 0 ≡ 45 → ⊥) → IsFault rights text (length text - length rest)
 rights_stop text [] e some ne = absurd (omega arith)
 rights_stop text (b ∷ r) e some ne =
-    let all : Eaten four text = eaten four text in
+    let all : Eaten castle_letters text = eaten castle_letters text in
     let whole : text ≡ all.front ++ b ∷ r = all.whole ∙ ap (λ (y : List ℕ). all.front ++ y) e in
     let len : length all.front ≡ length text - length (b ∷ r) = omega (arith, ap length whole, length-append all.front (b ∷ r)) in
     let none = ap (λ (m : List Bool × List ℕ). m.1) (all.again [] tt) in
-    let begun : Begins rights all.front = rights_begun all.front (ap (λ (y : List ℕ). (marks four y).1) (sym (append-nil all.front)) ∙ none) in
+    let begun : Begins rights all.front = rights_begun all.front (ap (λ (y : List ℕ). (marks castle_letters y).1) (sym (append-nil all.front)) ∙ none) in
     let bad = λ (x : List ℕ). rights_none (all.front ++ b ∷ x) x b (no_dash all.front r x text b whole ne) (ap (λ (m : List Bool × List ℕ). m.1) (all.again (b ∷ x) (subst (λ (y : List ℕ). SameHead y (b ∷ x)) (sym e) refl))) in
     subst₂ (λ (t : List ℕ) (n : ℕ). IsFault rights t n) (sym whole) len (stop rights all.front b r begun bad)
 
-pub rights_fault : (text rest : List ℕ) → (marks four text).1 ≡ rest → (length rest ≡ 0 → ⊥) → (get_or text 0 0 ≡ 45 → ⊥) → IsFault rights text (length text - length rest)
+pub rights_fault : (text rest : List ℕ) → (marks castle_letters text).1 ≡ rest → (length rest ≡ 0 → ⊥) → (get_or text 0 0 ≡ 45 → ⊥) → IsFault rights text (length text - length rest)
 rights_fault text rest e some ne = rights_stop text rest e (omega arith) ne
 
 pub rights_empty : (text : List ℕ) → length text ≡ 0 → IsFault rights text 0
@@ -213,25 +210,25 @@ pub clean_rights : Clean 32 rights
 unfolding rights
 clean_rights text s = elim (cases_Bool (is_dash text)) [
   | inl d ↦ subst (Free 32) (sym (dash_is text d)) refl
-  | inr d ↦ elim (cases_Bool (is_nothing (marks four text).1)) [
-    | inl e ↦ letters_free four refl text (subst (Free 32) (sym (nothing_is _ e)) refl)
-    | inr e ↦ absurd (not_some (rights text) (cond-false _ (Some no_rights) (cond (not (is_nothing text) && is_nothing (marks four text).1) (Some (rights_of (marks four text).0)) None) d ∙ cond-false _ (Some (rights_of (marks four text).0)) None (and_right _ _ e)) s)
+  | inr d ↦ elim (cases_Bool (is_nothing (marks castle_letters text).1)) [
+    | inl e ↦ letters_free castle_letters refl text (subst (Free 32) (sym (nothing_is _ e)) refl)
+    | inr e ↦ absurd (not_some (rights text) (cond-false _ (Some no_rights) (cond (not (is_nothing text) && is_nothing (marks castle_letters text).1) (Some (rights_of (marks castle_letters text).0)) None) d ∙ cond-false _ (Some (rights_of (marks castle_letters text).0)) None (and_right _ _ e)) s)
   ]
 ]
 
 -- all letters were taken
-pub rights_good : (text : List ℕ) (set : Rights) → (length text ≡ 0 → ⊥) → (get_or text 0 0 ≡ 45 → ⊥) → is_nothing (marks four text).1 ≡ true → rights_of (marks four text).0 ≡ set → rights text ≡ Some set
+pub rights_good : (text : List ℕ) (set : Rights) → (length text ≡ 0 → ⊥) → (get_or text 0 0 ≡ 45 → ⊥) → is_nothing (marks castle_letters text).1 ≡ true → rights_of (marks castle_letters text).0 ≡ set → rights text ≡ Some set
 unfolding rights
 rights_good [] set some ne done is = absurd (some refl)
 rights_good (b ∷ text) set some ne done is =
-    cond-false _ (Some no_rights) (cond (true && is_nothing (marks four (b ∷ text)).1) (Some (rights_of (marks four (b ∷ text)).0)) None) (and_left _ _ (ne_eqb b 45 ne))
-    ∙ cond-true _ (Some (rights_of (marks four (b ∷ text)).0)) None done ∙ ap (λ (s : Rights). Some s) is
+    cond-false _ (Some no_rights) (cond (true && is_nothing (marks castle_letters (b ∷ text)).1) (Some (rights_of (marks castle_letters (b ∷ text)).0)) None) (and_left _ _ (ne_eqb b 45 ne))
+    ∙ cond-true _ (Some (rights_of (marks castle_letters (b ∷ text)).0)) None done ∙ ap (λ (s : Rights). Some s) is
 
 pub nothing_left : (text : List ℕ) → length text ≡ 0 → is_nothing text ≡ true
 nothing_left [] e = refl
 nothing_left (b ∷ text) e = absurd (omega arith)
 
-pub marks_four : (text r1 r2 r3 r4 : List ℕ) (b1 b2 b3 b4 : Bool) → (b1, r1) ≡ mark 75 text → (b2, r2) ≡ mark 81 r1 → (b3, r3) ≡ mark 107 r2 → (b4, r4) ≡ mark 113 r3 → marks four text ≡ (b1 ∷ b2 ∷ b3 ∷ b4 ∷ [], r4)
+pub marks_four : (text r1 r2 r3 r4 : List ℕ) (b1 b2 b3 b4 : Bool) → (b1, r1) ≡ mark 75 text → (b2, r2) ≡ mark 81 r1 → (b3, r3) ≡ mark 107 r2 → (b4, r4) ≡ mark 113 r3 → marks castle_letters text ≡ (b1 ∷ b2 ∷ b3 ∷ b4 ∷ [], r4)
 marks_four text r1 r2 r3 r4 b1 b2 b3 b4 e1 e2 e3 e4 =
     let l4 = step 113 [] r3 (b4, r4) (sym e4) in
     let l3 = step 107 (113 ∷ []) r2 (b3, r3) (sym e3) ∙ ap (λ (m : List Bool × List ℕ). (b3 ∷ m.0, m.1)) l4 in

@@ -13,13 +13,13 @@ use Rattle.board_base.specs.declared.men.Colour.TheVariants.{White, Black}
 use Rattle.board_base.specs.declared.moves.Move.{Move}
 use Rattle.query_base.specs.Asked.{Asked}
 use Rattle.fen_text.specs.Ranks.{letter, is_run, places_of, is_symbol, runs_apart, rank_places, is_rank, rank}
-use Rattle.fen_text.specs.Fen.{ranks, placement, turn, mark, marks, is_nothing, is_dash, no_rights, rights_of, rights, en_passant, en_passant_digit, double_over, number, Position, asked, from_numbers, from_en_passant, from_rights, from_turn, fen, unnumbered, fen_of_four}
+use Rattle.fen_text.specs.Fen.{ranks, placement, turn, mark, castle_letters, marks, is_nothing, is_dash, no_rights, rights_of, rights, en_passant, en_passant_digit, double_over, number, Position, asked, from_numbers, from_en_passant, from_rights, from_turn, fen, unnumbered, fen_of_four}
 use Rattle.fen_text.specs.Spelling.{symbol, run_text, rank_text, rank_of, ranks_text, turn_letter, letter_if, rights_text, en_passant_text, spelling}
 use Rattle.fen_text.proofs.PartLemmas.{some_value, parted_known, followed}
 use Rattle.fen_text.proofs.RankLemmas.{run_places, letter_len, letter_symbol}
 use Rattle.fen_text.proofs.PlacementLemmas.{rank_length}
 use Rattle.fen_text.proofs.Lengths.{spelling_bound}
-use Rattle.fen_text.proofs.FieldLemmas.{four, mark_hit, mark_miss, nothing_is, dash_is}
+use Rattle.fen_text.proofs.FieldLemmas.{mark_hit, mark_miss, nothing_is, dash_is}
 
 -- one line of a table of bytes
 pick : {V : Type 0} (P : V → Type 0) (c k : ℕ) (v w : V) (rest : Option V) → (c ≡ k → P v) → (rest ≡ Some w → P w) → cond (c == k) (Some v) rest ≡ Some w → P w
@@ -152,12 +152,12 @@ rights_spelled : (text : List ℕ) (r : Rights) → rights text ≡ Some r → t
 unfolding rights
 rights_spelled text r e = elim (cases_Bool (is_dash text)) [
   | inl dash ↦
-      let is = sym (cond-true (is_dash text) (Some no_rights) (cond (not (is_nothing text) && is_nothing (marks four text).1) (Some (rights_of (marks four text).0)) None) dash) ∙ e in
+      let is = sym (cond-true (is_dash text) (Some no_rights) (cond (not (is_nothing text) && is_nothing (marks castle_letters text).1) (Some (rights_of (marks castle_letters text).0)) None) dash) ∙ e in
       let same : no_rights ≡ r = cc in
       dash_is text dash ∙ ap rights_text same
   | inr letters ↦
-      let p = cond_some (not (is_nothing text) && is_nothing (marks four text).1) (rights_of (marks four text).0) r (sym (cond-false (is_dash text) (Some no_rights) (cond (not (is_nothing text) && is_nothing (marks four text).1) (Some (rights_of (marks four text).0)) None) letters) ∙ e) in
-      let tests = and_parts (not (is_nothing text)) (is_nothing (marks four text).1) p.0 in
+      let p = cond_some (not (is_nothing text) && is_nothing (marks castle_letters text).1) (rights_of (marks castle_letters text).0) r (sym (cond-false (is_dash text) (Some no_rights) (cond (not (is_nothing text) && is_nothing (marks castle_letters text).1) (Some (rights_of (marks castle_letters text).0)) None) letters) ∙ e) in
+      let tests = and_parts (not (is_nothing text)) (is_nothing (marks castle_letters text).1) p.0 in
       let k : Bool × List ℕ = mark 75 text in
       let q : Bool × List ℕ = mark 81 k.1 in
       let kk : Bool × List ℕ = mark 107 q.1 in

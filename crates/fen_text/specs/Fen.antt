@@ -31,6 +31,10 @@ abbrev pub mark : ℕ → List ℕ → Bool × List ℕ
 mark letter [] = (false, [])
 mark letter (b ∷ text) = cond (b == letter) (true, text) (false, b ∷ text)
 
+-- K, Q, k and q
+abbrev pub castle_letters : List ℕ
+castle_letters = 75 ∷ 81 ∷ 107 ∷ 113 ∷ []
+
 -- which of the letters begin the text, each at most once and in their order, and what follows them
 abbrev pub marks : List ℕ → List ℕ → List Bool × List ℕ
 marks [] text = ([], text)
@@ -57,7 +61,7 @@ no_rights = record { white_short = false; white_long = false; black_short = fals
 -- a dash, or one or more of K, Q, k and q, in this order and each at most once
 unfoldable pub rights : List ℕ → Option Rights
 rights text =
-    let ms : List Bool × List ℕ = marks (75 ∷ 81 ∷ 107 ∷ 113 ∷ []) text
+    let ms : List Bool × List ℕ = marks castle_letters text
     in cond (is_dash text) (Some no_rights) (cond (not (is_nothing text) && is_nothing ms.1) (Some (rights_of ms.0)) None)
 
 -- the rank, as its digit, on which a capture en passant by this colour ends
