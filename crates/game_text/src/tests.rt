@@ -1,0 +1,23 @@
+use crate::{GameFault, IllegalAt, read_game, replay};
+use board_base::Colour;
+use std::test::Fail;
+
+#[test]
+fn replays_the_words_of_a_game(rt: HostRuntime) -> Result<(), Fail> {
+    let moves = read_game(rt.alloc(), b"\r\n e2e4 e7e5\r\ng1f3 ")?;
+    assert_eq!(rt; moves.len(), 3);
+    match replay(&moves) {
+        Ok(state) => assert_eq!(rt; state.turn(), Colour::Black),
+        Err(illegal) => assert_eq!(rt; illegal.ply, 0),
+    }
+    Ok(())
+}
+
+#[test]
+fn names_the_first_fault(rt: HostRuntime) -> Result<(), Fail> {
+    let bad = read_game(rt.alloc(), b"e2e4 e9e5 e2e4k");
+    assert_eq!(rt; bad.err(), Some(GameFault::BadText { word: 2 }));
+    let moves = read_game(rt.alloc(), b"e2e4 e7e5 e4e5")?;
+    assert_eq!(rt; replay(&moves).err(), Some(IllegalAt { ply: 3 }));
+    Ok(())
+}
