@@ -1,10 +1,13 @@
 -- Words, the moves that they stand for, and the first that stands for none.
-use Rattle.std.proofs.Common.{◌≡◌, ◌<◌, ◌+◌, ℕ, List, take, drop, length, get_or, ap, sym, ◌∙◌, subst}
+use Rattle.std.proofs.Common.{◌≡◌, ◌<◌, ◌≤◌, ◌+◌, ℕ, arith, List, take, drop, length, get_or, ap, sym, ◌∙◌, subst}
 use Rattle.std.specs.Prelude.{Some, None}
+use Rattle.std.specs.List.{slice_split}
 use Rattle.std.proofs.lemmas.List.{length-map}
+use Rattle.std.proofs.lemmas.List.Splits.{length-slice_split}
+use Rattle.std.proofs.lemmas.List.Sums.{length-filter, count_by-le-length}
 use Rattle.board_base.specs.Texts.{move_of}
 use Rattle.board_base.specs.declared.moves.Move.{Move}
-use Rattle.game_text.specs.Words.{AreTextsOf, FirstBad}
+use Rattle.game_text.specs.Words.{words, is_blank, AreTextsOf, FirstBad}
 use Rattle.game_text.proofs.Splits.{split_at}
 
 -- there are as many texts as moves
@@ -24,3 +27,9 @@ first_bad texts done text n g so_far here are bad =
       moves = (g, before);
       bad = bad;
     }
+
+-- a text has no more words than bytes and one
+pub few_words : (text : List ℕ) → length (words text) ≤ length text + 1
+few_words text =
+    let kept : length (words text) ≤ length (slice_split is_blank text) = rw length-filter (count_by-le-length _ (slice_split is_blank text)) in
+    omega (arith, kept, length-slice_split is_blank text, count_by-le-length is_blank text)

@@ -1,4 +1,4 @@
-ghost use Rattle.std.specs.Prelude.{◌≡◌, ◌≤◌, length, IfOk, IfErr};
+ghost use Rattle.std.specs.Prelude.{◌≡◌, ◌≤◌, ◌+◌, length, vec_len, IfOk, IfErr};
 ghost use Rattle.game_text.specs.Words.{is_blank, words, AreTextsOf, IsFaultOf};
 
 use board_base::{Move, read_move};
@@ -28,6 +28,7 @@ fn is_blank(byte: u8) -> bool
 pub fn read_game(alloc: Global, bytes: &[u8]) -> Result<Vec<Move>, GameFault>
     requires { length bytes.now ≤ 67_108_864 }
     ensures ok { IfOk result (λ v. AreTextsOf (words bytes.now) v.items) }
+    ensures few { IfOk result (λ v. vec_len v ≤ length bytes.now + 1) }
     ensures fault { IfErr result (λ e. IsFaultOf e bytes.now) }
 {
     let mut moves = Vec::new(alloc);

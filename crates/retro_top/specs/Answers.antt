@@ -3,18 +3,22 @@ use Rattle.std.specs.Prelude.{ℕ, ◌≤◌, List, length, String, Option}
 use Rattle.std.specs.Global.{Global}
 use Rattle.std.specs.Io.KnownBytes.{Appends, Consumes, IsAtEnd}
 use Rattle.retro_ports.specs.Ends.{TakesPrefix}
-use Rattle.query_base.specs.Reach.{Holds}
+use Rattle.board_base.specs.declared.moves.Move.{Move}
+use Rattle.query_base.specs.Asked.{Asked}
+use Rattle.query_base.specs.Reach.{Holds, Reaches}
 use Rattle.retro_top.specs.Lines.{cut}
 use Rattle.retro_top.specs.Certificate.{Certificate}
 use Rattle.retro_top.specs.Commands.{Call}
 use Rattle.retro_top.specs.Checks.{AnswersCheck, IsSupported, accepted}
+use Rattle.retro_top.specs.Plays.{AnswersPlay, Asks}
 use Rattle.retro_top.specs.declared.statuses.Status.{Status}
 use Rattle.retro_top.specs.declared.commands.Command.{Command}
-use Rattle.retro_top.specs.declared.commands.Command.TheVariants.{Check}
+use Rattle.retro_top.specs.declared.commands.Command.TheVariants.{Check, Play}
 
 -- the status and the text with which a command answers an input
 abbrev pub AnswersAs : Command → List ℕ → Status → List ℕ → Type 0
 AnswersAs Check input status text = AnswersCheck input status text
+AnswersAs Play input status text = AnswersPlay input status text
 
 -- the status and the text with which the words answer an input
 abbrev pub Answers : List (String Global) → List ℕ → Status → List ℕ → Type 0
@@ -41,3 +45,7 @@ Accepts input old new =
 -- no certificate is supported whose text these bytes are
 abbrev pub HasNoSupport : List ℕ → Type 0
 HasNoSupport input = (cert : Certificate) → IsSupported input cert → ⊥
+
+-- some legal game reaches the position that the input asks for
+abbrev pub HasGame : List ℕ → Type 0
+HasGame input = (q : Asked) × (g : List Move) × Asks input q × Reaches g q

@@ -6,6 +6,8 @@ ghost use Rattle.retro_top.specs.Commands.{Call, CallSome};
 pub enum Command {
     /// Whether a certificate proves its claim.
     Check,
+    /// Whether words are a legal game that reaches a position.
+    Play,
 }
 
 fn is_word(word: &String, text: &[u8]) -> bool
@@ -22,6 +24,8 @@ pub fn read_words(words: &[String]) -> Option<Command>
         [word] => {
             if is_word(word, b"check") {
                 Some(Command::Check)
+            } else if is_word(word, b"play") {
+                Some(Command::Play)
             } else {
                 None
             }
