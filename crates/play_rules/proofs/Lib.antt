@@ -1,3 +1,4 @@
+mod Examples
 pub mod Games
 pub mod Legality
 pub mod Kings

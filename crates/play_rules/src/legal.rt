@@ -47,7 +47,7 @@ fn is_king_attacked(board: &Board, colour: Colour, s: Square) -> bool
     is_the(colour, Kind::King, board.at(s)) && board.attacked(s, colour.other())
 }
 
-/// Some king of this side stands on a square that the other side attacks (article 3.9).
+/// Whether some king of this side stands on a square that the other side attacks (article 3.9).
 #[tactic(auto, unfolding(board_base::specs::Legal::in_check))]
 pub fn in_check(board: &Board, side: Colour) -> bool
     ensures { result ≡ in_check board.now side }

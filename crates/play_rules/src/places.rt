@@ -3,7 +3,7 @@ ghost use Rattle.board_base.specs.Board.{is_a, is_of, is_the};
 
 use board_base::{Colour, Kind, Man};
 
-/// A man of this kind stands on the place.
+/// Whether a man of this kind stands on the place.
 pub fn is_a(kind: Kind, place: Option<Man>) -> bool
     ensures { result ≡ is_a kind place }
 {
@@ -13,7 +13,7 @@ pub fn is_a(kind: Kind, place: Option<Man>) -> bool
     }
 }
 
-/// A man of this colour stands on the place.
+/// Whether a man of this colour stands on the place.
 pub fn is_of(colour: Colour, place: Option<Man>) -> bool
     ensures { result ≡ is_of colour place }
 {
@@ -23,7 +23,7 @@ pub fn is_of(colour: Colour, place: Option<Man>) -> bool
     }
 }
 
-/// A man of this colour and kind stands on the place.
+/// Whether a man of this colour and kind stands on the place.
 pub fn is_the(colour: Colour, kind: Kind, place: Option<Man>) -> bool
     ensures { result ≡ is_the colour kind place }
 {
