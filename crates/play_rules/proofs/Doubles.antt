@@ -19,10 +19,9 @@ use Rattle.board_base.specs.declared.castles.Castle.{Castle}
 use Rattle.play_rules.specs.States.{crossed_by, double_crossing, step_over}
 use Rattle.play_rules.proofs.Legality.{Manner, moves, steps, doubles, takes, passes, castles, Legality}
 use Rattle.board_base.specs.declared.castles.Castle.TheVariants.{WhiteShort, WhiteLong, BlackShort, BlackLong}
-use Rattle.board_base.proofs.Without.{length-array}
 use Rattle.board_base.specs.Game.{IsGame, board_after, turn_after, last_move}
 use Rattle.play_rules.proofs.Games.{in_every_game, board_after-more}
-use Rattle.play_rules.proofs.Kings.{castle-ends, pawn-no_king, length-carry, length-played}
+use Rattle.play_rules.proofs.Kings.{castle-ends, pawn-no_king, length-after, length-carry}
 use Rattle.play_rules.proofs.Legality.{legality}
 use Rattle.play_rules.proofs.EnPassant.{FitsDouble, FitsLast, en_passant-same}
 
@@ -189,11 +188,6 @@ crossing-played board c rights last m len legal =
           cond-false _ (Some (ahead c m.from)) None other ∙ sym (cond-false _ (Some (ahead (opponent c) m.to)) None left)
     ]
 
--- the last move of a game
-record LastFits (o : List Bool) (g : List Move) : Type 0 where
-  size : length (board_after o g) ≡ 64
-  fits : (l : Move) → last_move g ≡ Some l → FitsLast (board_after o g) (turn_after g) l
-
 pub last_move-more : (g : List Move) (m : Move) → last_move (g ++ m ∷ []) ≡ Some m
 last_move-more g m = last_from None g m
 
@@ -216,16 +210,14 @@ turn-more n = elim (cases_Bool (n % 2 == 0)) [
 pub turn_after-more : (g : List Move) (m : Move) → turn_after (g ++ m ∷ []) ≡ opponent (turn_after g)
 turn_after-more g m = ap (λ (n : ℕ). cond (n % 2 == 0) White Black) (length-append g (m ∷ [])) ∙ turn-more (length g)
 
-in_games : (o : List Bool) (g : List Move) → IsGame o g → LastFits o g
+-- the last move of a game fits the board that it left
+last-fits : (o : List Bool) (g : List Move) → IsGame o g → (l : Move) → last_move g ≡ Some l → FitsLast (board_after o g) (turn_after g) l
 unfolding play
-in_games o = in_every_game o (LastFits o) (record { size = length-array o; fits = λ l e. cc }) (λ g m game legal before. record {
-  size = ap length (board_after-more o g m) ∙ length-played (board_after o g) m _ ∙ before.size;
-  fits = λ l e.
-      let same : m ≡ l = same_Some _ _ (sym (last_move-more g m) ∙ e) in
-      let here : FitsLast (play (board_after o g) m) (opponent (turn_after g)) m = fits-played (board_after o g) (turn_after g) _ _ m _ refl before.size (legality _ _ _ _ _ legal) in
-      subst (FitsLast (board_after o (g ++ m ∷ [])) (turn_after (g ++ m ∷ []))) same (rw (board_after-more o g m, turn_after-more g m) here);
-})
+last-fits o = in_every_game o (λ g. (l : Move) → last_move g ≡ Some l → FitsLast (board_after o g) (turn_after g) l) (λ l e. cc) (λ g m game legal before l e.
+    let same : m ≡ l = same_Some _ _ (sym (last_move-more g m) ∙ e) in
+    let here : FitsLast (play (board_after o g) m) (opponent (turn_after g)) m = fits-played (board_after o g) (turn_after g) _ _ m _ refl (length-after o g game) (legality _ _ _ _ _ legal) in
+    subst (FitsLast (board_after o (g ++ m ∷ [])) (turn_after (g ++ m ∷ []))) same (rw (board_after-more o g m, turn_after-more g m) here))
 
 -- a capture en passant after a game is judged by the square that its last move crossed
 pub en_passant-in-game : (o : List Bool) (g : List Move) → IsGame o g → (m : Move) → pawn_captures_en_passant (board_after o g) (turn_after g) (step_over (crossed_by (board_after o g) (turn_after g) (last_move g)) (turn_after g)) m ≡ pawn_captures_en_passant (board_after o g) (turn_after g) (last_move g) m
-en_passant-in-game o g game m = en_passant-same (board_after o g) (turn_after g) (last_move g) m (in_games o g game).fits
+en_passant-in-game o g game m = en_passant-same (board_after o g) (turn_after g) (last_move g) m (last-fits o g game)

@@ -19,11 +19,11 @@ use Rattle.board_base.specs.declared.moves.Move.{Move}
 use Rattle.board_base.specs.declared.castles.Castle.{Castle}
 use Rattle.board_base.specs.declared.castles.Castle.TheVariants.{WhiteShort, WhiteLong, BlackShort, BlackLong}
 use Rattle.board_base.proofs.Ranges.{all_in_range}
-use Rattle.board_base.proofs.Without.{at-without, length-array}
+use Rattle.board_base.proofs.Without.{at-without}
 use Rattle.play_rules.specs.Laws.{is_end, HasNoPawnOnEnds}
 use Rattle.play_rules.proofs.Legality.{Manner, moves, steps, doubles, takes, passes, castles, Legality, legality}
 use Rattle.play_rules.proofs.Games.{in_every_game, board_after-more}
-use Rattle.play_rules.proofs.Kings.{castle-ends, within, length-played}
+use Rattle.play_rules.proofs.Kings.{castle-ends, within, length-after}
 use Rattle.play_rules.proofs.Doubles.{castles-no-pawn, officer-no_pawn}
 
 ends-set : (board : Places) (i : ℕ) (v : Option Man) → (is_end i ≡ true → is_a Pawn v ≡ false) → HasNoPawnOnEnds board → HasNoPawnOnEnds (set board i v)
@@ -134,13 +134,7 @@ array-ends o s end =
     let first : is_a Pawn (at initial_array s) ≡ false = false_from_ne_true _ (λ pawn. both_ways _ (not-true _ (all_in_range (λ k. not (is_end k && is_a Pawn (at initial_array k))) 0 64 s first-ends (omega arith) (omega arith))) (and_from _ _ end pawn)) in
     ap (is_a Pawn) (at-without o initial_array s) ∙ cleared-pawn (is_in o s) (at initial_array s) first
 
-record KeptEnds (o : List Bool) (g : List Move) : Type 0 where
-  size : length (board_after o g) ≡ 64
-  ends : HasNoPawnOnEnds (board_after o g)
-
 pub no_pawn_on_ends : (o : List Bool) (g : List Move) → IsGame o g → HasNoPawnOnEnds (board_after o g)
 unfolding play
-no_pawn_on_ends o g game = (in_every_game o (KeptEnds o) (record { size = length-array o; ends = array-ends o }) (λ h m before legal old. record {
-  size = ap length (board_after-more o h m) ∙ length-played (board_after o h) m _ ∙ old.size;
-  ends = subst HasNoPawnOnEnds (sym (board_after-more o h m)) (ends-played (board_after o h) _ _ _ m _ refl old.size (legality _ _ _ _ _ legal) old.ends);
-}) g game).ends
+no_pawn_on_ends o = in_every_game o (λ g. HasNoPawnOnEnds (board_after o g)) (array-ends o) (λ g m game legal before.
+    subst HasNoPawnOnEnds (sym (board_after-more o g m)) (ends-played (board_after o g) _ _ _ m _ refl (length-after o g game) (legality _ _ _ _ _ legal) before))

@@ -4,8 +4,8 @@ use Rattle.std.specs.Prelude.{Some, None}
 use Rattle.board_base.specs.Board.{Places, initial_array, man}
 use Rattle.board_base.specs.Attacks.{distance, king_distance, on_the_way, toward}
 use Rattle.board_base.specs.Legal.{pawn_doubles}
-use Rattle.board_base.specs.declared.men.Colour.TheVariants.{Black, White}
-use Rattle.board_base.specs.declared.men.Kind.TheVariants.{King, Rook}
+use Rattle.board_base.specs.declared.men.Colour.TheVariants.{White}
+use Rattle.board_base.specs.declared.men.Kind.TheVariants.{Rook}
 use Rattle.play_rules.specs.Listed.{move_of}
 use Rattle.play_rules.specs.States.{double_crossing, step_over}
 

@@ -298,10 +298,6 @@ pub length-after : (o : List Bool) (g : List Move) → IsGame o g → length (bo
 unfolding play
 length-after o = in_every_game o (λ g. length (board_after o g) ≡ 64) (length-array o) (λ g m game legal before. ap length (board_after-more o g m) ∙ length-played (board_after o g) m _ ∙ before)
 
-pub record Kept (board : Places) : Type 0 where
-  pub size : length board ≡ 64
-  pub kings : (c : Colour) → kings c board ≡ 1
-
 -- the first kings stand where no man may be left out
 king-kept : (c : Colour) → list_all (λ s. not (may_lack s && is_the c King (at initial_array s))) (range_with_len 0 64) ≡ true
 unfolding initial_array
@@ -318,13 +314,7 @@ array-kings : (o : List Bool) → AreOdds o → (c : Colour) → kings c (array_
 unfolding array_of
 array-kings o odds c = count-without (is_the c King) o initial_array refl (no-king-lacks o odds c) ∙ first-kings c
 
-pub kept : (o : List Bool) → AreOdds o → (g : List Move) → IsGame o g → Kept (board_after o g)
-unfolding play
-kept o odds = in_every_game o (λ g. Kept (board_after o g)) (record { size = length-array o; kings = λ c. array-kings o odds c })
-    (λ g m game legal before. rw (board_after-more o g m) (record {
-      size = length-played (board_after o g) m _ ∙ before.size;
-      kings = λ k. kings-after k _ (board_after o g) _ _ m _ refl before.size (legality _ _ _ _ _ legal) ∙ before.kings k;
-    }))
-
 pub one_king_each : (o : List Bool) (g : List Move) → AreOdds o → IsGame o g → HasOneKingEach (board_after o g)
-one_king_each o g odds game = (kept o odds g game).kings
+unfolding play
+one_king_each o g odds = in_every_game o (λ h. HasOneKingEach (board_after o h)) (array-kings o odds) (λ h m game legal before.
+    rw (board_after-more o h m) (λ c. kings-after c _ (board_after o h) _ _ m _ refl (length-after o h game) (legality _ _ _ _ _ legal) ∙ before c)) g

@@ -70,7 +70,7 @@ toward-end a b n (inl far) = elim (cases_lt a b) [
 toward-end a b n (inr same) = grind arith
 
 -- at the distance of a square on a line stands that square
-pub along-end : (d : Direction) (s t : ℕ) → LiesAlong d s t → along d s (king_distance s t) ≡ t
+along-end : (d : Direction) (s t : ℕ) → LiesAlong d s t → along d s (king_distance s t) ≡ t
 unfolding on_the_way
 along-end d s t lies =
     let both = steadies s t lies.line in

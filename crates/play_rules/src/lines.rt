@@ -16,8 +16,16 @@ pub enum Change {
 /// One of the eight ways from a square along its file, its rank or a diagonal.
 #[derive(Clone, Copy)]
 pub struct Direction {
-    pub ranks: Change,
-    pub files: Change,
+    ranks: Change,
+    files: Change,
+}
+
+impl Direction {
+    pub fn new(ranks: Change, files: Change) -> Direction
+        ensures { result ≡ record { ranks = ranks; files = files } }
+    {
+        Direction { ranks, files }
+    }
 }
 
 /// The rank or file `steps` on from `start`, if it is on the board.

@@ -12,42 +12,10 @@ fn add_straight(board: &Board, from: Square, targets: &mut [bool; 64])
     ensures added { (t : ℕ) → t < 64 → (not (from == t) && on_one_line from t && is_open board.now from t) ≡ true → is_in targets.new t ≡ true }
 {
     let [falls, stays, rises] = [Change::Falls, Change::Stays, Change::Rises];
-    add_line(
-        board,
-        from,
-        Direction {
-            ranks: falls,
-            files: stays,
-        },
-        targets,
-    );
-    add_line(
-        board,
-        from,
-        Direction {
-            ranks: stays,
-            files: falls,
-        },
-        targets,
-    );
-    add_line(
-        board,
-        from,
-        Direction {
-            ranks: stays,
-            files: rises,
-        },
-        targets,
-    );
-    add_line(
-        board,
-        from,
-        Direction {
-            ranks: rises,
-            files: stays,
-        },
-        targets,
-    );
+    add_line(board, from, Direction::new(falls, stays), targets);
+    add_line(board, from, Direction::new(stays, falls), targets);
+    add_line(board, from, Direction::new(stays, rises), targets);
+    add_line(board, from, Direction::new(rises, stays), targets);
 }
 
 /// Adds the squares on the diagonals up to the first men.
@@ -55,43 +23,11 @@ fn add_diagonal(board: &Board, from: Square, targets: &mut [bool; 64])
     ensures kept { IsWithin targets.old targets.new }
     ensures added { (t : ℕ) → t < 64 → (not (from == t) && on_one_diagonal from t && is_open board.now from t) ≡ true → is_in targets.new t ≡ true }
 {
-    let (falls, rises) = (Change::Falls, Change::Rises);
-    add_line(
-        board,
-        from,
-        Direction {
-            ranks: falls,
-            files: falls,
-        },
-        targets,
-    );
-    add_line(
-        board,
-        from,
-        Direction {
-            ranks: falls,
-            files: rises,
-        },
-        targets,
-    );
-    add_line(
-        board,
-        from,
-        Direction {
-            ranks: rises,
-            files: falls,
-        },
-        targets,
-    );
-    add_line(
-        board,
-        from,
-        Direction {
-            ranks: rises,
-            files: rises,
-        },
-        targets,
-    );
+    let [falls, rises] = [Change::Falls, Change::Rises];
+    add_line(board, from, Direction::new(falls, falls), targets);
+    add_line(board, from, Direction::new(falls, rises), targets);
+    add_line(board, from, Direction::new(rises, falls), targets);
+    add_line(board, from, Direction::new(rises, rises), targets);
 }
 
 /// A pawn, a knight or a king may go so, whatever stands on the board.
