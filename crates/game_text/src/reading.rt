@@ -22,9 +22,9 @@ fn is_blank(byte: u8) -> bool
     byte == b' ' || byte == b'\n' || byte == b'\r'
 }
 
-/// The moves that the words stand for, in order. The words, of at most 67,108,864 bytes with what
-/// parts them, are parted by spaces, line feeds and carriage returns, any number of them, which may
-/// stand at both ends too. `BadText` comes exactly where a word is no move's text.
+/// The moves of a game's text, of at most 67,108,864 bytes, in order. Its words are parted by
+/// spaces, line feeds and carriage returns, any number of them, at both ends too. `BadText` comes
+/// exactly where some word is no move's text.
 pub fn read_game(alloc: Global, bytes: &[u8]) -> Result<Vec<Move>, GameFault>
     requires { length bytes.now ≤ 67_108_864 }
     ensures ok { IfOk result (λ v. AreTextsOf (words bytes.now) v.items) }

@@ -16,7 +16,9 @@ fn replays_the_words_of_a_game(rt: HostRuntime) -> Result<(), Fail> {
 #[test]
 fn names_the_first_fault(rt: HostRuntime) -> Result<(), Fail> {
     let bad = read_game(rt.alloc(), b"e2e4 e9e5 e2e4k");
-    assert_eq!(rt; bad.err(), Some(GameFault::BadText { word: 2 }));
+    let fault = bad.err().ok_or("read")?;
+    assert_eq!(rt; fault, GameFault::BadText { word: 2 });
+    assert_eq!(rt; fault.to_string(rt.alloc())?.as_str(), "word 2 is no move");
     let moves = read_game(rt.alloc(), b"e2e4 e7e5 e4e5")?;
     assert_eq!(rt; replay(&moves).err(), Some(IllegalAt { ply: 3 }));
     Ok(())
