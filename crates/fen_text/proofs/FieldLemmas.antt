@@ -23,16 +23,6 @@ bad_turn b n1 n2 (c ∷ x) = refl
 pub turn_bad : (text : List ℕ) → 0 < length text → (get_or text 0 0 ≡ 119 → ⊥) → (get_or text 0 0 ≡ 98 → ⊥) → IsFault turn text 0
 turn_bad text some n1 n2 = stop_at turn text 0 some (119 ∷ [], refl) (λ x. bad_turn _ n1 n2 x)
 
-pub turn_long : (text : List ℕ) (c : Colour) → 0 < length text → (length text ≡ 1 → ⊥) → turn (get_or text 0 0 ∷ []) ≡ Some c → IsFault turn text 1
-turn_long [] c some long good = absurd (omega arith)
-turn_long (b ∷ []) c some long good = absurd (long refl)
-turn_long (b ∷ d ∷ text) c some long good = stop_at turn (b ∷ d ∷ text) 1 (omega arith) ([], some_is _ _ (sym good) refl) (λ x. refl)
-
-pub turn_good : (text : List ℕ) (c : Colour) → length text ≡ 1 → turn (get_or text 0 0 ∷ []) ≡ Some c → turn text ≡ Some c
-turn_good [] c one good = absurd (omega arith)
-turn_good (b ∷ []) c one good = good
-turn_good (b ∷ d ∷ text) c one good = absurd (omega arith)
-
 pub clean_turn : Clean 32 turn
 clean_turn [] s = absurd (true≢false (sym s))
 clean_turn (b ∷ []) s = elim (cases_eq b 32) [
@@ -261,21 +251,6 @@ bad_start c b n1 n2 (r ∷ d ∷ x) = refl
 
 pub en_passant_bad : (c : Colour) (text : List ℕ) → 0 < length text → (get_or text 0 0 ≡ 45 → ⊥) → (nat_le 97 (get_or text 0 0) && nat_le (get_or text 0 0) 104) ≡ false → IsFault (en_passant c) text 0
 en_passant_bad c text some n1 n2 = stop_at (en_passant c) text 0 some (45 ∷ [], refl) (λ x. bad_start c _ n1 n2 x)
-
-pub en_passant_dash : (c : Colour) (text : List ℕ) → length text ≡ 1 → get_or text 0 0 ≡ 45 → en_passant c text ≡ Some None
-en_passant_dash c [] one dash = absurd (omega arith)
-en_passant_dash c (b ∷ []) one dash = ap (λ (d : ℕ). en_passant c (d ∷ [])) dash
-en_passant_dash c (b ∷ d ∷ text) one dash = absurd (omega arith)
-
-dash_more : (c : Colour) (x : List ℕ) (d : ℕ) → en_passant c (45 ∷ d ∷ x) ≡ None
-dash_more c [] d = refl
-dash_more c (e ∷ x) d = refl
-
-pub en_passant_long : (c : Colour) (text : List ℕ) → 0 < length text → (length text ≡ 1 → ⊥) → get_or text 0 0 ≡ 45 → IsFault (en_passant c) text 1
-en_passant_long c [] some long dash = absurd (omega arith)
-en_passant_long c (b ∷ []) some long dash = absurd (long refl)
-en_passant_long c (b ∷ d ∷ text) some long dash =
-    subst (λ (e : ℕ). IsFault (en_passant c) (e ∷ d ∷ text) 1) (sym dash) (stop_at (en_passant c) (45 ∷ d ∷ text) 1 (omega arith) ([], refl) (λ x. dash_more c x d))
 
 file_begun : (c : Colour) (f : ℕ) → (nat_le 97 f && nat_le f 104) ≡ true → Begins (en_passant c) (f ∷ [])
 file_begun c f good = (en_passant_digit c ∷ [], ap is_some (cond-true _ (Some (Some (double_over c (f - 97)))) None (and_from _ _ good (eq-eqb (en_passant_digit c) (en_passant_digit c) refl))))

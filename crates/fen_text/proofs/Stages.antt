@@ -23,9 +23,6 @@ no_spaces (b ∷ text) f =
     let fs = and_parts _ _ f in
     sum_by-cons (λ (c : ℕ). cond (c == 32) 1 0) b text ∙ ap (λ (t : Bool). cond t 1 0 + spaces text) (not-true _ fs.0) ∙ ap (λ (n : ℕ). 0 + n) (no_spaces text fs.1) ∙ zero-add 0
 
-pub part_short : (c : ℕ) (text a : List ℕ) → IsPart c text a → length a ≤ length text
-part_short c text a is = omega (arith, ap length is.whole, length-append a is.tail)
-
 in_part : (text a : List ℕ) (n : ℕ) → IsPart 32 text a → n ≤ length a → spaces (take n text) ≡ 0
 in_part text a n is few = ap (λ (t : List ℕ). spaces (take n t)) is.whole ∙ ap spaces (take-append-le n a is.tail few) ∙ no_spaces (take n a) (free_take 32 n a is.free)
 

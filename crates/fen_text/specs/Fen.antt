@@ -17,6 +17,7 @@ unfoldable pub ranks : ℕ → List ℕ → Option Places
 ranks zero text = rank text
 ranks (suc n) text = parted 47 rank (λ r. None) (λ r below. option_map (λ places. places ++ r) (ranks n below)) text
 
+-- eight ranks
 unfoldable pub placement : List ℕ → Option Places
 placement text = ranks 7 text
 
@@ -44,6 +45,7 @@ marks (l ∷ letters) text = let m : Bool × List ℕ = mark l text in let ms : 
 abbrev pub is_given : List Bool → ℕ → Bool
 is_given given n = slice_index_or given n false
 
+-- the castlings whose letters were given
 abbrev pub rights_of : List Bool → Rights
 rights_of given = record { white_short = is_given given 0; white_long = is_given given 1; black_short = is_given given 2; black_long = is_given given 3 }
 
@@ -84,6 +86,7 @@ en_passant c (f ∷ r ∷ b ∷ text) = None
 abbrev pub is_digit : ℕ → Bool
 is_digit b = nat_le 48 b && nat_le b 57
 
+-- the number that the digits stand for
 abbrev pub value : List ℕ → ℕ
 value text = fold (λ n d. 10 * n + (d - 48)) 0 text
 

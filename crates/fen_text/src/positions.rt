@@ -156,6 +156,7 @@ fn read_from_turn(board: &Board, text: &[u8]) -> Result<(Query, Option<(u32, u32
 pub fn read_fen(text: &[u8]) -> Result<(Query, Option<(u32, u32)>), FenFault>
     requires { length text.now < 2 ^ 32 }
     ensures read { Reads fen text.now result }
+    ensures field { IfErr result (λ f. f.field ≤ 6) }
     ensures plain { IfOk result (λ p. p.0.barred ≡ None) }
 {
     let (part, rest) = split_part(text, b' ');
