@@ -16,6 +16,7 @@ struct Row {
 }
 
 const CHECK: &[&str] = &["check"];
+
 const PLAY: &[&str] = &["play"];
 
 const CHECKS: [Row; 12] = [
@@ -237,17 +238,23 @@ fn assert_answers(rt: &(impl Abort + Alloc<A = Global>), rows: &[Row]) -> Result
     Ok(())
 }
 
-/// Each read fails in turn, and each write: nothing is written, or the front of the answer.
-fn assert_faults(rt: &(impl Abort + Alloc<A = Global>), row: &Row) -> Result<(), AllocError> {
-    for number in 0..row.input.len().div_ceil(10) as u32 + 1 {
+/// Each of so many reads fails in turn, and each of so many writes: nothing is written, or the front of the answer.
+fn assert_faults(
+    rt: &(impl Abort + Alloc<A = Global>),
+    row: &Row,
+    reads: u32,
+    writes: u32,
+) -> Result<(), AllocError> {
+    for number in 0..reads {
         let (status, sink) = run_row(rt.alloc(), row, Some(number), None)?;
         assert_eq!(rt; status, Status::ReadFault);
         assert!(rt; sink.taken().is_empty());
     }
-    for number in 0..row.text.len() as u32 {
+    for number in 0..writes {
         let (status, sink) = run_row(rt.alloc(), row, None, Some(number))?;
         assert_eq!(rt; status, Status::WriteFault);
-        assert!(rt; sink.taken().len() == number as usize && row.text.starts_with(sink.taken()));
+        assert_eq!(rt; sink.taken().len(), number as usize);
+        assert!(rt; row.text.starts_with(sink.taken()));
     }
     Ok(())
 }
@@ -266,8 +273,9 @@ fn answers_plays(rt: HostRuntime) -> Result<(), Fail> {
 
 #[test]
 fn stops_at_each_fault(rt: HostRuntime) -> Result<(), Fail> {
-    assert_faults(&rt, &CHECKS[0])?;
-    assert_faults(&rt, &PLAYS[0])?;
+    // 64 bytes and 95 bytes come in reads of ten, and one read more finds the end.
+    assert_faults(&rt, &CHECKS[0], 8, 39)?;
+    assert_faults(&rt, &PLAYS[0], 11, 6)?;
     Ok(())
 }
 
