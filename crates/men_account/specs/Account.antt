@@ -1,0 +1,50 @@
+-- How many men a side has of each kind, and how many of them must have been pawns.
+use Rattle.std.specs.Prelude.{ℕ, ◌+◌, ◌-◌, ◌%◌, Bool, true, not, ◌==◌, nat_le, ◌&&◌}
+use Rattle.std.specs.List.{count_by, range_with_len}
+use Rattle.board_base.specs.Board.{Places, at, is_the, file, rank}
+use Rattle.board_base.specs.declared.men.Colour.{Colour}
+use Rattle.board_base.specs.declared.men.Kind.{Kind}
+use Rattle.board_base.specs.declared.men.Kind.TheVariants.{Pawn, Knight, Bishop, Rook, Queen, King}
+use Rattle.men_account.specs.declared.tallies.Counts.{Counts}
+use Rattle.men_account.specs.declared.tallies.Allowance.{Allowance}
+
+-- Article 2.1: the square is light: a1 is dark, h1 and a8 are light
+abbrev pub is_light : ℕ → Bool
+is_light s = (file s + rank s) % 2 == 1
+
+-- Article 2.1: the square is dark
+abbrev pub is_dark : ℕ → Bool
+is_dark s = not (is_light s)
+
+-- every square
+abbrev pub is_any : ℕ → Bool
+is_any s = true
+
+-- how many men of this colour and kind stand on squares that pass this test
+unfoldable pub men : Colour → Kind → (ℕ → Bool) → Places → ℕ
+men c k among board = count_by (λ s. is_the c k (at board s) && among s) (range_with_len 0 64)
+
+-- the men of a side, the bishops told apart by the colour of their squares
+abbrev pub counts_of : Colour → Places → Counts
+counts_of c board = record {
+  pawns = men c Pawn is_any board;
+  knights = men c Knight is_any board;
+  light_bishops = men c Bishop is_light board;
+  dark_bishops = men c Bishop is_dark board;
+  rooks = men c Rook is_any board;
+  queens = men c Queen is_any board;
+  kings = men c King is_any board;
+}
+
+-- Article 2.2: the officers with which a side begins
+abbrev pub full_allowance : Allowance
+full_allowance = record { knights = 2; light_bishops = 1; dark_bishops = 1; rooks = 2; queens = 1 }
+
+-- the pawns, and what the count of each other kind is above its allowance
+abbrev pub excess_of : Counts → Allowance → ℕ
+excess_of n a =
+    n.pawns + (n.queens - a.queens) + (n.rooks - a.rooks) + (n.knights - a.knights) + (n.light_bishops - a.light_bishops) + (n.dark_bishops - a.dark_bishops)
+
+-- Articles 2.2 and 3.7: a side has no more pawns and men that must have been pawns than the eight pawns with which it begins
+abbrev pub accounts_for : Places → Colour → Bool
+accounts_for board c = nat_le (excess_of (counts_of c board) full_allowance) 8

@@ -1,0 +1,13 @@
+//! Counts of men, and the promotions that they show. It takes no memory.
+//!
+//! Articles are those of the FIDE Laws of Chess, in force from 1 January 2023.
+#![tactic(auto)]
+
+mod laws;
+mod shades;
+mod sums;
+mod tallies;
+
+pub use laws::accounts_hold;
+pub use sums::{account_ok, counts, excess};
+pub use tallies::{Allowance, Counts};

@@ -1,0 +1,44 @@
+ghost use Rattle.std.specs.Prelude.{◌≡◌};
+ghost use Rattle.men_account.specs.Account.{full_allowance};
+
+/// How many men a side has of each kind (article 2.2), the bishops told apart by the colour of the square that they stand on.
+#[derive(Clone, Copy, PartialEq, Eq, Debug)]
+pub struct Counts {
+    pub pawns: u8,
+    pub knights: u8,
+    /// The bishops on light squares, as White's on f1 and Black's on c8.
+    pub light_bishops: u8,
+    /// The bishops on dark squares, as White's on c1 and Black's on f8.
+    pub dark_bishops: u8,
+    pub rooks: u8,
+    pub queens: u8,
+    pub kings: u8,
+}
+
+/// How many men of each kind a side may have without a promotion.
+#[derive(Clone, Copy, PartialEq, Eq, Debug)]
+pub struct Allowance {
+    pub knights: u8,
+    /// The bishops on light squares.
+    pub light_bishops: u8,
+    /// The bishops on dark squares.
+    pub dark_bishops: u8,
+    pub rooks: u8,
+    pub queens: u8,
+}
+
+impl Allowance {
+    /// What a side begins with (article 2.2): two knights, a bishop on a light square and one on a dark square, two rooks and a
+    /// queen.
+    pub fn full() -> Allowance
+        ensures { result ≡ full_allowance }
+    {
+        Allowance {
+            knights: 2,
+            light_bishops: 1,
+            dark_bishops: 1,
+            rooks: 2,
+            queens: 1,
+        }
+    }
+}
