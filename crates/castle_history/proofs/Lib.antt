@@ -1,0 +1,2 @@
+mod Castled
+pub mod EachCastle
