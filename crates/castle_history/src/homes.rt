@@ -1,11 +1,10 @@
 ghost use Rattle.std.specs.Prelude.{◌≡◌, ◌↔◌, ◌||◌, not, IsTrue};
-ghost use Rattle.board_base.specs.Board.{is_the};
-ghost use Rattle.board_base.specs.Play.{castling_from, crossed, king_home, king_target, rook_home, side};
+ghost use Rattle.board_base.specs.Play.{castling_from, crossed, king_home, king_target, rook_home};
 ghost use Rattle.board_base.specs.Rights.{holds};
 ghost use Rattle.board_base.specs.Game.{touches};
 ghost use Rattle.castle_history.specs.Homes.{are_at_home, HaveHomes};
 
-use board_base::{Board, Castle, CastleSet, Kind, Man, Move, Square};
+use board_base::{Board, Castle, CastleSet, Kind, Move, Square, is_the};
 
 /// The squares on which the castling's king and its rook begin, in this order: e1 and h1 for K, e1 and a1 for Q, e8 and h8 for k,
 /// e8 and a8 for q.
@@ -59,21 +58,13 @@ pub fn touches(m: &Move, c: Castle) -> bool
     m.from == king || m.from == rook || m.to == king || m.to == rook
 }
 
-fn is_the(kind: Kind, castle: Castle, place: Option<Man>) -> bool
-    ensures { result ≡ is_the (side castle) kind place }
-{
-    match place {
-        Some(man) => castle.side() == man.colour && man.kind == kind,
-        None => false,
-    }
-}
-
 /// The castling's king and rook stand at home.
 fn are_at_home(board: &Board, castle: Castle) -> bool
     ensures { result ≡ are_at_home board.now castle }
 {
     let (king, rook) = home(castle);
-    is_the(Kind::King, castle, board.at(king)) && is_the(Kind::Rook, castle, board.at(rook))
+    let side = castle.side();
+    is_the(side, Kind::King, board.at(king)) && is_the(side, Kind::Rook, board.at(rook))
 }
 
 /// The castling is not in the set, or its king and rook stand at home.

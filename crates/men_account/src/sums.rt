@@ -1,20 +1,11 @@
 ghost use Rattle.std.specs.Prelude.{◌≡◌, ◌-◌, ◌≤◌, ◌<◌, ◌&&◌};
-ghost use Rattle.board_base.specs.Board.{at, is_a, is_of, is_the};
+ghost use Rattle.board_base.specs.Board.{at, is_the};
 ghost use Rattle.men_account.specs.Account.{accounts_for, counts_of, excess_of, full_allowance, men};
 ghost use Rattle.men_account.specs.Shades.{is_of_shade};
 
 use crate::shades::{Shade, is_of_shade};
 use crate::tallies::{Allowance, Counts};
-use board_base::{Board, Colour, Kind, Man, Square};
-
-fn is_the(colour: Colour, kind: Kind, place: Option<Man>) -> bool
-    ensures { result ≡ is_the colour kind place }
-{
-    match place {
-        Some(man) => colour == man.colour && man.kind == kind,
-        None => false,
-    }
-}
+use board_base::{Board, Colour, Kind, Square, is_the};
 
 fn is_counted(board: &Board, colour: Colour, kind: Kind, shade: Shade, s: Square) -> bool
     ensures { result ≡ (is_the colour kind (at board.now s) && is_of_shade shade s) }

@@ -1,8 +1,7 @@
 ghost use Rattle.std.specs.Prelude.{◌≡◌};
 ghost use Rattle.board_base.specs.Play.{castling, castling_from, king_home, rook_home, king_target, crossed};
 
-use crate::places::is_a;
-use board_base::{Board, Castle, Kind, Move, Square};
+use board_base::{Board, Castle, Kind, Move, Square, is_a};
 
 pub fn king_home(castle: Castle) -> Square
     ensures { result ≡ king_home castle }

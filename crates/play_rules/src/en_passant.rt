@@ -5,8 +5,7 @@ ghost use Rattle.board_base.specs.Play.{ahead, behind, double_of, en_passant_ran
 ghost use Rattle.board_base.specs.Legal.{is_move, pawn_captures_en_passant, same_promo};
 ghost use Rattle.play_rules.specs.States.{crossing_rank, step_over};
 
-use crate::places::{is_a, is_the};
-use board_base::{Board, Colour, Kind, Move, Square, files_between, is_ahead};
+use board_base::{Board, Colour, Kind, Move, Square, files_between, is_a, is_ahead, is_the};
 
 fn en_passant_rank(colour: Colour) -> u8
     ensures { result ≡ en_passant_rank colour }

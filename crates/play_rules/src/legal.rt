@@ -11,9 +11,8 @@ ghost use Rattle.board_base.specs.declared.men.Kind.TheVariants.{King};
 use crate::en_passant::step_over;
 use crate::manners::may_go;
 use crate::moving::play;
-use crate::places::{is_a, is_of, is_the};
 use crate::states::State;
-use board_base::{Board, CastleSet, Colour, Kind, Move, Square};
+use board_base::{Board, CastleSet, Colour, Kind, Move, Square, is_a, is_of, is_the};
 
 fn is_officer(kind: Kind) -> bool
     ensures { result ≡ is_officer kind }

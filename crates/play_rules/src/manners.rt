@@ -5,10 +5,9 @@ ghost use Rattle.board_base.specs.Legal.{king_castles, man_moves, may_castle, ma
 
 use crate::castlings::{castling, crossed, king_home, king_target, rook_home};
 use crate::en_passant::pawn_captures_en_passant;
-use crate::places::{is_a, is_of, is_the};
 use board_base::{
-    Board, Castle, CastleSet, Colour, Kind, Move, Square, files_between, is_ahead, is_clear,
-    is_same, man_attacks, ranks_between,
+    Board, Castle, CastleSet, Colour, Kind, Move, Square, files_between, is_a, is_ahead, is_clear,
+    is_of, is_same, is_the, man_attacks, ranks_between,
 };
 
 fn pawn_rank(colour: Colour) -> u8

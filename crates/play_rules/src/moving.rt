@@ -3,8 +3,7 @@ ghost use Rattle.board_base.specs.Board.{at, file, rank};
 ghost use Rattle.board_base.specs.Play.{goes_en_passant, promoted, carry, play};
 
 use crate::castlings::{castling, crossed, rook_home};
-use crate::places::is_a;
-use board_base::{Board, Kind, Man, Move, Square};
+use board_base::{Board, Kind, Man, Move, Square, is_a};
 
 /// What a man becomes.
 fn promoted(promo: Option<Kind>, place: Option<Man>) -> Option<Man>

@@ -1,20 +1,9 @@
 ghost use Rattle.std.specs.Prelude.{◌≡◌};
-ghost use Rattle.board_base.specs.Board.{is_the};
-ghost use Rattle.board_base.specs.declared.men.Kind.TheVariants.{King};
 ghost use Rattle.play_rules.specs.Kings.{kings};
 ghost use Rattle.retro_top.specs.Rules.{breaks_kings};
 
-use board_base::{Board, Colour, Kind, Man, Square};
+use board_base::{Board, Colour, Kind, Square, is_the};
 use query_base::Query;
-
-fn is_king(colour: Colour, place: Option<Man>) -> bool
-    ensures { result ≡ is_the colour King place }
-{
-    match place {
-        None => false,
-        Some(man) => man.colour == colour && man.kind == Kind::King,
-    }
-}
 
 fn count_kings(colour: Colour, board: &Board) -> u8
     ensures { result ≡ kings colour board.now }
@@ -22,7 +11,7 @@ fn count_kings(colour: Colour, board: &Board) -> u8
     board.is_whole();
     let mut count = 0;
     for i in 0..64 {
-        if is_king(colour, board.at(Square::known(i))) {
+        if is_the(colour, Kind::King, board.at(Square::known(i))) {
             count += 1;
         }
     }
