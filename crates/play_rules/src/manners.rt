@@ -3,12 +3,13 @@ ghost use Rattle.board_base.specs.Rights.{holds};
 ghost use Rattle.board_base.specs.Attacks.{attacks_from};
 ghost use Rattle.board_base.specs.Legal.{king_castles, man_moves, may_castle, may_go, pawn_captures, pawn_doubles, pawn_rank, pawn_steps};
 
-use crate::castlings::{castling, crossed, king_home, king_target, rook_home};
+use crate::castlings::castling;
 use crate::en_passant::pawn_captures_en_passant;
 use board_base::{
     Board, Castle, CastleSet, Colour, Kind, Move, Square, files_between, is_a, is_ahead, is_clear,
     is_of, is_same, is_the, man_attacks, ranks_between,
 };
+use castle_history::{home, target};
 
 fn pawn_rank(colour: Colour) -> u8
     ensures { result ≡ pawn_rank colour }
@@ -71,8 +72,8 @@ fn pawn_captures(board: &Board, colour: Colour, m: &Move) -> bool
 fn may_castle(board: &Board, colour: Colour, rights: CastleSet, castle: Castle) -> bool
     ensures { result ≡ may_castle board.now colour (λ x. holds rights x) castle }
 {
-    let king = king_home(castle);
-    let rook = rook_home(castle);
+    let (king, rook) = home(castle);
+    let (king_target, crossed) = target(castle);
     let enemy = colour.other();
     is_same(colour, castle.side())
         && rights.has(castle)
@@ -80,8 +81,8 @@ fn may_castle(board: &Board, colour: Colour, rights: CastleSet, castle: Castle) 
         && is_the(colour, Kind::Rook, board.at(rook))
         && is_clear(board, king, rook)
         && !board.attacked(king, enemy)
-        && !board.attacked(crossed(castle), enemy)
-        && !board.attacked(king_target(castle), enemy)
+        && !board.attacked(crossed, enemy)
+        && !board.attacked(king_target, enemy)
 }
 
 #[tactic(auto, unfolding(board_base::specs::Legal::king_castles))]

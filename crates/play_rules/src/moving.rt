@@ -2,8 +2,9 @@ ghost use Rattle.std.specs.Prelude.{◌≡◌, ◌+◌, ◌*◌};
 ghost use Rattle.board_base.specs.Board.{at, file, rank};
 ghost use Rattle.board_base.specs.Play.{goes_en_passant, promoted, carry, play};
 
-use crate::castlings::{castling, crossed, rook_home};
+use crate::castlings::castling;
 use board_base::{Board, Kind, Man, Move, Square, is_a};
+use castle_history::{home, target};
 
 /// What a man becomes.
 fn promoted(promo: Option<Kind>, place: Option<Man>) -> Option<Man>
@@ -50,7 +51,7 @@ pub fn play(board: &Board, m: &Move) -> Board
     match castling(board, m) {
         Some(castle) => {
             carry(&mut next, m.from, m.to, None);
-            carry(&mut next, rook_home(castle), crossed(castle), None);
+            carry(&mut next, home(castle).1, target(castle).1, None);
         }
         None => {
             carry(&mut next, m.from, m.to, m.promo);
