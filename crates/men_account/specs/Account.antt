@@ -36,7 +36,7 @@ counts_of c board = record {
   kings = men c King is_any board;
 }
 
--- Article 2.2: the officers with which a side begins
+-- Articles 2.2 and 2.3: the officers with which a side begins
 abbrev pub full_allowance : Allowance
 full_allowance = record { knights = 2; light_bishops = 1; dark_bishops = 1; rooks = 2; queens = 1 }
 

@@ -28,7 +28,7 @@ pub struct Allowance {
 }
 
 impl Allowance {
-    /// What a side begins with (article 2.2): two knights, a bishop on a light square and one on a dark square, two rooks and a
+    /// What a side begins with (articles 2.2 and 2.3): two knights, a bishop on a light square and one on a dark square, two rooks and a
     /// queen.
     pub fn full() -> Allowance
         ensures { result ≡ full_allowance }
