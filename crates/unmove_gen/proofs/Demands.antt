@@ -1,0 +1,133 @@
+-- What a query asks of the last move, and its predecessor of the game before.
+use Rattle.std.proofs.Common.{◌≡◌, ◌≢◌, Bool, true, false, ◌&&◌, ◌||◌, not, inl, inr, List, [], ◌∷◌, ◌++◌, refl, ap, sym, ◌∙◌, subst}
+use Rattle.std.proofs.lemmas.Bool.{and_parts, and_from, and_right, and_cases, or_left, or_right, or_cases, not-true, not_from_false, both_ways, cases_Bool, false_from_ne_true}
+use Rattle.std.proofs.lemmas.List.Folds.{list_all-append}
+use Rattle.std.proofs.lemmas.Option.{same_Some}
+use Rattle.std.specs.Prelude.{Option, Some, None, IsTrue, IfSome, ◌⊎◌}
+use Rattle.std.specs.List.{list_all}
+use Rattle.board_base.specs.Board.{Places, at, is_a}
+use Rattle.board_base.specs.Legal.{is_move}
+use Rattle.board_base.specs.Game.{touches, unmoved}
+use Rattle.board_base.specs.Rights.{Rights, holds}
+use Rattle.board_base.specs.declared.men.Kind.TheVariants.{Pawn}
+use Rattle.board_base.specs.declared.moves.Move.{Move}
+use Rattle.board_base.specs.declared.castles.Castle.{Castle}
+use Rattle.board_base.specs.declared.castles.Castle.TheVariants.{WhiteShort, WhiteLong, BlackShort, BlackLong}
+use Rattle.castle_history.proofs.EachCastle.{castle-each, each-castle}
+use Rattle.play_rules.proofs.Doubles.{last_move-more}
+use Rattle.query_base.specs.Asked.{Asked}
+use Rattle.query_base.specs.Reach.{EndsWith}
+use Rattle.unmove_gen.specs.Listed.{keeps_held, obeys_only, obeys_barred}
+use Rattle.unmove_gen.specs.Predecessor.{with_castle}
+use Rattle.unmove_gen.proofs.Equal.{move_is, move_self}
+
+-- no home of a right that is held is touched
+pub untouched : (q : Asked) (m : Move) → keeps_held q m ≡ true → (x : Castle) → holds q.held x ≡ true → touches m x ≡ false
+untouched q m h x has = elim (and_cases _ _ (not-true _ (each-castle (λ y. not (holds q.held y && touches m y)) h x))) [
+  | inl lacks ↦ absurd (both_ways _ lacks has)
+  | inr quiet ↦ quiet
+]
+
+pub keeps-all : (q : Asked) (m : Move) → ((x : Castle) → holds q.held x ≡ true → touches m x ≡ false) → keeps_held q m ≡ true
+keeps-all q m h = castle-each (λ y. not (holds q.held y && touches m y)) (λ x. elim (cases_Bool (holds q.held x)) [
+  | inl has ↦ not_from_false _ (and_right _ _ (h x has))
+  | inr lacks ↦ subst (λ (b : Bool). not (b && touches m x) ≡ true) (sym lacks) refl
+])
+
+-- one more move
+all-more : (g : List Move) (m : Move) (x : Castle) → list_all (λ n. not (touches n x)) (g ++ m ∷ []) ≡ (list_all (λ n. not (touches n x)) g && (not (touches m x) && true))
+all-more g m x = list_all-append (λ n. not (touches n x)) g (m ∷ [])
+
+pub unmoved-more : (o : List Bool) (g : List Move) (m : Move) (x : Castle) → unmoved o g x ≡ true → touches m x ≡ false → unmoved o (g ++ m ∷ []) x ≡ true
+unmoved-more o g m x before here =
+    let parts = and_parts _ _ before in
+    and_from _ _ parts.0 (all-more g m x ∙ and_from _ _ parts.1 (and_from _ _ (not_from_false _ here) refl))
+
+pub unmoved-before : (o : List Bool) (g : List Move) (m : Move) (x : Castle) → unmoved o (g ++ m ∷ []) x ≡ true → (unmoved o g x ≡ true) × (touches m x ≡ false)
+unmoved-before o g m x h =
+    let parts = and_parts _ _ h in
+    let rest = and_parts _ _ (sym (all-more g m x) ∙ parts.1) in
+    (and_from _ _ parts.0 rest.0, not-true _ (and_parts _ _ rest.1).0)
+
+-- a move that is demanded, or barred
+pub only-met : (o : Option Move) (board : Places) (g : List Move) (m : Move) → obeys_only o board m ≡ true → IfSome o (λ n. EndsWith (g ++ m ∷ []) n × IsTrue (is_a Pawn (at board n.to)))
+only-met None board g m h = tt
+only-met (Some n) board g m h =
+    let parts = and_parts _ _ h in
+    let same : n ≡ m = move_is n m parts.0 in
+    (last_move-more g m ∙ ap Some (sym same), subst (λ (k : Move). is_a Pawn (at board k.to) ≡ true) (sym same) parts.1)
+
+pub only-from : (o : Option Move) (board : Places) (g : List Move) (m : Move) → IfSome o (λ n. EndsWith (g ++ m ∷ []) n × IsTrue (is_a Pawn (at board n.to))) → obeys_only o board m ≡ true
+only-from None board g m h = refl
+only-from (Some n) board g m h =
+    let same : n ≡ m = same_Some _ _ (sym h.0 ∙ last_move-more g m) in
+    and_from _ _ (subst (λ (k : Move). is_move (Some n) k ≡ true) same (move_self n)) (subst (λ (k : Move). is_a Pawn (at board k.to) ≡ true) same h.1)
+
+pub barred-met : (o : Option Move) (g : List Move) (m : Move) → obeys_barred o m ≡ true → IfSome o (λ n. EndsWith (g ++ m ∷ []) n → ⊥)
+barred-met None g m h = tt
+barred-met (Some n) g m h = λ ends.
+    let same : m ≡ n = same_Some _ _ (sym (last_move-more g m) ∙ ends) in
+    both_ways _ (not-true _ h) (subst (λ (k : Move). is_move (Some k) m ≡ true) same (move_self m))
+
+pub barred-from : (o : Option Move) (g : List Move) (m : Move) → IfSome o (λ n. EndsWith (g ++ m ∷ []) n → ⊥) → obeys_barred o m ≡ true
+barred-from None g m h = refl
+barred-from (Some n) g m h = not_from_false _ (false_from_ne_true _ (λ same. h (last_move-more g m ∙ ap Some (sym (move_is n m same)))))
+
+-- equal castlings
+same_castle : Castle → Castle → Bool
+same_castle WhiteShort WhiteShort = true
+same_castle WhiteLong WhiteLong = true
+same_castle BlackShort BlackShort = true
+same_castle BlackLong BlackLong = true
+same_castle _ _ = false
+
+castle_is : (x y : Castle) → same_castle x y ≡ true → x ≡ y
+unfolding same_castle
+castle_is WhiteShort WhiteShort h = refl
+castle_is WhiteLong WhiteLong h = refl
+castle_is BlackShort BlackShort h = refl
+castle_is BlackLong BlackLong h = refl
+castle_is x y h = cc
+
+castle_self : (x : Castle) → same_castle x x ≡ true
+unfolding same_castle
+castle_self WhiteShort = refl
+castle_self WhiteLong = refl
+castle_self BlackShort = refl
+castle_self BlackLong = refl
+
+-- the set with one more castling holds that one, and what it held
+holds-with : (held : Rights) (x y : Castle) → holds (with_castle held (Some x)) y ≡ (same_castle x y || holds held y)
+unfolding same_castle
+holds-with held WhiteShort y = elim y as (λ z. holds (with_castle held (Some WhiteShort)) z ≡ (same_castle WhiteShort z || holds held z)) [ WhiteShort ↦ refl | WhiteLong ↦ refl | BlackShort ↦ refl | BlackLong ↦ refl ]
+holds-with held WhiteLong y = elim y as (λ z. holds (with_castle held (Some WhiteLong)) z ≡ (same_castle WhiteLong z || holds held z)) [ WhiteShort ↦ refl | WhiteLong ↦ refl | BlackShort ↦ refl | BlackLong ↦ refl ]
+holds-with held BlackShort y = elim y as (λ z. holds (with_castle held (Some BlackShort)) z ≡ (same_castle BlackShort z || holds held z)) [ WhiteShort ↦ refl | WhiteLong ↦ refl | BlackShort ↦ refl | BlackLong ↦ refl ]
+holds-with held BlackLong y = elim y as (λ z. holds (with_castle held (Some BlackLong)) z ≡ (same_castle BlackLong z || holds held z)) [ WhiteShort ↦ refl | WhiteLong ↦ refl | BlackShort ↦ refl | BlackLong ↦ refl ]
+
+pub held-keeps : (held : Rights) (o : Option Castle) (x : Castle) → holds held x ≡ true → holds (with_castle held o) x ≡ true
+held-keeps held None x h = h
+held-keeps held (Some y) x h = holds-with held y x ∙ or_right _ _ h
+
+pub held-added : (held : Rights) (x : Castle) → holds (with_castle held (Some x)) x ≡ true
+held-added held x = holds-with held x x ∙ or_left _ _ (castle_self x)
+
+pub held-from : (held : Rights) (o : Option Castle) (x : Castle) → holds (with_castle held o) x ≡ true → (holds held x ≡ true) ⊎ (o ≡ Some x)
+held-from held None x h = inl h
+held-from held (Some y) x h = elim (or_cases _ _ (sym (holds-with held y x) ∙ h)) [
+  | inl same ↦ inr (ap Some (castle_is y x same))
+  | inr has ↦ inl has
+]
+
+same_rights : (a b : Rights) → ((x : Castle) → holds a x ≡ holds b x) → a ≡ b
+same_rights a b h =
+    ap (λ (t : Bool). record a { white_short = t }) (h WhiteShort)
+    ∙ ap (λ (t : Bool). record a { white_short = b.white_short; white_long = t }) (h WhiteLong)
+    ∙ ap (λ (t : Bool). record b { black_short = t; black_long = a.black_long }) (h BlackShort)
+    ∙ ap (λ (t : Bool). record b { black_long = t }) (h BlackLong)
+
+-- the set that has one more castling, and else the same
+pub with_is : (held more : Rights) (x : Castle) → holds more x ≡ true → ((y : Castle) → y ≢ x → holds more y ≡ holds held y) → more ≡ with_castle held (Some x)
+with_is held more x added others = same_rights more (with_castle held (Some x)) (λ y. elim (cases_Bool (same_castle x y)) [
+  | inl same ↦ subst (λ (z : Castle). holds more z ≡ holds (with_castle held (Some x)) z) (castle_is x y same) (added ∙ sym (held-added held x))
+  | inr other ↦ others y (λ e. both_ways _ other (subst (λ (z : Castle). same_castle x z ≡ true) (sym e) (castle_self x))) ∙ ap (λ (b : Bool). b || holds held y) (sym other) ∙ sym (holds-with held x y)
+])

@@ -1,0 +1,63 @@
+-- Each board of a game is sane.
+use Rattle.std.proofs.Common.{◌≡◌, ℕ, zero, suc, ◌+◌, ◌<◌, Bool, true, false, cond, ◌&&◌, not, inl, inr, List, [], ◌∷◌, length, get_or, refl, ap, sym, ◌∙◌, arith}
+use Rattle.std.proofs.lemmas.Bool.{and_from, and_right, not_from_false, eq-eqb, cases_Bool}
+use Rattle.std.proofs.lemmas.List.Sums.{sum_by-cons}
+use Rattle.std.specs.Prelude.{Option, None}
+use Rattle.std.specs.List.{count_by, list_all, range_with_len}
+use Rattle.board_base.proofs.Without.{are-no-odds}
+use Rattle.board_base.specs.Board.{Places, at, is_a, is_the, no_odds}
+use Rattle.board_base.specs.Game.{IsGame, board_after, turn_after}
+use Rattle.board_base.specs.declared.men.Man.{Man}
+use Rattle.board_base.specs.declared.men.Colour.{Colour}
+use Rattle.board_base.specs.declared.men.Colour.TheVariants.{White, Black}
+use Rattle.board_base.specs.declared.men.Kind.TheVariants.{King, Pawn}
+use Rattle.board_base.specs.declared.moves.Move.{Move}
+use Rattle.play_rules.specs.Kings.{kings}
+use Rattle.play_rules.specs.Laws.{HasNoPawnOnEnds, is_end}
+use Rattle.play_rules.proofs.Kings.{kept}
+use Rattle.play_rules.proofs.Ends.{no_pawn_on_ends}
+use Rattle.play_rules.proofs.Attacked.{no_king_left_attacked}
+use Rattle.men_account.specs.Account.{is_any, men}
+use Rattle.men_account.proofs.Tally.{one_if}
+use Rattle.men_account.proofs.Surplus.{accounts_hold}
+use Rattle.unmove_gen.specs.Sane.{has_no_pawn_on_ends, has_one_king, is_sane}
+
+-- a count over the squares is a count over the places
+count-places : (p : Option Man → Bool) (f : ℕ → Bool) (xs : Places) (k : ℕ) → ((i : ℕ) → i < length xs → f (k + i) ≡ p (get_or xs i None)) → count_by f (range_with_len k (length xs)) ≡ count_by p xs
+count-places p f [] k same = refl
+count-places p f (x ∷ xs) k same =
+    let first : k ≡ k + 0 = omega arith in
+    let head : f k ≡ p x = ap f first ∙ same 0 (omega arith) in
+    let here : one_if (f k) ≡ one_if (p x) = ap one_if head in
+    let next : (i : ℕ) → i < length xs → f (k + 1 + i) ≡ p (get_or xs i None) = λ i inside. let e : k + 1 + i ≡ k + suc i = omega arith in ap f e ∙ same (suc i) (omega arith) in
+    omega (arith, here, count-places p f xs (k + 1) next, sum_by-cons (λ s. cond (f s) 1 0) k (range_with_len (k + 1) (length xs)), sum_by-cons (λ y. cond (p y) 1 0) x xs)
+
+and-true : (b : Bool) → (b && true) ≡ b
+and-true true = refl
+and-true false = refl
+
+-- the kings that are counted by their squares
+pub men-kings : (c : Colour) (board : Places) → length board ≡ 64 → men c King is_any board ≡ kings c board
+unfolding men
+men-kings c board len =
+    ap (λ (n : ℕ). count_by (λ s. is_the c King (at board s) && is_any s) (range_with_len 0 n)) (sym len)
+    ∙ count-places (is_the c King) (λ s. is_the c King (at board s) && is_any s) board 0 (λ i inside. let e : 0 + i ≡ i = omega arith in ap (λ (s : ℕ). is_the c King (at board s) && true) e ∙ and-true _)
+
+one-king : (g : List Move) → IsGame no_odds g → (c : Colour) → has_one_king (board_after no_odds g) c ≡ true
+one-king g game c = eq-eqb _ 1 ((kept no_odds are-no-odds g game).kings c)
+
+all-range : (p : ℕ → Bool) → ((s : ℕ) → p s ≡ true) → (k n : ℕ) → list_all p (range_with_len k n) ≡ true
+all-range p h k zero = refl
+all-range p h k (suc n) = and_from _ _ (h k) (all-range p h (k + 1) n)
+
+no-pawns : (board : Places) → HasNoPawnOnEnds board → has_no_pawn_on_ends board ≡ true
+unfolding has_no_pawn_on_ends
+no-pawns board ends = all-range (λ s. not (is_end s && is_a Pawn (at board s))) (λ s. elim (cases_Bool (is_end s)) [
+  | inl end ↦ not_from_false _ (and_right _ _ (ends s end))
+  | inr inner ↦ ap (λ (b : Bool). not (b && is_a Pawn (at board s))) inner
+]) 0 64
+
+pub sane-in-game : (g : List Move) → IsGame no_odds g → is_sane (board_after no_odds g) (turn_after g) ≡ true
+unfolding is_sane
+sane-in-game g game =
+    and_from _ _ (and_from _ _ (and_from _ _ (and_from _ _ (and_from _ _ (one-king g game White) (accounts_hold no_odds g game White)) (one-king g game Black)) (accounts_hold no_odds g game Black)) (no-pawns _ (no_pawn_on_ends no_odds g game))) (not_from_false _ (no_king_left_attacked no_odds g game))

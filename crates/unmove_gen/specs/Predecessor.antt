@@ -1,0 +1,46 @@
+-- What is asked of a game before its last move.
+use Rattle.std.specs.Prelude.{Bool, true, cond, List, Option, Some, None}
+use Rattle.board_base.specs.Board.{no_odds, at}
+use Rattle.board_base.specs.Legal.{pawn_captures_en_passant}
+use Rattle.board_base.specs.Game.{board_after, turn_after, last_move}
+use Rattle.board_base.specs.Rights.{Rights}
+use Rattle.castle_history.specs.TakenBack.{castling_back}
+use Rattle.query_base.specs.Asked.{Asked}
+use Rattle.unmove_gen.specs.TakenBack.{kind_of}
+use Rattle.unmove_gen.specs.Listed.{answered, before, mover}
+use Rattle.board_base.specs.declared.men.Kind.TheVariants.{Pawn}
+use Rattle.board_base.specs.declared.moves.Move.{Move}
+use Rattle.board_base.specs.declared.castles.Castle.{Castle}
+use Rattle.board_base.specs.declared.castles.Castle.TheVariants.{WhiteShort, WhiteLong, BlackShort, BlackLong}
+use Rattle.board_base.specs.declared.unmoves.Unmove.{Unmove}
+
+-- the set with this castling added, if one is given
+abbrev pub with_castle : Rights → Option Castle → Rights
+with_castle held None = held
+with_castle held (Some WhiteShort) = record held { white_short = true }
+with_castle held (Some WhiteLong) = record held { white_long = true }
+with_castle held (Some BlackShort) = record held { black_short = true }
+with_castle held (Some BlackLong) = record held { black_long = true }
+
+-- The query with the unmove taken back: the other side is to move, the castling that it takes back is held too (article 3.8), the
+-- last move was the double step that it answered, if it is en passant (article 3.7), and no move is barred.
+abbrev pub predecessor : Asked → Unmove → Asked
+predecessor q u = record {
+  board = before q u;
+  turn = mover q;
+  held = with_castle q.held (castling_back q.board u.mv);
+  only = answered u (mover q);
+  barred = None;
+}
+
+-- Article 3.7: after this game the move is a capture en passant
+abbrev pub is_en_passant_after : List Move → Move → Bool
+is_en_passant_after g m = pawn_captures_en_passant (board_after no_odds g) (turn_after g) (last_move g) m
+
+-- the move with the kind that it captures after this game, marked en passant exactly where it is such a capture
+abbrev pub unmove_after : List Move → Move → Unmove
+unmove_after g m = record {
+  mv = m;
+  captured = cond (is_en_passant_after g m) (Some Pawn) (kind_of (at (board_after no_odds g) m.to));
+  ep = is_en_passant_after g m;
+}

@@ -1,0 +1,90 @@
+ghost use Rattle.std.specs.Prelude.{◌≡◌, ◌&&◌, not};
+ghost use Rattle.board_base.specs.Board.{at, is_a, is_of};
+ghost use Rattle.board_base.specs.Rights.{holds};
+ghost use Rattle.board_base.specs.Legal.{is_move, same_promo};
+ghost use Rattle.board_base.specs.Game.{touches};
+ghost use Rattle.unmove_gen.specs.Listed.{fits_ends, keeps_held, obeys, obeys_only};
+
+use board_base::{Board, Castle, Colour, Kind, Move, Square, Unmove};
+use castle_history::touches;
+use query_base::Query;
+
+/// A man of this colour stands on the square.
+pub fn has_man_of(board: &Board, s: Square, colour: Colour) -> bool
+    ensures { result ≡ is_of colour (at board.now s) }
+{
+    match board.at(s) {
+        Some(man) => colour == man.colour,
+        None => false,
+    }
+}
+
+/// A man of this kind stands on the square.
+pub fn has_kind(board: &Board, s: Square, kind: Kind) -> bool
+    ensures { result ≡ is_a kind (at board.now s) }
+{
+    match board.at(s) {
+        Some(man) => man.kind == kind,
+        None => false,
+    }
+}
+
+/// The origin is empty, and a man of the side that moved stands on the target.
+pub fn fits_ends(query: &Query, u: &Unmove) -> bool
+    ensures { result ≡ fits_ends query.now u.now }
+{
+    query.board.at(u.mv.from).is_none() && has_man_of(&query.board, u.mv.to, query.turn.other())
+}
+
+fn keeps(query: &Query, m: &Move, castle: Castle) -> bool
+    ensures { result ≡ not (holds query.now.held castle && touches m.now castle) }
+{
+    !(query.held.has(castle) && touches(m, castle))
+}
+
+/// No home of a right that is held is touched.
+fn keeps_held(query: &Query, m: &Move) -> bool
+    ensures { result ≡ keeps_held query.now m.now }
+{
+    keeps(query, m, Castle::WhiteShort)
+        && keeps(query, m, Castle::WhiteLong)
+        && keeps(query, m, Castle::BlackShort)
+        && keeps(query, m, Castle::BlackLong)
+}
+
+fn same_promo(a: Option<Kind>, b: Option<Kind>) -> bool
+    ensures { result ≡ same_promo a b }
+{
+    match (a, b) {
+        (None, None) => true,
+        (Some(a), Some(b)) => a == b,
+        _ => false,
+    }
+}
+
+fn is_move(given: &Option<Move>, m: &Move) -> bool
+    ensures { result ≡ is_move given.now m.now }
+{
+    match given {
+        None => false,
+        Some(l) => {
+            l.from.index() == m.from.index()
+                && l.to.index() == m.to.index()
+                && same_promo(l.promo, m.promo)
+        }
+    }
+}
+
+/// The move is the only one that is allowed, if one is given.
+fn obeys_only(query: &Query, m: &Move) -> bool
+    ensures { result ≡ obeys_only query.now.only query.now.board m.now }
+{
+    query.only.is_none() || (is_move(&query.only, m) && has_kind(&query.board, m.to, Kind::Pawn))
+}
+
+/// The move is what the query asks of the last move.
+pub fn obeys(query: &Query, m: &Move) -> bool
+    ensures { result ≡ obeys query.now m.now }
+{
+    keeps_held(query, m) && obeys_only(query, m) && !is_move(&query.barred, m)
+}

@@ -1,0 +1,19 @@
+//! Retractions: the moves that may have come last in a game that reaches a query, and what they ask of the game before. It takes no
+//! memory.
+//!
+//! Articles are those of the FIDE Laws of Chess, in force from 1 January 2023.
+#![tactic(auto)]
+
+mod candidates;
+mod conditions;
+mod laws;
+mod legality;
+mod lists;
+mod predecessors;
+mod sanity;
+mod taking_back;
+mod ways;
+
+pub use laws::{few_unmoves, last_moves_are_listed, listed_moves_lead_here, unmoves_ascend};
+pub use lists::Unmoves;
+pub use predecessors::{is_unmove, pred};
