@@ -14,7 +14,7 @@ use Rattle.board_base.specs.declared.men.Kind.TheVariants.{King, Pawn}
 use Rattle.board_base.specs.declared.moves.Move.{Move}
 use Rattle.play_rules.specs.Kings.{kings}
 use Rattle.play_rules.specs.Laws.{HasNoPawnOnEnds, is_end}
-use Rattle.play_rules.proofs.Kings.{kept}
+use Rattle.play_rules.proofs.Kings.{one_king_each}
 use Rattle.play_rules.proofs.Ends.{no_pawn_on_ends}
 use Rattle.play_rules.proofs.Attacked.{no_king_left_attacked}
 use Rattle.men_account.specs.Account.{is_any, men}
@@ -44,7 +44,7 @@ men-kings c board len =
     ∙ count-places (is_the c King) (λ s. is_the c King (at board s) && is_any s) board 0 (λ i inside. let e : 0 + i ≡ i = omega arith in ap (λ (s : ℕ). is_the c King (at board s) && true) e ∙ and-true _)
 
 one-king : (g : List Move) → IsGame no_odds g → (c : Colour) → has_one_king (board_after no_odds g) c ≡ true
-one-king g game c = eq-eqb _ 1 ((kept no_odds are-no-odds g game).kings c)
+one-king g game c = eq-eqb _ 1 (one_king_each no_odds g are-no-odds game c)
 
 all-range : (p : ℕ → Bool) → ((s : ℕ) → p s ≡ true) → (k n : ℕ) → list_all p (range_with_len k n) ≡ true
 all-range p h k zero = refl
