@@ -10,7 +10,8 @@ use Rattle.retro_top.specs.Lines.{cut}
 use Rattle.retro_top.specs.Certificate.{Certificate}
 use Rattle.retro_top.specs.Commands.{Call}
 use Rattle.retro_top.specs.Checks.{AnswersCheck, IsSupported, accepted}
-use Rattle.retro_top.specs.Plays.{AnswersPlay, Asks}
+use Rattle.retro_top.specs.Plays.{AnswersPlay}
+use Rattle.retro_top.specs.Questions.{Asks}
 use Rattle.retro_top.specs.declared.statuses.Status.{Status}
 use Rattle.retro_top.specs.declared.commands.Command.{Command}
 use Rattle.retro_top.specs.declared.commands.Command.TheVariants.{Check, Play}

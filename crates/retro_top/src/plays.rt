@@ -1,45 +1,13 @@
-ghost use Rattle.std.specs.Prelude.{◌≡◌, ◌+◌, ◌≤◌, ◌<◌, ◌^◌, IfOk, codes, length};
+ghost use Rattle.std.specs.Prelude.{◌≡◌, ◌≤◌, ◌<◌, ◌^◌, IfOk, codes, length};
 ghost use Rattle.board_base.specs.Game.{last_move};
-ghost use Rattle.retro_top.specs.Plays.{AnswersPlay, AnswersGame, AnswersMoves, fen_fault_line, first_line, game_bytes, number_line, without_return};
+ghost use Rattle.retro_top.specs.Plays.{AnswersPlay, AnswersGame, AnswersMoves, number_line};
 
+use crate::questions::{read_question, write_no_question};
 use crate::statuses::Status;
 use board_base::Move;
-use fen_text::{FenFault, read_fen, split_part};
 use game_text::{GameFault, read_game, replay};
 use query_base::{Query, matches_end};
 use std::alloc::{AllocError, Global};
-
-/// The line without the carriage return at its end, if there is one.
-fn without_return(line: &[u8]) -> &[u8]
-    ensures { result.now ≡ without_return line.now }
-{
-    if line.ends_with(b"\r") {
-        &line[..line.len() - 1]
-    } else {
-        line
-    }
-}
-
-/// The first line of the input, without its end, and what follows it.
-fn split_first_line(input: &[u8]) -> (&[u8], &[u8])
-    ensures line { result.0.now ≡ first_line input.now }
-    ensures rest { result.1.now ≡ game_bytes input.now }
-    ensures short { length result.0.now + length result.1.now ≤ length input.now }
-{
-    let (line, rest) = split_part(input, b'\n');
-    let Some(rest) = rest else {
-        return (line, &[]);
-    };
-    (without_return(line), rest)
-}
-
-fn write_fen_fault(alloc: Global, fault: FenFault) -> Result<Vec<u8>, AllocError>
-    ensures { IfOk result (λ v. v.items ≡ fen_fault_line fault) }
-{
-    let field = fault.field;
-    let at = fault.at;
-    Ok(format!(in alloc; "bad fen field {field} byte {at}\n")?.into_bytes())
-}
 
 fn write_word(alloc: Global, word: u32) -> Result<Vec<u8>, AllocError>
     ensures { IfOk result (λ v. v.items ≡ number_line (codes "refused word ") word) }
@@ -104,16 +72,11 @@ pub fn play(alloc: Global, input: &[u8]) -> Result<(Status, Vec<u8>), AllocError
     requires { length input.now ≤ 67_108_864 }
     ensures { IfOk result (λ a. AnswersPlay input.now a.0 a.1.items) }
 {
-    if input.is_empty() {
-        let no_line = Vec::from_slice(alloc, b"bad line 1\n")?;
-        return Ok((Status::BadInput, no_line));
-    }
-    let (line, game) = split_first_line(input);
-    match read_fen(line) {
-        Ok((query, _)) => answer_game(alloc, &query, game),
-        Err(fault) => {
-            let no_fen = write_fen_fault(alloc, fault)?;
-            Ok((Status::BadInput, no_fen))
+    match read_question(input) {
+        Ok(question) => answer_game(alloc, &question.query, question.rest),
+        Err(why) => {
+            let no_question = write_no_question(alloc, why)?;
+            Ok((Status::BadInput, no_question))
         }
     }
 }

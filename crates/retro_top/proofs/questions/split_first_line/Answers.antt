@@ -1,6 +1,6 @@
 use Rattle.std.proofs.Common.{sym, ◌∙◌}
 use Rattle.retro_top.proofs.FirstLines.{line-more, line-only}
-use Rattle.retro_top.proofs.plays.split_first_line.Goals as goal
+use Rattle.retro_top.proofs.questions.split_first_line.Goals as goal
 
 pub returns-in_default-clause-line : goal.returns-in_default-clause-line
 returns-in_default-clause-line c = sym (line-only _ _ c.split_part.ensures.part (rw c.in_default.is at c.split_part.ensures.rest)).0
