@@ -1,5 +1,5 @@
 -- A king castles exactly where it goes two squares along its rank from home.
-use Rattle.std.proofs.Common.{◌≡◌, ℕ, ◌+◌, ◌<◌, ◌≤◌, Bool, true, false, cond, ◌&&◌, ◌==◌, not, List, [], ◌∷◌, inl, inr, refl, ap, sym, ◌∙◌, arith}
+use Rattle.std.proofs.Common.{◌≡◌, ℕ, ◌<◌, Bool, true, false, cond, ◌&&◌, ◌==◌, not, List, [], ◌∷◌, inl, inr, refl, ap, sym, ◌∙◌, arith}
 use Rattle.std.proofs.lemmas.Bool.{and_left, and_right, cases_lt, both_ways, ne_eqb}
 use Rattle.std.specs.Prelude.{Option, Some, None, is_none, IsNone, ◌↔◌}
 use Rattle.std.specs.List.{find, list_all, range_with_len}

@@ -1,6 +1,6 @@
 ghost use Rattle.std.specs.Prelude.{◌≡◌, ◌-◌, ◌≤◌, ◌<◌, ◌&&◌};
 ghost use Rattle.board_base.specs.Board.{at, is_the};
-ghost use Rattle.men_account.specs.Account.{accounts_for, counts_of, excess_of, full_allowance, men};
+ghost use Rattle.men_account.specs.Account.{accounts_for, counts_of, excess_of, men};
 ghost use Rattle.men_account.specs.Shades.{is_of_shade};
 
 use crate::shades::{Shade, is_of_shade};
