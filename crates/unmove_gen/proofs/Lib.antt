@@ -15,4 +15,4 @@ pub mod Members
 pub mod Taken
 pub mod Arrivals
 pub mod Skips
-pub mod Tests
+pub mod Marking

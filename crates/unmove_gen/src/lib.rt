@@ -17,3 +17,6 @@ mod ways;
 pub use laws::{few_unmoves, last_moves_are_listed, listed_moves_lead_here, unmoves_ascend};
 pub use lists::Unmoves;
 pub use predecessors::{is_unmove, pred};
+
+#[cfg(test)]
+mod tests;

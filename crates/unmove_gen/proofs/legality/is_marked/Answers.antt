@@ -1,5 +1,5 @@
 use Rattle.std.proofs.Common.{sym, ◌∙◌}
-use Rattle.unmove_gen.proofs.Tests.{rightly-marked, unmarked, wrongly-marked}
+use Rattle.unmove_gen.proofs.Marking.{rightly-marked, unmarked, wrongly-marked}
 use Rattle.unmove_gen.proofs.legality.is_marked.Goals as goal
 
 pub returns-in-Some : goal.returns-in-Some

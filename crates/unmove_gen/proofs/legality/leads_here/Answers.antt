@@ -4,7 +4,7 @@ use Rattle.board_base.specs.Play.{play}
 use Rattle.board_base.specs.declared.men.Colour.{Colour}
 use Rattle.query_base.specs.Asked.{Asked}
 use Rattle.unmove_gen.specs.Listed.{is_legal_before, leads_here, mover, same_places}
-use Rattle.unmove_gen.proofs.Tests.{same-boards}
+use Rattle.unmove_gen.proofs.Marking.{same-boards}
 use Rattle.unmove_gen.proofs.legality.leads_here.Goals as goal
 
 pub returns-in-Ok : goal.returns-in-Ok

@@ -1,4 +1,4 @@
--- Tests of the code, and those of the list.
+-- What the code tests of boards and marks is what the list asks of them.
 use Rattle.std.proofs.Common.{◌≡◌, Bool, true, false, cond, ◌&&◌, refl, ap, sym, ◌∙◌}
 use Rattle.std.proofs.lemmas.Bool.{and_from, cond-true, cond-false}
 use Rattle.std.specs.Prelude.{Option, Some, None, IsTrue, ◌↔◌}
