@@ -5,4 +5,4 @@ pub mod Ascending
 pub mod Predecessor
 pub mod Ways
 pub mod Numbers
-pub mod Places
+pub mod Cursors

@@ -1,5 +1,5 @@
 -- Boards that pass the tests that each board of a game passes.
-use Rattle.std.specs.Prelude.{Bool, ◌&&◌, not, ◌==◌, IsTrue}
+use Rattle.std.specs.Prelude.{Bool, ◌&&◌, not, ◌==◌}
 use Rattle.std.specs.List.{list_all, range_with_len}
 use Rattle.board_base.specs.Board.{Places, at, is_a, opponent}
 use Rattle.board_base.specs.Legal.{in_check}
@@ -23,7 +23,3 @@ has_no_pawn_on_ends board = list_all (λ s. not (is_end s && is_a Pawn (at board
 unfoldable pub is_sane : Places → Colour → Bool
 is_sane board c =
     has_one_king board White && accounts_for board White && has_one_king board Black && accounts_for board Black && has_no_pawn_on_ends board && not (in_check board (opponent c))
-
--- the board is sane with this side to move
-abbrev pub IsSane : Places → Colour → Type 0
-IsSane board c = IsTrue (is_sane board c)

@@ -4,10 +4,10 @@ ghost use Rattle.unmove_gen.specs.Listed.{candidates, unmoves_of};
 
 use board_base::{Kind, Move, Square, Unmove};
 
-/// Where a candidate stands among all: by its target, its origin, and the places of its promotion and of its capture in their
+/// A candidate by its parts: its target and its origin, from 0 to 63, and the places of its promotion and of its capture in their
 /// orders. A target of 64 is past the last candidate.
 #[derive(Clone, Copy)]
-pub struct Place {
+pub struct Cursor {
     pub to: u8,
     pub from: u8,
     pub promotion: u8,
@@ -53,14 +53,14 @@ fn taking(m: &Move, place: u8) -> Unmove
     }
 }
 
-impl Place {
-    ghost use Rattle.unmove_gen.specs.Places.{number_of};
+impl Cursor {
+    ghost use Rattle.unmove_gen.specs.Cursors.{number_of};
 
-    /// The place of the first candidate.
-    pub fn first() -> Place
+    /// The first candidate.
+    pub fn first() -> Cursor
         ensures { number_of result ≡ 0 }
     {
-        Place {
+        Cursor {
             to: 0,
             from: 0,
             promotion: 0,
@@ -68,7 +68,7 @@ impl Place {
         }
     }
 
-    /// The move here.
+    /// Its move.
     pub fn mv(self) -> Move
         requires { self.to < 64 }
         ensures target { result.to ≡ self.to }
@@ -82,7 +82,7 @@ impl Place {
         }
     }
 
-    /// The candidate here.
+    /// The unmove itself.
     pub fn candidate(self) -> Unmove
         requires { self.to < 64 }
         ensures { slice_get candidates (number_of self) ≡ Some result }
@@ -90,12 +90,12 @@ impl Place {
         taking(&self.mv(), self.capture)
     }
 
-    /// The place of the first candidate with a later target.
-    pub fn next_target(self) -> Place
+    /// The first candidate with a later target.
+    pub fn next_target(self) -> Cursor
         requires { self.to < 64 }
         ensures { number_of result ≡ 2240 * (self.to + 1) }
     {
-        Place {
+        Cursor {
             to: self.to + 1,
             from: 0,
             promotion: 0,
@@ -103,13 +103,13 @@ impl Place {
         }
     }
 
-    /// The place of the first candidate with a later origin or target.
-    pub fn next_origin(self) -> Place
+    /// The first candidate with a later origin or target.
+    pub fn next_origin(self) -> Cursor
         requires { self.to < 64 }
         ensures { number_of result ≡ 2240 * self.to + 35 * (self.from + 1) }
     {
         if self.from < 63 {
-            Place {
+            Cursor {
                 to: self.to,
                 from: self.from + 1,
                 promotion: 0,
@@ -120,13 +120,13 @@ impl Place {
         }
     }
 
-    /// The place of the first candidate with a later promotion, origin or target.
-    pub fn next_promotion(self) -> Place
+    /// The first candidate with a later promotion, origin or target.
+    pub fn next_promotion(self) -> Cursor
         requires { self.to < 64 }
         ensures { number_of result ≡ 2240 * self.to + 35 * self.from + 7 * (self.promotion + 1) }
     {
         if self.promotion < 4 {
-            Place {
+            Cursor {
                 to: self.to,
                 from: self.from,
                 promotion: self.promotion + 1,
@@ -137,13 +137,13 @@ impl Place {
         }
     }
 
-    /// The place of the next candidate.
-    pub fn next(self) -> Place
+    /// The next candidate.
+    pub fn next(self) -> Cursor
         requires { self.to < 64 }
         ensures { number_of result ≡ number_of self + 1 }
     {
         if self.capture < 6 {
-            Place {
+            Cursor {
                 to: self.to,
                 from: self.from,
                 promotion: self.promotion,

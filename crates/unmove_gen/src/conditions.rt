@@ -1,39 +1,18 @@
 ghost use Rattle.std.specs.Prelude.{◌≡◌, ◌&&◌, not};
-ghost use Rattle.board_base.specs.Board.{at, is_a, is_of};
 ghost use Rattle.board_base.specs.Rights.{holds};
 ghost use Rattle.board_base.specs.Legal.{is_move, same_promo};
 ghost use Rattle.board_base.specs.Game.{touches};
 ghost use Rattle.unmove_gen.specs.Listed.{fits_ends, keeps_held, obeys, obeys_only};
 
-use board_base::{Board, Castle, Colour, Kind, Move, Square, Unmove};
+use board_base::{Castle, Kind, Move, Unmove, is_a, is_of};
 use castle_history::touches;
 use query_base::Query;
-
-/// A man of this colour stands on the square.
-pub fn has_man_of(board: &Board, s: Square, colour: Colour) -> bool
-    ensures { result ≡ is_of colour (at board.now s) }
-{
-    match board.at(s) {
-        Some(man) => colour == man.colour,
-        None => false,
-    }
-}
-
-/// A man of this kind stands on the square.
-pub fn has_kind(board: &Board, s: Square, kind: Kind) -> bool
-    ensures { result ≡ is_a kind (at board.now s) }
-{
-    match board.at(s) {
-        Some(man) => man.kind == kind,
-        None => false,
-    }
-}
 
 /// The origin is empty, and a man of the side that moved stands on the target.
 pub fn fits_ends(query: &Query, u: &Unmove) -> bool
     ensures { result ≡ fits_ends query.now u.now }
 {
-    query.board.at(u.mv.from).is_none() && has_man_of(&query.board, u.mv.to, query.turn.other())
+    query.board.at(u.mv.from).is_none() && is_of(query.turn.other(), query.board.at(u.mv.to))
 }
 
 fn keeps(query: &Query, m: &Move, castle: Castle) -> bool
@@ -79,7 +58,7 @@ fn is_move(given: &Option<Move>, m: &Move) -> bool
 fn obeys_only(query: &Query, m: &Move) -> bool
     ensures { result ≡ obeys_only query.now.only query.now.board m.now }
 {
-    query.only.is_none() || (is_move(&query.only, m) && has_kind(&query.board, m.to, Kind::Pawn))
+    query.only.is_none() || (is_move(&query.only, m) && is_a(Kind::Pawn, query.board.at(m.to)))
 }
 
 /// The move is what the query asks of the last move.

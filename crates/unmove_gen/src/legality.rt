@@ -4,10 +4,10 @@ ghost use Rattle.board_base.specs.declared.men.Kind.TheVariants.{Pawn};
 ghost use Rattle.play_rules.specs.States.{legal_at};
 ghost use Rattle.unmove_gen.specs.Listed.{answered, is_legal_before, is_listed, is_marked, leads_here, mover, took_pawn};
 
-use crate::conditions::{fits_ends, has_kind, has_man_of, obeys};
+use crate::conditions::{fits_ends, obeys};
 use crate::sanity::is_sane;
 use crate::taking_back::take_back;
-use board_base::{Board, CastleSet, Colour, Kind, Move, Square, Unmove};
+use board_base::{Board, CastleSet, Colour, Kind, Move, Square, Unmove, is_a, is_the};
 use ep_history::double_of;
 use play_rules::{State, step};
 use query_base::Query;
@@ -23,10 +23,9 @@ pub fn answered(u: &Unmove, colour: Colour) -> Option<Move>
 fn captures_en_passant(board: &Board, colour: Colour, u: &Unmove, double: &Move) -> bool
     ensures { result ≡ (is_a Pawn (at board.now u.now.mv.from) && is_empty (at board.now u.now.mv.to) && is_the (opponent colour) Pawn (at board.now double.now.to) && took_pawn u.now && is_empty (at board.now double.now.from)) }
 {
-    has_kind(board, u.mv.from, Kind::Pawn)
+    is_a(Kind::Pawn, board.at(u.mv.from))
         && board.at(u.mv.to).is_none()
-        && has_man_of(board, double.to, colour.other())
-        && has_kind(board, double.to, Kind::Pawn)
+        && is_the(colour.other(), Kind::Pawn, board.at(double.to))
         && u.captured == Some(Kind::Pawn)
         && board.at(double.from).is_none()
 }

@@ -1,26 +1,25 @@
 ghost use Rattle.std.specs.Prelude.{◌≡◌, ◌<◌, ◌∷◌, [], IfSome, MatchOption};
 ghost use Rattle.unmove_gen.specs.Listed.{unmoves};
 ghost use Rattle.unmove_gen.specs.Numbers.{AreUnlisted};
-ghost use Rattle.unmove_gen.specs.Places.{number_of};
+ghost use Rattle.unmove_gen.specs.Cursors.{number_of};
 
-use crate::candidates::Place;
-use crate::conditions::has_man_of;
+use crate::candidates::Cursor;
 use crate::legality::is_listed;
 use crate::ways::is_way;
-use board_base::Unmove;
+use board_base::{Unmove, is_of};
 use query_base::Query;
 use std::marker::Model;
 
-/// A later place, if none of the candidates from this one on to there is listed: by their target, where no man of the side that
-/// moved stands; by their origin, which isn't empty; or by their promotion, with which the man can't have moved so.
-fn skipped(query: &Query, here: Place) -> Option<Place>
+/// A later candidate, if none from this one on to there is listed: by their target, where no man of the side that moved stands; by
+/// their origin, which isn't empty; or by their promotion, with which the man on the target can't have moved so.
+fn skipped(query: &Query, here: Cursor) -> Option<Cursor>
     requires { here.to < 64 }
     ensures forward { IfSome result (λ there. number_of here < number_of there) }
     ensures unlisted { IfSome result (λ there. AreUnlisted query.now (number_of here) (number_of there)) }
 {
     let m = here.mv();
     let board = &query.board;
-    if !has_man_of(board, m.to, query.turn.other()) {
+    if !is_of(query.turn.other(), board.at(m.to)) {
         return Some(here.next_target());
     }
     if board.at(m.from).is_some() {
@@ -32,11 +31,13 @@ fn skipped(query: &Query, here: Place) -> Option<Place>
     None
 }
 
-/// The unmoves of a query that are left to be given, seen as their list, in ascending order.
+/// The unmoves of a query that are left to be given, seen as their list. An unmove is a move that the side not to move may have made
+/// last in a game that reaches the query, with the kind of the man that it captured. They ascend in the order of `cmp_unmove`: by
+/// target, then origin, then promotion, then captured man, en passant after all others. There are at most 143,360.
 #[derive(Drop)]
 pub struct Unmoves {
     query: Query,
-    place: Place,
+    cursor: Cursor,
 }
 
 impl Model for Unmoves {
@@ -44,11 +45,11 @@ impl Model for Unmoves {
     ghost use Rattle.std.specs.List.{filter};
     ghost use Rattle.board_base.specs.declared.unmoves.Unmove.{Unmove as AnUnmove};
     ghost use Rattle.unmove_gen.specs.Listed.{candidates, is_listed};
-    ghost use Rattle.unmove_gen.specs.Places.{number_of};
+    ghost use Rattle.unmove_gen.specs.Cursors.{number_of};
 
     ghost Value = { List AnUnmove };
 
-    ghost view = { λ s. filter (is_listed s.query) (drop (number_of s.place) candidates) };
+    ghost view = { λ s. filter (is_listed s.query) (drop (number_of s.cursor) candidates) };
 }
 
 impl Unmoves {
@@ -59,7 +60,7 @@ impl Unmoves {
     {
         Unmoves {
             query: *query,
-            place: Place::first(),
+            cursor: Cursor::first(),
         }
     }
 
@@ -67,13 +68,13 @@ impl Unmoves {
     pub fn next(&mut self) -> Option<Unmove>
         ensures { MatchOption result ((self.old ≡ []) × (self.new ≡ [])) (λ u. self.old ≡ u ∷ self.new) }
     {
-        while self.place.to < 64 {
-            let here = self.place;
+        while self.cursor.to < 64 {
+            let here = self.cursor;
             if let Some(there) = skipped(&self.query, here) {
-                self.place = there;
+                self.cursor = there;
             } else {
                 let u = here.candidate();
-                self.place = here.next();
+                self.cursor = here.next();
                 if is_listed(&self.query, &u) {
                     return Some(u);
                 }

@@ -5,7 +5,7 @@ ghost use Rattle.men_account.specs.Account.{accounts_for};
 ghost use Rattle.play_rules.specs.Laws.{is_end};
 ghost use Rattle.unmove_gen.specs.Sane.{has_no_pawn_on_ends, has_one_king, is_sane};
 
-use board_base::{Board, Colour, Kind, Square};
+use board_base::{Board, Colour, Kind, Square, is_a};
 use men_account::{Allowance, counts, excess};
 use play_rules::in_check;
 
@@ -15,7 +15,7 @@ fn is_pawn_on_end(board: &Board, index: u8) -> bool
     ensures { result ≡ (is_end index && is_a Pawn (at board.now index)) }
 {
     let s = Square::known(index);
-    (s.rank() == 0 || s.rank() == 7) && board.at(s).is_some_and(|man| man.kind == Kind::Pawn)
+    (s.rank() == 0 || s.rank() == 7) && is_a(Kind::Pawn, board.at(s))
 }
 
 #[tactic(auto, unfolding(crate::specs::Sane::has_no_pawn_on_ends))]

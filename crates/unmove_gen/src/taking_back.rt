@@ -1,10 +1,9 @@
 ghost use Rattle.std.specs.Prelude.{◌≡◌};
 ghost use Rattle.board_base.specs.Board.{at};
-ghost use Rattle.board_base.specs.Play.{crossed};
 ghost use Rattle.unmove_gen.specs.TakenBack.{unpromoted, captured_by, capture_square, rook_back, taken_back};
 
 use board_base::{Board, Castle, Kind, Man, Square, Unmove};
-use castle_history::{castle_of, home};
+use castle_history::{castle_of, home, target};
 
 /// What a man was before his move.
 fn unpromoted(promo: Option<Kind>, place: Option<Man>) -> Option<Man>
@@ -43,26 +42,15 @@ fn capture_square(u: &Unmove) -> Square
     }
 }
 
-/// The square that the king of the castling crosses.
-fn crossed(castle: Castle) -> Square
-    ensures { result ≡ crossed castle }
-{
-    match castle {
-        Castle::WhiteShort => Square::known(5),
-        Castle::WhiteLong => Square::known(3),
-        Castle::BlackShort => Square::known(61),
-        Castle::BlackLong => Square::known(59),
-    }
-}
-
 /// The rook of the castling, if there is one, goes home.
 fn rook_back(board: &mut Board, castle: Option<Castle>)
     ensures { board.new ≡ rook_back castle board.old }
 {
     if let Some(castle) = castle {
         let (_, rook_home) = home(castle);
-        let rook = board.at(crossed(castle));
-        board.put(crossed(castle), None);
+        let (_, rook_target) = target(castle);
+        let rook = board.at(rook_target);
+        board.put(rook_target, None);
         board.put(rook_home, rook);
     }
 }

@@ -2,8 +2,6 @@ use super::*;
 use board_base::{Board, Castle, CastleSet, Colour, Kind, Man, Move, Square, Unmove};
 use query_base::Query;
 
-const D6: u8 = 43;
-
 fn man(colour: Colour, kind: Kind) -> Option<Man> {
     Some(Man { colour, kind })
 }
@@ -16,12 +14,12 @@ fn step(from: Square, to: Square) -> Move {
     }
 }
 
-/// Black to move after a white pawn came to d6; white may castle short.
-fn after_d6() -> Query {
+/// Black to move, with a white pawn on d6, where only it can have moved last.
+fn after_a_pawn_move() -> Query {
     let mut board = Board::empty();
     board.put(Square::known(4), man(Colour::White, Kind::King));
     board.put(Square::known(7), man(Colour::White, Kind::Rook));
-    board.put(Square::known(D6), man(Colour::White, Kind::Pawn));
+    board.put(Square::known(43), man(Colour::White, Kind::Pawn));
     board.put(Square::known(60), man(Colour::Black, Kind::King));
     Query {
         board,
@@ -34,13 +32,13 @@ fn after_d6() -> Query {
 
 #[test]
 fn takes_back_a_capture_en_passant(rt: HostRuntime) {
-    let query = after_d6();
+    let query = after_a_pawn_move();
     let mut list = Unmoves::new(&query);
     for _ in 0..5 {
         assert!(rt; list.next().is_some());
     }
     let c5d6ep = Unmove {
-        mv: step(Square::known(34), Square::known(D6)),
+        mv: step(Square::known(34), Square::known(43)),
         captured: Some(Kind::Pawn),
         ep: true,
     };

@@ -2,9 +2,9 @@ use Rattle.std.proofs.Common.{◌≡◌, ap, ◌∙◌, arith}
 use Rattle.std.specs.Prelude.{slice_get}
 use Rattle.unmove_gen.specs.Listed.{candidates}
 use Rattle.unmove_gen.specs.Numbers.{number_at}
-use Rattle.unmove_gen.specs.Places.{number_of}
+use Rattle.unmove_gen.specs.Cursors.{number_of}
 use Rattle.unmove_gen.proofs.Numbered.{candidate-at}
-use Rattle.unmove_gen.proofs.candidates.Place.candidate.Goals as goal
+use Rattle.unmove_gen.proofs.candidates.Cursor.candidate.Goals as goal
 
 pub returns : goal.returns
 returns c =
