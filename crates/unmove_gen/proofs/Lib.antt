@@ -16,3 +16,4 @@ pub mod Taken
 pub mod Arrivals
 pub mod Skips
 pub mod Marking
+pub mod Spelled

@@ -1,7 +1,8 @@
-ghost use Rattle.std.specs.Prelude.{List, [], ◌∷◌, ◌++◌, ◌≤◌, length};
+ghost use Rattle.std.specs.Prelude.{IsTrue, List, [], ◌∷◌, ◌++◌, ◌≤◌, length};
 ghost use Rattle.std.specs.List.{Contains};
 ghost use Rattle.board_base.specs.declared.moves.Move.{Move};
 ghost use Rattle.board_base.specs.declared.unmoves.Unmove.{Unmove};
+ghost use Rattle.board_base.specs.Texts.{can_capture, can_promote};
 ghost use Rattle.query_base.specs.Asked.{Asked};
 ghost use Rattle.query_base.specs.Reach.{Reaches};
 ghost use Rattle.unmove_gen.specs.Ascending.{IsAscending};
@@ -28,4 +29,10 @@ pub fn few_unmoves()
 /// The law that the unmoves of a query ascend by target, then origin, then promotion, then captured man, so each stands there once.
 pub fn unmoves_ascend()
     ensures { (q : Asked) → IsAscending (unmoves q) }
+{}
+
+/// The law that each unmove of a query has a text: what it promoted to and what it captured may be written.
+pub fn unmoves_have_texts()
+    ensures promotion { (q : Asked) (u : Unmove) → Contains (unmoves q) u → IsTrue (can_promote u.mv.promo) }
+    ensures capture { (q : Asked) (u : Unmove) → Contains (unmoves q) u → IsTrue (can_capture u.mv.promo u.captured u.ep) }
 {}

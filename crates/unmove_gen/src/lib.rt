@@ -14,7 +14,9 @@ mod sanity;
 mod taking_back;
 mod ways;
 
-pub use laws::{few_unmoves, last_moves_are_listed, listed_moves_lead_here, unmoves_ascend};
+pub use laws::{
+    few_unmoves, last_moves_are_listed, listed_moves_lead_here, unmoves_ascend, unmoves_have_texts,
+};
 pub use lists::Unmoves;
 pub use predecessors::{is_unmove, pred};
 

@@ -32,8 +32,14 @@ fn skipped(query: &Query, here: Cursor) -> Option<Cursor>
 }
 
 /// The unmoves of a query that are left to be given, seen as their list. An unmove is a move that the side not to move may have made
-/// last in a game that reaches the query, with the kind of the man that it captured. They ascend in the order of `cmp_unmove`: by
-/// target, then origin, then promotion, then captured man, en passant after all others. There are at most 143,360.
+/// last in a game that reaches the query, with the kind of the man that it captured; it captured en passant only where it is so
+/// marked. Its origin is empty, and a man of that side stands on its target. On the board before it, the move is legal where every
+/// castling is allowed, it leads to the query's board, and that board passes tests that the board of every game passes: one king
+/// each, no pawn on rank 1 or 8, no king attacked out of turn, and no more pawns and promoted men than a side began with pawns. The
+/// move touches no home of a right that is held, and is what `only` and `barred` ask of the last move.
+///
+/// They ascend in the order of `cmp_unmove`: by target, then origin, then promotion, then captured man, en passant after all others.
+/// There are at most 143,360.
 #[derive(Drop)]
 pub struct Unmoves {
     query: Query,
@@ -53,7 +59,7 @@ impl Model for Unmoves {
 }
 
 impl Unmoves {
-    /// All unmoves of the query.
+    /// All unmoves of the query. The last move of each game that reaches it is among them.
     #[tactic(auto, unfolding(crate::specs::Listed::unmoves))]
     pub fn new(query: &Query) -> Unmoves
         ensures { result ≡ unmoves query.now }

@@ -18,7 +18,7 @@ fn with_castle(held: CastleSet, castle: Option<Castle>) -> CastleSet
     }
 }
 
-/// Whether the unmove is in the query's list.
+/// Whether the unmove is in the query's list, as `Unmoves` gives it. Any unmove may be asked about.
 pub fn is_unmove(query: &Query, u: &Unmove) -> bool
     ensures { IsTrue result ↔ Contains (unmoves query.now) u.now }
 {
