@@ -12,14 +12,16 @@ use Rattle.retro_top.specs.Commands.{Call}
 use Rattle.retro_top.specs.Checks.{AnswersCheck, IsSupported, accepted}
 use Rattle.retro_top.specs.Plays.{AnswersPlay}
 use Rattle.retro_top.specs.Questions.{Asks}
+use Rattle.retro_top.specs.Retractions.{AnswersUnmoves}
 use Rattle.retro_top.specs.declared.statuses.Status.{Status}
 use Rattle.retro_top.specs.declared.commands.Command.{Command}
-use Rattle.retro_top.specs.declared.commands.Command.TheVariants.{Check, Play}
+use Rattle.retro_top.specs.declared.commands.Command.TheVariants.{Check, Play, Unmoves}
 
 -- the status and the text with which a command answers an input
 abbrev pub AnswersAs : Command → List ℕ → Status → List ℕ → Type 0
 AnswersAs Check input status text = AnswersCheck input status text
 AnswersAs Play input status text = AnswersPlay input status text
+AnswersAs Unmoves input status text = AnswersUnmoves input status text
 
 -- the status and the text with which the words answer an input
 abbrev pub Answers : List (String Global) → List ℕ → Status → List ℕ → Type 0

@@ -6,7 +6,6 @@ use Rattle.query_base.specs.Asked.{Asked}
 use Rattle.fen_text.specs.Parts.{cut_at}
 use Rattle.fen_text.specs.Fen.{fen}
 use Rattle.fen_text.specs.FenFaults.{IsFenFault}
-use Rattle.fen_text.specs.declared.faults.FenFault.{FenFault}
 use Rattle.retro_top.specs.Lines.{ended}
 use Rattle.retro_top.specs.declared.questions.NoQuestion.{NoQuestion}
 use Rattle.retro_top.specs.declared.questions.NoQuestion.TheVariants.{NoLine, BadFen}

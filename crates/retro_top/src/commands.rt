@@ -8,6 +8,8 @@ pub enum Command {
     Check,
     /// Whether words are a legal game that reaches a position.
     Play,
+    /// Which moves may have been the last before a position, and what stood before each.
+    Unmoves,
 }
 
 fn is_word(word: &String, text: &[u8]) -> bool
@@ -26,6 +28,8 @@ pub fn read_words(words: &[String]) -> Option<Command>
                 Some(Command::Check)
             } else if is_word(word, b"play") {
                 Some(Command::Play)
+            } else if is_word(word, b"unmoves") {
+                Some(Command::Unmoves)
             } else {
                 None
             }

@@ -1,5 +1,5 @@
 -- Each unmove of a query has a text.
-use Rattle.std.proofs.Common.{◌≡◌, ℕ, zero, suc, ◌<◌, Bool, true, false, length, get_or, refl, sym, ◌∙◌, subst}
+use Rattle.std.proofs.Common.{◌≡◌, ℕ, zero, suc, Bool, true, false, get_or, refl, sym, subst}
 use Rattle.std.proofs.lemmas.Bool.{and_parts}
 use Rattle.std.proofs.lemmas.List.Elements.{All-contains, All-filter}
 use Rattle.std.proofs.lemmas.Option.{same_Some, slice_get-get_or}
@@ -7,7 +7,6 @@ use Rattle.std.specs.Prelude.{Option, Some, None, slice_get}
 use Rattle.std.specs.Bool.{beq}
 use Rattle.std.specs.List.{All, Contains}
 use Rattle.board_base.specs.Board.{same_kind}
-use Rattle.board_base.specs.Legal.{pawn_captures_en_passant}
 use Rattle.board_base.specs.Texts.{can_capture, can_promote}
 use Rattle.board_base.specs.declared.men.Kind.{Kind}
 use Rattle.board_base.specs.declared.men.Kind.TheVariants.{Pawn, Knight, Bishop, Rook, Queen, King}
