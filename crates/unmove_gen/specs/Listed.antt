@@ -1,8 +1,7 @@
 -- The unmoves of a query.
-use Rattle.std.specs.Prelude.{Bool, true, false, cond, ◌&&◌, not, List, [], ◌∷◌, Option, Some, None}
+use Rattle.std.specs.Prelude.{ℕ, Bool, true, false, cond, ◌&&◌, not, List, [], ◌∷◌, Option, Some, None}
 use Rattle.std.specs.List.{filter, flat_map, list_all, range_with_len}
 use Rattle.std.specs.Bool.{beq}
-use Rattle.std.specs.Prelude.{ℕ}
 use Rattle.board_base.specs.Board.{Places, at, is_empty, is_of, is_a, opponent, same_kind, same_colour}
 use Rattle.board_base.specs.Play.{play, all_castles, double_of}
 use Rattle.board_base.specs.Legal.{legal_on, pawn_captures_en_passant, is_move}
