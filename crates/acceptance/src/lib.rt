@@ -4,4 +4,6 @@
 #[cfg(test)]
 mod perft;
 #[cfg(test)]
+mod retractions;
+#[cfg(test)]
 mod runs;

@@ -8,11 +8,11 @@ use std::test::Fail;
 
 /// Words and an input, with the status and the text that answer them.
 #[derive(Clone, Copy)]
-struct Row {
-    words: &'static [&'static str],
-    input: &'static [u8],
-    status: Status,
-    text: &'static [u8],
+pub struct Row {
+    pub words: &'static [&'static str],
+    pub input: &'static [u8],
+    pub status: Status,
+    pub text: &'static [u8],
 }
 
 const CHECK: &[&str] = &["check"];
@@ -183,6 +183,40 @@ const PLAYS: [Row; 13] = [
     },
 ];
 
+const UNMOVES: [Row; 5] = [
+    Row {
+        words: &["unmoves"],
+        input: b"8/8/8/8/8/8/8/9 w - -\n",
+        status: Status::BadInput,
+        text: b"bad fen field 1 byte 14\n",
+    },
+    Row {
+        words: &["unmoves"],
+        input: b"4k3/8/8/8/8/8/8/R3K2R w QK -\nx\n",
+        status: Status::BadInput,
+        text: b"bad fen field 3 byte 25\n",
+    },
+    Row {
+        words: &["unmoves"],
+        input: b"",
+        status: Status::BadInput,
+        text: b"bad line 1\n",
+    },
+    Row {
+        words: &["unmoves"],
+        input: b"4k3/8/8/8/8/8/8/4K3 w - -\n\n",
+        status: Status::BadInput,
+        text: b"bad line 2\n",
+    },
+    // No man is there that could have moved.
+    Row {
+        words: &["unmoves"],
+        input: b"8/8/8/8/8/8/8/8 w - -\n",
+        status: Status::Done,
+        text: b"total 0\n",
+    },
+];
+
 /// Words that call no command.
 const NO_COMMANDS: [&[&str]; 6] = [
     &[],
@@ -211,7 +245,7 @@ fn at_most_one(alloc: Global, number: Option<u32>) -> Result<Vec<u32>, AllocErro
 }
 
 /// The status and the text of a run of this row, reading ten bytes a call and writing one, with these calls failing.
-fn run_row(
+pub fn run_row(
     alloc: Global,
     row: &Row,
     failing_read: Option<u32>,
@@ -272,10 +306,17 @@ fn answers_plays(rt: HostRuntime) -> Result<(), Fail> {
 }
 
 #[test]
+fn answers_unmoves(rt: HostRuntime) -> Result<(), Fail> {
+    assert_answers(&rt, &UNMOVES)?;
+    Ok(())
+}
+
+#[test]
 fn stops_at_each_fault(rt: HostRuntime) -> Result<(), Fail> {
     // 64 bytes and 95 bytes come in reads of ten, and one read more finds the end.
     assert_faults(&rt, &CHECKS[0], 8, 39)?;
     assert_faults(&rt, &PLAYS[0], 11, 6)?;
+    assert_faults(&rt, &UNMOVES[4], 4, 8)?;
     Ok(())
 }
 
