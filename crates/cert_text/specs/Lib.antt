@@ -1,0 +1,4 @@
+pub mod Tree
+pub mod TreeCode
+pub mod Seen
+pub mod Falls

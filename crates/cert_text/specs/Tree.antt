@@ -1,0 +1,44 @@
+-- The trees of certificates.
+use Rattle.std.specs.Prelude.{ℕ, ◌+◌, Option, Some, None}
+use Rattle.std.proofs.Common.{zero, suc}
+use Rattle.board_base.specs.declared.unmoves.Unmove.{Unmove}
+use Rattle.query_base.specs.declared.rule_lines.RuleLine.{RuleLine}
+
+mutual
+  -- a rule line, a number of steps back, or a list of children
+  pub data Tree : Type 0 where
+    rule : RuleLine → Tree
+    back : ℕ → Tree
+    expand : Forest → Tree
+
+  -- a list of labels, each with its tree
+  pub data Forest : Type 0 where
+    none : Forest
+    more : Unmove → Tree → Forest → Forest
+
+-- how many children there are
+abbrev pub count : Forest → ℕ
+count none = 0
+count (more label tree rest) = count rest + 1
+
+-- the child at this place, counted from 0
+abbrev pub kid_at : Forest → ℕ → Option (Unmove × Tree)
+kid_at none i = None
+kid_at (more label tree rest) zero = Some (label, tree)
+kid_at (more label tree rest) (suc i) = kid_at rest i
+
+-- the children, and this one after them
+abbrev pub with_last : Forest → Unmove → Tree → Forest
+with_last none label tree = more label tree none
+with_last (more l t rest) label tree = more l t (with_last rest label tree)
+
+abbrev mutual
+  -- a number above those of a tree's parts
+  pub size : Tree → ℕ
+  size (rule r) = 1
+  size (back k) = 1
+  size (expand kids) = suc (size_all kids)
+
+  pub size_all : Forest → ℕ
+  size_all none = 1
+  size_all (more label tree rest) = suc (size tree + size_all rest)
