@@ -1,1 +1,4 @@
 pub mod Forests
+pub mod Numbers
+pub mod Cuts
+pub mod KidLines

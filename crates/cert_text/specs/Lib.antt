@@ -2,3 +2,8 @@ pub mod Tree
 pub mod TreeCode
 pub mod Seen
 pub mod Falls
+pub mod Lines
+pub mod Texts
+pub mod NodeLines
+pub mod Certificate
+pub mod SeenCert

@@ -1,0 +1,5 @@
+use Rattle.cert_text.proofs.Numbers.{NumberSoFar}
+use Rattle.cert_text.proofs.node_lines.read_digits.Given as goal
+
+abbrev pub invariant-loop-byte : goal.invariant-loop-byte
+invariant-loop-byte l = NumberSoFar l.text l.byte-index l.value

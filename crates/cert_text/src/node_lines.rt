@@ -1,0 +1,184 @@
+ghost use Rattle.std.specs.Prelude.{◌≡◌, ◌≤◌, ◌<◌, ◌==◌, cond, IfSome, MatchOption, None, Some, length, is_none};
+ghost use Rattle.std.specs.List.{list_all};
+ghost use Rattle.fen_text.specs.Fen.{is_digit, value};
+ghost use Rattle.cert_text.specs.NodeLines.{Fits, back_at, body_at, expand_at, is_plain, kid_body, node_line, number, root_body, rule_of};
+
+use crate::lines::is_text;
+use board_base::{Unmove, read_unmove};
+use fen_text::split_part;
+use query_base::RuleLine;
+
+/// What the line of a node says of its body.
+#[derive(Clone, Copy, PartialEq, Eq, Debug)]
+pub enum BodyLine {
+    /// `rule` and the name of a rule.
+    Rule(RuleLine),
+    /// `back` and a number of steps, from 1 to the node's depth.
+    Back(u8),
+    /// `expand` and the number of the node's children, from 0 to 999,999; 0 at depth 255.
+    Expand(u32),
+}
+
+/// What the line of a node says.
+#[derive(Clone, Copy, PartialEq, Eq, Debug)]
+pub struct NodeLine {
+    /// The unmove that leads to the node, or None at the root.
+    pub label: Option<Unmove>,
+    /// What the node is.
+    pub body: BodyLine,
+}
+
+fn is_digit(byte: u8) -> bool
+    ensures { result ≡ is_digit byte }
+{
+    b'0' <= byte && byte <= b'9'
+}
+
+/// The value of at most six digits.
+fn read_digits(text: &[u8]) -> Option<u32>
+    requires { length text.now ≤ 6 }
+    ensures { result ≡ cond (list_all is_digit text.now) (Some (value text.now)) None }
+{
+    let mut value = 0;
+    for byte in text {
+        if !is_digit(*byte) {
+            return None;
+        }
+        value = 10 * value + u32::from(*byte - b'0');
+    }
+    Some(value)
+}
+
+fn is_plain(text: &[u8]) -> bool
+    requires { 1 ≤ length text.now }
+    ensures { result ≡ is_plain text.now }
+{
+    text.len() == 1 || text[0] != b'0'
+}
+
+fn read_number(text: &[u8]) -> Option<u32>
+    ensures { result ≡ number text.now }
+{
+    if text.is_empty() {
+        return None;
+    }
+    if text.len() > 6 {
+        return None;
+    }
+    if !is_plain(text) {
+        return None;
+    }
+    read_digits(text)
+}
+
+fn read_rule(name: &[u8]) -> Option<RuleLine>
+    ensures { result ≡ rule_of name.now }
+{
+    if is_text(name, b"kings") {
+        Some(RuleLine::Kings)
+    } else if is_text(name, b"ranks") {
+        Some(RuleLine::Ranks)
+    } else if is_text(name, b"check") {
+        Some(RuleLine::Check)
+    } else if is_text(name, b"rights") {
+        Some(RuleLine::Rights)
+    } else {
+        None
+    }
+}
+
+fn back_line(depth: u8, number: u32) -> Option<BodyLine>
+    ensures { result ≡ back_at depth number }
+{
+    if 1 <= number && number <= u32::from(depth) {
+        Some(BodyLine::Back(number as u8))
+    } else {
+        None
+    }
+}
+
+fn expand_line(depth: u8, number: u32) -> Option<BodyLine>
+    ensures { result ≡ expand_at depth number }
+{
+    if number == 0 || depth < 255 {
+        Some(BodyLine::Expand(number))
+    } else {
+        None
+    }
+}
+
+#[tactic(auto, unfolding(crate::specs::NodeLines::body_at))]
+fn read_body(depth: u8, text: &[u8]) -> Option<BodyLine>
+    ensures { result ≡ body_at depth text.now }
+{
+    if text.starts_with(b"rule ") {
+        return match read_rule(&text[5..]) {
+            Some(rule) => Some(BodyLine::Rule(rule)),
+            None => None,
+        };
+    }
+    if text.starts_with(b"back ") {
+        return match read_number(&text[5..]) {
+            Some(number) => back_line(depth, number),
+            None => None,
+        };
+    }
+    if text.starts_with(b"expand ") {
+        return match read_number(&text[7..]) {
+            Some(number) => expand_line(depth, number),
+            None => None,
+        };
+    }
+    None
+}
+
+#[tactic(auto, unfolding(crate::specs::NodeLines::root_body))]
+pub(crate) fn read_root(text: &[u8]) -> Option<BodyLine>
+    ensures { result ≡ root_body text.now }
+{
+    if text.starts_with(b"root ") {
+        read_body(0, &text[5..])
+    } else {
+        None
+    }
+}
+
+#[tactic(auto, unfolding(crate::specs::NodeLines::kid_body))]
+pub(crate) fn read_kid(depth: u8, text: &[u8]) -> Option<(Unmove, BodyLine)>
+    ensures { result ≡ kid_body depth text.now }
+{
+    let (label, body) = split_part(text, b' ');
+    let Some(body) = body else {
+        return None;
+    };
+    let Some(unmove) = read_unmove(label) else {
+        return None;
+    };
+    match read_body(depth, body) {
+        Some(body) => Some((unmove, body)),
+        None => None,
+    }
+}
+
+/// Reads the line of a node at this depth, without its end: at depth 0 `root`, and below it the unmove that leads to the node;
+/// then a space, and its body. That is `rule` with one of the names `kings`, `ranks`, `check` and `rights`, `back` with a number
+/// from 1 to the depth, or `expand` with one from 0 to 999,999, which at depth 255 is 0. Numbers are decimal, with no leading zero
+/// other than `0` itself, and one space parts two words. None comes exactly where the text is none of these.
+pub fn read_line(line: &[u8], depth: u8) -> Option<NodeLine>
+    ensures line { result ≡ node_line depth line.now }
+    ensures label { IfSome result (λ n. is_none n.label ≡ (depth == 0)) }
+{
+    if depth == 0 {
+        return match read_root(line) {
+            Some(body) => Some(NodeLine { label: None, body }),
+            None => None,
+        };
+    }
+    match read_kid(depth, line) {
+        Some((unmove, body)) => Some(NodeLine {
+            label: Some(unmove),
+            body,
+        }),
+        None => None,
+    }
+}
