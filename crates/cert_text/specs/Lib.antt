@@ -6,4 +6,6 @@ pub mod Lines
 pub mod Texts
 pub mod NodeLines
 pub mod Certificate
+pub mod Due
+pub mod Reading
 pub mod SeenCert

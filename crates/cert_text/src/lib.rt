@@ -2,10 +2,17 @@
 #![tactic(auto)]
 
 mod certificates;
+mod claims;
+mod faults;
+mod headers;
 mod lines;
 mod node_lines;
 mod nodes;
+mod reading;
 
 pub use certificates::Cert;
+pub use claims::read_claim;
+pub use faults::CertFault;
 pub use node_lines::{BodyLine, NodeLine, read_line};
 pub use nodes::{Body, Kid, Kids, Node};
+pub use reading::read_cert;

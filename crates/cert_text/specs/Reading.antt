@@ -1,0 +1,53 @@
+-- What the parts of the reader give.
+use Rattle.std.specs.Prelude.{ℕ, ◌+◌, ◌≡◌, List, [], ◌∷◌, ◌++◌, length, Option, Some, IfSome}
+use Rattle.std.proofs.Common.{suc}
+use Rattle.board_base.specs.declared.unmoves.Unmove.{Unmove}
+use Rattle.query_base.specs.Asked.{Asked}
+use Rattle.query_base.specs.declared.claims.Claim.{Claim}
+use Rattle.cert_text.specs.Tree.{Tree, Forest, count}
+use Rattle.cert_text.specs.Lines.{said}
+use Rattle.cert_text.specs.NodeLines.{root_body, kid_body}
+use Rattle.cert_text.specs.Certificate.{Lines, head_line, claim_of, query_of, body_of, AreBelow, AreKids}
+use Rattle.cert_text.specs.Due.{put_due, refused}
+use Rattle.cert_text.specs.declared.node_lines.BodyLine.{BodyLine}
+use Rattle.cert_text.specs.declared.faults.CertFault.{CertFault}
+use Rattle.cert_text.specs.declared.faults.CertFault.TheVariants.{BadText, Memory}
+
+-- the lines in front of others that are below a node with this body at this depth
+pub record ReadsBelow (body : BodyLine) (depth : ℕ) (lines : Lines) (line : ℕ) (tree : Tree) (rest : Lines) (next : ℕ) : Type 0 where
+  pub front : Lines
+  pub parts : lines ≡ front ++ rest
+  pub lines_count : next ≡ line + length front
+  pub says : body_of tree ≡ body
+  pub below : AreBelow tree depth front
+
+-- the lines in front of others that are so many children of a node at this depth
+pub record ReadsKids (number depth : ℕ) (lines : Lines) (line : ℕ) (kids : Forest) (rest : Lines) (next : ℕ) : Type 0 where
+  pub front : Lines
+  pub parts : lines ≡ front ++ rest
+  pub lines_count : next ≡ line + length front
+  pub size : count kids ≡ number
+  pub are : AreKids kids (suc depth) front
+
+-- the line that this is the fault of
+abbrev pub IfBadText : CertFault → (ℕ → Type 0) → Type 0
+IfBadText (BadText n) P = P n
+IfBadText Memory P = Unit {0}
+
+-- wherever a node at this depth is read, the lines are refused at line n
+abbrev pub IsRefused : (List ℕ → List ℕ) → ℕ → Lines → ℕ → ℕ → Type 0
+IsRefused put depth lines line n = (due : List ℕ) → length due ≡ depth → refused (put due) line lines ≡ Some n
+
+-- the first line says this of a child at this depth
+abbrev pub SaysKid : ℕ → Lines → Unmove → BodyLine → Lines → Type 0
+SaysKid depth lines label body rest = (line : List ℕ) × (lines ≡ line ∷ rest) × (said (kid_body depth) line ≡ Some (label, body))
+
+-- the lines begin with a certificate's first four lines, which say this
+pub record HasHeader (lines : Lines) (claim : Claim) (query : Asked) (body : BodyLine) (rest : Lines) : Type 0 where
+  pub claim_line : List ℕ
+  pub fen_line : List ℕ
+  pub root_line : List ℕ
+  pub parts : lines ≡ head_line ∷ claim_line ∷ fen_line ∷ root_line ∷ rest
+  pub claim_is : said claim_of claim_line ≡ Some claim
+  pub query_is : said query_of fen_line ≡ Some query
+  pub body_is : said root_body root_line ≡ Some body

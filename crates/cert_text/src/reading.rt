@@ -1,0 +1,179 @@
+ghost use Rattle.std.specs.Prelude.{◌≡◌, ◌<◌, ◌≤◌, ◌+◌, ◌∷◌, ◌^◌, IfErr, IfOk, IfSome, MatchOption, Some, length, suc, List, ℕ};
+ghost use Rattle.cert_text.specs.Seen.{tree_of};
+ghost use Rattle.cert_text.specs.SeenCert.{cert_of};
+ghost use Rattle.cert_text.specs.Lines.{cut, said};
+ghost use Rattle.cert_text.specs.Texts.{IsBadAt};
+ghost use Rattle.cert_text.specs.NodeLines.{Fits, kid_body};
+ghost use Rattle.cert_text.specs.Due.{put_due, refused};
+ghost use Rattle.cert_text.specs.Certificate.{AreLinesOf};
+ghost use Rattle.cert_text.specs.Reading.{IfBadText, IsRefused, ReadsBelow, ReadsKids, SaysKid};
+
+use crate::certificates::Cert;
+use crate::faults::CertFault;
+use crate::headers::read_header;
+use crate::lines::{first_line, without_end};
+use crate::node_lines::{BodyLine, read_kid};
+use crate::nodes::{Body, Kid, Kids, Node};
+use board_base::Unmove;
+use std::alloc::Global;
+
+#[tactic(auto, unfolding(crate::specs::Lines::said))]
+fn read_kid_line(depth: u8, line: &[u8]) -> Option<(Unmove, BodyLine)>
+    ensures { result ≡ said (kid_body depth) line.now }
+{
+    match without_end(line) {
+        Some(text) => read_kid(depth, text),
+        None => None,
+    }
+}
+
+/// What the first line says of a child at this depth, and what follows it.
+fn next_kid(bytes: &[u8], depth: u8) -> Option<(Unmove, BodyLine, &[u8])>
+    ensures says { IfSome result (λ kid. SaysKid depth (cut bytes.now) kid.0 kid.1 (cut kid.2.now)) }
+    ensures fits { IfSome result (λ kid. Fits depth kid.1) }
+    ensures none { MatchOption result ((m n : ℕ) (due : List ℕ) → suc (length due) ≡ depth → refused (suc m ∷ due) n (cut bytes.now) ≡ Some n) (λ kid. Unit {0}) }
+{
+    match first_line(bytes) {
+        None => None,
+        Some((line, rest)) => match read_kid_line(depth, line) {
+            Some((label, body)) => Some((label, body, rest)),
+            None => None,
+        },
+    }
+}
+
+/// A node, what follows its lines, and the number of the line there.
+#[derive(Drop)]
+struct Below<'a> {
+    node: Node,
+    rest: &'a [u8],
+    line: u32,
+}
+
+/// Children, what follows their lines, and the number of the line there.
+#[derive(Drop)]
+struct Children<'a> {
+    kids: Kids,
+    rest: &'a [u8],
+    line: u32,
+}
+
+/// The node with this body, whose lines below its own begin the bytes.
+#[cycle(reader)]
+fn read_below(
+    alloc: Global,
+    body: BodyLine,
+    depth: u8,
+    bytes: &[u8],
+    line: u32,
+) -> Result<Below<'_>, CertFault>
+    requires fits { Fits depth body }
+    requires room { line + length (cut bytes.now) < 2 ^ 32 }
+    ensures ok { IfOk result (λ b. ReadsBelow body depth (cut bytes.now) line (tree_of b.node) (cut b.rest.now) b.line) }
+    ensures bad { IfErr result (λ e. IfBadText e (IsRefused (put_due body) depth (cut bytes.now) line)) }
+{
+    match body {
+        BodyLine::Rule(rule) => Ok(Below {
+            node: Node {
+                body: Body::Rule(rule),
+            },
+            rest: bytes,
+            line,
+        }),
+        BodyLine::Back(steps) => Ok(Below {
+            node: Node {
+                body: Body::Back(steps),
+            },
+            rest: bytes,
+            line,
+        }),
+        BodyLine::Expand(count) => match read_kids(alloc, count, depth, bytes, line) {
+            Ok(children) => Ok(Below {
+                node: Node {
+                    body: Body::Expand(children.kids),
+                },
+                rest: children.rest,
+                line: children.line,
+            }),
+            Err(fault) => Err(fault),
+        },
+    }
+}
+
+/// So many children, whose lines begin the bytes.
+#[cycle(reader)]
+fn read_kids(
+    alloc: Global,
+    count: u32,
+    depth: u8,
+    bytes: &[u8],
+    line: u32,
+) -> Result<Children<'_>, CertFault>
+    requires fits { 0 < count → depth < 255 }
+    requires room { line + length (cut bytes.now) < 2 ^ 32 }
+    ensures ok { IfOk result (λ b. ReadsKids count depth (cut bytes.now) line b.kids (cut b.rest.now) b.line) }
+    ensures bad { IfErr result (λ e. IfBadText e (IsRefused (λ due. count ∷ due) depth (cut bytes.now) line)) }
+{
+    let mut kids = Kids::new(alloc);
+    let mut rest = bytes;
+    let mut next = line;
+    for _i in 0..count {
+        let (label, body, after) = match next_kid(rest, depth + 1) {
+            Some(kid) => kid,
+            None => return Err(CertFault::BadText { line: next }),
+        };
+        match read_below(alloc, body, depth + 1, after, next + 1) {
+            Ok(below) => {
+                rest = below.rest;
+                next = below.line;
+                match kids.push(Kid {
+                    label,
+                    node: below.node,
+                }) {
+                    Ok(()) => {}
+                    Err(_) => return Err(CertFault::Memory),
+                }
+            }
+            Err(fault) => return Err(fault),
+        }
+    }
+    Ok(Children {
+        kids,
+        rest,
+        line: next,
+    })
+}
+
+/// Reads a certificate, of at most 67,108,864 bytes. Each line ends with one `\n`, and nothing follows the last node's:
+///
+/// 1. `retro 1`.
+/// 2. The line of the claim, as `read_claim` reads it.
+/// 3. `fen`, a space, and a FEN of four fields.
+/// 4. The root's line, and then the lines of the other nodes, as `read_line` reads them. After a node with `expand n` come its n
+///    children, each with all that is below it; after another node comes nothing of its own. The labels may be any unmoves in any
+///    order, and `back` may lead to any ancestor.
+///
+/// `Ok` comes exactly where the bytes are so, with the certificate that they say. `BadText` comes exactly otherwise: the lines
+/// before `line` begin a certificate's text, and with it they begin none, or the bytes end too early. A last piece with no line
+/// end counts as a line, and no certificate begins with it. `Memory` comes only for want of memory.
+pub fn read_cert(alloc: Global, bytes: &[u8]) -> Result<Cert, CertFault>
+    requires { length bytes.now ≤ 67_108_864 }
+    ensures ok { IfOk result (λ c. AreLinesOf (cut bytes.now) (cert_of c)) }
+    ensures bad { IfErr result (λ e. IfBadText e (IsBadAt AreLinesOf (cut bytes.now))) }
+{
+    let header = match read_header(bytes) {
+        Ok(header) => header,
+        Err(line) => return Err(CertFault::BadText { line }),
+    };
+    match read_below(alloc, header.body, 0, header.rest, 5) {
+        Ok(below) => match first_line(below.rest) {
+            Some(_) => Err(CertFault::BadText { line: below.line }),
+            None => Ok(Cert {
+                claim: header.claim,
+                query: header.query,
+                root: below.node,
+            }),
+        },
+        Err(fault) => Err(fault),
+    }
+}
