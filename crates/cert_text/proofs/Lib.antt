@@ -6,3 +6,8 @@ pub mod Due
 pub mod Fitting
 pub mod Children
 pub mod Bad
+pub mod Decimals
+pub mod Spelled
+pub mod OnBoard
+pub mod Frees
+pub mod SpelledLines

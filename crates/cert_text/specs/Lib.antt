@@ -8,4 +8,5 @@ pub mod NodeLines
 pub mod Certificate
 pub mod Due
 pub mod Reading
+pub mod Writable
 pub mod SeenCert
