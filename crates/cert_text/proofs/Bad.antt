@@ -1,6 +1,6 @@
 -- Where a certificate's text goes bad.
-use Rattle.std.proofs.Common.{◌≡◌, ◌≢◌, ℕ, zero, suc, ◌+◌, ◌-◌, ◌≤◌, ◌⊎◌, inl, inr, List, [], ◌∷◌, ◌++◌, length, take, refl, sym, ap, ◌∙◌, subst, arith}
-use Rattle.std.specs.Prelude.{Option, Some, None, codes}
+use Rattle.std.proofs.Common.{◌≡◌, ◌≢◌, ℕ, suc, ◌-◌, inl, inr, List, [], ◌∷◌, ◌++◌, take, refl, sym, ap, ◌∙◌, subst, arith}
+use Rattle.std.specs.Prelude.{Some, None, codes}
 use Rattle.std.proofs.lemmas.List.{append-nil}
 use Rattle.board_base.specs.Board.{no_men}
 use Rattle.board_base.specs.declared.men.Colour.TheVariants.{White}
@@ -11,7 +11,7 @@ use Rattle.query_base.specs.declared.rule_lines.RuleLine.TheVariants.{Kings}
 use Rattle.fen_text.specs.Fen.{fen, fen_of_four, from_turn, from_rights, from_en_passant, placement, ranks, rights, no_rights}
 use Rattle.fen_text.specs.Parts.{parted}
 use Rattle.fen_text.specs.Ranks.{rank, places_of, is_symbol}
-use Rattle.cert_text.specs.Tree.{Tree, Forest, rule, back, expand}
+use Rattle.cert_text.specs.Tree.{Tree, rule, back, expand}
 use Rattle.cert_text.specs.Lines.{ended, said}
 use Rattle.cert_text.specs.Texts.{Begins, IsBadAt}
 use Rattle.cert_text.specs.NodeLines.{root_body, body_at}
@@ -22,7 +22,7 @@ use Rattle.cert_text.specs.declared.node_lines.BodyLine.TheVariants.{Rule, Back,
 use Rattle.cert_text.specs.Reading.{HasHeader, ReadsBelow, IfBadText, IsRefused}
 use Rattle.cert_text.specs.declared.faults.CertFault.{CertFault}
 use Rattle.cert_text.specs.declared.faults.CertFault.TheVariants.{BadText, Memory}
-use Rattle.cert_text.proofs.Due.{Fills, fills, Stops, stops, below_runs}
+use Rattle.cert_text.proofs.Due.{Fills, fills, stops, below_runs}
 
 -- some certificate's header
 abbrev some_claim : List ℕ

@@ -1,6 +1,6 @@
 -- Children that are read one after another.
-use Rattle.std.proofs.Common.{◌≡◌, ℕ, suc, ◌+◌, ◌-◌, ◌<◌, List, [], ◌∷◌, ◌++◌, length, refl, sym, ap, ◌∙◌, subst, arith, append_assoc, length-append}
-use Rattle.std.specs.Prelude.{Option, Some}
+use Rattle.std.proofs.Common.{◌≡◌, ℕ, suc, ◌+◌, ◌-◌, ◌<◌, List, ◌∷◌, ◌++◌, length, refl, sym, ap, ◌∙◌, subst, arith, append_assoc, length-append}
+use Rattle.std.specs.Prelude.{Some}
 use Rattle.cert_text.specs.Tree.{Tree, Forest, none, count, with_last}
 use Rattle.cert_text.specs.Tree as tree
 use Rattle.board_base.specs.declared.unmoves.Unmove.{Unmove}

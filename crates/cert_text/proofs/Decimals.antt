@@ -1,5 +1,5 @@
 -- Numbers and their decimal texts.
-use Rattle.std.proofs.Common.{◌≡◌, ℕ, ◌+◌, ◌-◌, ◌*◌, ◌<◌, ◌≤◌, ◌^◌, ◌==◌, ◌||◌, ◌⊎◌, inl, inr, Bool, true, false, not, cond, List, length, get_or, Some, None, refl, sym, ap, ◌∙◌, subst, arith, rules, nat_le}
+use Rattle.std.proofs.Common.{◌≡◌, ℕ, ◌+◌, ◌-◌, ◌*◌, ◌<◌, ◌≤◌, ◌^◌, ◌==◌, ◌⊎◌, inl, inr, true, not, List, length, get_or, Some, None, sym, ap, ◌∙◌, arith, rules, nat_le}
 use Rattle.std.proofs.lemmas.Bool.{and_parts, and_from, cond-true, cases_eq, ne_eqb, eq-eqb, le-leb, leb-true, or_left, or_right, or_cases, eqb-true, eqb-false, not-true}
 use Rattle.std.proofs.lemmas.Option.{cond_some}
 use Rattle.std.proofs.lemmas.Str.Parse.{IsNumeralModel, numerals_by_fold, digits_value_short}

@@ -1,7 +1,9 @@
 -- Children as a forest.
-use Rattle.std.proofs.Common.{◌≡◌, ℕ, zero, suc, ◌+◌, ◌<◌, ◌≤◌, List, [], ◌∷◌, ◌++◌, length, get_or, refl, ap, arith}
-use Rattle.std.specs.Prelude.{Option, Some, None}
-use Rattle.cert_text.specs.Tree.{Forest, Tree, none, more, count, kid_at, with_last}
+use Rattle.std.proofs.Common.{◌≡◌, ℕ, zero, suc, ◌<◌, ◌≤◌, List, [], ◌∷◌, ◌++◌, length, get_or, refl, ap, ◌∙◌, arith}
+use Rattle.std.specs.Prelude.{Some, None}
+use Rattle.std.proofs.lemmas.Option.{some_pair_parts}
+use Rattle.board_base.specs.declared.unmoves.Unmove.{Unmove}
+use Rattle.cert_text.specs.Tree.{Forest, Tree, none, more, count, kid_at, with_last, rest_of}
 use Rattle.cert_text.specs.Seen.{forest_of, tree_of}
 use Rattle.cert_text.specs.declared.nodes.Kid.{Kid}
 
@@ -22,3 +24,17 @@ pub kid_at-past : (f : Forest) (i : ℕ) → count f ≤ i → kid_at f i ≡ No
 kid_at-past none i past = refl
 kid_at-past (more label tree rest) zero past = absurd (omega arith)
 kid_at-past (more label tree rest) (suc i) past = kid_at-past rest i (omega arith)
+
+-- the child at a place comes before those after it
+pub rest-more : (f : Forest) (i : ℕ) (l : Unmove) (t : Tree) → kid_at f i ≡ Some (l, t) → rest_of f i ≡ more l t (rest_of f (suc i))
+rest-more none i l t e = cc
+rest-more (more label tree rest) zero l t e =
+    let p = some_pair_parts label l tree t e in
+    ap (λ (u : Unmove). more u tree rest) p.0 ∙ ap (λ (u : Tree). more l u rest) p.1
+rest-more (more label tree rest) (suc i) l t e = rest-more rest i l t e
+
+pub rest-end : (f : Forest) (i : ℕ) → count f ≤ i → rest_of f i ≡ none
+rest-end none zero past = refl
+rest-end none (suc i) past = refl
+rest-end (more label tree rest) zero past = absurd (omega arith)
+rest-end (more label tree rest) (suc i) past = rest-end rest i (omega arith)

@@ -1,12 +1,10 @@
 -- Texts without a space or a line end in them.
-use Rattle.std.proofs.Common.{◌≡◌, ℕ, zero, suc, ◌+◌, ◌*◌, ◌/◌, ◌%◌, ◌<◌, ◌≤◌, ◌==◌, ◌||◌, Bool, true, false, not, cond, List, [], ◌∷◌, ◌++◌, Option, Some, None, refl, sym, ap, ◌∙◌, arith, nat_le, nat_lt}
+use Rattle.std.proofs.Common.{◌≡◌, ℕ, zero, suc, ◌+◌, ◌/◌, ◌%◌, ◌<◌, ◌≤◌, ◌==◌, ◌||◌, Bool, true, false, not, List, [], ◌∷◌, ◌++◌, Option, Some, None, refl, ap, arith, nat_le, nat_lt}
 use Rattle.std.proofs.lemmas.Bool.{and_parts, and_from, ne_eqb, leb-true}
 use Rattle.std.proofs.lemmas.Fmt.{digits_decimal}
-use Rattle.std.specs.Prelude.{codes}
 use Rattle.std.specs.List.{list_all}
 use Rattle.std.specs.Fmt.{decimal}
 use Rattle.board_base.specs.Board.{Places}
-use Rattle.board_base.specs.Rights.{Rights}
 use Rattle.board_base.specs.Texts.{square_text, letter_of, promo_text, move_text, capture_text, unmove_text}
 use Rattle.board_base.specs.declared.men.Colour.{Colour}
 use Rattle.board_base.specs.declared.men.Colour.TheVariants.{White, Black}
@@ -19,7 +17,7 @@ use Rattle.query_base.specs.declared.rule_lines.RuleLine.{RuleLine}
 use Rattle.query_base.specs.declared.rule_lines.RuleLine.TheVariants.{Kings, Ranks, Check, Rights as RightsRule}
 use Rattle.fen_text.specs.Fen.{is_digit, en_passant_digit}
 use Rattle.fen_text.specs.Parts.{Free}
-use Rattle.fen_text.specs.Spelling.{symbol, run_text, rank_text, rank_of, ranks_text, turn_letter, letter_if, rights_text, en_passant_text, spelling}
+use Rattle.fen_text.specs.Spelling.{symbol, run_text, rank_text, rank_of, ranks_text, turn_letter, rights_text, en_passant_text, spelling}
 use Rattle.fen_text.proofs.PartLemmas.{free_append}
 use Rattle.cert_text.specs.Writable.{body_text, fits_depth}
 use Rattle.cert_text.specs.declared.node_lines.BodyLine.{BodyLine}

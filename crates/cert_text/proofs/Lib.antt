@@ -3,6 +3,7 @@ pub mod Numbers
 pub mod Cuts
 pub mod KidLines
 pub mod Due
+pub mod Gives
 pub mod Fitting
 pub mod Children
 pub mod Bad
@@ -11,3 +12,7 @@ pub mod Spelled
 pub mod OnBoard
 pub mod Frees
 pub mod SpelledLines
+pub mod TreeTexts
+pub mod CertTexts
+pub mod Admitted
+pub mod OneCertificate

@@ -1,20 +1,17 @@
 -- What is read as a line is its one text, and is read of it.
-use Rattle.std.proofs.Common.{◌≡◌, ℕ, ◌+◌, ◌-◌, ◌/◌, ◌%◌, ◌<◌, ◌≤◌, ◌==◌, ◌||◌, ◌&&◌, Bool, true, false, not, cond, List, [], ◌∷◌, ◌++◌, length, drop, take, Option, Some, None, refl, sym, ap, ◌∙◌, arith, append_assoc, nat_eq, nat_lt, nat_le}
+use Rattle.std.proofs.Common.{◌≡◌, ℕ, ◌≤◌, ◌==◌, ◌||◌, ◌&&◌, true, List, ◌++◌, length, drop, Option, Some, None, refl, sym, ap, ◌∙◌, arith, nat_eq, nat_lt, nat_le}
 use Rattle.std.specs.Prelude.{codes}
-use Rattle.std.proofs.lemmas.Bool.{and_parts, and_from, cond-true, cond_both, ne_eqb, eq-eqb, le-leb, or_cases}
+use Rattle.std.proofs.lemmas.Bool.{and_parts, and_from, cond-true, cond_both, le-leb}
 use Rattle.std.proofs.lemmas.Bool.Decides.{Decides-eqb, nat_tests}
-use Rattle.std.proofs.lemmas.Option.{cond_some, some_pair_parts, same_Some, option_and_then_some}
-use Rattle.std.proofs.lemmas.Slice.Eq.{bytes_eq-Decides, starts_is, ends_is}
-use Rattle.std.specs.List.{starts_with, ends_with}
+use Rattle.std.proofs.lemmas.Option.{cond_some, same_Some}
+use Rattle.std.proofs.lemmas.Slice.Eq.{bytes_eq-Decides, starts_is}
+use Rattle.std.specs.List.{starts_with}
 use Rattle.std.specs.Str.{bytes_eq}
 use Rattle.std.specs.Option.{option_map, option_and_then}
-use Rattle.std.specs.Fmt.{decimal}
-use Rattle.board_base.specs.declared.unmoves.Unmove.{Unmove}
 use Rattle.query_base.specs.declared.rule_lines.RuleLine.{RuleLine}
 use Rattle.query_base.specs.declared.rule_lines.RuleLine.TheVariants.{Kings, Ranks, Check, Rights}
-use Rattle.cert_text.specs.Lines.{ended, said}
-use Rattle.cert_text.specs.NodeLines.{rule_of, number, back_at, expand_at, body_at, root_body, kid_body}
-use Rattle.cert_text.specs.Writable.{rule_name, body_text, kid_text, has_text, fits_depth}
+use Rattle.cert_text.specs.NodeLines.{rule_of, number, back_at, expand_at, body_at}
+use Rattle.cert_text.specs.Writable.{rule_name, body_text, fits_depth}
 use Rattle.cert_text.specs.declared.node_lines.BodyLine.{BodyLine}
 use Rattle.cert_text.specs.declared.node_lines.BodyLine.TheVariants.{Rule, Back, Expand}
 use Rattle.cert_text.proofs.Decimals.{number_back, number_read}

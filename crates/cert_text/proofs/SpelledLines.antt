@@ -1,19 +1,18 @@
 -- Lines with their ends, and their texts.
-use Rattle.std.proofs.Common.{◌≡◌, ℕ, ◌+◌, ◌-◌, ◌<◌, ◌≤◌, ◌==◌, ◌&&◌, Bool, true, false, not, cond, List, [], ◌∷◌, ◌++◌, length, drop, take, take_at, length-append, Option, Some, None, refl, sym, ap, ◌∙◌, subst, arith, nat_eq, nat_lt, append_assoc}
+use Rattle.std.proofs.Common.{◌≡◌, ℕ, ◌-◌, ◌≤◌, Bool, true, false, cond, List, [], ◌∷◌, ◌++◌, length, drop, take, take_at, length-append, Option, Some, None, refl, sym, ap, ◌∙◌, subst, arith, nat_eq, nat_lt}
 use Rattle.std.specs.Prelude.{codes}
-use Rattle.std.proofs.lemmas.Bool.{and_parts, and_from, cond-true, cond-false, not-true, lt-ltb, ltb-true}
-use Rattle.std.proofs.lemmas.Bool.Decides.{Decides-eqb, nat_tests}
+use Rattle.std.proofs.lemmas.Bool.{and_parts, and_from, cond-true, lt-ltb, ltb-true}
+use Rattle.std.proofs.lemmas.Bool.Decides.{Decides-eqb}
 use Rattle.std.proofs.lemmas.Option.{cond_some, some_pair_parts, option_and_then_some}
 use Rattle.std.proofs.lemmas.Slice.Eq.{ends_is}
-use Rattle.std.specs.List.{starts_with, ends_with, onto_first, concat}
-use Rattle.std.specs.Option.{option_map, option_and_then}
+use Rattle.std.specs.List.{starts_with, ends_with}
+use Rattle.std.specs.Option.{option_and_then}
 use Rattle.board_base.specs.declared.unmoves.Unmove.{Unmove}
 use Rattle.board_base.specs.Texts.{unmove_from, unmove_text, can_promote, can_capture}
 use Rattle.board_base.proofs.OneText.{unmove_read}
 use Rattle.board_base.proofs.TextLemmas.{unmove_back}
-use Rattle.fen_text.specs.Parts.{Free}
 use Rattle.fen_text.proofs.PartLemmas.{followed}
-use Rattle.cert_text.specs.Lines.{cut, ended, without_end, said}
+use Rattle.cert_text.specs.Lines.{ended, without_end, said}
 use Rattle.cert_text.specs.NodeLines.{body_at, root_body, kid_body}
 use Rattle.cert_text.specs.Writable.{body_text, kid_text, has_text, fits_depth}
 use Rattle.cert_text.specs.declared.node_lines.BodyLine.{BodyLine}
@@ -51,7 +50,7 @@ said_read grammar line x e =
     option_and_then_some grammar (without_end line) x e (λ text here stands. record { text = text; line_is = ended_by line text here; stands = stands })
 
 -- where a test was met
-when : {A : Type 0} (b : Bool) (o : Option A) (x : A) → cond b o None ≡ Some x → (b ≡ true) × (o ≡ Some x)
+pub when : {A : Type 0} (b : Bool) (o : Option A) (x : A) → cond b o None ≡ Some x → (b ≡ true) × (o ≡ Some x)
 when true o x e = (refl, e)
 when false o x e = absurd cc
 

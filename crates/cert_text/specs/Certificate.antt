@@ -7,7 +7,7 @@ use Rattle.query_base.specs.declared.claims.Claim.{Claim}
 use Rattle.query_base.specs.declared.claims.Claim.TheVariants.{Illegal}
 use Rattle.fen_text.specs.Fen.{fen_of_four}
 use Rattle.cert_text.specs.Tree.{Tree, Forest, rule, back, expand, none, more, count}
-use Rattle.cert_text.specs.Lines.{ended, said}
+use Rattle.cert_text.specs.Lines.{cut, ended, said}
 use Rattle.cert_text.specs.NodeLines.{root_body, kid_body}
 use Rattle.cert_text.specs.declared.node_lines.BodyLine.{BodyLine}
 use Rattle.cert_text.specs.declared.node_lines.BodyLine.TheVariants.{Rule, Back, Expand}
@@ -63,6 +63,10 @@ pub record AreLinesOf (lines : Lines) (cert : Certificate) : Type 0 where
   pub root : said root_body root_line ≡ Some (body_of cert.root)
   pub nodes : AreBelow cert.root 0 below
 
+-- the bytes are the text of the certificate
+abbrev pub IsTextOf : List ℕ → Certificate → Type 0
+IsTextOf bytes cert = AreLinesOf (cut bytes) cert
+
 -- some text stands for the certificate
 abbrev pub HasText : Certificate → Type 0
-HasText cert = (lines : Lines) × AreLinesOf lines cert
+HasText cert = (bytes : List ℕ) × IsTextOf bytes cert

@@ -1,5 +1,5 @@
 -- Lines that come one after another, with the numbers of nodes that are still due: first at the greatest depth, last at depth 1.
-use Rattle.std.specs.Prelude.{ℕ, ◌+◌, ◌≡◌, Bool, true, false, cond, List, [], ◌∷◌, ◌++◌, length, Option, Some, None}
+use Rattle.std.specs.Prelude.{ℕ, ◌+◌, Bool, true, false, cond, List, [], ◌∷◌, length, Option, Some, None}
 use Rattle.std.proofs.Common.{zero, suc}
 use Rattle.std.specs.Option.{option_map}
 use Rattle.cert_text.specs.Lines.{said}

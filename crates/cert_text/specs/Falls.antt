@@ -1,13 +1,13 @@
 -- The children of a child are fewer than the whole.
-use Rattle.std.specs.Prelude.{ℕ, ◌+◌, ◌≤◌, List, [], ◌∷◌}
+use Rattle.std.specs.Prelude.{◌≤◌, List, [], ◌∷◌}
 use Rattle.std.proofs.Common.{arith}
 use denote.Param.Weighed.{most}
 use Rattle.cert_text.specs.Tree.{size, size_all}
-use Rattle.cert_text.specs.Seen.{body_tree, tree_of, forest_of}
+use Rattle.cert_text.specs.Seen.{body_tree, forest_of}
 use Rattle.cert_text.specs.declared.nodes.Body.{Body}
 use Rattle.cert_text.specs.declared.nodes.Body.TheVariants.{Rule, Back, Expand}
 use Rattle.cert_text.specs.declared.nodes.Kid.{Kid}
-use Rattle.cert_text.specs.declared.nodes.Kids.TheDeep.{deep-Kid, deep-Node, deep-Body}
+use Rattle.cert_text.specs.declared.nodes.Kids.TheDeep.{deep-Kid, deep-Body}
 
 body_falls : (b : Body) → deep-Body b ≤ size (body_tree b)
 body_falls (Rule r) = omega arith

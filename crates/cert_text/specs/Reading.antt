@@ -1,5 +1,5 @@
 -- What the parts of the reader give.
-use Rattle.std.specs.Prelude.{ℕ, ◌+◌, ◌≡◌, List, [], ◌∷◌, ◌++◌, length, Option, Some, IfSome}
+use Rattle.std.specs.Prelude.{ℕ, ◌+◌, ◌≡◌, List, ◌∷◌, ◌++◌, length, Some}
 use Rattle.std.proofs.Common.{suc}
 use Rattle.board_base.specs.declared.unmoves.Unmove.{Unmove}
 use Rattle.query_base.specs.Asked.{Asked}
@@ -8,7 +8,7 @@ use Rattle.cert_text.specs.Tree.{Tree, Forest, count}
 use Rattle.cert_text.specs.Lines.{said}
 use Rattle.cert_text.specs.NodeLines.{root_body, kid_body}
 use Rattle.cert_text.specs.Certificate.{Lines, head_line, claim_of, query_of, body_of, AreBelow, AreKids}
-use Rattle.cert_text.specs.Due.{put_due, refused}
+use Rattle.cert_text.specs.Due.{refused}
 use Rattle.cert_text.specs.declared.node_lines.BodyLine.{BodyLine}
 use Rattle.cert_text.specs.declared.faults.CertFault.{CertFault}
 use Rattle.cert_text.specs.declared.faults.CertFault.TheVariants.{BadText, Memory}

@@ -1,10 +1,11 @@
 -- The texts of nodes' lines, and which trees have a text.
-use Rattle.std.specs.Prelude.{ℕ, suc, ◌≤◌, Bool, true, ◌&&◌, ◌||◌, ◌==◌, nat_lt, nat_le, List, ◌∷◌, ◌++◌, codes}
+use Rattle.std.specs.Prelude.{ℕ, suc, ◌≡◌, Bool, true, ◌&&◌, ◌||◌, ◌==◌, nat_lt, nat_le, List, ◌∷◌, ◌++◌, length, codes, IsTrue}
 use Rattle.std.specs.Fmt.{decimal}
 use Rattle.board_base.specs.Texts.{unmove_text, can_promote, can_capture}
 use Rattle.board_base.specs.declared.unmoves.Unmove.{Unmove}
 use Rattle.query_base.specs.declared.rule_lines.RuleLine.{RuleLine}
 use Rattle.query_base.specs.declared.rule_lines.RuleLine.TheVariants.{Kings, Ranks, Check, Rights}
+use Rattle.query_base.specs.Asked.{Asked, is_of_other_side}
 use Rattle.cert_text.specs.Tree.{Tree, Forest, rule, back, expand, none, more, count}
 use Rattle.cert_text.specs.declared.node_lines.BodyLine.{BodyLine}
 use Rattle.cert_text.specs.declared.node_lines.BodyLine.TheVariants.{Rule, Back, Expand}
@@ -46,3 +47,8 @@ abbrev mutual
   pub all_fit : ℕ → Forest → Bool
   all_fit depth none = true
   all_fit depth (more label tree rest) = has_text label && fits depth tree && all_fit depth rest
+
+-- what is known of each query: its board has 64 places, and the move that it demands is a double step of the side not to move
+pub record IsQuery (q : Asked) : Type 0 where
+  pub whole : length q.board ≡ 64
+  pub step : IsTrue (is_of_other_side q.turn q.only)

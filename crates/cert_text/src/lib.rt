@@ -4,7 +4,9 @@
 mod certificates;
 mod claims;
 mod faults;
+mod formats;
 mod headers;
+mod laws;
 mod lines;
 mod node_lines;
 mod nodes;
@@ -13,6 +15,8 @@ mod reading;
 pub use certificates::Cert;
 pub use claims::read_claim;
 pub use faults::CertFault;
+pub use formats::fits_format;
+pub use laws::one_text_each;
 pub use node_lines::{BodyLine, NodeLine, read_line};
 pub use nodes::{Body, Kid, Kids, Node};
 pub use reading::read_cert;

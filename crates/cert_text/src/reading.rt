@@ -5,7 +5,7 @@ ghost use Rattle.cert_text.specs.Lines.{cut, said};
 ghost use Rattle.cert_text.specs.Texts.{IsBadAt};
 ghost use Rattle.cert_text.specs.NodeLines.{Fits, kid_body};
 ghost use Rattle.cert_text.specs.Due.{put_due, refused};
-ghost use Rattle.cert_text.specs.Certificate.{AreLinesOf};
+ghost use Rattle.cert_text.specs.Certificate.{AreLinesOf, IsTextOf};
 ghost use Rattle.cert_text.specs.Reading.{IfBadText, IsRefused, ReadsBelow, ReadsKids, SaysKid};
 
 use crate::certificates::Cert;
@@ -158,7 +158,7 @@ fn read_kids(
 /// end counts as a line, and no certificate begins with it. `Memory` comes only for want of memory.
 pub fn read_cert(alloc: Global, bytes: &[u8]) -> Result<Cert, CertFault>
     requires { length bytes.now ≤ 67_108_864 }
-    ensures ok { IfOk result (λ c. AreLinesOf (cut bytes.now) (cert_of c)) }
+    ensures ok { IfOk result (λ c. IsTextOf bytes.now (cert_of c)) }
     ensures bad { IfErr result (λ e. IfBadText e (IsBadAt AreLinesOf (cut bytes.now))) }
 {
     let header = match read_header(bytes) {

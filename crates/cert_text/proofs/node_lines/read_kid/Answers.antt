@@ -1,6 +1,6 @@
-use Rattle.std.proofs.Common.{◌≡◌, ℕ, List, ◌∷◌, ◌++◌, ◌∙◌, sym, ap, subst, Option, Bor}
+use Rattle.std.proofs.Common.{◌≡◌, ℕ, List, ◌∷◌, ◌++◌, sym, subst, Option, Bor}
 use Rattle.std.specs.Prelude.{MatchOption}
-use Rattle.cert_text.proofs.KidLines.{no_space, no_unmove, kid_is, labelled}
+use Rattle.cert_text.proofs.KidLines.{no_space, no_unmove, kid_is}
 use Rattle.cert_text.proofs.node_lines.read_kid.Goals as goal
 
 -- how the text was cut

@@ -1,4 +1,4 @@
-use Rattle.std.proofs.Common.{◌∙◌, ap, subst, sym, suc, length, arith, ◌<◌, ◌≡◌, ◌+◌}
+use Rattle.std.proofs.Common.{◌∙◌, subst, sym, suc, length, arith, ◌≡◌, ◌+◌}
 use Rattle.cert_text.specs.Tree.{Forest}
 use Rattle.cert_text.specs.Lines.{cut}
 use Rattle.cert_text.specs.Reading.{ReadsKids}

@@ -1,4 +1,4 @@
-use Rattle.std.proofs.Common.{subst, sym, ◌∙◌, ℕ}
+use Rattle.std.proofs.Common.{subst, sym}
 use Rattle.std.specs.Prelude.{Option, IfSome}
 use Rattle.board_base.specs.declared.unmoves.Unmove.{Unmove}
 use Rattle.cert_text.specs.NodeLines.{Fits}

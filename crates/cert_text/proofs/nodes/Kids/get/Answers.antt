@@ -2,7 +2,7 @@ use Rattle.std.proofs.Common.{◌<◌, ◌≤◌, length, ◌∙◌, sym, ap, ar
 use Rattle.std.specs.Prelude.{Some}
 use Rattle.cert_text.specs.Tree.{Forest, count, kid_at}
 use Rattle.cert_text.specs.declared.nodes.Kid.{Kid}
-use Rattle.cert_text.specs.Seen.{forest_of, tree_of}
+use Rattle.cert_text.specs.Seen.{tree_of}
 use Rattle.cert_text.proofs.Forests.{count-forest, kid_at-forest, kid_at-past}
 use Rattle.cert_text.proofs.nodes.Kids.get.Goals as goal
 

@@ -1,0 +1,115 @@
+-- Trees and their texts.
+use Rattle.std.proofs.Common.{◌≡◌, ℕ, suc, ◌≤◌, ◌<◌, ◌==◌, ◌||◌, ◌&&◌, true, not, List, [], ◌∷◌, ◌++◌, refl, sym, ap, ◌∙◌, arith, nat_lt, nat_le}
+use Rattle.std.specs.List.{concat, onto_first}
+use Rattle.std.proofs.lemmas.Bool.{and_parts, and_from, cond-false, not-true}
+use Rattle.std.proofs.lemmas.Bool.Decides.{nat_tests}
+use Rattle.board_base.specs.Texts.{unmove_text}
+use Rattle.fen_text.specs.Parts.{Free}
+use Rattle.fen_text.proofs.PartLemmas.{free_append}
+use Rattle.cert_text.specs.Tree.{Tree, Forest, rule, back, expand, none, more, count}
+use Rattle.cert_text.specs.Lines.{cut, ended}
+use Rattle.cert_text.specs.Certificate.{Lines, body_of, AreBelow, AreKids}
+use Rattle.cert_text.specs.Writable.{body_text, kid_text, has_text, fits_depth, fits, all_fit}
+use Rattle.cert_text.specs.declared.node_lines.BodyLine.TheVariants.{Expand}
+use Rattle.cert_text.proofs.Frees.{unmove_free, body_free}
+use Rattle.cert_text.proofs.SpelledLines.{kid_back, kid_read}
+
+-- a text without a line end, with one after it
+pub record IsLine (line : List ℕ) : Type 0 where
+  pub text : List ℕ
+  pub line_is : line ≡ ended text
+  pub free : Free 10 text
+
+abbrev pub AreWhole : Lines → Type 0
+AreWhole [] = Unit {0}
+AreWhole (line ∷ lines) = IsLine line × AreWhole lines
+
+pub whole_both : (a b : Lines) → AreWhole a → AreWhole b → AreWhole (a ++ b)
+whole_both [] b p q = q
+whole_both (line ∷ a) b p q = (p.0, whole_both a b p.1 q)
+
+cut_line : (text rest : List ℕ) → Free 10 text → cut (ended text ++ rest) ≡ ended text ∷ cut rest
+cut_line [] rest free = refl
+cut_line (b ∷ text) rest free =
+    let parts = and_parts (not (b == 10)) _ free in
+    cond-false (b == 10) ((b ∷ []) ∷ cut (ended text ++ rest)) (onto_first b (cut (ended text ++ rest))) (not-true (b == 10) parts.0) ∙ ap (onto_first b) (cut_line text rest parts.1)
+
+-- lines that are put together are cut apart again
+pub cut_back : (lines : Lines) → AreWhole lines → cut (concat lines) ≡ lines
+cut_back [] whole = refl
+cut_back (line ∷ lines) whole =
+    let l = whole.0 in
+    ap (λ (t : List ℕ). cut (t ++ concat lines)) l.line_is ∙ cut_line l.text (concat lines) l.free ∙ ap (λ (t : List ℕ). t ∷ cut (concat lines)) (sym l.line_is)
+    ∙ ap (λ (ls : Lines). line ∷ ls) (cut_back lines whole.1)
+
+-- the lines below a node
+pub record Below (tree : Tree) (depth : ℕ) : Type 0 where
+  pub lines : Lines
+  pub are : AreBelow tree depth lines
+  pub whole : AreWhole lines
+
+pub record Kids (kids : Forest) (depth : ℕ) : Type 0 where
+  pub lines : Lines
+  pub are : AreKids kids depth lines
+  pub whole : AreWhole lines
+
+pub fits_own : (tree : Tree) (depth : ℕ) → fits depth tree ≡ true → fits_depth depth (body_of tree) ≡ true
+fits_own (rule r) depth fit = refl
+fits_own (back k) depth fit = fit
+fits_own (expand kids) depth fit = (and_parts (fits_depth depth (Expand (count kids))) (all_fit (suc depth) kids) fit).0
+
+mutual
+  -- a tree that the grammar admits has lines
+  pub below_back : (tree : Tree) (depth : ℕ) → depth ≤ 255 → fits depth tree ≡ true → Below tree depth
+  below_back (rule r) depth low fit = record { lines = []; are = refl; whole = tt }
+  below_back (back k) depth low fit = record { lines = []; are = refl; whole = tt }
+  below_back (expand kids) depth low fit =
+      let parts = and_parts (fits_depth depth (Expand (count kids))) (all_fit (suc depth) kids) fit in
+      let room = and_parts ((count kids == 0) || nat_lt depth 255) (nat_le (count kids) 999999) parts.0 in
+      let k : Kids kids (suc depth) = kids_back kids (suc depth) (λ some. grind (arith, nat_tests)) parts.1 in
+      record { lines = k.lines; are = k.are; whole = k.whole }
+
+  kids_back : (kids : Forest) (depth : ℕ) → (0 < count kids → depth ≤ 255) → all_fit depth kids ≡ true → Kids kids depth
+  kids_back none depth low fit = record { lines = []; are = refl; whole = tt }
+  kids_back (more label tree rest) depth room fit =
+      let low : depth ≤ 255 = room (omega arith) in
+      let last = and_parts (has_text label && fits depth tree) (all_fit depth rest) fit in
+      let first = and_parts (has_text label) (fits depth tree) last.0 in
+      let own = fits_own tree depth first.1 in
+      let line : List ℕ = ended (kid_text label (body_of tree)) in
+      let b : Below tree depth = below_back tree depth low first.1 in
+      let k : Kids rest depth = kids_back rest depth (λ some. low) last.1 in
+      let free : Free 10 (kid_text label (body_of tree)) = free_append 10 (unmove_text label) (32 ∷ body_text (body_of tree)) (unmove_free 10 label (omega arith)) (body_free depth (body_of tree) low own) in
+      record {
+        lines = line ∷ (b.lines ++ k.lines);
+        are = (line, b.lines, k.lines, refl, kid_back depth label (body_of tree) low first.0 own, b.are, k.are);
+        whole = (record { text = kid_text label (body_of tree); line_is = refl; free = free }, whole_both b.lines k.lines b.whole k.whole);
+      }
+
+mutual
+  -- a tree that has lines is admitted
+  pub below_fits : (tree : Tree) (depth : ℕ) (lines : Lines) → fits_depth depth (body_of tree) ≡ true → AreBelow tree depth lines → fits depth tree ≡ true
+  below_fits (rule r) depth lines own are = refl
+  below_fits (back k) depth lines own are = own
+  below_fits (expand kids) depth lines own are = and_from _ _ own (kids_fit kids (suc depth) lines are)
+
+  kids_fit : (kids : Forest) (depth : ℕ) (lines : Lines) → AreKids kids depth lines → all_fit depth kids ≡ true
+  kids_fit none depth lines are = refl
+  kids_fit (more label tree rest) depth lines are =
+      let said = kid_read depth are.0 label (body_of tree) are.4 in
+      and_from _ _ (and_from _ _ said.label (below_fits tree depth are.1 said.fits are.5)) (kids_fit rest depth are.2 are.6)
+
+mutual
+  -- a tree has one list of lines
+  pub below_one : (tree : Tree) (depth : ℕ) (a b : Lines) → AreBelow tree depth a → AreBelow tree depth b → a ≡ b
+  below_one (rule r) depth a b p q = p ∙ sym q
+  below_one (back k) depth a b p q = p ∙ sym q
+  below_one (expand kids) depth a b p q = kids_one kids (suc depth) a b p q
+
+  kids_one : (kids : Forest) (depth : ℕ) (a b : Lines) → AreKids kids depth a → AreKids kids depth b → a ≡ b
+  kids_one none depth a b p q = p ∙ sym q
+  kids_one (more label tree rest) depth a b p q =
+      let own : p.0 ≡ q.0 = (kid_read depth p.0 label (body_of tree) p.4).line_is ∙ sym (kid_read depth q.0 label (body_of tree) q.4).line_is in
+      let below = below_one tree depth p.1 q.1 p.5 q.5 in
+      let others = kids_one rest depth p.2 q.2 p.6 q.6 in
+      p.3 ∙ ap (λ (l : List ℕ). l ∷ (p.1 ++ p.2)) own ∙ ap (λ (l : Lines). q.0 ∷ (l ++ p.2)) below ∙ ap (λ (l : Lines). q.0 ∷ (q.1 ++ l)) others ∙ sym q.3

@@ -1,0 +1,117 @@
+ghost use Rattle.std.specs.Prelude.{◌≡◌, ◌↔◌, ◌&&◌, ◌<◌, IsTrue, None, suc};
+ghost use Rattle.board_base.specs.Texts.{can_capture, can_promote};
+ghost use Rattle.query_base.specs.declared.claims.Claim.TheVariants.{Illegal};
+ghost use Rattle.cert_text.specs.Tree.{count};
+ghost use Rattle.cert_text.specs.Seen.{tree_of};
+ghost use Rattle.cert_text.specs.SeenCert.{cert_of};
+ghost use Rattle.cert_text.specs.Certificate.{HasText};
+ghost use Rattle.cert_text.specs.Writable.{IsQuery, all_fit, fits, fits_depth, has_text};
+ghost use Rattle.cert_text.specs.declared.node_lines.BodyLine.TheVariants.{Back, Expand};
+
+use crate::certificates::Cert;
+use crate::nodes::{Body, Kids, Node};
+use board_base::{Kind, Unmove};
+use query_base::{Claim, Query};
+
+fn can_promote(promo: Option<Kind>) -> bool
+    ensures { result ≡ can_promote promo }
+{
+    match promo {
+        None => true,
+        Some(kind) => kind != Kind::Pawn && kind != Kind::King,
+    }
+}
+
+fn can_capture(promo: Option<Kind>, captured: Option<Kind>, ep: bool) -> bool
+    ensures { result ≡ can_capture promo captured ep }
+{
+    if ep {
+        promo.is_none() && captured == Some(Kind::Pawn)
+    } else {
+        captured != Some(Kind::King)
+    }
+}
+
+/// Whether the unmove has a text.
+fn has_text(u: &Unmove) -> bool
+    ensures { result ≡ has_text u.now }
+{
+    // Both squares are on the board.
+    u.mv.from.index();
+    u.mv.to.index();
+    can_promote(u.mv.promo) && can_capture(u.mv.promo, u.captured, u.ep)
+}
+
+fn is_back(steps: u8, depth: u8) -> bool
+    ensures { result ≡ fits_depth depth (Back steps) }
+{
+    1 <= steps && steps <= depth
+}
+
+fn is_expand(count: usize, depth: u8) -> bool
+    ensures { result ≡ fits_depth depth (Expand count) }
+{
+    (count == 0 || depth < 255) && count <= 999_999
+}
+
+/// Whether the grammar admits the node at this depth, with all that is below it.
+#[cycle(formats)]
+fn fits_node(node: &Node, depth: u8) -> bool
+    ensures { result ≡ fits depth (tree_of node.now) }
+{
+    match &node.body {
+        Body::Rule(_) => true,
+        Body::Back(steps) => is_back(*steps, depth),
+        Body::Expand(kids) => is_expand(kids.len(), depth) && all_fit(kids, depth),
+    }
+}
+
+/// Whether the grammar admits the children of a node at this depth.
+#[cycle(formats)]
+fn all_fit(kids: &Kids, depth: u8) -> bool
+    requires { 0 < count kids.now → depth < 255 }
+    ensures { result ≡ all_fit (suc depth) kids.now }
+{
+    for i in 0..kids.len() {
+        if let Some(kid) = kids.get(i) {
+            if !has_text(&kid.label) {
+                return false;
+            }
+            if !fits_node(&kid.node, depth + 1) {
+                return false;
+            }
+        }
+    }
+    true
+}
+
+/// Whether the claim has a text.
+fn is_written(claim: &Claim) -> bool
+    ensures { IsTrue result ↔ (claim.now ≡ Illegal) }
+{
+    matches!(claim, Claim::Illegal)
+}
+
+/// Whether no move is barred.
+fn is_plain(query: &Query) -> bool
+    ensures plain { IsTrue result ↔ (query.now.barred ≡ None) }
+    ensures known { IsQuery query.now }
+{
+    query.board.is_whole();
+    query.barred.is_none()
+}
+
+/// Whether some text stands for the certificate: the claim is one that `read_claim` reads, no move is barred in the query, each
+/// label is one that `read_unmove` reads of some text, each `back` leads to an ancestor, and no node has more than 999,999
+/// children or, at depth 255, any. It takes no memory.
+pub fn fits_format(cert: &Cert) -> bool
+    ensures { IsTrue result ↔ HasText (cert_of cert.now) }
+{
+    if !is_written(&cert.claim) {
+        return false;
+    }
+    if !is_plain(&cert.query) {
+        return false;
+    }
+    fits_node(&cert.root, 0)
+}
