@@ -16,3 +16,4 @@ pub mod TreeTexts
 pub mod CertTexts
 pub mod Admitted
 pub mod OneCertificate
+pub mod OneFault

@@ -1,8 +1,16 @@
-ghost use Rattle.std.specs.Prelude.{ℕ, ◌≡◌, List, Ok, Err};
-ghost use Rattle.cert_text.specs.Certificate.{Certificate as AnyCertificate, IsTextOf};
+ghost use Rattle.std.specs.Prelude.{ℕ, ◌≡◌, List};
+ghost use Rattle.cert_text.specs.Lines.{cut};
+ghost use Rattle.cert_text.specs.Texts.{IsBadAt};
+ghost use Rattle.cert_text.specs.Certificate.{AreLinesOf, Certificate as AnyCertificate, IsTextOf};
 
 /// A certificate has one text, and a text stands for one certificate. This does nothing when it runs.
 pub fn one_text_each()
     ensures text { (a b : List ℕ) (cert : AnyCertificate) → IsTextOf a cert → IsTextOf b cert → a ≡ b }
     ensures certificate { (bytes : List ℕ) (c d : AnyCertificate) → IsTextOf bytes c → IsTextOf bytes d → c ≡ d }
+{}
+
+/// The text of a certificate goes bad at no line, and other bytes at no more than one. This does nothing when it runs.
+pub fn one_fault_each()
+    ensures text { (bytes : List ℕ) (n : ℕ) (cert : AnyCertificate) → IsBadAt AreLinesOf (cut bytes) n → IsTextOf bytes cert → ⊥ }
+    ensures line { (bytes : List ℕ) (m n : ℕ) → IsBadAt AreLinesOf (cut bytes) m → IsBadAt AreLinesOf (cut bytes) n → m ≡ n }
 {}

@@ -1,0 +1,165 @@
+use crate::certificates::Cert;
+use crate::claims::read_claim;
+use crate::faults::CertFault;
+use crate::formats::fits_format;
+use crate::node_lines::{BodyLine, read_line};
+use crate::nodes::{Body, Kid, Kids, Node};
+use crate::reading::read_cert;
+use board_base::{Memory, read_unmove};
+use query_base::{Claim, RuleLine};
+use std::alloc::Global;
+use std::test::Fail;
+
+fn read(alloc: Global, bytes: &[u8]) -> Result<Cert, CertFault> {
+    if bytes.len() > 67_108_864 {
+        return Err(CertFault::Memory);
+    }
+    read_cert(alloc, bytes)
+}
+
+fn kids_of(node: &Node) -> Option<&Kids> {
+    match &node.body {
+        Body::Expand(kids) => Some(kids),
+        _ => None,
+    }
+}
+
+#[test]
+fn reads_a_certificate(rt: HostRuntime) -> Result<(), Fail> {
+    let text =
+        b"retro 1\nclaim illegal\nfen 4k3/8/8/3p4/8/8/P7/4K2R w K d6\nroot expand 1\nd7d5 expand 0\n";
+    let cert = read(rt.alloc(), text)?;
+    assert_eq!(rt; cert.claim, Claim::Illegal);
+    assert!(rt; cert.query.only.is_some());
+    assert!(rt; fits_format(&cert));
+    let kids = kids_of(&cert.root).ok_or("a leaf")?;
+    assert_eq!(rt; kids.len(), 1);
+    let kid = kids.get(0).ok_or("no child")?;
+    assert_eq!(rt; Some(kid.label), read_unmove(b"d7d5"));
+    assert_eq!(rt; kids_of(&kid.node).ok_or("a leaf")?.len(), 0);
+    assert!(rt; kids.get(1).is_none());
+    Ok(())
+}
+
+/// What follows the first three lines, and the line at which the text goes bad.
+const FAULTS: [(&str, u32); 11] = [
+    ("", 4),
+    ("root rule kings", 4),
+    ("root rule kings\r\n", 4),
+    ("root back 1\n", 4),
+    ("root rule kings\nx", 5),
+    ("root expand 1\n", 5),
+    ("root expand 999999\n", 5),
+    ("root expand 1\na1a2 back 01\n", 5),
+    ("root expand 1\na1a2 back 2\n", 5),
+    ("root expand 1\na1a2 back 1\n\n", 6),
+    (
+        "root expand 2\na1a2 expand 1\na1a2 back 2\na1a2 rule check",
+        7,
+    ),
+];
+
+#[test]
+fn names_the_line_that_is_bad(rt: HostRuntime) -> Result<(), Fail> {
+    for (text, line) in [
+        (b"".as_slice(), 1),
+        (b"retro 1", 1),
+        (b"retro 1\r\n", 1),
+        (b"retro 1\n", 2),
+        (b"retro 1\nclaim illegal \n", 2),
+        (
+            b"retro 1\nclaim illegal\nfen 8/8/8/8/8/8/8/8 w - - 0 1\n",
+            3,
+        ),
+    ] {
+        assert_eq!(rt;
+            read(rt.alloc(), text).err(),
+            Some(CertFault::BadText { line })
+        );
+    }
+    for (nodes, line) in FAULTS {
+        let text = format!(in rt.alloc();
+            "retro 1\nclaim illegal\nfen 8/8/8/8/8/8/8/8 w - -\n{nodes}"
+        )?;
+        assert_eq!(rt;
+            read(rt.alloc(), text.as_bytes()).err(),
+            Some(CertFault::BadText { line }),
+            "{nodes}"
+        );
+    }
+    Ok(())
+}
+
+/// A line, its depth, and its body.
+const LINES: [(&[u8], u8, Option<BodyLine>); 16] = [
+    (b"root rule kings", 0, Some(BodyLine::Rule(RuleLine::Kings))),
+    (b"root rule ranks", 0, Some(BodyLine::Rule(RuleLine::Ranks))),
+    (
+        b"d7d8nxr rule rights",
+        1,
+        Some(BodyLine::Rule(RuleLine::Rights)),
+    ),
+    (
+        b"c5d6ep rule check",
+        1,
+        Some(BodyLine::Rule(RuleLine::Check)),
+    ),
+    (b"root expand 999999", 0, Some(BodyLine::Expand(999_999))),
+    (b"root expand 1000000", 0, None),
+    (b"d7d5 expand 0", 255, Some(BodyLine::Expand(0))),
+    (b"d7d5 expand 1", 255, None),
+    (b"d7d5 back 255", 255, Some(BodyLine::Back(255))),
+    (b"d7d5 back 256", 255, None),
+    (b"d7d5 back 0", 9, None),
+    (b"d7d5 back 01", 9, None),
+    (b"d7d5  rule ranks", 1, None),
+    (b"d7d5 rule ranks\n", 1, None),
+    (b"root rule check", 1, None),
+    (b"d7d5 rule check", 0, None),
+];
+
+#[test]
+fn reads_lines(rt: HostRuntime) {
+    for (text, depth, body) in LINES {
+        let line = read_line(text, depth);
+        assert_eq!(rt; line.map(|l| l.body), body);
+    }
+    assert_eq!(rt; read_claim(b"claim illegal"), Some(Claim::Illegal));
+    assert_eq!(rt; read_claim(b"claim illegal\n"), None);
+}
+
+/// A tree of this depth whose leaf leads back so many steps.
+fn chain(alloc: Global, depth: u16, steps: u8) -> Result<Node, Memory> {
+    let label = read_unmove(b"a1a2").ok_or(Memory)?;
+    let mut node = Node {
+        body: Body::Back(steps),
+    };
+    for _i in 0..depth {
+        let mut kids = Kids::new(alloc);
+        kids.push(Kid { label, node })?;
+        node = Node {
+            body: Body::Expand(kids),
+        };
+    }
+    Ok(node)
+}
+
+#[test]
+fn fits_depths_to_255(rt: HostRuntime) -> Result<(), Fail> {
+    let text = b"retro 1\nclaim illegal\nfen 8/8/8/8/8/8/8/8 w - -\nroot rule kings\n";
+    let mut cert = read(rt.alloc(), text)?;
+    for (depth, steps, fits) in [
+        (1, 1, true),
+        (1, 2, false),
+        (1, 0, false),
+        (255, 255, true),
+        (256, 255, false),
+    ] {
+        cert.root = chain(rt.alloc(), depth, steps).ok().ok_or("no memory")?;
+        assert!(rt;
+            fits_format(&cert) == fits,
+            "{steps} steps at depth {depth}"
+        );
+    }
+    Ok(())
+}
