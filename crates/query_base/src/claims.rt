@@ -11,7 +11,4 @@ pub enum Claim {
     /// The right to this castling is lost: its king or its rook has moved (article 3.8.2.1), or that rook has been captured. A
     /// game that reaches the query with both of them unmoved contradicts it.
     Lost(Castle),
-    /// After the game this move is a legal capture en passant (articles 3.7.3.1 and 3.7.3.2). A game that reaches the query and
-    /// after which it isn't contradicts it.
-    Ep(Move),
 }

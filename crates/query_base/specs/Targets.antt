@@ -1,0 +1,31 @@
+-- The query that a claim is to be refuted at, and queries that ask no more than others.
+use Rattle.std.specs.Prelude.{◌≡◌, true, IfSome, Some}
+use Rattle.board_base.specs.Rights.{Rights}
+use Rattle.board_base.specs.declared.castles.Castle.{Castle}
+use Rattle.board_base.specs.declared.castles.Castle.TheVariants.{WhiteShort, WhiteLong, BlackShort, BlackLong}
+use Rattle.query_base.specs.Asked.{Asked}
+use Rattle.query_base.specs.Ends.{IsWithin}
+use Rattle.query_base.specs.declared.claims.Claim.{Claim}
+use Rattle.query_base.specs.declared.claims.Claim.TheVariants.{Illegal, Last, Lost}
+
+-- the set with this castling in it
+abbrev pub with_castling : Rights → Castle → Rights
+with_castling held WhiteShort = record held { white_short = true }
+with_castling held WhiteLong = record held { white_long = true }
+with_castling held BlackShort = record held { black_short = true }
+with_castling held BlackLong = record held { black_long = true }
+
+-- What a game that contradicts the claim reaches: the query itself; the query with the claimed last move barred; the query with the
+-- castling that is claimed to be lost still held.
+abbrev pub target : Asked → Claim → Asked
+target q Illegal = q
+target q (Last m) = record q { barred = Some m }
+target q (Lost x) = record q { held = with_castling q.held x }
+
+-- The first query has the board and the side to move of the second, and demands nothing that the second doesn't.
+pub record Covers (a q : Asked) : Type 0 where
+  pub board : a.board ≡ q.board
+  pub turn : a.turn ≡ q.turn
+  pub held : IsWithin a.held q.held
+  pub only : IfSome a.only (λ m. q.only ≡ Some m)
+  pub barred : IfSome a.barred (λ m. q.barred ≡ Some m)

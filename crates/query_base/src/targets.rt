@@ -1,0 +1,88 @@
+ghost use Rattle.std.specs.Prelude.{◌≡◌, ◌↔◌, IfSome, IsTrue, List, None, Some};
+ghost use Rattle.board_base.specs.declared.moves.Move.{Move as AMove};
+ghost use Rattle.query_base.specs.Reach.{Contradicts, Reaches};
+ghost use Rattle.query_base.specs.Targets.{Covers, target};
+
+use crate::claims::Claim;
+use crate::ends::{ends_with, is_within};
+use crate::queries::Query;
+use board_base::Move;
+
+/// The query that a game reaches exactly where it contradicts the claim about `query`: the query itself where it is claimed to be
+/// illegal; with the claimed last move barred; with the castling that is claimed to be lost added to those held. The query bars no
+/// move of its own.
+pub fn target(query: &Query, claim: &Claim) -> Query
+    requires { query.now.barred ≡ None }
+    ensures query { result ≡ target query.now claim.now }
+    ensures contradicted { (g : List AMove) → Reaches g result ↔ Contradicts g claim.now query.now }
+{
+    let mut target = *query;
+    match claim {
+        Claim::Illegal => {}
+        Claim::Last(m) => target.barred = Some(*m),
+        Claim::Lost(castle) => target.held = query.held.with(*castle),
+    }
+    target
+}
+
+/// A move that the first query demands or bars, if it does, is the one that the second does.
+fn is_kept(first: &Option<Move>, second: &Option<Move>) -> bool
+    ensures { IsTrue result ↔ IfSome first.now (λ m. second.now ≡ Some m) }
+{
+    match first {
+        Some(m) => ends_with(second, m),
+        None => true,
+    }
+}
+
+/// Whether the first query asks no more than the second: board and side to move are the same; each castling that `a` holds `q`
+/// holds too; `a.only` is None or is `q.only`; `a.barred` is None or is `q.barred`. Each game that reaches `q` then reaches `a`.
+pub fn covers(a: &Query, q: &Query) -> bool
+    ensures answer { IsTrue result ↔ Covers a.now q.now }
+    ensures reached { IsTrue result → (g : List AMove) → Reaches g q.now → Reaches g a.now }
+{
+    if !a.board.is_same(&q.board) {
+        return false;
+    }
+    if a.turn != q.turn {
+        return false;
+    }
+    if !is_within(a.held, q.held) {
+        return false;
+    }
+    if !is_kept(&a.only, &q.only) {
+        return false;
+    }
+    is_kept(&a.barred, &q.barred)
+}
+
+#[cfg(test)]
+mod tests {
+    use super::*;
+    use board_base::{Board, Castle, CastleSet, Colour, Square};
+    use std::test::Fail;
+
+    #[test]
+    fn targets_ask_more(rt: HostRuntime) -> Result<(), Fail> {
+        let query = Query {
+            board: Board::array(),
+            turn: Colour::White,
+            held: CastleSet::none(),
+            only: None,
+            barred: None,
+        };
+        let m = Move {
+            from: Square::known(12),
+            to: Square::known(28),
+            promo: None,
+        };
+        let last = target(&query, &Claim::Last(m));
+        let lost = target(&query, &Claim::Lost(Castle::WhiteLong));
+        assert!(rt; target(&query, &Claim::Illegal) == query);
+        assert!(rt; last.barred == Some(m));
+        assert!(rt; lost.held.has(Castle::WhiteLong) && !lost.held.has(Castle::WhiteShort));
+        assert!(rt; covers(&query, &last) && !covers(&last, &query));
+        assert!(rt; covers(&query, &lost) && !covers(&lost, &query));
+        Ok(())
+    }
+}
