@@ -1,0 +1,18 @@
+-- What a rule line says of a query: that a law is broken which holds after every game.
+use Rattle.std.specs.Prelude.{IsTrue}
+use Rattle.board_base.specs.Board.{opponent}
+use Rattle.board_base.specs.Legal.{in_check}
+use Rattle.castle_history.specs.Homes.{HaveHomes}
+use Rattle.play_rules.specs.Kings.{HasOneKingEach}
+use Rattle.play_rules.specs.Laws.{HasNoPawnOnEnds}
+use Rattle.query_base.specs.Asked.{Asked}
+use Rattle.query_base.specs.declared.rule_lines.RuleLine.{RuleLine}
+use Rattle.query_base.specs.declared.rule_lines.RuleLine.TheVariants.{Kings, Ranks, Check, Rights}
+
+-- Article 2.2: not each colour has exactly one king. Article 3.7: a pawn stands on rank 1 or 8. Article 3.9: some king of the side
+-- not to move is attacked. Article 3.8: a right that is held lacks its king or its rook at home.
+abbrev pub Supports : Asked → RuleLine → Type 0
+Supports q Kings = HasOneKingEach q.board → ⊥
+Supports q Ranks = HasNoPawnOnEnds q.board → ⊥
+Supports q Check = IsTrue (in_check q.board (opponent q.turn))
+Supports q Rights = HaveHomes q.board q.held → ⊥
