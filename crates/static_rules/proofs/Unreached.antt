@@ -1,0 +1,32 @@
+-- Where a rule line supports a query, no game reaches it.
+use Rattle.std.proofs.Common.{◌≡◌, true, false, List, ap, sym, ◌∙◌, subst}
+use Rattle.std.proofs.lemmas.Bool.{both_ways}
+use Rattle.board_base.specs.Board.{Places, no_odds, opponent}
+use Rattle.board_base.specs.Legal.{in_check}
+use Rattle.board_base.specs.Game.{board_after}
+use Rattle.board_base.specs.declared.men.Colour.{Colour}
+use Rattle.board_base.specs.declared.moves.Move.{Move}
+use Rattle.board_base.proofs.Without.{are-no-odds}
+use Rattle.castle_history.specs.Homes.{are_at_home}
+use Rattle.play_rules.specs.Kings.{HasOneKingEach}
+use Rattle.play_rules.specs.Laws.{HasNoPawnOnEnds}
+use Rattle.play_rules.proofs.Kings.{one_king_each}
+use Rattle.play_rules.proofs.Ends.{no_pawn_on_ends}
+use Rattle.play_rules.proofs.Attacked.{no_king_left_attacked}
+use Rattle.query_base.specs.Asked.{Asked}
+use Rattle.query_base.specs.Reach.{Reaches}
+use Rattle.query_base.specs.declared.rule_lines.RuleLine.{RuleLine}
+use Rattle.query_base.specs.declared.rule_lines.RuleLine.TheVariants.{Kings, Ranks, Check, Rights}
+use Rattle.static_rules.specs.Supports.{Supports}
+use Rattle.static_rules.proofs.Homes.{rights_have_homes}
+
+pub unreached : (q : Asked) (rule : RuleLine) → Supports q rule → (g : List Move) → Reaches g q → ⊥
+unreached q Kings broken g r = broken (subst HasOneKingEach r.board (one_king_each no_odds g are-no-odds r.game))
+unreached q Ranks broken g r = broken (subst HasNoPawnOnEnds r.board (no_pawn_on_ends no_odds g r.game))
+unreached q Check attacked g r =
+    let here : in_check q.board (opponent q.turn) ≡ false =
+    ap (λ (b : Places). in_check b (opponent q.turn)) (sym r.board)
+    ∙ ap (λ (c : Colour). in_check (board_after no_odds g) (opponent c)) (sym r.turn) ∙ no_king_left_attacked no_odds g r.game in
+    both_ways _ here attacked
+unreached q Rights broken g r =
+    broken (λ x held. subst (λ (b : Places). are_at_home b x ≡ true) r.board (rights_have_homes no_odds g x r.game (r.held x held)))
