@@ -1,0 +1,48 @@
+-- The children from a place on, and how many lines a tree takes.
+use Rattle.std.proofs.Common.{◌≡◌, ℕ, zero, suc, ◌+◌, ◌*◌, ◌≤◌, length, refl, ap, ◌∙◌, arith, length-append}
+use Rattle.std.specs.Prelude.{Some}
+use Rattle.std.proofs.lemmas.Option.{some_pair_parts}
+use Rattle.board_base.specs.declared.unmoves.Unmove.{Unmove}
+use Rattle.cert_text.specs.Tree.{Tree, Forest, rule, back, expand, none, more, count, kid_at, size, size_all}
+use Rattle.cert_text.specs.Certificate.{Lines, AreBelow, AreKids}
+
+-- the children from this place on, counted from 0
+abbrev pub rest_of : Forest → ℕ → Forest
+rest_of f zero = f
+rest_of none (suc i) = none
+rest_of (more label tree rest) (suc i) = rest_of rest i
+
+rest-from : (f : Forest) (i : ℕ) (l : Unmove) (t : Tree) → kid_at f i ≡ Some (l, t) → rest_of f i ≡ more l t (rest_of f (suc i))
+rest-from none i l t e = cc
+rest-from (more label tree rest) zero l t e = let p = some_pair_parts _ _ _ _ e in ap (λ (u : Unmove). more u tree rest) p.0 ∙ ap (λ (u : Tree). more l u rest) p.1
+rest-from (more label tree rest) (suc i) l t e = rest-from rest i l t e
+
+-- the child at a place, and the children after it
+pub rest-more : (f : Forest) (i : ℕ) (l : Unmove) (t : Tree) → kid_at f i ≡ Some (l, t) → rest_of f i ≡ more l t (rest_of f (i + 1))
+rest-more f i l t here =
+    let next : suc i ≡ i + 1 = omega arith in
+    rest-from f i l t here ∙ ap (λ (j : ℕ). more l t (rest_of f j)) next
+
+pub rest-end : (f : Forest) (i : ℕ) → count f ≤ i → rest_of f i ≡ none
+rest-end none zero past = refl
+rest-end none (suc i) past = refl
+rest-end (more label tree rest) zero past = absurd (omega arith)
+rest-end (more label tree rest) (suc i) past = rest-end rest i (omega arith)
+
+-- a child's tree is smaller than all children together
+pub kid_smaller : (f : Forest) (i : ℕ) (l : Unmove) (t : Tree) → kid_at f i ≡ Some (l, t) → suc (size t) ≤ size_all f
+kid_smaller none i l t e = cc
+kid_smaller (more label tree rest) zero l t e = let s : size tree ≡ size t = ap size (some_pair_parts _ _ _ _ e).1 in omega arith
+kid_smaller (more label tree rest) (suc i) l t e = let h = kid_smaller rest i l t e in omega arith
+
+mutual
+  -- a tree is not much larger than the lines below its own
+  pub small_tree : (t : Tree) (depth : ℕ) (lines : Lines) → AreBelow t depth lines → size t ≤ 3 * length lines + 2
+  small_tree (rule r) depth lines below = omega arith
+  small_tree (back k) depth lines below = omega arith
+  small_tree (expand kids) depth lines below = omega (arith, small_kids kids (suc depth) lines below)
+
+  small_kids : (f : Forest) (depth : ℕ) (lines : Lines) → AreKids f depth lines → size_all f ≤ 3 * length lines + 1
+  small_kids none depth lines kids = omega arith
+  small_kids (more label t rest) depth lines kids =
+      omega (arith, ap length kids.3, length-append kids.1 kids.2, small_tree t depth kids.1 kids.5, small_kids rest depth kids.2 kids.6)

@@ -1,0 +1,9 @@
+pub mod Lists
+pub mod Children
+pub mod Walks
+pub mod Written
+pub mod Proofs
+pub mod Sound
+pub mod OneWalk
+pub mod OneText
+pub mod Unbarred

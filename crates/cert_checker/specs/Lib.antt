@@ -1,0 +1,3 @@
+pub mod Proving
+pub mod Walk
+pub mod Answers

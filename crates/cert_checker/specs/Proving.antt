@@ -1,0 +1,39 @@
+-- When a tree proves that no game reaches a query.
+use Rattle.std.specs.Prelude.{ℕ, suc, zero, ◌≡◌, List, [], ◌∷◌, slice_get, Option, None, IsSomeAnd}
+use Rattle.board_base.specs.declared.unmoves.Unmove.{Unmove}
+use Rattle.query_base.specs.Asked.{Asked}
+use Rattle.query_base.specs.Reach.{Reaches}
+use Rattle.query_base.specs.Targets.{Covers, target}
+use Rattle.static_rules.specs.Supports.{Supports}
+use Rattle.unmove_gen.specs.Listed.{unmoves}
+use Rattle.unmove_gen.specs.Predecessor.{predecessor}
+use Rattle.cert_text.specs.Tree.{Tree, Forest, rule, back, expand, none, more}
+use Rattle.cert_text.specs.Certificate.{Certificate}
+
+-- the ancestor so many steps above, the parent being one step above
+abbrev pub ancestor : List Asked → ℕ → Option Asked
+ancestor ancestors zero = None
+ancestor ancestors (suc k) = slice_get ancestors k
+
+abbrev mutual
+  -- The tree proves that no game reaches the query, below these ancestors, the parent first: a rule line supports the query; an
+  -- ancestor covers it; or the game of no moves doesn't reach it, the labels are exactly its unmoves, and each child proves the
+  -- predecessor.
+  pub Proves : Tree → Asked → List Asked → Type 0
+  Proves (rule r) q ancestors = Supports q r
+  Proves (back k) q ancestors = IsSomeAnd (ancestor ancestors k) (λ a. Covers a q)
+  Proves (expand kids) q ancestors = (Reaches [] q → ⊥) × ProvesEach kids q (unmoves q) ancestors
+
+  -- the labels are these unmoves in order, and each child proves the predecessor of the query by its label
+  pub ProvesEach : Forest → Asked → List Unmove → List Asked → Type 0
+  ProvesEach none q us ancestors = us ≡ []
+  ProvesEach (more label tree rest) q us ancestors =
+      (others : List Unmove) × (us ≡ label ∷ others) × Proves tree (predecessor q label) (q ∷ ancestors) × ProvesEach rest q others ancestors
+
+-- the query that a certificate says no game reaches
+abbrev pub target_of : Certificate → Asked
+target_of cert = target cert.query cert.claim
+
+-- the certificate proves its claim
+abbrev pub ProvesClaim : Certificate → Type 0
+ProvesClaim cert = Proves cert.root (target_of cert) []

@@ -1,0 +1,43 @@
+ghost use Rattle.std.specs.Prelude.{◌≤◌, IfOk, IfSome, length};
+ghost use Rattle.query_base.specs.Reach.{Holds};
+ghost use Rattle.cert_text.specs.Lines.{cut};
+ghost use Rattle.cert_checker.specs.Answers.{Answers, answered};
+
+use crate::refusals::{Accepted, Refused};
+use crate::walking::check_node;
+use cert_text::{CertFault, read_cert};
+use query_base::target;
+use std::alloc::Global;
+
+/// Checks the certificate whose text these bytes are, at most 67,108,864 of them. `Ok` comes exactly where they are the text of a
+/// certificate that proves its claim, with that claim and its query. `BadText` comes exactly where they are no certificate's text.
+/// `Unlisted` and `Unsupported` come exactly otherwise, with the first fault that the walk of the certificate in preorder meets.
+/// `Memory` comes only for want of memory.
+pub fn check_bytes(alloc: Global, bytes: &[u8]) -> Result<Accepted, Refused>
+    requires { length bytes.now ≤ 67_108_864 }
+
+    // The answer is that of the grammar and the walk, unless memory runs out.
+    ensures answer { IfSome (answered result) (Answers (cut bytes.now)) }
+
+    // No game, of any length, contradicts a claim that is accepted.
+    ensures holds { IfOk result (λ a. Holds a.claim a.query) }
+{
+    let cert = match read_cert(alloc, bytes) {
+        Ok(cert) => cert,
+        Err(CertFault::BadText { line }) => return Err(Refused::BadText { line }),
+        Err(CertFault::Memory) => return Err(Refused::Memory),
+    };
+    let mut ancestors = Vec::new(alloc);
+    match check_node(
+        &target(&cert.query, &cert.claim),
+        &cert.root,
+        &mut ancestors,
+        4,
+    ) {
+        Ok(_) => Ok(Accepted {
+            claim: cert.claim,
+            query: cert.query,
+        }),
+        Err(fault) => Err(fault),
+    }
+}

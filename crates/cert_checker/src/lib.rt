@@ -1,0 +1,13 @@
+//! The independent check of certificates: from their bytes to the claim that they prove, or to their first fault.
+//!
+//! Articles are those of the FIDE Laws of Chess, in force from 1 January 2023.
+#![tactic(auto)]
+
+mod checking;
+mod laws;
+mod refusals;
+mod walking;
+
+pub use checking::check_bytes;
+pub use laws::{one_answer, one_walk, walk_proves};
+pub use refusals::{Accepted, Refused, Why};

@@ -1,0 +1,39 @@
+use board_base::Unmove;
+use query_base::{Claim, Query};
+
+/// What a certificate that was accepted claims, and of which query. No game, of any length, contradicts it.
+#[derive(Clone, Copy, PartialEq, Eq, Debug)]
+pub struct Accepted {
+    /// The claim that the certificate proves.
+    pub claim: Claim,
+    /// The query that it is about.
+    pub query: Query,
+}
+
+/// Why a node doesn't prove that no game reaches its query.
+#[derive(Clone, Copy, PartialEq, Eq, Debug)]
+pub enum Why {
+    /// `rule`: the rule line doesn't support the query.
+    Rule,
+    /// `back`: the ancestor doesn't cover the query.
+    Back,
+    /// `expand`: the game of no moves reaches the query.
+    Array,
+    /// The label is none of the unmoves that its parent's other children leave: it comes before the first of them, or none is left.
+    Stray,
+}
+
+/// Why bytes are no certificate that proves its claim. Lines are counted from 1.
+#[derive(Clone, Copy, PartialEq, Eq, Debug)]
+pub enum Refused {
+    /// The lines before this one begin the text of a certificate. With it they begin none, or the bytes end before it where the
+    /// text must go on.
+    BadText { line: u32 },
+    /// This unmove of a node's query is the label of none of its children. The line is that of the child whose label comes after
+    /// it, or the node's own where no child's does.
+    Unlisted { line: u32, unmove: Unmove },
+    /// The node on this line doesn't prove its query.
+    Unsupported { line: u32, why: Why },
+    /// Want of memory.
+    Memory,
+}

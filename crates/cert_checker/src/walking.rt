@@ -1,0 +1,122 @@
+ghost use Rattle.std.specs.Prelude.{◌≡◌, ◌≤◌, ◌<◌, ◌+◌, ◌^◌, ◌↔◌, ◌∷◌, IfOk, IsTrue, IsSomeAnd, OnOk, length, reverse};
+ghost use Rattle.query_base.specs.Targets.{Covers};
+ghost use Rattle.unmove_gen.specs.Listed.{unmoves};
+ghost use Rattle.cert_text.specs.Tree.{size, size_all};
+ghost use Rattle.cert_text.specs.Seen.{tree_of};
+ghost use Rattle.cert_checker.specs.Proving.{ancestor};
+ghost use Rattle.cert_checker.specs.Walk.{IsWalked, Walks, WalksEach};
+
+use crate::refusals::{Refused, Why};
+use board_base::cmp_unmove;
+use cert_text::{Body, Kids, Node};
+use query_base::{Query, covers, is_array};
+use static_rules::supports;
+use std::cmp::Ordering;
+use unmove_gen::{Unmoves, pred};
+
+/// The ancestor so many steps above covers the query. The parent, one step above, comes last.
+fn is_covered(ancestors: &[Query], steps: u8, query: &Query) -> bool
+    ensures { IsTrue result ↔ IsSomeAnd (ancestor (reverse ancestors.now) steps) (λ a. Covers a query.now) }
+{
+    let steps = usize::from(steps);
+    if steps == 0 || ancestors.len() < steps {
+        return false;
+    }
+    covers(&ancestors[ancestors.len() - steps], query)
+}
+
+/// What the walk of the node on this line comes to: its first fault, or the line after its tree's.
+#[cycle(walking)]
+pub fn check_node(
+    query: &Query,
+    node: &Node,
+    ancestors: &mut Vec<Query>,
+    line: u32,
+) -> Result<u32, Refused>
+    requires { line + size (tree_of node.now) < 2 ^ 32 }
+    ensures walk { IsWalked result (Walks (tree_of node.now) query.now (reverse ancestors.old.items) line) }
+    ensures kept { OnOk result (ancestors.new.items ≡ ancestors.old.items) }
+    ensures near { IfOk result (λ n. n ≤ line + size (tree_of node.now)) }
+{
+    match &node.body {
+        Body::Rule(rule) => {
+            if supports(query, rule) {
+                Ok(line + 1)
+            } else {
+                Err(Refused::Unsupported {
+                    line,
+                    why: Why::Rule,
+                })
+            }
+        }
+        Body::Back(steps) => {
+            if is_covered(ancestors, *steps, query) {
+                Ok(line + 1)
+            } else {
+                Err(Refused::Unsupported {
+                    line,
+                    why: Why::Back,
+                })
+            }
+        }
+        Body::Expand(kids) => {
+            if is_array(query) {
+                return Err(Refused::Unsupported {
+                    line,
+                    why: Why::Array,
+                });
+            }
+            check_kids(query, kids, ancestors, line)
+        }
+    }
+}
+
+/// What the walk of the children of the node on this line comes to: their first fault, or the line after them.
+#[cycle(walking)]
+fn check_kids(
+    query: &Query,
+    kids: &Kids,
+    ancestors: &mut Vec<Query>,
+    top: u32,
+) -> Result<u32, Refused>
+    requires { top + 1 + size_all kids.now < 2 ^ 32 }
+    ensures walk { IsWalked result (WalksEach kids.now query.now (unmoves query.now) (reverse ancestors.old.items) top (top + 1)) }
+    ensures kept { OnOk result (ancestors.new.items ≡ ancestors.old.items) }
+    ensures near { IfOk result (λ n. n ≤ top + 1 + size_all kids.now) }
+{
+    let mut unmoves = Unmoves::new(query);
+    let mut next = top + 1;
+    for i in 0..kids.len() {
+        let kid = kids.get(i).unwrap();
+        let Some(unmove) = unmoves.next() else {
+            return Err(Refused::Unsupported {
+                line: next,
+                why: Why::Stray,
+            });
+        };
+        match cmp_unmove(&kid.label, &unmove) {
+            Ordering::Less => {
+                return Err(Refused::Unsupported {
+                    line: next,
+                    why: Why::Stray,
+                });
+            }
+            Ordering::Greater => return Err(Refused::Unlisted { line: next, unmove }),
+            Ordering::Equal => {}
+        }
+        match ancestors.push(*query) {
+            Ok(()) => {}
+            Err(_) => return Err(Refused::Memory),
+        }
+        let before = pred(query, &unmove);
+        match check_node(&before, &kid.node, ancestors, next) {
+            Ok(after) => next = after,
+            Err(fault) => return Err(fault),
+        }
+        let _ = ancestors.pop();
+    }
+    match unmoves.next() {
+        Some(unmove) => Err(Refused::Unlisted { line: top, unmove }),
+        None => Ok(next),
+    }
+}
