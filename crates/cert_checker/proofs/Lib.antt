@@ -7,3 +7,5 @@ pub mod Sound
 pub mod OneWalk
 pub mod OneText
 pub mod Unbarred
+pub mod Unlisted
+pub mod Contradicted

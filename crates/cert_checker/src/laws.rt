@@ -1,10 +1,14 @@
-ghost use Rattle.std.specs.Prelude.{◌≡◌, ◌↔◌, ℕ, List};
+ghost use Rattle.std.specs.Prelude.{◌≡◌, ◌↔◌, ℕ, IsTrue, List, None};
+ghost use Rattle.board_base.specs.Texts.{can_capture, can_promote};
+ghost use Rattle.board_base.specs.declared.unmoves.Unmove.{Unmove as AnUnmove};
+ghost use Rattle.query_base.specs.Reach.{Holds};
+ghost use Rattle.query_base.specs.declared.claims.Claim.{Claim as AnyClaim};
 ghost use Rattle.query_base.specs.Asked.{Asked};
 ghost use Rattle.cert_text.specs.Tree.{Tree};
 ghost use Rattle.cert_text.specs.Certificate.{AreLinesOf, Certificate, Lines};
 ghost use Rattle.cert_checker.specs.Proving.{ProvesClaim};
-ghost use Rattle.cert_checker.specs.Walk.{Walked, Walks, WalksTo, next_line};
-ghost use Rattle.cert_checker.specs.Answers.{Answer, Answers};
+ghost use Rattle.cert_checker.specs.Walk.{Walked, Walks, WalksTo, next_line, unlisted};
+ghost use Rattle.cert_checker.specs.Answers.{Answer, Answers, accepted, fault};
 
 /// The law that the walk of a certificate that has a text meets no fault exactly where the certificate proves its claim.
 pub fn walk_proves()
@@ -19,4 +23,20 @@ pub fn one_walk()
 /// The law that there is no more than one answer to a text.
 pub fn one_answer()
     ensures { (lines : Lines) (a b : Answer) → Answers lines a → Answers lines b → a ≡ b }
+{}
+
+/// The law that no game contradicts the claim of a certificate that proves it.
+pub fn certificates_prove()
+    ensures { (lines : Lines) (cert : Certificate) → AreLinesOf lines cert → ProvesClaim cert → Holds cert.claim cert.query }
+{}
+
+/// The law that an unmove which an answer calls unlisted has a text.
+pub fn unlisted_have_texts()
+    ensures promotion { (lines : Lines) (n : ℕ) (u : AnUnmove) → Answers lines (fault n (unlisted u)) → IsTrue (can_promote u.mv.promo) }
+    ensures capture { (lines : Lines) (n : ℕ) (u : AnUnmove) → Answers lines (fault n (unlisted u)) → IsTrue (can_capture u.mv.promo u.captured u.ep) }
+{}
+
+/// The law that a query about which an answer accepts a claim bars no move.
+pub fn accepted_bar_no_move()
+    ensures { (lines : Lines) (claim : AnyClaim) (q : Asked) → Answers lines (accepted claim q) → q.barred ≡ None }
 {}

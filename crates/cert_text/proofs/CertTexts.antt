@@ -31,11 +31,11 @@ unfolding said claim_of
 claim_back = refl
 
 -- a line that makes a claim is the one line of it, and the claim is that there is no game
-record IsClaimLine (line : List ℕ) (claim : Claim) : Type 0 where
-  line_is : line ≡ ended (codes "claim illegal")
-  claim_is : claim ≡ Illegal
+pub record IsClaimLine (line : List ℕ) (claim : Claim) : Type 0 where
+  pub line_is : line ≡ ended (codes "claim illegal")
+  pub claim_is : claim ≡ Illegal
 
-claim_read : (line : List ℕ) (claim : Claim) → said claim_of line ≡ Some claim → IsClaimLine line claim
+pub claim_read : (line : List ℕ) (claim : Claim) → said claim_of line ≡ Some claim → IsClaimLine line claim
 unfolding claim_of
 claim_read line claim e =
     let says = said_read claim_of line claim e in

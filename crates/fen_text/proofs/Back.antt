@@ -18,7 +18,7 @@ use Rattle.query_base.specs.Asked.{Asked, is_of_other_side}
 use Rattle.fen_text.specs.Parts.{◌>>=◌}
 use Rattle.fen_text.specs.Ranks.{is_run, places_of, is_symbol, runs_apart, rank_places, is_rank, rank}
 use Rattle.fen_text.specs.Fen.{ranks, placement, turn, rights, en_passant, en_passant_digit, double_over, asked, from_numbers, from_en_passant, from_rights, from_turn, fen}
-use Rattle.fen_text.specs.Spelling.{symbol, run_text, rank_text, rank_of, ranks_text, turn_letter, rights_text, en_passant_text}
+use Rattle.fen_text.specs.Spelling.{symbol, run_text, rank_text, rank_of, ranks_text, turn_letter, rights_text, en_passant_text, spelling}
 use Rattle.fen_text.proofs.PartLemmas.{parted_next, parted_end}
 use Rattle.fen_text.proofs.RankLemmas.{run_places, run_symbol}
 use Rattle.fen_text.proofs.PlacementLemmas.{clean_rank, slash_symbol}
@@ -200,3 +200,7 @@ text_back b t r e size fits =
 
 pub whole : (q : Asked) → q.barred ≡ None → asked q.board q.turn q.held q.only ≡ q
 whole q e = λ i. record { board = q.board; turn = q.turn; held = q.held; only = q.only; barred = sym e i }
+
+pub read_back : (q : Asked) → length q.board ≡ 64 → q.barred ≡ None → IsTrue (is_of_other_side q.turn q.only) → fen (spelling q) ≡ Some (q, None)
+unfolding spelling
+read_back q size plain fits = text_back q.board q.turn q.held q.only size fits ∙ ap (λ (x : Asked). Some (x, None)) (whole q plain)

@@ -1,10 +1,34 @@
--- What is written of a certificate that is accepted.
-use Rattle.std.proofs.Common.{◌≡◌, List, [], ◌∷◌, ℕ, ap}
-use Rattle.std.specs.Prelude.{Option, Some, codes, unwrap_or}
-use Rattle.retro_top.specs.Lines.{said_after}
-use Rattle.retro_top.specs.Certificate.{claim_line}
-use Rattle.retro_top.specs.Checks.{accepted, accepted_line}
+-- The line that is written of a certificate that is accepted is that of its own second and third line.
+use Rattle.std.proofs.Common.{◌≡◌, ℕ, List, [], ◌∷◌, ◌++◌, refl, sym, ap, ◌∙◌}
+use Rattle.std.specs.Prelude.{Some, codes, drop}
+use Rattle.query_base.specs.Asked.{Asked}
+use Rattle.query_base.specs.declared.claims.Claim.{Claim}
+use Rattle.fen_text.specs.Spelling.{spelling}
+use Rattle.fen_text.specs.Fen.{fen_of_four}
+use Rattle.fen_text.proofs.OneText.{four_spelled}
+use Rattle.cert_text.specs.Lines.{ended, said}
+use Rattle.cert_text.specs.Certificate.{Lines, query_of, head_line}
+use Rattle.cert_text.proofs.CertTexts.{claim_read}
+use Rattle.cert_text.proofs.Spelled.{begun}
+use Rattle.cert_text.proofs.SpelledLines.{said_read, when}
+use Rattle.cert_checker.specs.Answers.{Answers, accepted}
+use Rattle.retro_top.specs.Checks.{accepted_line}
 
-pub accepted-of : (head fen text : List ℕ) (rest : List (List ℕ)) → said_after (codes "fen ") fen ≡ Some text → accepted (head ∷ claim_line ∷ fen ∷ rest) ≡ accepted_line (codes "illegal") text
-unfolding said_after
-accepted-of head fen text rest e = ap (λ (o : Option (List ℕ)). accepted_line (codes "illegal") (unwrap_or o [])) e
+-- a line that says a query is `fen` and the one FEN of it
+fen-line : (line : List ℕ) (q : Asked) → said query_of line ≡ Some q → line ≡ ended (codes "fen " ++ spelling q)
+unfolding query_of
+fen-line line q e =
+    let says = said_read query_of line q e in
+    let read = when _ (fen_of_four (drop 4 says.text)) q says.stands in
+    says.line_is ∙ ap ended (begun says.text (codes "fen ") read.0 ∙ ap (λ (t : List ℕ). codes "fen " ++ t) (four_spelled (drop 4 says.text) q read.1))
+
+pub accepted-told : (lines : Lines) (claim : Claim) (q : Asked) → Answers lines (accepted claim q) → codes "accepted illegal " ++ ended (spelling q) ≡ accepted_line lines
+accepted-told lines claim q answers =
+    let cert = answers.0 in
+    let text = answers.1 in
+    let claimed = (claim_read text.claim_line cert.claim text.claim).line_is in
+    let placed = fen-line text.fen_line cert.query text.query in
+    ap (λ (p : Asked). codes "accepted illegal " ++ ended (spelling p)) (sym answers.3)
+    ∙ sym (ap accepted_line text.parts
+    ∙ ap (λ (l : List ℕ). accepted_line (head_line ∷ l ∷ text.fen_line ∷ text.root_line ∷ text.below)) claimed
+    ∙ ap (λ (l : List ℕ). accepted_line (head_line ∷ ended (codes "claim illegal") ∷ l ∷ text.root_line ∷ text.below)) placed)

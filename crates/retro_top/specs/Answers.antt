@@ -6,10 +6,11 @@ use Rattle.retro_ports.specs.Ends.{TakesPrefix}
 use Rattle.board_base.specs.declared.moves.Move.{Move}
 use Rattle.query_base.specs.Asked.{Asked}
 use Rattle.query_base.specs.Reach.{Holds, Reaches}
-use Rattle.retro_top.specs.Lines.{cut}
-use Rattle.retro_top.specs.Certificate.{Certificate}
+use Rattle.cert_text.specs.Lines.{cut}
+use Rattle.cert_text.specs.Certificate.{Certificate, IsTextOf}
+use Rattle.cert_checker.specs.Proving.{ProvesClaim}
 use Rattle.retro_top.specs.Commands.{Call}
-use Rattle.retro_top.specs.Checks.{AnswersCheck, IsSupported, accepted}
+use Rattle.retro_top.specs.Checks.{AnswersCheck, accepted_line}
 use Rattle.retro_top.specs.Plays.{AnswersPlay}
 use Rattle.retro_top.specs.Questions.{Asks}
 use Rattle.retro_top.specs.Retractions.{AnswersUnmoves}
@@ -40,14 +41,15 @@ WritesPart words input old new = (status : Status) × (text : List ℕ) × Answe
 abbrev pub ReadsAll : ℕ → Option (List ℕ) → Option (List ℕ) → (List ℕ → Type 0) → Type 0
 ReadsAll limit old new holds = (input : List ℕ) × Consumes old new input × IsAtEnd new × (length input ≤ limit) × holds input
 
--- What was taken grew by one line, with the claim and the position that the input carries, and no game contradicts that claim.
+-- What was taken grew by one line, with the claim and the position that the input carries. The input is the text of a certificate
+-- that proves the claim, and no game contradicts it.
 abbrev pub Accepts : List ℕ → Option (List ℕ) → Option (List ℕ) → Type 0
 Accepts input old new =
-    (cert : Certificate) × IsSupported input cert × Appends old new (accepted (cut input)) × Holds cert.claim cert.query
+    (cert : Certificate) × IsTextOf input cert × ProvesClaim cert × Appends old new (accepted_line (cut input)) × Holds cert.claim cert.query
 
--- no certificate is supported whose text these bytes are
-abbrev pub HasNoSupport : List ℕ → Type 0
-HasNoSupport input = (cert : Certificate) → IsSupported input cert → ⊥
+-- the bytes are the text of no certificate that proves its claim
+abbrev pub ProvesNothing : List ℕ → Type 0
+ProvesNothing input = (cert : Certificate) → IsTextOf input cert → ProvesClaim cert → ⊥
 
 -- some legal game reaches the position that the input asks for
 abbrev pub HasGame : List ℕ → Type 0

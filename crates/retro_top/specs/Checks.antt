@@ -1,49 +1,56 @@
 -- What `check` answers.
-use Rattle.std.specs.Prelude.{ℕ, ◌≡◌, ◌⊎◌, IsTrue, false, List, [], ◌∷◌, ◌++◌, codes, unwrap_or}
+use Rattle.std.specs.Prelude.{ℕ, ◌≡◌, IsTrue, List, [], ◌∷◌, ◌++◌, drop, codes, unwrap_or}
 use Rattle.std.specs.Fmt.{decimal}
-use Rattle.retro_top.specs.Lines.{cut, ended, said_after}
-use Rattle.retro_top.specs.Texts.{IsBadAt}
-use Rattle.retro_top.specs.Certificate.{Certificate, AreLinesOf}
-use Rattle.retro_top.specs.Rules.{breaks_kings}
+use Rattle.board_base.specs.Texts.{can_capture, can_promote, unmove_text}
+use Rattle.cert_text.specs.Lines.{cut, ended, without_end}
+use Rattle.cert_text.specs.Certificate.{Lines}
+use Rattle.cert_checker.specs.Walk.{Fault, unlisted, unsupported}
+use Rattle.cert_checker.specs.Answers.{Answer, Answers, bad_text, fault, accepted}
+use Rattle.cert_checker.specs.declared.refusals.Refused.{Refused}
+use Rattle.cert_checker.specs.declared.refusals.Refused.TheVariants as refused
+use Rattle.cert_checker.specs.declared.refusals.Why.{Why}
+use Rattle.cert_checker.specs.declared.refusals.Why.TheVariants as why
 use Rattle.retro_top.specs.declared.statuses.Status.{Status}
+use Rattle.retro_top.specs.declared.statuses.Status.TheVariants.{Done}
 use Rattle.retro_top.specs.declared.statuses.Status.TheVariants as status
 
-abbrev pub carried_text : List ℕ → List ℕ → List ℕ
-carried_text front line = unwrap_or (said_after front line) []
+-- the line `accepted` with what the second line says after `claim `, and the third after `fen `
+abbrev pub accepted_line : Lines → List ℕ
+accepted_line (head ∷ claim ∷ fen ∷ rest) = codes "accepted " ++ unwrap_or (without_end (drop 6 claim)) [] ++ 32 ∷ drop 4 fen
+accepted_line lines = []
 
-abbrev pub accepted_line : List ℕ → List ℕ → List ℕ
-accepted_line claim fen = ended (codes "accepted " ++ claim ++ 32 ∷ fen)
+abbrev pub why_word : Why → List ℕ
+why_word why.Rule = codes "rule"
+why_word why.Back = codes "back"
+why_word why.Array = codes "array"
+why_word why.Stray = codes "stray"
 
--- the line `accepted` with the claim and the position that the second and the third line carry
-abbrev pub accepted : List (List ℕ) → List ℕ
-accepted (head ∷ claim ∷ fen ∷ rest) = accepted_line (carried_text (codes "claim ") claim) (carried_text (codes "fen ") fen)
-accepted lines = []
+-- what a refusal says of a line
+abbrev pub refusal_line : ℕ → List ℕ → List ℕ
+refusal_line n what = ended (codes "refused line " ++ decimal n ++ 32 ∷ what)
 
--- the bytes are the text of this certificate, and its reason supports it
-pub record IsSupported (input : List ℕ) (cert : Certificate) : Type 0 where
-  pub text : AreLinesOf (cut input) cert
-  pub rule : IsTrue (breaks_kings cert.query.board)
+abbrev pub fault_words : Fault → List ℕ
+fault_words (unlisted u) = codes "unlisted " ++ unmove_text u
+fault_words (unsupported w) = codes "unsupported " ++ why_word w
 
--- what is written of a certificate that is read and whose rule doesn't support it, and of a text that goes bad at line n
-abbrev pub unsupported_rule : List ℕ
-unsupported_rule = ended (codes "refused line 4 unsupported rule")
+-- the line that tells a refusal, but for want of memory
+abbrev pub IsToldBy : Refused → List ℕ → Type 0
+IsToldBy (refused.BadText n) text = text ≡ refusal_line n (codes "text")
+IsToldBy (refused.Unlisted n u) text = text ≡ refusal_line n (fault_words (unlisted u))
+IsToldBy (refused.Unsupported n w) text = text ≡ refusal_line n (fault_words (unsupported w))
+IsToldBy refused.Memory text = ⊥
 
-abbrev pub bad_text : ℕ → List ℕ
-bad_text n = ended (codes "refused line " ++ decimal n ++ codes " text")
+-- an unmove that a refusal names has a text
+abbrev pub CanBeTold : Refused → Type 0
+CanBeTold (refused.Unlisted n u) = IsTrue (can_promote u.mv.promo) × IsTrue (can_capture u.mv.promo u.captured u.ep)
+CanBeTold _ = Unit {0}
 
--- the bytes are the text of a certificate that its rule doesn't support
-pub record IsUnsupported (input : List ℕ) : Type 0 where
-  pub cert : Certificate
-  pub text : AreLinesOf (cut input) cert
-  pub rule : breaks_kings cert.query.board ≡ false
-
--- the line that names the first fault of the bytes
-abbrev pub IsRefusal : List ℕ → List ℕ → Type 0
-IsRefusal input text =
-    (IsUnsupported input × (text ≡ unsupported_rule)) ⊎ ((n : ℕ) × IsBadAt AreLinesOf (cut input) n × (text ≡ bad_text n))
+-- the status and the text that tell an answer to these lines
+abbrev pub Tells : Lines → Answer → Status → List ℕ → Type 0
+Tells lines (accepted claim query) ending text = (ending ≡ Done) × (text ≡ accepted_line lines)
+Tells lines (bad_text n) ending text = (ending ≡ status.Refused) × (text ≡ refusal_line n (codes "text"))
+Tells lines (fault n f) ending text = (ending ≡ status.Refused) × (text ≡ refusal_line n (fault_words f))
 
 -- the status and the text with which `check` answers these bytes
 abbrev pub AnswersCheck : List ℕ → Status → List ℕ → Type 0
-AnswersCheck input status.Done text = (cert : Certificate) × IsSupported input cert × (text ≡ accepted (cut input))
-AnswersCheck input status.Refused text = IsRefusal input text
-AnswersCheck input _ text = ⊥
+AnswersCheck input ending text = (answer : Answer) × Answers (cut input) answer × Tells (cut input) answer ending text

@@ -8,7 +8,7 @@ use Rattle.query_base.specs.Asked.{Asked}
 use Rattle.query_base.specs.Reach.{Reaches}
 use Rattle.game_text.specs.Words.{words, AreTextsOf, FirstBad}
 use Rattle.game_text.specs.Replay.{FirstIllegal}
-use Rattle.retro_top.specs.Lines.{ended}
+use Rattle.cert_text.specs.Lines.{ended}
 use Rattle.retro_top.specs.Questions.{Asks, IsNoQuestion, after_first, no_question_line}
 use Rattle.retro_top.specs.declared.questions.NoQuestion.{NoQuestion}
 use Rattle.retro_top.specs.declared.statuses.Status.{Status}

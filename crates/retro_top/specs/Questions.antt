@@ -6,7 +6,7 @@ use Rattle.query_base.specs.Asked.{Asked}
 use Rattle.fen_text.specs.Parts.{cut_at}
 use Rattle.fen_text.specs.Fen.{fen}
 use Rattle.fen_text.specs.FenFaults.{IsFenFault}
-use Rattle.retro_top.specs.Lines.{ended}
+use Rattle.cert_text.specs.Lines.{ended}
 use Rattle.retro_top.specs.declared.questions.NoQuestion.{NoQuestion}
 use Rattle.retro_top.specs.declared.questions.NoQuestion.TheVariants.{NoLine, BadFen}
 

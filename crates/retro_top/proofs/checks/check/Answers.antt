@@ -1,11 +1,18 @@
-use Rattle.std.proofs.Common.{◌∙◌, sym, inl}
-use Rattle.retro_top.proofs.Bad.{about}
+use Rattle.std.proofs.Common.{refl, ◌∙◌}
+use Rattle.cert_text.specs.Lines.{cut}
+use Rattle.cert_checker.specs.Answers.{accepted}
+use Rattle.retro_top.proofs.Accepted.{accepted-told}
+use Rattle.retro_top.proofs.Refused.{can-be-told, refused-told}
 use Rattle.retro_top.proofs.checks.check.Goals as goal
 
-pub returns-in_ok-accepted-in-Ok : goal.returns-in_ok-accepted-in-Ok
-returns-in_ok-accepted-in-Ok c =
-    (about c.in-Ok.certificate.query, record { text = c.in-Ok.ensures.ok; rule = sym c.breaks_kings.ensures ∙ c.if-breaks_kings.true }, c.in_ok-accepted-in-Ok.ensures ∙ sym c.in-Ok.ensures.line)
+pub write_accepted-requires : goal.write_accepted-requires
+write_accepted-requires c = c.accepted_bar_no_move.ensures (cut c.args.input.now) c.in-Ok.found.claim c.in-Ok.found.query c.in-Ok.ensures.answer
 
-pub returns-in_ok-unsupported-in-Ok : goal.returns-in_ok-unsupported-in-Ok
-returns-in_ok-unsupported-in-Ok c =
-    inl (record { cert = about c.in-Ok.certificate.query; text = c.in-Ok.ensures.ok; rule = sym c.breaks_kings.ensures ∙ c.if-breaks_kings.false }, c.in_ok-unsupported-in-Ok.ensures.items)
+pub write_refused-requires : goal.write_refused-requires
+write_refused-requires c = can-be-told c.unlisted_have_texts.ensures.promotion c.unlisted_have_texts.ensures.capture (cut c.args.input.now) c.in-Err.refused c.in-Err.ensures.answer
+
+pub returns-in_ok-accepted-in-Ok : goal.returns-in_ok-accepted-in-Ok
+returns-in_ok-accepted-in-Ok c = (accepted c.in-Ok.found.claim c.in-Ok.found.query, c.in-Ok.ensures.answer, (refl, c.in_ok-accepted-in-Ok.ensures ∙ accepted-told (cut c.args.input.now) c.in-Ok.found.claim c.in-Ok.found.query c.in-Ok.ensures.answer))
+
+pub returns-in_ok-line-in-Err : goal.returns-in_ok-line-in-Err
+returns-in_ok-line-in-Err c = refused-told c.args.input.now c.in-Err.refused c.in_ok-line-in-Err.line.items c.in-Err.ensures.answer c.in_ok-line-in-Err.ensures
