@@ -5,7 +5,7 @@ use crate::formats::fits_format;
 use crate::node_lines::{BodyLine, read_line};
 use crate::nodes::{Body, Kid, Kids, Node};
 use crate::reading::read_cert;
-use board_base::{Memory, read_unmove};
+use board_base::{Memory, Move, Square, Unmove, read_unmove};
 use query_base::{Claim, RuleLine};
 use std::alloc::Global;
 use std::test::Fail;
@@ -118,28 +118,49 @@ const LINES: [(&[u8], u8, Option<BodyLine>); 16] = [
     (b"d7d5 rule check", 0, None),
 ];
 
+fn body_of(text: &[u8], depth: u8) -> Option<BodyLine> {
+    match read_line(text, depth) {
+        Some(line) => Some(line.body),
+        None => None,
+    }
+}
+
 #[test]
 fn reads_lines(rt: HostRuntime) {
     for (text, depth, body) in LINES {
-        let line = read_line(text, depth);
-        assert_eq!(rt; line.map(|l| l.body), body);
+        assert_eq!(rt; body_of(text, depth), body);
     }
     assert_eq!(rt; read_claim(b"claim illegal"), Some(Claim::Illegal));
     assert_eq!(rt; read_claim(b"claim illegal\n"), None);
 }
 
+/// The node with this one as its only child.
+fn above(alloc: Global, node: Node) -> Result<Node, Memory> {
+    let mut kids = Kids::new(alloc);
+    kids.push(Kid {
+        label: Unmove {
+            mv: Move {
+                from: Square::known(0),
+                to: Square::known(8),
+                promo: None,
+            },
+            captured: None,
+            ep: false,
+        },
+        node,
+    })?;
+    Ok(Node {
+        body: Body::Expand(kids),
+    })
+}
+
 /// A tree of this depth whose leaf leads back so many steps.
 fn chain(alloc: Global, depth: u16, steps: u8) -> Result<Node, Memory> {
-    let label = read_unmove(b"a1a2").ok_or(Memory)?;
     let mut node = Node {
         body: Body::Back(steps),
     };
     for _i in 0..depth {
-        let mut kids = Kids::new(alloc);
-        kids.push(Kid { label, node })?;
-        node = Node {
-            body: Body::Expand(kids),
-        };
+        node = above(alloc, node)?;
     }
     Ok(node)
 }
