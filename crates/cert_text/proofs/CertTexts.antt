@@ -19,7 +19,7 @@ use Rattle.fen_text.proofs.Back.{read_back}
 use Rattle.fen_text.proofs.OneText.{four_spelled}
 use Rattle.cert_text.specs.Lines.{cut, ended, said}
 use Rattle.cert_text.specs.Certificate.{Lines, Certificate, AreLinesOf, IsTextOf, HasText, head_line, claim_of, query_of, body_of}
-use Rattle.cert_text.specs.Writable.{IsQuery, body_text, fits}
+use Rattle.cert_text.specs.Writable.{IsQuery, root_text, fits}
 use Rattle.cert_text.proofs.Gives.{Gives, mapped, always, nothing, in_parts, given}
 use Rattle.cert_text.proofs.Frees.{body_free, spelling_free}
 use Rattle.cert_text.proofs.Spelled.{begun}
@@ -110,7 +110,7 @@ unfolding fen_line
 has_text cert known writable =
     let own = fits_own cert.root 0 writable.root in
     let below = below_back cert.root 0 (omega arith) writable.root in
-    let body : List ℕ = codes "root " ++ body_text (body_of cert.root) in
+    let body : List ℕ = root_text (body_of cert.root) in
     let lines : Lines = head_line ∷ ended (codes "claim illegal") ∷ fen_line cert.query ∷ ended body ∷ below.lines in
     let whole-below : AreWhole (ended body ∷ below.lines) = (record { text = body; line_is = refl; free = body_free 0 (body_of cert.root) (omega arith) own }, below.whole) in
     let whole-fen : AreWhole (fen_line cert.query ∷ ended body ∷ below.lines) = (record { text = codes "fen " ++ spelling cert.query; line_is = refl; free = spelling_free cert.query }, whole-below) in

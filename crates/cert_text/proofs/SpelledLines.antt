@@ -1,21 +1,22 @@
 -- Lines with their ends, and their texts.
-use Rattle.std.proofs.Common.{◌≡◌, ℕ, ◌-◌, ◌≤◌, Bool, true, false, cond, List, [], ◌∷◌, ◌++◌, length, drop, take, take_at, length-append, Option, Some, None, refl, sym, ap, ◌∙◌, subst, arith, nat_eq, nat_lt}
+use Rattle.std.proofs.Common.{◌≡◌, ℕ, zero, suc, ◌-◌, ◌≤◌, Bool, true, false, cond, List, [], ◌∷◌, ◌++◌, length, drop, take, take_at, length-append, Option, Some, None, refl, ap, ◌∙◌, arith, nat_eq, nat_lt}
 use Rattle.std.specs.Prelude.{codes}
 use Rattle.std.proofs.lemmas.Bool.{and_parts, and_from, cond-true, lt-ltb, ltb-true}
 use Rattle.std.proofs.lemmas.Bool.Decides.{Decides-eqb}
-use Rattle.std.proofs.lemmas.Option.{cond_some, some_pair_parts, option_and_then_some}
+use Rattle.std.proofs.lemmas.Option.{cond_some, same_Some, some_pair_parts, option_and_then_some}
 use Rattle.std.proofs.lemmas.Slice.Eq.{ends_is}
 use Rattle.std.specs.List.{starts_with, ends_with}
-use Rattle.std.specs.Option.{option_and_then}
+use Rattle.std.specs.Option.{option_map, option_and_then}
 use Rattle.board_base.specs.declared.unmoves.Unmove.{Unmove}
 use Rattle.board_base.specs.Texts.{unmove_from, unmove_text, can_promote, can_capture}
 use Rattle.board_base.proofs.OneText.{unmove_read}
 use Rattle.board_base.proofs.TextLemmas.{unmove_back}
 use Rattle.fen_text.proofs.PartLemmas.{followed}
 use Rattle.cert_text.specs.Lines.{ended, without_end, said}
-use Rattle.cert_text.specs.NodeLines.{body_at, root_body, kid_body}
-use Rattle.cert_text.specs.Writable.{body_text, kid_text, has_text, fits_depth}
+use Rattle.cert_text.specs.NodeLines.{body_at, root_body, kid_body, node_line}
+use Rattle.cert_text.specs.Writable.{body_text, root_text, kid_text, line_text, has_text, fits_depth}
 use Rattle.cert_text.specs.declared.node_lines.BodyLine.{BodyLine}
+use Rattle.cert_text.specs.declared.node_lines.NodeLine.{NodeLine}
 use Rattle.cert_text.proofs.KidLines.{labelled, kid_is}
 use Rattle.cert_text.proofs.Frees.{unmove_free}
 use Rattle.cert_text.proofs.OnBoard.{unmove_on_board}
@@ -56,25 +57,31 @@ when false o x e = absurd cc
 
 -- the root's line
 
-pub root_back : (b : BodyLine) → fits_depth 0 b ≡ true → said root_body (ended (codes "root " ++ body_text b)) ≡ Some b
+pub root_back : (b : BodyLine) → fits_depth 0 b ≡ true → said root_body (ended (root_text b)) ≡ Some b
 unfolding root_body
-root_back b fits = said_back root_body (codes "root " ++ body_text b) b (body_back 0 b (omega arith) fits)
+root_back b fits = said_back root_body (root_text b) b (body_back 0 b (omega arith) fits)
+
+-- a text is the one of a root with this body
+record IsTextOfRoot (text : List ℕ) (b : BodyLine) : Type 0 where
+  text_is : text ≡ root_text b
+  fits : fits_depth 0 b ≡ true
+
+root_text_read : (text : List ℕ) (b : BodyLine) → root_body text ≡ Some b → IsTextOfRoot text b
+unfolding root_body
+root_text_read text b e =
+    let split = when (starts_with nat_eq text (codes "root ")) (body_at 0 (drop 5 text)) b e in
+    let body = body_read 0 (drop 5 text) b split.1 in
+    record { text_is = begun text (codes "root ") split.0 ∙ ap (λ (l : List ℕ). codes "root " ++ l) body.text_is; fits = body.fits }
 
 pub record IsLineOfRoot (line : List ℕ) (b : BodyLine) : Type 0 where
-  pub line_is : line ≡ ended (codes "root " ++ body_text b)
+  pub line_is : line ≡ ended (root_text b)
   pub fits : fits_depth 0 b ≡ true
 
 pub root_read : (line : List ℕ) (b : BodyLine) → said root_body line ≡ Some b → IsLineOfRoot line b
-unfolding root_body
 root_read line b e =
     let says = said_read root_body line b e in
-    let text : List ℕ = says.text in
-    let split : (starts_with nat_eq text (codes "root ") ≡ true) × (body_at 0 (drop 5 text) ≡ Some b) = when (starts_with nat_eq text (codes "root ")) (body_at 0 (drop 5 text)) b says.stands in
-    let body = body_read 0 (drop 5 text) b split.1 in
-    record {
-      line_is = says.line_is ∙ ap ended (begun text (codes "root ") split.0 ∙ ap (λ (l : List ℕ). codes "root " ++ l) body.text_is);
-      fits = body.fits;
-    }
+    let text = root_text_read says.text b says.stands in
+    record { line_is = says.line_is ∙ ap ended text.text_is; fits = text.fits }
 
 -- a child's line
 
@@ -85,16 +92,17 @@ kid_back depth u b low label fits =
     let first = and_parts (nat_lt u.mv.from 64) (nat_lt u.mv.to 64) third.0 in
     said_back (kid_body depth) (kid_text u b) (u, b) (kid_is depth (kid_text u b) (unmove_text u) (body_text b) u (Some b) (unmove_free 32 u (omega arith)) refl (unmove_back u (ltb-true u.mv.from 64 first.0) (ltb-true u.mv.to 64 first.1) third.1 last.1) (body_back depth b low fits))
 
-pub record IsLineOfKid (depth : ℕ) (line : List ℕ) (u : Unmove) (b : BodyLine) : Type 0 where
-  pub line_is : line ≡ ended (kid_text u b)
-  pub label : has_text u ≡ true
-  pub fits : fits_depth depth b ≡ true
+-- a text is the one of a child with this label and this body
+record IsTextOfKid (depth : ℕ) (text : List ℕ) (u : Unmove) (b : BodyLine) : Type 0 where
+  text_is : text ≡ kid_text u b
+  label : has_text u ≡ true
+  fits : fits_depth depth b ≡ true
 
 labelled_some : (u v : Unmove) (o : Option BodyLine) (b : BodyLine) → labelled u o ≡ Some (v, b) → (u ≡ v) × (o ≡ Some b)
 labelled_some u v None b e = absurd cc
 labelled_some u v (Some a) b e = let p = some_pair_parts u v a b e in (p.0, ap (λ (c : BodyLine). Some c) p.1)
 
-kid_text_read : (depth : ℕ) (text : List ℕ) (u : Unmove) (b : BodyLine) → kid_body depth text ≡ Some (u, b) → IsLineOfKid depth (ended text) u b
+kid_text_read : (depth : ℕ) (text : List ℕ) (u : Unmove) (b : BodyLine) → kid_body depth text ≡ Some (u, b) → IsTextOfKid depth text u b
 unfolding kid_body
 kid_text_read depth text u b e =
     let f = followed 32 unmove_from (λ u. None) (λ u rest. labelled u (body_at depth rest)) text (u, b) (λ x. refl) e in
@@ -104,12 +112,33 @@ kid_text_read depth text u b e =
     let place = unmove_on_board f.front u good in
     let body = body_read depth f.rest b parts.1 in
     record {
-      line_is = ap ended (f.whole ∙ ap (λ (l : List ℕ). l ++ 32 ∷ f.rest) label.spelling ∙ ap (λ (l : List ℕ). unmove_text u ++ 32 ∷ l) body.text_is);
+      text_is = f.whole ∙ ap (λ (l : List ℕ). l ++ 32 ∷ f.rest) label.spelling ∙ ap (λ (l : List ℕ). unmove_text u ++ 32 ∷ l) body.text_is;
       label = and_from _ _ (and_from _ _ (and_from _ _ (lt-ltb u.mv.from 64 place.from) (lt-ltb u.mv.to 64 place.to)) label.promotion) label.capture;
       fits = body.fits;
     }
 
+pub record IsLineOfKid (depth : ℕ) (line : List ℕ) (u : Unmove) (b : BodyLine) : Type 0 where
+  pub line_is : line ≡ ended (kid_text u b)
+  pub label : has_text u ≡ true
+  pub fits : fits_depth depth b ≡ true
+
 pub kid_read : (depth : ℕ) (line : List ℕ) (u : Unmove) (b : BodyLine) → said (kid_body depth) line ≡ Some (u, b) → IsLineOfKid depth line u b
 kid_read depth line u b e =
     let says = said_read (kid_body depth) line (u, b) e in
-    subst (λ (l : List ℕ). IsLineOfKid depth l u b) (sym says.line_is) (kid_text_read depth says.text u b says.stands)
+    let text = kid_text_read depth says.text u b says.stands in
+    record { line_is = says.line_is ∙ ap ended text.text_is; label = text.label; fits = text.fits }
+
+-- any node's line
+
+mapped : {A B : Type 0} (f : A → B) (o : Option A) (y : B) → option_map f o ≡ Some y → (x : A) × (o ≡ Some x) × (f x ≡ y)
+mapped f None y e = absurd cc
+mapped f (Some x) y e = (x, refl, same_Some (f x) y e)
+
+-- what is read as a node's line is its text
+pub node_read : (depth : ℕ) (text : List ℕ) (n : NodeLine) → node_line depth text ≡ Some n → text ≡ line_text n
+node_read zero text n e =
+    let m = mapped (λ (b : BodyLine). record { label = None; body = b }) (root_body text) n e in
+    (root_text_read text m.0 m.1).text_is ∙ ap line_text m.2
+node_read (suc depth) text n e =
+    let m = mapped (λ (k : Unmove × BodyLine). record { label = Some k.0; body = k.1 }) (kid_body (suc depth) text) n e in
+    (kid_text_read (suc depth) text m.0.0 m.0.1 m.1).text_is ∙ ap line_text m.2

@@ -59,7 +59,7 @@ node_line zero text = option_map (λ b. record { label = None; body = b }) (root
 node_line (suc n) text = option_map (λ kid. record { label = Some kid.0; body = kid.1 }) (kid_body (suc n) text)
 
 -- only at a depth below 255 has a node children
-abbrev pub Fits : ℕ → BodyLine → Type 0
-Fits depth (Rule r) = Unit {0}
-Fits depth (Back k) = Unit {0}
-Fits depth (Expand n) = 0 < n → depth < 255
+abbrev pub HasRoom : ℕ → BodyLine → Type 0
+HasRoom depth (Rule r) = Unit {0}
+HasRoom depth (Back k) = Unit {0}
+HasRoom depth (Expand n) = 0 < n → depth < 255

@@ -1,5 +1,5 @@
 -- The texts of nodes' lines, and which trees have a text.
-use Rattle.std.specs.Prelude.{ℕ, suc, ◌≡◌, Bool, true, ◌&&◌, ◌||◌, ◌==◌, nat_lt, nat_le, List, ◌∷◌, ◌++◌, length, codes, IsTrue}
+use Rattle.std.specs.Prelude.{ℕ, suc, ◌≡◌, Bool, true, ◌&&◌, ◌||◌, ◌==◌, nat_lt, nat_le, List, ◌∷◌, ◌++◌, length, codes, IsTrue, Option, Some, None}
 use Rattle.std.specs.Fmt.{decimal}
 use Rattle.board_base.specs.Texts.{unmove_text, can_promote, can_capture}
 use Rattle.board_base.specs.declared.unmoves.Unmove.{Unmove}
@@ -9,6 +9,7 @@ use Rattle.query_base.specs.Asked.{Asked, is_of_other_side}
 use Rattle.cert_text.specs.Tree.{Tree, Forest, rule, back, expand, none, more, count}
 use Rattle.cert_text.specs.declared.node_lines.BodyLine.{BodyLine}
 use Rattle.cert_text.specs.declared.node_lines.BodyLine.TheVariants.{Rule, Back, Expand}
+use Rattle.cert_text.specs.declared.node_lines.NodeLine.{NodeLine}
 
 abbrev pub rule_name : RuleLine → List ℕ
 rule_name Kings = codes "kings"
@@ -25,6 +26,18 @@ body_text (Expand n) = codes "expand " ++ decimal n
 -- the one text of a child
 abbrev pub kid_text : Unmove → BodyLine → List ℕ
 kid_text u b = unmove_text u ++ 32 ∷ body_text b
+
+-- the one text of the root
+abbrev pub root_text : BodyLine → List ℕ
+root_text b = codes "root " ++ body_text b
+
+abbrev pub labelled_text : Option Unmove → BodyLine → List ℕ
+labelled_text None b = root_text b
+labelled_text (Some u) b = kid_text u b
+
+-- the one text of a node's line, without its end
+abbrev pub line_text : NodeLine → List ℕ
+line_text n = labelled_text n.label n.body
 
 -- the unmove has a text
 abbrev pub has_text : Unmove → Bool

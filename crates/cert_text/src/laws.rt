@@ -1,7 +1,15 @@
-ghost use Rattle.std.specs.Prelude.{ℕ, ◌≡◌, List};
+ghost use Rattle.std.specs.Prelude.{ℕ, ◌≡◌, List, Some};
 ghost use Rattle.cert_text.specs.Lines.{cut};
+ghost use Rattle.cert_text.specs.NodeLines.{node_line};
+ghost use Rattle.cert_text.specs.Writable.{line_text};
+ghost use Rattle.cert_text.specs.declared.node_lines.NodeLine.{NodeLine as AnyLine};
 ghost use Rattle.cert_text.specs.Texts.{IsBadAt};
 ghost use Rattle.cert_text.specs.Certificate.{AreLinesOf, Certificate as AnyCertificate, IsTextOf};
+
+/// What is read as the line of a node is the one text of that line. This does nothing when it runs.
+pub fn one_text_of_a_line()
+    ensures { (depth : ℕ) (text : List ℕ) (n : AnyLine) → node_line depth text ≡ Some n → text ≡ line_text n }
+{}
 
 /// A certificate has one text, and a text stands for one certificate. This does nothing when it runs.
 pub fn one_text_each()

@@ -16,7 +16,7 @@ pub use certificates::Cert;
 pub use claims::read_claim;
 pub use faults::CertFault;
 pub use formats::fits_format;
-pub use laws::{one_fault_each, one_text_each};
+pub use laws::{one_fault_each, one_text_each, one_text_of_a_line};
 pub use node_lines::{BodyLine, NodeLine, read_line};
 pub use nodes::{Body, Kid, Kids, Node};
 pub use reading::read_cert;

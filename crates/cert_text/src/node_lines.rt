@@ -1,7 +1,7 @@
 ghost use Rattle.std.specs.Prelude.{◌≡◌, ◌≤◌, ◌<◌, ◌==◌, cond, IfSome, MatchOption, None, Some, length, is_none};
 ghost use Rattle.std.specs.List.{list_all};
 ghost use Rattle.fen_text.specs.Fen.{is_digit, value};
-ghost use Rattle.cert_text.specs.NodeLines.{Fits, back_at, body_at, expand_at, is_plain, kid_body, node_line, number, root_body, rule_of};
+ghost use Rattle.cert_text.specs.NodeLines.{back_at, body_at, expand_at, is_plain, kid_body, node_line, number, root_body, rule_of};
 
 use crate::lines::is_text;
 use board_base::{Unmove, read_unmove};

@@ -3,7 +3,7 @@ ghost use Rattle.cert_text.specs.Seen.{tree_of};
 ghost use Rattle.cert_text.specs.SeenCert.{cert_of};
 ghost use Rattle.cert_text.specs.Lines.{cut, said};
 ghost use Rattle.cert_text.specs.Texts.{IsBadAt};
-ghost use Rattle.cert_text.specs.NodeLines.{Fits, kid_body};
+ghost use Rattle.cert_text.specs.NodeLines.{HasRoom, kid_body};
 ghost use Rattle.cert_text.specs.Due.{put_due, refused};
 ghost use Rattle.cert_text.specs.Certificate.{AreLinesOf, IsTextOf};
 ghost use Rattle.cert_text.specs.Reading.{IfBadText, IsRefused, ReadsBelow, ReadsKids, SaysKid};
@@ -30,7 +30,7 @@ fn read_kid_line(depth: u8, line: &[u8]) -> Option<(Unmove, BodyLine)>
 /// What the first line says of a child at this depth, and what follows it.
 fn next_kid(bytes: &[u8], depth: u8) -> Option<(Unmove, BodyLine, &[u8])>
     ensures says { IfSome result (λ kid. SaysKid depth (cut bytes.now) kid.0 kid.1 (cut kid.2.now)) }
-    ensures fits { IfSome result (λ kid. Fits depth kid.1) }
+    ensures fits { IfSome result (λ kid. HasRoom depth kid.1) }
     ensures none { MatchOption result ((m n : ℕ) (due : List ℕ) → suc (length due) ≡ depth → refused (suc m ∷ due) n (cut bytes.now) ≡ Some n) (λ kid. Unit {0}) }
 {
     match first_line(bytes) {
@@ -67,7 +67,7 @@ fn read_below(
     bytes: &[u8],
     line: u32,
 ) -> Result<Below<'_>, CertFault>
-    requires fits { Fits depth body }
+    requires fits { HasRoom depth body }
     requires room { line + length (cut bytes.now) < 2 ^ 32 }
     ensures ok { IfOk result (λ b. ReadsBelow body depth (cut bytes.now) line (tree_of b.node) (cut b.rest.now) b.line) }
     ensures bad { IfErr result (λ e. IfBadText e (IsRefused (put_due body) depth (cut bytes.now) line)) }
