@@ -1,13 +1,15 @@
 -- Steps of a walk over children.
-use Rattle.std.proofs.Common.{◌≡◌, ℕ, ◌-◌, List, [], ◌∷◌, ◌++◌, length, take, reverse, length-append, sym, ap, ◌∙◌, subst, arith}
-use Rattle.std.proofs.lemmas.List.{reverse-append, take_at}
+use Rattle.std.proofs.Common.{◌≡◌, ℕ, List, [], ◌∷◌, ◌++◌, reverse, refl, sym, ap, ◌∙◌, subst}
+use Rattle.std.proofs.lemmas.List.{reverse-append}
 use Rattle.std.specs.declared.cmp.Ordering.{Ordering}
+use Rattle.std.specs.declared.cmp.Ordering.TheVariants.{Less, Equal, Greater}
 use Rattle.board_base.specs.Texts.{unmove_order}
 use Rattle.board_base.specs.declared.unmoves.Unmove.{Unmove}
 use Rattle.query_base.specs.Asked.{Asked}
 use Rattle.unmove_gen.specs.Predecessor.{predecessor}
 use Rattle.cert_text.specs.Tree.{Tree, Forest, more}
-use Rattle.cert_checker.specs.Walk.{Fault, Walked, fault_at, Onwards, ByLabel, Walks, WalksEach, IsFault}
+use Rattle.std.specs.Prelude.{Option, Some, None, MatchOption}
+use Rattle.cert_checker.specs.Walk.{Fault, Walked, fault_at, Onwards, ByLabel, IsLabelFault, Walks, WalksEach, IsFault}
 use Rattle.cert_checker.specs.declared.refusals.Refused.{Refused}
 use Rattle.cert_checker.specs.declared.refusals.Refused.TheVariants as refused
 
@@ -28,6 +30,17 @@ pub at_end : (f g : Forest) (q : Asked) (us vs : List Unmove) (ancestors : List 
 at_end f g q us vs ancestors top n walked here first walks =
     subst (λ (h : Forest). WalksEach h q us ancestors top n walked) (sym here) (subst (λ (l : List Unmove). WalksEach g q l ancestors top n walked) (sym first) walks)
 
+by_fault : (o : Ordering) (u : Unmove) (n : ℕ) (walked : Walked) (Kid : Type 0) → ByLabel o u n walked ⊥ → ByLabel o u n walked Kid
+by_fault Less u n walked Kid by = by
+by_fault Equal u n walked Kid by = absurd by
+by_fault Greater u n walked Kid by = by
+
+-- a walk of children where the label of the first is at fault
+pub label_fault : (o : Option Unmove) (f rest : Forest) (q : Asked) (us vs : List Unmove) (ancestors : List Asked) (top n : ℕ) (label : Unmove) (t : Tree) (walked : Walked) → f ≡ more label t rest → MatchOption o ((us ≡ []) × (vs ≡ [])) (λ u. us ≡ u ∷ vs) → IsLabelFault o label n walked → WalksEach f q us ancestors top n walked
+label_fault None f rest q us vs ancestors top n label t walked here first is = at_end f (more label t rest) q us [] ancestors top n walked here first.0 is
+label_fault (Some u) f rest q us vs ancestors top n label t walked here first is =
+    by_label f rest q us vs ancestors top n label u t walked (unmove_order label u) here first refl (by_fault (unmove_order label u) u n walked (WalksKid t rest q u vs ancestors top n walked) is)
+
 -- a fault of a part is that of the whole
 pub fault_of : (f : Refused) (P Q : Walked → Type 0) → ((n : ℕ) (fault : Fault) → P (fault_at n fault) → Q (fault_at n fault)) → IsFault f P → IsFault f Q
 fault_of (refused.BadText n) P Q whole is = is
@@ -40,10 +53,6 @@ pub kid_walk : (t : Tree) (b q : Asked) (u : Unmove) (above below : List Asked) 
 kid_walk t b q u above below n walked one two walks =
     subst (λ (p : Asked). Walks t p (q ∷ above) n walked) one (subst (λ (ups : List Asked). Walks t b ups n walked) two walks)
 
-pub pushed : (items old new : List Asked) (q : Asked) → items ≡ old → new ≡ items ++ q ∷ [] → reverse new ≡ q ∷ reverse old
-pushed items old new q kept grown = ap reverse (grown ∙ ap (λ (l : List Asked). l ++ q ∷ []) kept) ∙ reverse-append old (q ∷ [])
-
-pub popped : (items new : List Asked) (q : Asked) (size : ℕ) → size ≡ length new → new ≡ items ++ q ∷ [] → take (size - 1) new ≡ items
-popped items new q size e grown =
-    let short : length items ≡ size - 1 = omega (arith, ap length grown, length-append items (q ∷ [])) in
-    ap (take (size - 1)) grown ∙ take_at items (q ∷ []) (size - 1) short
+-- a query put behind others stands before them where the last comes first
+pub pushed : (old new : List Asked) (q : Asked) → new ≡ old ++ q ∷ [] → reverse new ≡ q ∷ reverse old
+pushed old new q grown = ap reverse grown ∙ reverse-append old (q ∷ [])

@@ -1,5 +1,5 @@
 -- The walk of a tree in preorder, up to its first fault.
-use Rattle.std.specs.Prelude.{ℕ, ◌+◌, ◌≡◌, ◌⊎◌, List, [], ◌∷◌, IsSomeAnd, Result, Ok, Err}
+use Rattle.std.specs.Prelude.{ℕ, ◌+◌, ◌≡◌, ◌⊎◌, List, [], ◌∷◌, Option, Some, None, IsSomeAnd, Result, Ok, Err}
 use Rattle.std.specs.declared.cmp.Ordering.{Ordering}
 use Rattle.std.specs.declared.cmp.Ordering.TheVariants.{Less, Equal, Greater}
 use Rattle.board_base.specs.Texts.{unmove_order}
@@ -44,6 +44,11 @@ abbrev pub ByLabel : Ordering → Unmove → ℕ → Walked → Type 0 → Type 
 ByLabel Less u n walked Kid = walked ≡ fault_at n (unsupported why.Stray)
 ByLabel Greater u n walked Kid = walked ≡ fault_at n (unlisted u)
 ByLabel Equal u n walked Kid = Kid
+
+-- the fault of a child on line n by its label, where this is the first unmove that no child had
+abbrev pub IsLabelFault : Option Unmove → Unmove → ℕ → Walked → Type 0
+IsLabelFault None label n walked = walked ≡ fault_at n (unsupported why.Stray)
+IsLabelFault (Some u) label n walked = ByLabel (unmove_order label u) u n walked ⊥
 
 abbrev mutual
   -- what the walk of a tree whose first line is n comes to, at this query and below these ancestors, the parent first

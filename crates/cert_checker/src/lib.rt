@@ -13,3 +13,6 @@ pub use laws::{
     accepted_bar_no_move, certificates_prove, one_answer, one_walk, unlisted_have_texts, walk_proves,
 };
 pub use refusals::{Accepted, Refused, Why};
+
+#[cfg(test)]
+mod tests;

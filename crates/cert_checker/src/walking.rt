@@ -1,13 +1,15 @@
-ghost use Rattle.std.specs.Prelude.{◌≡◌, ◌≤◌, ◌<◌, ◌+◌, ◌^◌, ◌↔◌, ◌∷◌, IfOk, IsTrue, IsSomeAnd, OnOk, length, reverse};
+ghost use Rattle.std.specs.Prelude.{IfErr, Some, ◌≡◌, ◌≤◌, ◌<◌, ◌+◌, ◌^◌, ◌↔◌, ◌∷◌, IfOk, IsTrue, IsSomeAnd, OnOk, length, reverse};
 ghost use Rattle.query_base.specs.Targets.{Covers};
 ghost use Rattle.unmove_gen.specs.Listed.{unmoves};
 ghost use Rattle.cert_text.specs.Tree.{size, size_all};
 ghost use Rattle.cert_text.specs.Seen.{tree_of};
 ghost use Rattle.cert_checker.specs.Proving.{ancestor};
-ghost use Rattle.cert_checker.specs.Walk.{IsWalked, Walks, WalksEach};
+ghost use Rattle.cert_checker.specs.Walk.{IsFault, IsLabelFault, IsWalked, Walks, WalksEach};
+ghost use Rattle.board_base.specs.Texts.{unmove_order};
+ghost use Rattle.std.specs.declared.cmp.Ordering.TheVariants.{Equal};
 
 use crate::refusals::{Refused, Why};
-use board_base::cmp_unmove;
+use board_base::{Unmove, cmp_unmove};
 use cert_text::{Body, Kids, Node};
 use query_base::{Query, covers, is_array};
 use static_rules::supports;
@@ -23,6 +25,25 @@ fn is_covered(ancestors: &[Query], steps: u8, query: &Query) -> bool
         return false;
     }
     covers(&ancestors[ancestors.len() - steps], query)
+}
+
+/// The first unmove that no child before has, where it is the label of the child on this line; else the child's fault.
+fn check_label(label: &Unmove, first: Option<Unmove>, line: u32) -> Result<Unmove, Refused>
+    ensures ok { IfOk result (λ u. (first ≡ Some u) × (unmove_order label.now u ≡ Equal)) }
+    ensures fault { IfErr result (λ f. IsFault f (IsLabelFault first label.now line)) }
+{
+    let stray = Refused::Unsupported {
+        line,
+        why: Why::Stray,
+    };
+    match first {
+        None => Err(stray),
+        Some(unmove) => match cmp_unmove(label, &unmove) {
+            Ordering::Less => Err(stray),
+            Ordering::Equal => Ok(unmove),
+            Ordering::Greater => Err(Refused::Unlisted { line, unmove }),
+        },
+    }
 }
 
 /// What the walk of the node on this line comes to: its first fault, or the line after its tree's.
@@ -84,37 +105,24 @@ fn check_kids(
     ensures kept { OnOk result (ancestors.new.items ≡ ancestors.old.items) }
     ensures near { IfOk result (λ n. n ≤ top + 1 + size_all kids.now) }
 {
+    match ancestors.push(*query) {
+        Ok(()) => {}
+        Err(_) => return Err(Refused::Memory),
+    }
     let mut unmoves = Unmoves::new(query);
     let mut next = top + 1;
     for i in 0..kids.len() {
         let kid = kids.get(i).unwrap();
-        let Some(unmove) = unmoves.next() else {
-            return Err(Refused::Unsupported {
-                line: next,
-                why: Why::Stray,
-            });
+        let unmove = match check_label(&kid.label, unmoves.next(), next) {
+            Ok(unmove) => unmove,
+            Err(fault) => return Err(fault),
         };
-        match cmp_unmove(&kid.label, &unmove) {
-            Ordering::Less => {
-                return Err(Refused::Unsupported {
-                    line: next,
-                    why: Why::Stray,
-                });
-            }
-            Ordering::Greater => return Err(Refused::Unlisted { line: next, unmove }),
-            Ordering::Equal => {}
-        }
-        match ancestors.push(*query) {
-            Ok(()) => {}
-            Err(_) => return Err(Refused::Memory),
-        }
-        let before = pred(query, &unmove);
-        match check_node(&before, &kid.node, ancestors, next) {
+        match check_node(&pred(query, &unmove), &kid.node, ancestors, next) {
             Ok(after) => next = after,
             Err(fault) => return Err(fault),
         }
-        let _ = ancestors.pop();
     }
+    let _ = ancestors.pop();
     match unmoves.next() {
         Some(unmove) => Err(Refused::Unlisted { line: top, unmove }),
         None => Ok(next),

@@ -1,33 +1,26 @@
 use Rattle.std.proofs.Common.{◌∙◌, List, reverse, refl, sym, ap, subst, arith}
 use Rattle.std.specs.List.{Contains}
-use Rattle.std.specs.declared.cmp.Ordering.TheVariants.{Less, Equal, Greater}
+use Rattle.std.specs.declared.cmp.Ordering.TheVariants.{Equal}
 use Rattle.board_base.specs.declared.unmoves.Unmove.{Unmove}
 use Rattle.cert_text.specs.Tree.{none, size_all}
 use Rattle.cert_text.specs.Seen.{tree_of}
-use Rattle.cert_checker.specs.Walk.{fault_at, next_line, Walks}
+use Rattle.cert_checker.specs.Walk.{IsLabelFault, fault_at, next_line, Walks}
 use Rattle.cert_checker.proofs.Lists.{contains-first, contains-later}
 use Rattle.cert_checker.proofs.Children.{rest-more, rest-end, kid_smaller}
-use Rattle.cert_checker.proofs.Walks.{by_label, at_end, fault_of, kid_walk, pushed, popped}
+use Rattle.cert_checker.proofs.Walks.{by_label, label_fault, at_end, fault_of, kid_walk, pushed}
 use Rattle.cert_checker.proofs.walking.+walking.Goals as goal
 
-pub check_kids-returns-in_default-clause-walk : goal.check_kids-returns-in_default-clause-walk
-check_kids-returns-in_default-clause-walk t c =
+pub check_kids-returns-in-Err-check_label-clause-walk : goal.check_kids-returns-in-Err-check_label-clause-walk
+check_kids-returns-in-Err-check_label-clause-walk t c =
     let here = rest-more c.args.kids.now c.loop-i.i _ _ (rw c.unwrap-kid.ensures at c.get.ensures.kid) in
-    c.loop-i.invariant.whole _ (at_end _ _ c.args.query.now c.loop-i.unmoves _ _ c.args.top c.loop-i.next _ here c.in_default.ensures.0 refl)
+    fault_of c.in-Err-check_label.fault (IsLabelFault c.next.result c.unwrap-kid.result.now.label c.loop-i.next) _ (λ n fault is.
+    c.loop-i.invariant.whole _ (label_fault c.next.result _ _ c.args.query.now c.loop-i.unmoves _ _ c.args.top c.loop-i.next _ _ _ here c.next.ensures is)) c.in-Err-check_label.ensures.fault
 
-pub check_kids-returns-in-Less-clause-walk : goal.check_kids-returns-in-Less-clause-walk
-check_kids-returns-in-Less-clause-walk t c =
-    let here = rest-more c.args.kids.now c.loop-i.i _ _ (rw c.unwrap-kid.ensures at c.get.ensures.kid) in
-    c.loop-i.invariant.whole _ (by_label _ _ c.args.query.now c.loop-i.unmoves _ _ c.args.top c.loop-i.next _ _ _ _ Less here c.in-Some.ensures c.in-Less.ensures refl)
-
-pub check_kids-returns-in-Greater-clause-walk : goal.check_kids-returns-in-Greater-clause-walk
-check_kids-returns-in-Greater-clause-walk t c =
-    let here = rest-more c.args.kids.now c.loop-i.i _ _ (rw c.unwrap-kid.ensures at c.get.ensures.kid) in
-    c.loop-i.invariant.whole _ (by_label _ _ c.args.query.now c.loop-i.unmoves _ _ c.args.top c.loop-i.next _ _ _ _ Greater here c.in-Some.ensures c.in-Greater.ensures refl)
-
-pub check_kids-pred-before-requires : goal.check_kids-pred-before-requires
-check_kids-pred-before-requires t c =
-    c.loop-i.invariant.listed c.in-Some.unmove (subst (λ (us : List Unmove). Contains us c.in-Some.unmove) (sym c.in-Some.ensures) (contains-first c.in-Some.unmove c.next.new.self))
+pub check_kids-pred-requires : goal.check_kids-pred-requires
+check_kids-pred-requires t c =
+    let first = rw c.in-Ok-check_label.ensures.ok.0 at c.next.ensures in
+    c.loop-i.invariant.listed c.in-Ok-check_label.unmove (
+    subst (λ (us : List Unmove). Contains us c.in-Ok-check_label.unmove) (sym first) (contains-first c.in-Ok-check_label.unmove c.next.new.self))
 
 pub check_kids-check_node-requires : goal.check_kids-check_node-requires
 check_kids-check_node-requires t c =
@@ -39,33 +32,35 @@ check_kids-check_node-requires t c =
 pub check_kids-returns-in-Err-check_node-clause-walk : goal.check_kids-returns-in-Err-check_node-clause-walk
 check_kids-returns-in-Err-check_node-clause-walk t c =
     let here = rest-more c.args.kids.now c.loop-i.i _ _ (rw c.unwrap-kid.ensures at c.get.ensures.kid) in
-    let ancestors = pushed _ _ _ c.args.query.now c.loop-i.invariant.kept c.in-Ok.ensures.items in
-    fault_of c.in-Err-check_node.fault (Walks (tree_of c.unwrap-kid.result.now.node) c.pred-before.result (reverse c.push.new.self.items) c.loop-i.next) _ (λ n fault walks.
-    c.loop-i.invariant.whole _ (by_label _ _ c.args.query.now c.loop-i.unmoves _ (reverse c.args.ancestors.now.items) c.args.top c.loop-i.next _ _ _ _ Equal here c.in-Some.ensures c.in-Equal.ensures (
+    let first = rw c.in-Ok-check_label.ensures.ok.0 at c.next.ensures in
+    let ancestors = pushed c.args.ancestors.now.items _ c.args.query.now c.loop-i.invariant.kept in
+    fault_of c.in-Err-check_node.fault (Walks (tree_of c.unwrap-kid.result.now.node) c.pred.result (reverse c.loop-i.ancestors.items) c.loop-i.next) _ (λ n fault walks.
+    c.loop-i.invariant.whole _ (by_label _ _ c.args.query.now c.loop-i.unmoves _ (reverse c.args.ancestors.now.items) c.args.top c.loop-i.next _ _ _ _ Equal here first (sym c.in-Ok-check_label.ensures.ok.1) (
       fault_at n fault,
-      kid_walk (tree_of c.unwrap-kid.result.now.node) _ c.args.query.now c.in-Some.unmove (reverse c.args.ancestors.now.items) _ c.loop-i.next (fault_at n fault) c.pred-before.ensures ancestors walks,
+      kid_walk (tree_of c.unwrap-kid.result.now.node) _ c.args.query.now c.in-Ok-check_label.unmove (reverse c.args.ancestors.now.items) _ c.loop-i.next (fault_at n fault) c.pred.ensures ancestors walks,
       refl,
     ))) c.in-Err-check_node.ensures.walk
 
 pub check_kids-loop-i-preserved : goal.check_kids-loop-i-preserved
 check_kids-loop-i-preserved t c =
     let here = rest-more c.args.kids.now c.loop-i.i _ _ (rw c.unwrap-kid.ensures at c.get.ensures.kid) in
+    let first = rw c.in-Ok-check_label.ensures.ok.0 at c.next.ensures in
     let sizes = ap size_all here in
-    let ancestors = pushed _ _ _ c.args.query.now c.loop-i.invariant.kept c.in-Ok.ensures.items in
-    let kid = kid_walk (tree_of c.unwrap-kid.result.now.node) _ c.args.query.now c.in-Some.unmove (reverse c.args.ancestors.now.items) _ c.loop-i.next (next_line c.in-Ok-check_node.after) c.pred-before.ensures ancestors c.in-Ok-check_node.ensures.walk in
+    let ancestors = pushed c.args.ancestors.now.items _ c.args.query.now c.loop-i.invariant.kept in
+    let kid = kid_walk (tree_of c.unwrap-kid.result.now.node) _ c.args.query.now c.in-Ok-check_label.unmove (reverse c.args.ancestors.now.items) _ c.loop-i.next (next_line c.in-Ok-check_node.after) c.pred.ensures ancestors c.in-Ok-check_node.ensures.walk in
     record {
       whole = λ walked rest. c.loop-i.invariant.whole walked (
-          by_label _ _ c.args.query.now c.loop-i.unmoves _ (reverse c.args.ancestors.now.items) c.args.top c.loop-i.next _ _ _ _ Equal here c.in-Some.ensures c.in-Equal.ensures (next_line c.in-Ok-check_node.after, kid, rest));
+          by_label _ _ c.args.query.now c.loop-i.unmoves _ (reverse c.args.ancestors.now.items) c.args.top c.loop-i.next _ _ _ _ Equal here first (sym c.in-Ok-check_label.ensures.ok.1) (next_line c.in-Ok-check_node.after, kid, rest));
       listed = λ u there.
-          c.loop-i.invariant.listed u (subst (λ (us : List Unmove). Contains us u) (sym c.in-Some.ensures) (contains-later c.in-Some.unmove c.next.new.self u there));
-      kept = c.pop.ensures.rest ∙ popped _ _ c.args.query.now _ c.check_node.new.ancestors.ok.0 (c.in-Ok-check_node.ensures.kept ∙ c.in-Ok.ensures.items) ∙ c.loop-i.invariant.kept;
+          c.loop-i.invariant.listed u (subst (λ (us : List Unmove). Contains us u) (sym first) (contains-later c.in-Ok-check_label.unmove c.next.new.self u there));
+      kept = c.in-Ok-check_node.ensures.kept ∙ c.loop-i.invariant.kept;
       near = omega (arith, sizes, c.in-Ok-check_node.ensures.near, c.loop-i.invariant.near);
     }
 
-pub check_kids-returns-in-Some-next-clause-walk : goal.check_kids-returns-in-Some-next-clause-walk
-check_kids-returns-in-Some-next-clause-walk t c =
+pub check_kids-returns-in-Some-clause-walk : goal.check_kids-returns-in-Some-clause-walk
+check_kids-returns-in-Some-clause-walk t c =
     let end = rest-end c.args.kids.now c.loop-i.i (omega (arith, c.len-i-end.ensures)) in
-    c.loop-i.invariant.whole _ (at_end _ none c.args.query.now c.loop-i.unmoves _ _ c.args.top c.loop-i.next _ end c.in-Some-next.ensures refl)
+    c.loop-i.invariant.whole _ (at_end _ none c.args.query.now c.loop-i.unmoves _ _ c.args.top c.loop-i.next _ end c.in-Some.ensures refl)
 
 pub check_kids-returns-in-None-clause-walk : goal.check_kids-returns-in-None-clause-walk
 check_kids-returns-in-None-clause-walk t c =

@@ -1,4 +1,4 @@
-use Rattle.std.proofs.Common.{◌≡◌, ◌+◌, ◌≤◌, reverse}
+use Rattle.std.proofs.Common.{◌≡◌, ◌+◌, ◌≤◌, [], ◌∷◌, ◌++◌, reverse}
 use Rattle.std.specs.List.{Contains}
 use Rattle.board_base.specs.declared.unmoves.Unmove.{Unmove}
 use Rattle.unmove_gen.specs.Listed.{unmoves}
@@ -19,6 +19,6 @@ invariant-check_kids-loop-i l = record {
   whole : (walked : Walked) → WalksEach (rest_of l.kids l.i) l.query l.unmoves (reverse l.fn.ancestors.items) l.top l.next walked
       → WalksEach l.kids l.query (unmoves l.query) (reverse l.fn.ancestors.items) l.top (l.top + 1) walked;
   listed : (u : Unmove) → Contains l.unmoves u → Contains (unmoves l.query) u;
-  kept : l.ancestors.items ≡ l.fn.ancestors.items;
+  kept : l.ancestors.items ≡ l.fn.ancestors.items ++ l.query ∷ [];
   near : l.next + size_all (rest_of l.kids l.i) ≤ l.top + 1 + size_all l.kids;
 }
