@@ -23,8 +23,8 @@ const NO_RULE: &[u8] =
 const EXTRA_LINE: &[u8] =
     b"retro 1\nclaim illegal\nfen 4k3/8/8/8/8/8/8/4K3 w - -\nroot expand 0\nx\n";
 
-// Knights on c7 and g7 both give check, and no move could have made them do so. The double step of a pawn has no other last move,
-// and before it White's king and rook would have had to be unmoved with no White move left to take back.
+// No last move lets knights on c7 and g7 give check at once. After Black's double step White can't have moved before it: king and
+// rook are unmoved, and the pawn stands at home.
 #[test]
 fn accepts_what_proves_its_claim(rt: HostRuntime) {
     assert!(rt; check_bytes(rt.alloc(), CHECKED).is_ok());
