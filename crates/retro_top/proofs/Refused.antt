@@ -1,5 +1,5 @@
 -- What a refusal tells.
-use Rattle.std.proofs.Common.{◌≡◌, ℕ, List, refl}
+use Rattle.std.proofs.Common.{ℕ, List, refl}
 use Rattle.std.specs.Prelude.{IfSome, IsTrue}
 use Rattle.board_base.specs.Texts.{can_capture, can_promote}
 use Rattle.board_base.specs.declared.unmoves.Unmove.{Unmove}
