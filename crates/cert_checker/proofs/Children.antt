@@ -1,33 +1,17 @@
--- The children from a place on, and how many lines a tree takes.
+-- Children one after another, and how many lines a tree takes.
 use Rattle.std.proofs.Common.{◌≡◌, ℕ, zero, suc, ◌+◌, ◌*◌, ◌≤◌, length, refl, ap, ◌∙◌, arith, length-append}
 use Rattle.std.specs.Prelude.{Some}
 use Rattle.std.proofs.lemmas.Option.{some_pair_parts}
 use Rattle.board_base.specs.declared.unmoves.Unmove.{Unmove}
-use Rattle.cert_text.specs.Tree.{Tree, Forest, rule, back, expand, none, more, count, kid_at, size, size_all}
+use Rattle.cert_text.specs.Tree.{Tree, Forest, rule, back, expand, none, more, count, kid_at, rest_of, size, size_all}
 use Rattle.cert_text.specs.Certificate.{Lines, AreBelow, AreKids}
-
--- the children from this place on, counted from 0
-abbrev pub rest_of : Forest → ℕ → Forest
-rest_of f zero = f
-rest_of none (suc i) = none
-rest_of (more label tree rest) (suc i) = rest_of rest i
-
-rest-from : (f : Forest) (i : ℕ) (l : Unmove) (t : Tree) → kid_at f i ≡ Some (l, t) → rest_of f i ≡ more l t (rest_of f (suc i))
-rest-from none i l t e = cc
-rest-from (more label tree rest) zero l t e = let p = some_pair_parts _ _ _ _ e in ap (λ (u : Unmove). more u tree rest) p.0 ∙ ap (λ (u : Tree). more l u rest) p.1
-rest-from (more label tree rest) (suc i) l t e = rest-from rest i l t e
+use Rattle.cert_text.proofs.Forests.{rest-more}
 
 -- the child at a place, and the children after it
-pub rest-more : (f : Forest) (i : ℕ) (l : Unmove) (t : Tree) → kid_at f i ≡ Some (l, t) → rest_of f i ≡ more l t (rest_of f (i + 1))
-rest-more f i l t here =
+pub rest-next : (f : Forest) (i : ℕ) (l : Unmove) (t : Tree) → kid_at f i ≡ Some (l, t) → rest_of f i ≡ more l t (rest_of f (i + 1))
+rest-next f i l t here =
     let next : suc i ≡ i + 1 = omega arith in
-    rest-from f i l t here ∙ ap (λ (j : ℕ). more l t (rest_of f j)) next
-
-pub rest-end : (f : Forest) (i : ℕ) → count f ≤ i → rest_of f i ≡ none
-rest-end none zero past = refl
-rest-end none (suc i) past = refl
-rest-end (more label tree rest) zero past = absurd (omega arith)
-rest-end (more label tree rest) (suc i) past = rest-end rest i (omega arith)
+    rest-more f i l t here ∙ ap (λ (j : ℕ). more l t (rest_of f j)) next
 
 -- a child's tree is smaller than all children together
 pub kid_smaller : (f : Forest) (i : ℕ) (l : Unmove) (t : Tree) → kid_at f i ≡ Some (l, t) → suc (size t) ≤ size_all f

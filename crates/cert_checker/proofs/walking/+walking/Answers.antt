@@ -4,15 +4,16 @@ use Rattle.std.specs.declared.cmp.Ordering.TheVariants.{Equal}
 use Rattle.board_base.specs.declared.unmoves.Unmove.{Unmove}
 use Rattle.cert_text.specs.Tree.{none, size_all}
 use Rattle.cert_text.specs.Seen.{tree_of}
+use Rattle.cert_text.proofs.Forests.{rest-end}
 use Rattle.cert_checker.specs.Walk.{IsLabelFault, fault_at, next_line, Walks}
 use Rattle.cert_checker.proofs.Lists.{contains-first, contains-later}
-use Rattle.cert_checker.proofs.Children.{rest-more, rest-end, kid_smaller}
+use Rattle.cert_checker.proofs.Children.{rest-next, kid_smaller}
 use Rattle.cert_checker.proofs.Walks.{by_label, label_fault, at_end, fault_of, kid_walk, pushed}
 use Rattle.cert_checker.proofs.walking.+walking.Goals as goal
 
 pub check_kids-returns-in-Err-check_label-clause-walk : goal.check_kids-returns-in-Err-check_label-clause-walk
 check_kids-returns-in-Err-check_label-clause-walk t c =
-    let here = rest-more c.args.kids.now c.loop-i.i _ _ (rw c.unwrap-kid.ensures at c.get.ensures.kid) in
+    let here = rest-next c.args.kids.now c.loop-i.i _ _ (rw c.unwrap-kid.ensures at c.get.ensures.kid) in
     fault_of c.in-Err-check_label.fault (IsLabelFault c.next.result c.unwrap-kid.result.now.label c.loop-i.next) _ (λ n fault is.
     c.loop-i.invariant.whole _ (label_fault c.next.result _ _ c.args.query.now c.loop-i.unmoves _ _ c.args.top c.loop-i.next _ _ _ here c.next.ensures is)) c.in-Err-check_label.ensures.fault
 
@@ -26,12 +27,12 @@ pub check_kids-check_node-requires : goal.check_kids-check_node-requires
 check_kids-check_node-requires t c =
     let kid = rw c.unwrap-kid.ensures at c.get.ensures.kid in
     let smaller = kid_smaller c.args.kids.now c.loop-i.i _ _ kid in
-    let here = ap size_all (rest-more c.args.kids.now c.loop-i.i _ _ kid) in
+    let here = ap size_all (rest-next c.args.kids.now c.loop-i.i _ _ kid) in
     (omega (arith, smaller, c.decreases), omega (arith, here, c.loop-i.invariant.near, c.requires))
 
 pub check_kids-returns-in-Err-check_node-clause-walk : goal.check_kids-returns-in-Err-check_node-clause-walk
 check_kids-returns-in-Err-check_node-clause-walk t c =
-    let here = rest-more c.args.kids.now c.loop-i.i _ _ (rw c.unwrap-kid.ensures at c.get.ensures.kid) in
+    let here = rest-next c.args.kids.now c.loop-i.i _ _ (rw c.unwrap-kid.ensures at c.get.ensures.kid) in
     let first = rw c.in-Ok-check_label.ensures.ok.0 at c.next.ensures in
     let ancestors = pushed c.args.ancestors.now.items _ c.args.query.now c.loop-i.invariant.kept in
     fault_of c.in-Err-check_node.fault (Walks (tree_of c.unwrap-kid.result.now.node) c.pred.result (reverse c.loop-i.ancestors.items) c.loop-i.next) _ (λ n fault walks.
@@ -43,7 +44,7 @@ check_kids-returns-in-Err-check_node-clause-walk t c =
 
 pub check_kids-loop-i-preserved : goal.check_kids-loop-i-preserved
 check_kids-loop-i-preserved t c =
-    let here = rest-more c.args.kids.now c.loop-i.i _ _ (rw c.unwrap-kid.ensures at c.get.ensures.kid) in
+    let here = rest-next c.args.kids.now c.loop-i.i _ _ (rw c.unwrap-kid.ensures at c.get.ensures.kid) in
     let first = rw c.in-Ok-check_label.ensures.ok.0 at c.next.ensures in
     let sizes = ap size_all here in
     let ancestors = pushed c.args.ancestors.now.items _ c.args.query.now c.loop-i.invariant.kept in
