@@ -244,15 +244,17 @@ fn at_most_one(alloc: Global, number: Option<u32>) -> Result<Vec<u32>, AllocErro
     Ok(numbers)
 }
 
-/// The status and the text of a run of this row, reading ten bytes a call and writing one, with these calls failing.
-pub fn run_row(
+/// The status and the sink of a run with these words on this input, reading ten bytes a call and writing one, with these calls
+/// failing.
+pub fn run_on(
     alloc: Global,
-    row: &Row,
+    words: &[&str],
+    input: &[u8],
     failing_read: Option<u32>,
     failing_write: Option<u32>,
 ) -> Result<(Status, MemSink), AllocError> {
-    let words = words_of(alloc, row.words)?;
-    let bytes = Vec::from_slice(alloc, row.input)?;
+    let words = words_of(alloc, words)?;
+    let bytes = Vec::from_slice(alloc, input)?;
     let mut source = MemSource::new(bytes, at_most_one(alloc, failing_read)?, 10);
     let fails = at_most_one(alloc, failing_write)?;
     let Ok(mut sink) = MemSink::new(alloc, 1_048_576, fails, 1) else {
@@ -263,9 +265,9 @@ pub fn run_row(
 }
 
 /// The rows are answered with their statuses and texts.
-fn assert_answers(rt: &(impl Abort + Alloc<A = Global>), rows: &[Row]) -> Result<(), AllocError> {
+pub fn assert_answers(rt: &(impl Abort + Alloc<A = Global>), rows: &[Row]) -> Result<(), AllocError> {
     for row in rows {
-        let (status, sink) = run_row(rt.alloc(), row, None, None)?;
+        let (status, sink) = run_on(rt.alloc(), row.words, row.input, None, None)?;
         assert_eq!(rt; status, row.status);
         assert!(rt; sink.taken() == row.text);
     }
@@ -280,12 +282,12 @@ fn assert_faults(
     writes: u32,
 ) -> Result<(), AllocError> {
     for number in 0..reads {
-        let (status, sink) = run_row(rt.alloc(), row, Some(number), None)?;
+        let (status, sink) = run_on(rt.alloc(), row.words, row.input, Some(number), None)?;
         assert_eq!(rt; status, Status::ReadFault);
         assert!(rt; sink.taken().is_empty());
     }
     for number in 0..writes {
-        let (status, sink) = run_row(rt.alloc(), row, None, Some(number))?;
+        let (status, sink) = run_on(rt.alloc(), row.words, row.input, None, Some(number))?;
         assert_eq!(rt; status, Status::WriteFault);
         assert_eq!(rt; sink.taken().len(), number as usize);
         assert!(rt; row.text.starts_with(sink.taken()));
@@ -329,7 +331,7 @@ fn refuses_other_words(rt: HostRuntime) -> Result<(), Fail> {
             status: Status::BadWords,
             text: b"",
         };
-        let (status, sink) = run_row(rt.alloc(), &row, None, None)?;
+        let (status, sink) = run_on(rt.alloc(), row.words, row.input, None, None)?;
         assert_eq!(rt; status, row.status);
         assert!(rt; sink.taken().is_empty());
     }
