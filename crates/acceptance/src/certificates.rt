@@ -9,7 +9,8 @@ const CHECK: &[&str] = &["check"];
 
 /// A pawn's double step was the last move, and before it the king on e1 would have stood in check from no man that could have come
 /// there: a certificate of 85 bytes in two steps.
-const TWO_STEPS: &[u8] = b"retro 1\nclaim illegal\nfen 4k3/8/8/3p4/8/8/P7/4K2R w K d6\nroot expand 1\nd7d5 expand 0\n";
+const TWO_STEPS: &[u8] =
+    b"retro 1\nclaim illegal\nfen 4k3/8/8/3p4/8/8/P7/4K2R w K d6\nroot expand 1\nd7d5 expand 0\n";
 
 const TREES: [Row; 14] = [
     // The labels are the whole list, and only the game without moves reaches the array.

@@ -265,7 +265,10 @@ pub fn run_on(
 }
 
 /// The rows are answered with their statuses and texts.
-pub fn assert_answers(rt: &(impl Abort + Alloc<A = Global>), rows: &[Row]) -> Result<(), AllocError> {
+pub fn assert_answers(
+    rt: &(impl Abort + Alloc<A = Global>),
+    rows: &[Row],
+) -> Result<(), AllocError> {
     for row in rows {
         let (status, sink) = run_on(rt.alloc(), row.words, row.input, None, None)?;
         assert_eq!(rt; status, row.status);

@@ -1,9 +1,9 @@
 -- Children one after another, and how many lines a tree takes.
-use Rattle.std.proofs.Common.{◌≡◌, ℕ, zero, suc, ◌+◌, ◌*◌, ◌≤◌, length, refl, ap, ◌∙◌, arith, length-append}
+use Rattle.std.proofs.Common.{◌≡◌, ℕ, zero, suc, ◌+◌, ◌*◌, ◌≤◌, length, ap, ◌∙◌, arith, length-append}
 use Rattle.std.specs.Prelude.{Some}
 use Rattle.std.proofs.lemmas.Option.{some_pair_parts}
 use Rattle.board_base.specs.declared.unmoves.Unmove.{Unmove}
-use Rattle.cert_text.specs.Tree.{Tree, Forest, rule, back, expand, none, more, count, kid_at, rest_of, size, size_all}
+use Rattle.cert_text.specs.Tree.{Tree, Forest, rule, back, expand, none, more, kid_at, rest_of, size, size_all}
 use Rattle.cert_text.specs.Certificate.{Lines, AreBelow, AreKids}
 use Rattle.cert_text.proofs.Forests.{rest-more}
 

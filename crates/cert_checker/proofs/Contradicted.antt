@@ -35,10 +35,19 @@ held-or-added held BlackLong BlackLong h = inl refl
 pub contradiction-reaches : (g : List Move) (claim : Claim) (q : Asked) → Contradicts g claim q → Reaches g (target q claim)
 contradiction-reaches g Illegal q h = h
 contradiction-reaches g (Last m) q h = let r : Reaches g q = h.0 in record {
-  game = r.game; board = r.board; turn = r.turn; held = r.held; only = r.only; barred = h.1;
+  game = r.game;
+  board = r.board;
+  turn = r.turn;
+  held = r.held;
+  only = r.only;
+  barred = h.1;
 }
 contradiction-reaches g (Lost x) q h = let r : Reaches g q = h.0 in record {
-  game = r.game; board = r.board; turn = r.turn; only = r.only; barred = r.barred;
+  game = r.game;
+  board = r.board;
+  turn = r.turn;
+  only = r.only;
+  barred = r.barred;
   held = λ c there. elim (held-or-added q.held x c there) [
     | inl same ↦ subst (λ (y : Castle). IsTrue (unmoved no_odds g y)) (sym same) h.1
     | inr before ↦ r.held c before

@@ -16,7 +16,8 @@ use Rattle.cert_checker.specs.Proving.{Proves, ProvesEach, ProvesClaim}
 use Rattle.cert_checker.specs.Walk.{Walked, fault_at, next_line, Onwards, ByLabel, Walks, WalksEach, WalksTo}
 use Rattle.cert_checker.proofs.Lists.{contains-first, contains-later}
 use Rattle.cert_checker.proofs.Walks.{WalksKid, by_label}
-use Rattle.cert_checker.proofs.Written.{CanBeWritten, IsWritten, AreWritten, tree_written, unmove_written}
+use Rattle.cert_checker.proofs.Written.{CanBeWritten, IsWritten, AreWritten, tree_written}
+use Rattle.unmove_gen.proofs.Spelled.{captures_spelled}
 
 -- where a child brings no fault, its label is the unmove
 is_label : (o : Ordering) (u : Unmove) (n m : ℕ) (Kid : Type 0) → ByLabel o u n (next_line m) Kid → (o ≡ Equal) × Kid
@@ -35,7 +36,7 @@ mutual
   clean_proves (back k) q ancestors n m w walks = walks.0
   clean_proves (expand kids) q ancestors n m w (inl (here, e)) = absurd (cc)
   clean_proves (expand kids) q ancestors n m w (inr (elsewhere, walks)) =
-      (elsewhere, clean_each kids q (unmoves q) ancestors n (n + 1) m w (unmove_written q) walks)
+      (elsewhere, clean_each kids q (unmoves q) ancestors n (n + 1) m w (captures_spelled q) walks)
 
   clean_each : (f : Forest) (q : Asked) (us : List Unmove) (ancestors : List Asked) (top n m : ℕ) → AreWritten f → ((u : Unmove) → Contains us u → CanBeWritten u) → WalksEach f q us ancestors top n (next_line m) → ProvesEach f q us ancestors
   clean_each none q [] ancestors top n m w all walks = refl

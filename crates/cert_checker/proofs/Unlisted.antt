@@ -1,5 +1,5 @@
 -- What a walk finds unlisted is an unmove of some query.
-use Rattle.std.proofs.Common.{◌≡◌, ℕ, ◌+◌, ◌<◌, ◌⊎◌, inl, inr, List, [], ◌∷◌, length, get_or, refl, sym, ap, ◌∙◌, subst, arith}
+use Rattle.std.proofs.Common.{◌≡◌, ℕ, ◌+◌, inl, inr, List, [], ◌∷◌, refl, sym, subst, arith}
 use Rattle.std.proofs.lemmas.List.Elements.{Contains-append_right}
 use Rattle.std.specs.List.{Contains}
 use Rattle.std.specs.declared.cmp.Ordering.{Ordering}
@@ -43,7 +43,7 @@ mutual
   unlisted-of (expand kids) q ancestors n m u w = elim w [
     | inl array ↦ let e = array.1 in cc
     | inr walked ↦ unlisted-each kids q (unmoves q) ancestors n (n + 1) m u (λ v there. there) walked.1
-    ]
+  ]
 
   unlisted-each : (f : Forest) (q : Asked) (us : List Unmove) (ancestors : List Asked) (top n m : ℕ) (u : Unmove) → AreOf q us → WalksEach f q us ancestors top n (fault_at m (unlisted u)) → IsOfSome u
   unlisted-each none q [] ancestors top n m u all w = cc

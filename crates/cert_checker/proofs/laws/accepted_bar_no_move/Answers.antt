@@ -1,4 +1,4 @@
-use Rattle.std.proofs.Common.{◌≡◌, sym, ap, ◌∙◌}
+use Rattle.std.proofs.Common.{sym, ap, ◌∙◌}
 use Rattle.query_base.specs.Asked.{Asked}
 use Rattle.cert_checker.proofs.Unbarred.{query_unbarred}
 use Rattle.cert_checker.proofs.laws.accepted_bar_no_move.Goals as goal
