@@ -7,8 +7,8 @@ use std::test::Fail;
 
 const CHECK: &[&str] = &["check"];
 
-/// A pawn's double step was the last move, and before it the king on e1 would have stood in check from no man that could have come
-/// there: a certificate of 85 bytes in two steps.
+/// The last move was a double step, and before it White can have made no move: king and rook have never moved, and the pawn stands
+/// at home. A certificate of 85 bytes.
 const TWO_STEPS: &[u8] =
     b"retro 1\nclaim illegal\nfen 4k3/8/8/3p4/8/8/P7/4K2R w K d6\nroot expand 1\nd7d5 expand 0\n";
 
@@ -128,8 +128,8 @@ fn refuses_each_part_of_a_certificate(rt: HostRuntime) -> Result<(), Fail> {
     Ok(())
 }
 
-/// A chain of nodes with one child each, down to a node of this depth without children.
-fn chain(alloc: Global, depth: u32) -> Result<Vec<u8>, AllocError> {
+/// A chain of nodes with one child each, down to a node of this depth with this body.
+fn chain(alloc: Global, depth: u32, body: &str) -> Result<Vec<u8>, AllocError> {
     let mut text = Vec::from_slice(
         alloc,
         b"retro 1\nclaim illegal\nfen 8/8/8/8/8/8/8/8 w - -\nroot expand 1\n",
@@ -137,21 +137,73 @@ fn chain(alloc: Global, depth: u32) -> Result<Vec<u8>, AllocError> {
     for _ in 1..depth {
         text.extend_from_slice(b"a1a2 expand 1\n")?;
     }
-    text.extend_from_slice(b"a1a2 expand 0\n")?;
+    text.extend_from_slice(b"a1a2 ")?;
+    text.extend_from_slice(body.as_bytes())?;
+    text.push(b'\n')?;
     Ok(text)
 }
 
-/// Trees reach down to depth 255. No man stands on the board, so the first label is stray.
+/// Trees reach down to depth 255, and a node leads back to none but its ancestors. No man stands on the board, so the first label is
+/// stray.
 #[test]
-fn reads_to_depth_255(rt: HostRuntime) -> Result<(), Fail> {
-    for (depth, want) in [
-        (255, b"refused line 5 unsupported stray\n".as_slice()),
-        (256, b"refused line 259 text\n".as_slice()),
+fn reads_chains(rt: HostRuntime) -> Result<(), Fail> {
+    let stray = b"refused line 5 unsupported stray\n".as_slice();
+    for (depth, body, want) in [
+        (255, "expand 0", stray),
+        (255, "expand 1", b"refused line 259 text\n".as_slice()),
+        (256, "expand 0", b"refused line 259 text\n".as_slice()),
+        (255, "back 255", stray),
+        (255, "back 256", b"refused line 259 text\n".as_slice()),
+        (3, "back 0", b"refused line 7 text\n".as_slice()),
+        (3, "back 1", stray),
+        (3, "back 2", stray),
+        (3, "back 3", stray),
+        (3, "back 4", b"refused line 7 text\n".as_slice()),
     ] {
-        let text = chain(rt.alloc(), depth)?;
+        let text = chain(rt.alloc(), depth, body)?;
         let (status, sink) = run_on(rt.alloc(), CHECK, &text, None, None)?;
         assert_eq!(rt; status, Status::Refused);
         assert!(rt; sink.taken() == want);
     }
+    Ok(())
+}
+
+/// A right is demanded whose rook isn't at home, and the queen can have come from everywhere.
+const WIDE: &[u8] = b"4k3/8/8/3q4/8/8/8/4K3 w K -\n";
+
+/// The certificate that expands the position, with these retractions but the last so many, each of which `rule rights` supports.
+fn wide(alloc: Global, lines: &[u8], left_out: usize) -> Result<Vec<u8>, AllocError> {
+    let all = lines.split(|byte| *byte == b'\n').count();
+    // The total and the end of its line are no retractions.
+    let count = all.saturating_sub(2).saturating_sub(left_out);
+    let mut text = Vec::from_slice(alloc, b"retro 1\nclaim illegal\nfen ")?;
+    text.extend_from_slice(WIDE)?;
+    let root = format!(in alloc; "root expand {count}\n")?;
+    text.extend_from_slice(root.as_bytes())?;
+    for (i, line) in lines.split(|byte| *byte == b'\n').enumerate() {
+        if i < count {
+            if let Some(label) = line.split(|byte| *byte == b' ').next() {
+                text.extend_from_slice(label)?;
+                text.extend_from_slice(b" rule rights\n")?;
+            }
+        }
+    }
+    Ok(text)
+}
+
+/// Each label is compared, however many there are.
+#[test]
+fn compares_all_labels(rt: HostRuntime) -> Result<(), Fail> {
+    let (_, listed) = run_on(rt.alloc(), &["unmoves"], WIDE, None, None)?;
+    let lines = listed.taken();
+    assert!(rt; lines.split(|byte| *byte == b'\n').count() > 143);
+    let whole = wide(rt.alloc(), lines, 0)?;
+    let (status, sink) = run_on(rt.alloc(), CHECK, &whole, None, None)?;
+    assert_eq!(rt; status, Status::Done);
+    assert!(rt; sink.taken() == b"accepted illegal 4k3/8/8/3q4/8/8/8/4K3 w K -\n".as_slice());
+    let part = wide(rt.alloc(), lines, 1)?;
+    let (status, sink) = run_on(rt.alloc(), CHECK, &part, None, None)?;
+    assert_eq!(rt; status, Status::Refused);
+    assert!(rt; sink.taken().starts_with(b"refused line 4 unlisted "));
     Ok(())
 }
