@@ -246,7 +246,7 @@ fn at_most_one(alloc: Global, number: Option<u32>) -> Result<Vec<u32>, AllocErro
 
 /// The status and the sink of a run with these words on this input, reading ten bytes a call and writing one, with these calls
 /// failing.
-pub fn run_on(
+pub(crate) fn run_on(
     alloc: Global,
     words: &[&str],
     input: &[u8],
@@ -265,7 +265,7 @@ pub fn run_on(
 }
 
 /// The rows are answered with their statuses and texts.
-pub fn assert_answers(
+pub(crate) fn assert_answers(
     rt: &(impl Abort + Alloc<A = Global>),
     rows: &[Row],
 ) -> Result<(), AllocError> {
