@@ -77,7 +77,7 @@ carry-surplus c board from to len f t same =
     none-gain (counts_of c board) (counts_of c (carry board from to None)) (same-count c Pawn is_any board from to len f t refl) (same-count c Queen is_any board from to len f t refl) (same-count c Rook is_any board from to len f t refl) (same-count c Knight is_any board from to len f t refl)
     (same-count c Bishop is_light board from to len f t (bishop-same c (at board from) (is_light from) (is_light to) same)) (same-count c Bishop is_dark board from to len f t (bishop-same c (at board from) (is_dark from) (is_dark to) (λ h. ap not (same h))))
 
-pawn_is : (k : Kind) → same_kind Pawn k ≡ true → k ≡ Pawn
+pub pawn_is : (k : Kind) → same_kind Pawn k ≡ true → k ≡ Pawn
 pawn_is Pawn h = refl
 pawn_is Knight h = cc
 pawn_is Bishop h = cc

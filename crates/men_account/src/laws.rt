@@ -1,11 +1,26 @@
-ghost use Rattle.std.specs.Prelude.{Bool, List, IsTrue};
+ghost use Rattle.std.specs.Prelude.{Bool, List, IsTrue, ◌≡◌, ◌++◌, ◌∷◌, [], length};
+ghost use Rattle.board_base.specs.Board.{array_of};
 ghost use Rattle.board_base.specs.declared.men.Colour.{Colour as AColour};
 ghost use Rattle.board_base.specs.declared.moves.Move.{Move};
 ghost use Rattle.board_base.specs.Game.{IsGame, board_after};
 ghost use Rattle.men_account.specs.Account.{accounts_for};
+ghost use Rattle.men_account.specs.Labels.{AreApart, HasColourOf, HoldsOfEach, IsPromotedFrom, LabelsEachMan, labels_after, relabelled};
 
 /// The law that in every game, from the array without any of its men, neither side has more pawns and promoted men than the
 /// eight pawns that it began with (articles 2.2 and 3.7): where `account_ok` is false, no game leads to the board.
 pub fn accounts_hold()
     ensures { (o : List Bool) (g : List Move) → IsGame o g → (c : AColour) → IsTrue (accounts_for (board_after o g) c) }
+{}
+
+/// The laws of labelled men, in every game from the array without any of its men. Each man carries the square on which he began
+/// as his label, also after a promotion. The labels go where a move takes the men. A square has a label exactly where a man
+/// stands; no two squares have the same label; the man who began on the label has the colour of the man who carries it; and where
+/// he had another kind, he was a pawn and has become an officer (article 3.7).
+pub fn men_keep_labels()
+    ensures moved { (o : List Bool) (g : List Move) (m : Move) → labels_after o (g ++ m ∷ []) ≡ relabelled (board_after o g) (labels_after o g) m }
+    ensures whole { (o : List Bool) (g : List Move) → IsGame o g → length (labels_after o g) ≡ 64 }
+    ensures each_man { (o : List Bool) (g : List Move) → IsGame o g → LabelsEachMan (board_after o g) (labels_after o g) }
+    ensures apart { (o : List Bool) (g : List Move) → IsGame o g → AreApart (labels_after o g) }
+    ensures colours { (o : List Bool) (g : List Move) → IsGame o g → HoldsOfEach (board_after o g) (labels_after o g) (HasColourOf (array_of o)) }
+    ensures promotions { (o : List Bool) (g : List Move) → IsGame o g → HoldsOfEach (board_after o g) (labels_after o g) (IsPromotedFrom (array_of o)) }
 {}

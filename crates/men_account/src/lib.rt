@@ -8,6 +8,6 @@ mod shades;
 mod sums;
 mod tallies;
 
-pub use laws::accounts_hold;
+pub use laws::{accounts_hold, men_keep_labels};
 pub use sums::{account_ok, counts, excess};
 pub use tallies::{Allowance, Counts};
