@@ -1,7 +1,8 @@
 -- What the program answers.
-use Rattle.std.specs.Prelude.{ℕ, ◌≤◌, List, length, String, Option}
+use Rattle.std.specs.Prelude.{ℕ, ◌≤◌, List, length, String, Option, IfSome}
 use Rattle.std.specs.Global.{Global}
 use Rattle.std.specs.Io.KnownBytes.{Appends, Consumes, IsAtEnd}
+use Rattle.retro_ports.specs.Causes.{Rose}
 use Rattle.retro_ports.specs.Ends.{TakesPrefix}
 use Rattle.board_base.specs.declared.moves.Move.{Move}
 use Rattle.query_base.specs.Asked.{Asked}
@@ -47,9 +48,19 @@ abbrev pub Accepts : List ℕ → Option (List ℕ) → Option (List ℕ) → Ty
 Accepts input old new =
     (cert : Certificate) × IsTextOf input cert × ProvesClaim cert × Appends old new (accepted_line (cut input)) × Holds cert.claim cert.query
 
+-- the bytes are the text of a certificate that proves its claim
+abbrev pub ProvesSome : List ℕ → Type 0
+ProvesSome input = (cert : Certificate) × IsTextOf input cert × ProvesClaim cert
+
 -- the bytes are the text of no certificate that proves its claim
 abbrev pub ProvesNothing : List ℕ → Type 0
-ProvesNothing input = (cert : Certificate) → IsTextOf input cert → ProvesClaim cert → ⊥
+ProvesNothing input = ProvesSome input → ⊥
+
+-- Where the source tells its bytes, they are no more than the limit, and its count of faults and the sink's didn't rise: this
+-- holds of the bytes then.
+abbrev pub Unhindered : ℕ → Option (List ℕ) → ℕ → ℕ → ℕ → ℕ → (List ℕ → Type 0) → Type 0
+Unhindered limit left source_old source_new sink_old sink_new holds =
+    (Rose source_old source_new → ⊥) → (Rose sink_old sink_new → ⊥) → IfSome left (λ input. length input ≤ limit → holds input)
 
 -- some legal game reaches the position that the input asks for
 abbrev pub HasGame : List ℕ → Type 0
