@@ -9,12 +9,13 @@ use Rattle.query_base.specs.Asked.{Asked}
 use Rattle.query_base.specs.Reach.{Holds, Reaches}
 use Rattle.cert_text.specs.Lines.{cut}
 use Rattle.cert_text.specs.Certificate.{Certificate, IsTextOf}
+use Rattle.game_text.specs.Words.{words, AreTextsOf}
 use Rattle.cert_checker.specs.Proving.{ProvesClaim}
 use Rattle.retro_top.specs.Commands.{Call}
 use Rattle.retro_top.specs.Checks.{AnswersCheck, accepted_line}
 use Rattle.retro_top.specs.Plays.{AnswersPlay}
-use Rattle.retro_top.specs.Questions.{Asks}
-use Rattle.retro_top.specs.Retractions.{AnswersUnmoves}
+use Rattle.retro_top.specs.Questions.{Asks, after_first}
+use Rattle.retro_top.specs.Retractions.{AnswersUnmoves, AsksForUnmoves}
 use Rattle.retro_top.specs.declared.statuses.Status.{Status}
 use Rattle.retro_top.specs.declared.commands.Command.{Command}
 use Rattle.retro_top.specs.declared.commands.Command.TheVariants.{Check, Play, Unmoves}
@@ -62,6 +63,12 @@ abbrev pub Unhindered : ℕ → Option (List ℕ) → ℕ → ℕ → ℕ → �
 Unhindered limit left source_old source_new sink_old sink_new holds =
     (Rose source_old source_new → ⊥) → (Rose sink_old sink_new → ⊥) → IfSome left (λ input. length input ≤ limit → holds input)
 
--- some legal game reaches the position that the input asks for
-abbrev pub HasGame : List ℕ → Type 0
-HasGame input = (q : Asked) × (g : List Move) × Asks input q × Reaches g q
+-- the input's words after its first line are the moves of a legal game, which reaches the query of that line
+abbrev pub TellsGame : List ℕ → Type 0
+TellsGame input = (q : Asked) × (g : List Move) × Asks input q × AreTextsOf (words (after_first input)) g × Reaches g q
+
+-- with this input the command succeeds
+abbrev pub Succeeds : Command → List ℕ → Type 0
+Succeeds Check input = ProvesSome input
+Succeeds Play input = TellsGame input
+Succeeds Unmoves input = AsksForUnmoves input

@@ -25,6 +25,10 @@ unmoves_lines q us = flat_map (unmove_line q) us
 abbrev pub unmoves_text : Asked → List ℕ
 unmoves_text q = unmoves_lines q (unmoves q) ++ ended (codes "total " ++ decimal (length (unmoves q)))
 
+-- the input is one line, which asks for a query
+abbrev pub AsksForUnmoves : List ℕ → Type 0
+AsksForUnmoves input = (q : Asked) × Asks input q × (after_first input ≡ [])
+
 -- the line that says that the input has a second line
 abbrev pub second_line : List ℕ
 second_line = ended (codes "bad line 2")

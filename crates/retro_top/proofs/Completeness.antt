@@ -1,0 +1,131 @@
+-- A command succeeds exactly where its input is of the form that it asks for.
+use Rattle.std.proofs.Common.{◌≡◌, ◌⊎◌, inl, inr, ℕ, Bool, true, false, List, [], ◌∷◌, ◌++◌, map, refl, sym, ap, ◌∙◌, subst}
+use Rattle.std.proofs.lemmas.Bool.{both_ways}
+use Rattle.std.proofs.lemmas.Option.{same_Some}
+use Rattle.std.specs.Prelude.{Option, Some, None}
+use Rattle.board_base.specs.Board.{no_odds}
+use Rattle.board_base.specs.Game.{IsGame}
+use Rattle.board_base.specs.Texts.{move_of}
+use Rattle.board_base.specs.declared.moves.Move.{Move}
+use Rattle.query_base.specs.Asked.{Asked}
+use Rattle.query_base.specs.Reach.{Reaches}
+use Rattle.fen_text.specs.Parts.{parted}
+use Rattle.fen_text.specs.Ranks.{rank}
+use Rattle.fen_text.specs.Fen.{fen, placement, ranks}
+use Rattle.game_text.specs.Words.{words, AreTextsOf, FirstBad}
+use Rattle.game_text.specs.Replay.{FirstIllegal}
+use Rattle.retro_top.specs.Answers.{AnswersAs, Succeeds, ProvesSome, TellsGame}
+use Rattle.retro_top.specs.Plays.{AnswersPlay, AnswersGame, AnswersMoves}
+use Rattle.retro_top.specs.Questions.{Asks, IsNoQuestion, first_line, after_first}
+use Rattle.retro_top.specs.Retractions.{AnswersUnmoves, AsksForUnmoves}
+use Rattle.retro_top.specs.declared.commands.Command.{Command}
+use Rattle.retro_top.specs.declared.commands.Command.TheVariants.{Check, Play, Unmoves}
+use Rattle.retro_top.specs.declared.questions.NoQuestion.{NoQuestion}
+use Rattle.retro_top.specs.declared.questions.NoQuestion.TheVariants.{NoLine, BadFen}
+use Rattle.retro_top.specs.declared.statuses.Status.{Status}
+use Rattle.retro_top.specs.declared.statuses.Status.TheVariants.{Done, Refused, Undecided, Spent, Countered, BadWords, BadInput, ReadFault, WriteFault, Memory, TooLong}
+use Rattle.retro_top.proofs.Headline.{OneAnswer, CertificatesProve, Proved, done-proved, proves-done}
+
+-- the first line asks one query
+asks-one : (input : List ℕ) (q r : Asked) → Asks input q → Asks input r → q ≡ r
+asks-one input q r a b = ap (λ (x : Asked × Option (ℕ × ℕ)). x.0) (same_Some _ _ (sym a.1 ∙ b.1))
+
+-- no line is no FEN
+no-line : fen (first_line []) ≡ None
+unfolding first_line fen parted placement ranks rank
+no-line = refl
+
+never : {A : Type 0} (x : A) → None ≡ Some x → ⊥
+never x e = cc
+
+asks-some : (input : List ℕ) (q : Asked) (why : NoQuestion) → Asks input q → IsNoQuestion input why → ⊥
+asks-some input q NoLine a none =
+    never (q, a.0) (sym no-line ∙ ap (λ (l : List ℕ). fen (first_line l)) (sym none) ∙ a.1)
+asks-some input q (BadFen fault) a none = never (q, a.0) (sym none.1.place.unknown ∙ a.1)
+
+same-moves : (g h : List Move) → map (λ m. Some m) g ≡ map (λ m. Some m) h → g ≡ h
+same-moves [] [] e = refl
+same-moves [] (n ∷ h) e = cc
+same-moves (m ∷ g) [] e = cc
+same-moves (m ∷ g) (n ∷ h) e =
+    let first : m ≡ n = cc in
+    let rest : map (λ k. Some k) g ≡ map (λ k. Some k) h = cc in
+    ap (λ (k : Move). k ∷ g) first ∙ ap (λ (l : List Move). n ∷ l) (same-moves g h rest)
+
+-- among the texts of moves each is one
+no-bad : (before : List (List ℕ)) (text : List ℕ) (after : List (List ℕ)) (g : List Move) → map move_of (before ++ text ∷ after) ≡ map (λ m. Some m) g → move_of text ≡ None → ⊥
+no-bad [] text after [] e bad = cc
+no-bad [] text after (m ∷ g) e bad = let first : move_of text ≡ Some m = cc in cc
+no-bad (b ∷ before) text after [] e bad = cc
+no-bad (b ∷ before) text after (m ∷ g) e bad = let rest : map move_of (before ++ text ∷ after) ≡ map (λ k. Some k) g = cc in no-bad before text after g rest bad
+
+moves-done : (q : Asked) (g : List Move) (ending : Status) (text : List ℕ) → AnswersMoves q g ending text → Reaches g q → ending ≡ Done
+moves-done q g Done text answers reached = refl
+moves-done q g Refused text answers reached = elim answers [
+  | inl first ↦ absurd (both_ways _ first.1.illegal (reached.game first.1.before first.1.after first.1.move first.1.split))
+  | inr other ↦ absurd (other.1 reached)
+]
+moves-done q g Undecided text answers reached = absurd answers
+moves-done q g Spent text answers reached = absurd answers
+moves-done q g Countered text answers reached = absurd answers
+moves-done q g BadWords text answers reached = absurd answers
+moves-done q g BadInput text answers reached = absurd answers
+moves-done q g ReadFault text answers reached = absurd answers
+moves-done q g WriteFault text answers reached = absurd answers
+moves-done q g Memory text answers reached = absurd answers
+moves-done q g TooLong text answers reached = absurd answers
+
+game-done : (q : Asked) (bytes : List ℕ) (g : List Move) (ending : Status) (text : List ℕ) → AnswersGame q bytes ending text → AreTextsOf (words bytes) g → Reaches g q → ending ≡ Done
+game-done q bytes g ending text answers are reached = elim answers [
+  | inl told ↦
+      let same : g ≡ told.0 = same-moves g told.0 (sym are ∙ told.1) in
+      moves-done q told.0 ending text told.2 (subst (λ (h : List Move). Reaches h q) same reached)
+  | inr bad ↦ absurd (no-bad bad.1.before bad.1.text bad.1.after g (ap (map move_of) (sym bad.1.split) ∙ are) bad.1.bad)
+]
+
+play-done : (input : List ℕ) (ending : Status) (text : List ℕ) → AnswersPlay input ending text → TellsGame input → ending ≡ Done
+play-done input ending text answers game = elim answers [
+  | inl asked ↦
+      let same : game.0 ≡ asked.0 = asks-one input game.0 asked.0 game.2 asked.1 in
+      game-done asked.0 (after_first input) game.1 ending text asked.2 game.3 (subst (λ (q : Asked). Reaches game.1 q) same game.4)
+  | inr none ↦ absurd (asks-some input game.0 none.0 game.2 none.1)
+]
+
+unmoves-done : (input : List ℕ) (ending : Status) (text : List ℕ) → AnswersUnmoves input ending text → AsksForUnmoves input → ending ≡ Done
+unmoves-done input ending text answers asks = elim answers [
+  | inl listed ↦ listed.3
+  | inr other ↦ elim other [
+    | inl longer ↦ absurd (longer.2 asks.2)
+    | inr none ↦ absurd (asks-some input asks.0 none.0 asks.1 none.1)
+  ]
+]
+
+-- where the input is of the form that the command asks for, the command succeeds
+pub succeeds-done : OneAnswer → (command : Command) (input : List ℕ) (ending : Status) (text : List ℕ) → AnswersAs command input ending text → Succeeds command input → ending ≡ Done
+succeeds-done law Check input ending text answers good = proves-done law input text ending answers good
+succeeds-done law Play input ending text answers good = play-done input ending text answers good
+succeeds-done law Unmoves input ending text answers good = unmoves-done input ending text answers good
+
+done-game : (input text : List ℕ) → AnswersPlay input Done text → TellsGame input
+done-game input text answers = elim answers [
+  | inl asked ↦ elim asked.2 [
+    | inl told ↦ (asked.0, told.0, asked.1, told.1, told.2.0)
+    | inr bad ↦ let e = bad.2 in cc
+  ]
+  | inr none ↦ let e = none.2 in cc
+]
+
+done-unmoves : (input text : List ℕ) → AnswersUnmoves input Done text → AsksForUnmoves input
+done-unmoves input text answers = elim answers [
+  | inl listed ↦ (listed.0, listed.1, listed.2)
+  | inr other ↦ elim other [
+    | inl longer ↦ let e = longer.3 in cc
+    | inr none ↦ let e = none.2 in cc
+  ]
+]
+
+-- where the command succeeds, the input is of that form
+pub done-succeeds : CertificatesProve → (command : Command) (input text : List ℕ) → AnswersAs command input Done text → Succeeds command input
+done-succeeds law Check input text answers = let proved = done-proved law input text answers in (proved.cert, proved.is_text, proved.proves)
+done-succeeds law Play input text answers = done-game input text answers
+done-succeeds law Unmoves input text answers = done-unmoves input text answers
