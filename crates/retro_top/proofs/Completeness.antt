@@ -1,10 +1,8 @@
 -- A command succeeds exactly where its input is of the form that it asks for.
-use Rattle.std.proofs.Common.{◌≡◌, ◌⊎◌, inl, inr, ℕ, Bool, true, false, List, [], ◌∷◌, ◌++◌, map, refl, sym, ap, ◌∙◌, subst}
+use Rattle.std.proofs.Common.{◌≡◌, inl, inr, ℕ, List, [], ◌∷◌, ◌++◌, map, refl, sym, ap, ◌∙◌, subst}
 use Rattle.std.proofs.lemmas.Bool.{both_ways}
 use Rattle.std.proofs.lemmas.Option.{same_Some}
 use Rattle.std.specs.Prelude.{Option, Some, None}
-use Rattle.board_base.specs.Board.{no_odds}
-use Rattle.board_base.specs.Game.{IsGame}
 use Rattle.board_base.specs.Texts.{move_of}
 use Rattle.board_base.specs.declared.moves.Move.{Move}
 use Rattle.query_base.specs.Asked.{Asked}
@@ -12,9 +10,8 @@ use Rattle.query_base.specs.Reach.{Reaches}
 use Rattle.fen_text.specs.Parts.{parted}
 use Rattle.fen_text.specs.Ranks.{rank}
 use Rattle.fen_text.specs.Fen.{fen, placement, ranks}
-use Rattle.game_text.specs.Words.{words, AreTextsOf, FirstBad}
-use Rattle.game_text.specs.Replay.{FirstIllegal}
-use Rattle.retro_top.specs.Answers.{AnswersAs, Succeeds, ProvesSome, TellsGame}
+use Rattle.game_text.specs.Words.{words, AreTextsOf}
+use Rattle.retro_top.specs.Answers.{AnswersAs, Succeeds, TellsGame}
 use Rattle.retro_top.specs.Plays.{AnswersPlay, AnswersGame, AnswersMoves}
 use Rattle.retro_top.specs.Questions.{Asks, IsNoQuestion, first_line, after_first}
 use Rattle.retro_top.specs.Retractions.{AnswersUnmoves, AsksForUnmoves}
@@ -24,7 +21,7 @@ use Rattle.retro_top.specs.declared.questions.NoQuestion.{NoQuestion}
 use Rattle.retro_top.specs.declared.questions.NoQuestion.TheVariants.{NoLine, BadFen}
 use Rattle.retro_top.specs.declared.statuses.Status.{Status}
 use Rattle.retro_top.specs.declared.statuses.Status.TheVariants.{Done, Refused, Undecided, Spent, Countered, BadWords, BadInput, ReadFault, WriteFault, Memory, TooLong}
-use Rattle.retro_top.proofs.Headline.{OneAnswer, CertificatesProve, Proved, done-proved, proves-done}
+use Rattle.retro_top.proofs.Headline.{OneAnswer, CertificatesProve, done-proved, proves-done}
 
 -- the first line asks one query
 asks-one : (input : List ℕ) (q r : Asked) → Asks input q → Asks input r → q ≡ r
