@@ -13,10 +13,12 @@ use Rattle.play_rules.specs.Laws.{HasNoPawnOnEnds}
 use Rattle.play_rules.proofs.Kings.{one_king_each}
 use Rattle.play_rules.proofs.Ends.{no_pawn_on_ends}
 use Rattle.play_rules.proofs.Attacked.{no_king_left_attacked}
+use Rattle.men_account.specs.Account.{accounts_for}
+use Rattle.men_account.proofs.Surplus.{accounts_hold}
 use Rattle.query_base.specs.Asked.{Asked}
 use Rattle.query_base.specs.Reach.{Reaches}
 use Rattle.query_base.specs.declared.rule_lines.RuleLine.{RuleLine}
-use Rattle.query_base.specs.declared.rule_lines.RuleLine.TheVariants.{Kings, Ranks, Check, Rights}
+use Rattle.query_base.specs.declared.rule_lines.RuleLine.TheVariants.{Kings, Ranks, Check, Rights, Count}
 use Rattle.static_rules.specs.Supports.{Supports}
 use Rattle.static_rules.proofs.Homes.{rights_have_homes}
 
@@ -30,3 +32,5 @@ unreached q Check attacked g r =
     both_ways _ here attacked
 unreached q Rights broken g r =
     broken (λ x held. subst (λ (b : Places). are_at_home b x ≡ true) r.board (rights_have_homes no_odds g x r.game (r.held x held)))
+unreached q (Count side) broken g r =
+    broken (subst (λ (b : Places). accounts_for b side ≡ true) r.board (accounts_hold no_odds g r.game side))

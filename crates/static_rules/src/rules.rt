@@ -5,6 +5,7 @@ ghost use Rattle.static_rules.specs.Supports.{Supports};
 
 use crate::boards::{has_no_pawn_on_ends, has_one_king_each};
 use castle_history::held_fits;
+use men_account::account_ok;
 use play_rules::in_check;
 use query_base::{Query, RuleLine};
 
@@ -16,12 +17,15 @@ fn breaks_law(query: &Query, rule: &RuleLine) -> bool
         RuleLine::Ranks => !has_no_pawn_on_ends(&query.board),
         RuleLine::Check => in_check(&query.board, query.turn.other()),
         RuleLine::Rights => !held_fits(&query.board, query.held),
+        RuleLine::Count(side) => !account_ok(&query.board, *side),
     }
 }
 
 /// Whether the rule line is a reason why no game reaches the query. `Kings`: some colour hasn't exactly one king. `Ranks`: a pawn
 /// stands on rank 1 or 8. `Check`: some king of the side not to move is attacked by the side to move. `Rights`: a right of `held`
-/// has not both its king and its rook, of its colour, at home. Where the answer is yes, no game of any length reaches the query.
+/// has not both its king and its rook, of its colour, at home. `Count`: the side's pawns, its queens over 1, rooks over 2, knights
+/// over 2, bishops on light squares over 1 and bishops on dark squares over 1 are together more than 8. Where the answer is yes, no
+/// game of any length reaches the query.
 pub fn supports(query: &Query, rule: &RuleLine) -> bool
     ensures answer { IsTrue result ↔ Supports query.now rule.now }
     ensures unreached { IsTrue result → (g : List Move) → Reaches g query.now → ⊥ }
@@ -60,11 +64,15 @@ mod tests {
             kind: Kind::Knight,
         };
         knight_on_f6.board.put(Square::known(45), Some(knight));
+        let mut ninth_pawn = array;
+        ninth_pawn.board.put(Square::known(16), Some(pawn));
         for rule in [
             RuleLine::Kings,
             RuleLine::Ranks,
             RuleLine::Check,
             RuleLine::Rights,
+            RuleLine::Count(Colour::White),
+            RuleLine::Count(Colour::Black),
         ] {
             assert!(rt; !supports(&array, &rule));
         }
@@ -72,6 +80,8 @@ mod tests {
         assert!(rt; supports(&no_king, &RuleLine::Kings));
         assert!(rt; supports(&pawn_on_a1, &RuleLine::Ranks));
         assert!(rt; supports(&knight_on_f6, &RuleLine::Check));
+        assert!(rt; supports(&ninth_pawn, &RuleLine::Count(Colour::White)));
+        assert!(rt; !supports(&ninth_pawn, &RuleLine::Count(Colour::Black)));
         rights_have_homes();
     }
 }
