@@ -127,7 +127,8 @@ ranks_spelled (suc n) text board good =
       omega (arith, ap length below.2, length-append xs r),
     )
 
-turn_spelled : (text : List ℕ) (t : Colour) → turn text ≡ Some t → text ≡ turn_letter t ∷ []
+-- the text of a side is its letter
+pub turn_spelled : (text : List ℕ) (t : Colour) → turn text ≡ Some t → text ≡ turn_letter t ∷ []
 turn_spelled [] t e = cc
 turn_spelled (c ∷ []) t e =
     let P : Colour → Type 0 = λ t. c ≡ turn_letter t in

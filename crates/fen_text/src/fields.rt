@@ -7,8 +7,8 @@ ghost use Rattle.fen_text.specs.Faults.{ReadsPart};
 
 use board_base::{Castle, CastleSet, Colour, Move, Square};
 
-/// The side to move, or how many bytes begin one.
-pub(crate) fn read_turn(text: &[u8]) -> Result<Colour, usize>
+/// Reads a side, `w` or `b`, or says how many bytes begin one.
+pub fn read_turn(text: &[u8]) -> Result<Colour, usize>
     ensures { ReadsPart turn text.now result }
 {
     if text.is_empty() {
