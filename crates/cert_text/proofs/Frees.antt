@@ -14,7 +14,7 @@ use Rattle.board_base.specs.declared.moves.Move.{Move}
 use Rattle.board_base.specs.declared.unmoves.Unmove.{Unmove}
 use Rattle.query_base.specs.Asked.{Asked}
 use Rattle.query_base.specs.declared.rule_lines.RuleLine.{RuleLine}
-use Rattle.query_base.specs.declared.rule_lines.RuleLine.TheVariants.{Kings, Ranks, Check, Rights as RightsRule}
+use Rattle.query_base.specs.declared.rule_lines.RuleLine.TheVariants.{Kings, Ranks, Check, Rights as RightsRule, Count}
 use Rattle.fen_text.specs.Fen.{is_digit, en_passant_digit}
 use Rattle.fen_text.specs.Parts.{Free}
 use Rattle.fen_text.specs.Spelling.{symbol, run_text, rank_text, rank_of, ranks_text, turn_letter, rights_text, en_passant_text, spelling}
@@ -69,6 +69,8 @@ rule_free Kings = refl
 rule_free Ranks = refl
 rule_free Check = refl
 rule_free RightsRule = refl
+rule_free (Count White) = refl
+rule_free (Count Black) = refl
 
 -- the text of a body has no line end
 pub body_free : (depth : ℕ) (b : BodyLine) → depth ≤ 255 → fits_depth depth b ≡ true → Free 10 (body_text b)

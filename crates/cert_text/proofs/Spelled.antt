@@ -8,8 +8,12 @@ use Rattle.std.proofs.lemmas.Slice.Eq.{bytes_eq-Decides, starts_is}
 use Rattle.std.specs.List.{starts_with}
 use Rattle.std.specs.Str.{bytes_eq}
 use Rattle.std.specs.Option.{option_map, option_and_then}
+use Rattle.board_base.specs.declared.men.Colour.{Colour}
+use Rattle.board_base.specs.declared.men.Colour.TheVariants.{White, Black}
 use Rattle.query_base.specs.declared.rule_lines.RuleLine.{RuleLine}
-use Rattle.query_base.specs.declared.rule_lines.RuleLine.TheVariants.{Kings, Ranks, Check, Rights}
+use Rattle.query_base.specs.declared.rule_lines.RuleLine.TheVariants.{Kings, Ranks, Check, Rights, Count}
+use Rattle.fen_text.specs.Fen.{turn}
+use Rattle.fen_text.proofs.OneText.{turn_spelled}
 use Rattle.cert_text.specs.NodeLines.{rule_of, number, back_at, expand_at, body_at}
 use Rattle.cert_text.specs.Writable.{rule_name, body_text, fits_depth}
 use Rattle.cert_text.specs.declared.node_lines.BodyLine.{BodyLine}
@@ -24,6 +28,8 @@ rule_back depth Kings = refl
 rule_back depth Ranks = refl
 rule_back depth Check = refl
 rule_back depth Rights = refl
+rule_back depth (Count White) = refl
+rule_back depth (Count Black) = refl
 
 back_read : (depth k : ℕ) → k ≤ 999999 → body_at depth (body_text (Back k)) ≡ back_at depth k
 unfolding body_at
@@ -58,17 +64,23 @@ only_none P a e = absurd cc
 named : (name text : List ℕ) (r s : RuleLine) → rule_name r ≡ name → bytes_eq text name ≡ true → Some r ≡ Some s → text ≡ rule_name s
 named name text r s is same e = (bytes_eq-Decides text name).0 same ∙ sym is ∙ ap rule_name (same_Some r s e)
 
+-- a text that begins so
+pub begun : (text front : List ℕ) → starts_with nat_eq text front ≡ true → text ≡ front ++ drop (length front) text
+begun text front = (starts_is Decides-eqb text front (starts_with nat_eq text front) refl).0
+
+after_count : (text : List ℕ) (o : Option Colour) → text ≡ codes "count " ++ drop 6 text → turn (drop 6 text) ≡ o → Only (λ r. text ≡ rule_name r) (option_map (λ side. Count side) o)
+after_count text None whole e r is = absurd cc
+after_count text (Some side) whole e r is =
+    whole ∙ ap (λ (l : List ℕ). codes "count " ++ l) (turn_spelled (drop 6 text) side e) ∙ ap rule_name (same_Some _ _ is)
+
 rule_read : (text : List ℕ) → Only (λ r. text ≡ rule_name r) (rule_of text)
 rule_read text =
     cond_both (bytes_eq text (codes "kings")) _ _ (Only (λ r. text ≡ rule_name r)) (λ t r. named (codes "kings") text Kings r refl t)
     (λ f. cond_both (bytes_eq text (codes "ranks")) _ _ (Only (λ r. text ≡ rule_name r)) (λ t r. named (codes "ranks") text Ranks r refl t)
     (λ f. cond_both (bytes_eq text (codes "check")) _ _ (Only (λ r. text ≡ rule_name r)) (λ t r. named (codes "check") text Check r refl t)
     (λ f. cond_both (bytes_eq text (codes "rights")) _ _ (Only (λ r. text ≡ rule_name r)) (λ t r. named (codes "rights") text Rights r refl t)
-    (λ f. only_none (λ r. text ≡ rule_name r)))))
-
--- a text that begins so
-pub begun : (text front : List ℕ) → starts_with nat_eq text front ≡ true → text ≡ front ++ drop (length front) text
-begun text front = (starts_is Decides-eqb text front (starts_with nat_eq text front) refl).0
+    (λ f. cond_both (starts_with nat_eq text (codes "count ")) _ _ (Only (λ r. text ≡ rule_name r)) (λ t. after_count text (turn (drop 6 text)) (begun text (codes "count ") t) refl)
+    (λ f. only_none (λ r. text ≡ rule_name r))))))
 
 after_rule : (depth : ℕ) (text : List ℕ) (o : Option RuleLine) → text ≡ codes "rule " ++ drop 5 text → rule_of (drop 5 text) ≡ o → Only (IsTextOfBody depth text) (option_map (λ r. Rule r) o)
 after_rule depth text None whole e b is = absurd cc

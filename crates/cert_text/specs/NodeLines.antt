@@ -6,8 +6,8 @@ use Rattle.std.specs.Option.{option_map, option_and_then}
 use Rattle.board_base.specs.Texts.{unmove_from}
 use Rattle.board_base.specs.declared.unmoves.Unmove.{Unmove}
 use Rattle.query_base.specs.declared.rule_lines.RuleLine.{RuleLine}
-use Rattle.query_base.specs.declared.rule_lines.RuleLine.TheVariants.{Kings, Ranks, Check, Rights}
-use Rattle.fen_text.specs.Fen.{is_digit, value}
+use Rattle.query_base.specs.declared.rule_lines.RuleLine.TheVariants.{Kings, Ranks, Check, Rights, Count}
+use Rattle.fen_text.specs.Fen.{is_digit, turn, value}
 use Rattle.fen_text.specs.Parts.{parted}
 use Rattle.cert_text.specs.declared.node_lines.BodyLine.{BodyLine}
 use Rattle.cert_text.specs.declared.node_lines.BodyLine.TheVariants.{Rule, Back, Expand}
@@ -25,10 +25,14 @@ is_number text = nat_le 1 (length text) && nat_le (length text) 6 && is_plain te
 unfoldable pub number : List ℕ → Option ℕ
 number text = cond (is_number text) (Some (value text)) None
 
--- the rule of this name
+-- the rule of this name; behind `count` stands the letter of a side
 abbrev pub rule_of : List ℕ → Option RuleLine
 rule_of name =
-    cond (bytes_eq name (codes "kings")) (Some Kings) (cond (bytes_eq name (codes "ranks")) (Some Ranks) (cond (bytes_eq name (codes "check")) (Some Check) (cond (bytes_eq name (codes "rights")) (Some Rights) None)))
+    cond (bytes_eq name (codes "kings")) (Some Kings) (
+    cond (bytes_eq name (codes "ranks")) (Some Ranks) (
+    cond (bytes_eq name (codes "check")) (Some Check) (
+    cond (bytes_eq name (codes "rights")) (Some Rights) (
+    cond (starts_with nat_eq name (codes "count ")) (option_map (λ side. Count side) (turn (drop 6 name))) None))))
 
 -- from 1 to the node's depth
 abbrev pub back_at : ℕ → ℕ → Option BodyLine

@@ -1,11 +1,12 @@
 -- The texts of nodes' lines, and which trees have a text.
-use Rattle.std.specs.Prelude.{ℕ, suc, ◌≡◌, Bool, true, ◌&&◌, ◌||◌, ◌==◌, nat_lt, nat_le, List, ◌∷◌, ◌++◌, length, codes, IsTrue, Option, Some, None}
+use Rattle.std.specs.Prelude.{ℕ, suc, ◌≡◌, Bool, true, ◌&&◌, ◌||◌, ◌==◌, nat_lt, nat_le, List, [], ◌∷◌, ◌++◌, length, codes, IsTrue, Option, Some, None}
 use Rattle.std.specs.Fmt.{decimal}
 use Rattle.board_base.specs.Texts.{unmove_text, can_promote, can_capture}
 use Rattle.board_base.specs.declared.unmoves.Unmove.{Unmove}
 use Rattle.query_base.specs.declared.rule_lines.RuleLine.{RuleLine}
-use Rattle.query_base.specs.declared.rule_lines.RuleLine.TheVariants.{Kings, Ranks, Check, Rights}
+use Rattle.query_base.specs.declared.rule_lines.RuleLine.TheVariants.{Kings, Ranks, Check, Rights, Count}
 use Rattle.query_base.specs.Asked.{Asked, is_of_other_side}
+use Rattle.fen_text.specs.Spelling.{turn_letter}
 use Rattle.cert_text.specs.Tree.{Tree, Forest, rule, back, expand, none, more, count}
 use Rattle.cert_text.specs.declared.node_lines.BodyLine.{BodyLine}
 use Rattle.cert_text.specs.declared.node_lines.BodyLine.TheVariants.{Rule, Back, Expand}
@@ -16,6 +17,7 @@ rule_name Kings = codes "kings"
 rule_name Ranks = codes "ranks"
 rule_name Check = codes "check"
 rule_name Rights = codes "rights"
+rule_name (Count side) = codes "count " ++ turn_letter side ∷ []
 
 -- the one text of a body
 abbrev pub body_text : BodyLine → List ℕ

@@ -1,11 +1,11 @@
 ghost use Rattle.std.specs.Prelude.{◌≡◌, ◌≤◌, ◌<◌, ◌==◌, cond, IfSome, MatchOption, None, Some, length, is_none};
 ghost use Rattle.std.specs.List.{list_all};
-ghost use Rattle.fen_text.specs.Fen.{is_digit, value};
+ghost use Rattle.fen_text.specs.Fen.{is_digit, turn, value};
 ghost use Rattle.cert_text.specs.NodeLines.{back_at, body_at, expand_at, is_plain, kid_body, node_line, number, root_body, rule_of};
 
 use crate::lines::is_text;
-use board_base::{Unmove, read_unmove};
-use fen_text::split_part;
+use board_base::{Colour, Unmove, read_unmove};
+use fen_text::{read_turn, split_part};
 use query_base::RuleLine;
 
 /// What the line of a node says of its body.
@@ -71,6 +71,12 @@ fn read_number(text: &[u8]) -> Option<u32>
     read_digits(text)
 }
 
+fn read_side(letter: &[u8]) -> Option<Colour>
+    ensures { result ≡ turn letter.now }
+{
+    read_turn(letter).ok()
+}
+
 fn read_rule(name: &[u8]) -> Option<RuleLine>
     ensures { result ≡ rule_of name.now }
 {
@@ -82,6 +88,11 @@ fn read_rule(name: &[u8]) -> Option<RuleLine>
         Some(RuleLine::Check)
     } else if is_text(name, b"rights") {
         Some(RuleLine::Rights)
+    } else if name.starts_with(b"count ") {
+        match read_side(&name[6..]) {
+            Some(side) => Some(RuleLine::Count(side)),
+            None => None,
+        }
     } else {
         None
     }
@@ -161,9 +172,9 @@ pub(crate) fn read_kid(depth: u8, text: &[u8]) -> Option<(Unmove, BodyLine)>
 }
 
 /// Reads the line of a node at this depth, without its end: at depth 0 `root`, and below it the unmove that leads to the node;
-/// then a space, and its body. That is `rule` with one of the names `kings`, `ranks`, `check` and `rights`, `back` with a number
-/// from 1 to the depth, or `expand` with one from 0 to 999,999, which at depth 255 is 0. Numbers are decimal, with no leading zero
-/// other than `0` itself, and one space parts two words. None comes exactly where the text is none of these.
+/// then a space, and its body. That is `rule` with one of the names `kings`, `ranks`, `check`, `rights`, `count w` and `count b`,
+/// `back` with a number from 1 to the depth, or `expand` with one from 0 to 999,999, which at depth 255 is 0. Numbers are decimal,
+/// with no leading zero other than `0` itself, and one space parts two words. None comes exactly where the text is none of these.
 pub fn read_line(line: &[u8], depth: u8) -> Option<NodeLine>
     ensures line { result ≡ node_line depth line.now }
     ensures label { IfSome result (λ n. is_none n.label ≡ (depth == 0)) }

@@ -5,7 +5,7 @@ use crate::formats::fits_format;
 use crate::node_lines::{BodyLine, read_line};
 use crate::nodes::{Body, Kid, Kids, Node};
 use crate::reading::read_cert;
-use board_base::{Memory, Move, Square, Unmove, read_unmove};
+use board_base::{Colour, Memory, Move, Square, Unmove, read_unmove};
 use query_base::{Claim, RuleLine};
 use std::alloc::Global;
 use std::test::Fail;
@@ -91,7 +91,7 @@ fn names_the_line_that_is_bad(rt: HostRuntime) -> Result<(), Fail> {
 }
 
 /// A line, its depth, and its body.
-const LINES: [(&[u8], u8, Option<BodyLine>); 16] = [
+const LINES: [(&[u8], u8, Option<BodyLine>); 22] = [
     (b"root rule kings", 0, Some(BodyLine::Rule(RuleLine::Kings))),
     (b"root rule ranks", 0, Some(BodyLine::Rule(RuleLine::Ranks))),
     (
@@ -104,6 +104,20 @@ const LINES: [(&[u8], u8, Option<BodyLine>); 16] = [
         1,
         Some(BodyLine::Rule(RuleLine::Check)),
     ),
+    (
+        b"root rule count w",
+        0,
+        Some(BodyLine::Rule(RuleLine::Count(Colour::White))),
+    ),
+    (
+        b"d7d5 rule count b",
+        1,
+        Some(BodyLine::Rule(RuleLine::Count(Colour::Black))),
+    ),
+    (b"root rule count", 0, None),
+    (b"root rule count x", 0, None),
+    (b"root rule count  w", 0, None),
+    (b"root rule count w ", 0, None),
     (b"root expand 999999", 0, Some(BodyLine::Expand(999_999))),
     (b"root expand 1000000", 0, None),
     (b"d7d5 expand 0", 255, Some(BodyLine::Expand(0))),
