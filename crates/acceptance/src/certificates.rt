@@ -12,7 +12,7 @@ const CHECK: &[&str] = &["check"];
 const TWO_STEPS: &[u8] =
     b"retro 1\nclaim illegal\nfen 4k3/8/8/3p4/8/8/P7/4K2R w K d6\nroot expand 1\nd7d5 expand 0\n";
 
-const TREES: [Row; 14] = [
+const TREES: [Row; 16] = [
     // The labels are the whole list, and only the game without moves reaches the array.
     Row {
         words: CHECK,
@@ -63,6 +63,19 @@ const TREES: [Row; 14] = [
         input: b"retro 1\nclaim illegal\nfen 4k3/8/8/8/8/8/8/4K3 w K -\nroot rule rights\n",
         status: Status::Done,
         text: b"accepted illegal 4k3/8/8/8/8/8/8/4K3 w K -\n",
+    },
+    // White has nine pawns, and Black has none.
+    Row {
+        words: CHECK,
+        input: b"retro 1\nclaim illegal\nfen 4k3/8/8/8/8/P7/PPPPPPPP/4K3 w - -\nroot rule count w\n",
+        status: Status::Done,
+        text: b"accepted illegal 4k3/8/8/8/8/P7/PPPPPPPP/4K3 w - -\n",
+    },
+    Row {
+        words: CHECK,
+        input: b"retro 1\nclaim illegal\nfen 4k3/8/8/8/8/P7/PPPPPPPP/4K3 w - -\nroot rule count b\n",
+        status: Status::Refused,
+        text: b"refused line 4 unsupported rule\n",
     },
     Row {
         words: CHECK,
