@@ -1,6 +1,6 @@
 //! Certificates whose reasons are trees, run through `check`.
 
-use crate::runs::{Row, assert_answers, run_on};
+use crate::driving::{Row, WHOLE, assert_answers, run_on};
 use retro_top::Status;
 use std::alloc::{AllocError, Global};
 use std::test::Fail;
@@ -134,7 +134,7 @@ fn refuses_each_part_of_a_certificate(rt: HostRuntime) -> Result<(), Fail> {
             }
         }
         let want = format!(in rt.alloc(); "refused line {line} text\n")?;
-        let (status, sink) = run_on(rt.alloc(), CHECK, part, None, None)?;
+        let (status, sink) = run_on(rt.alloc(), CHECK, part, WHOLE)?;
         assert_eq!(rt; status, Status::Refused);
         assert!(rt; sink.taken() == want.as_bytes());
     }
@@ -174,7 +174,7 @@ fn reads_chains(rt: HostRuntime) -> Result<(), Fail> {
         (3, "back 4", b"refused line 7 text\n".as_slice()),
     ] {
         let text = chain(rt.alloc(), depth, body)?;
-        let (status, sink) = run_on(rt.alloc(), CHECK, &text, None, None)?;
+        let (status, sink) = run_on(rt.alloc(), CHECK, &text, WHOLE)?;
         assert_eq!(rt; status, Status::Refused);
         assert!(rt; sink.taken() == want);
     }
@@ -207,15 +207,15 @@ fn wide(alloc: Global, lines: &[u8], left_out: usize) -> Result<Vec<u8>, AllocEr
 /// Each label is compared, however many there are.
 #[test]
 fn compares_all_labels(rt: HostRuntime) -> Result<(), Fail> {
-    let (_, listed) = run_on(rt.alloc(), &["unmoves"], WIDE, None, None)?;
+    let (_, listed) = run_on(rt.alloc(), &["unmoves"], WIDE, WHOLE)?;
     let lines = listed.taken();
     assert!(rt; lines.split(|byte| *byte == b'\n').count() > 143);
     let whole = wide(rt.alloc(), lines, 0)?;
-    let (status, sink) = run_on(rt.alloc(), CHECK, &whole, None, None)?;
+    let (status, sink) = run_on(rt.alloc(), CHECK, &whole, WHOLE)?;
     assert_eq!(rt; status, Status::Done);
     assert!(rt; sink.taken() == b"accepted illegal 4k3/8/8/3q4/8/8/8/4K3 w K -\n".as_slice());
     let part = wide(rt.alloc(), lines, 1)?;
-    let (status, sink) = run_on(rt.alloc(), CHECK, &part, None, None)?;
+    let (status, sink) = run_on(rt.alloc(), CHECK, &part, WHOLE)?;
     assert_eq!(rt; status, Status::Refused);
     assert!(rt; sink.taken().starts_with(b"refused line 4 unlisted "));
     Ok(())

@@ -4,8 +4,12 @@
 #[cfg(test)]
 mod certificates;
 #[cfg(test)]
+mod driving;
+#[cfg(test)]
 mod perft;
 #[cfg(test)]
 mod retractions;
+#[cfg(test)]
+mod rows;
 #[cfg(test)]
 mod runs;

@@ -1,6 +1,6 @@
 //! Retractions: lists whose items are known, and games whose every move is among the retractions of the position after it.
 
-use crate::runs::run_on;
+use crate::driving::{WHOLE, run_on};
 use board_base::{CastleSet, Kind, Move, Unmove, is_a};
 use game_text::read_game;
 use play_rules::{State, step};
@@ -75,7 +75,7 @@ const GAMES: [&[u8]; 5] = [
 #[test]
 fn lists_retractions(rt: HostRuntime) -> Result<(), Fail> {
     for retracted in &RETRACTED {
-        let (status, sink) = run_on(rt.alloc(), &["unmoves"], retracted.input, None, None)?;
+        let (status, sink) = run_on(rt.alloc(), &["unmoves"], retracted.input, WHOLE)?;
         assert_eq!(rt; status, Status::Done);
         let mut count = 0;
         for (i, line) in sink.taken().split(|byte| *byte == b'\n').enumerate() {

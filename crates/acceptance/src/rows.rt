@@ -1,0 +1,216 @@
+//! Words and inputs of each command, and what answers them.
+
+use crate::driving::Row;
+use retro_top::Status;
+
+const CHECK: &[&str] = &["check"];
+
+const PLAY: &[&str] = &["play"];
+
+pub(crate) const CHECKS: [Row; 12] = [
+    // No kings: the whole certificate has 64 bytes.
+    Row {
+        words: CHECK,
+        input: b"retro 1\nclaim illegal\nfen 8/8/8/8/8/8/8/8 w - -\nroot rule kings\n",
+        status: Status::Done,
+        text: b"accepted illegal 8/8/8/8/8/8/8/8 w - -\n",
+    },
+    // Any rights and any double step may stand in the position.
+    Row {
+        words: CHECK,
+        input: b"retro 1\nclaim illegal\nfen 8/8/8/8/8/8/8/KK6 b Qk e3\nroot rule kings\n",
+        status: Status::Done,
+        text: b"accepted illegal 8/8/8/8/8/8/8/KK6 b Qk e3\n",
+    },
+    Row {
+        words: CHECK,
+        input: b"retro 1\nclaim illegal\nfen rnbqkbnr/pppppppp/8/8/8/8/PPPPPPPP/RNBQKBNR w KQkq -\nroot rule kings\n",
+        status: Status::Refused,
+        text: b"refused line 4 unsupported rule\n",
+    },
+    Row {
+        words: CHECK,
+        input: b"",
+        status: Status::Refused,
+        text: b"refused line 1 text\n",
+    },
+    Row {
+        words: CHECK,
+        input: b"retro 1\r\nclaim illegal\nfen 8/8/8/8/8/8/8/8 w - -\nroot rule kings\n",
+        status: Status::Refused,
+        text: b"refused line 1 text\n",
+    },
+    Row {
+        words: CHECK,
+        input: b"retro 1\nclaim  illegal\nfen 8/8/8/8/8/8/8/8 w - -\nroot rule kings\n",
+        status: Status::Refused,
+        text: b"refused line 2 text\n",
+    },
+    Row {
+        words: CHECK,
+        input: b"retro 1\nclaim illegal\nfen 8/8/8/8/8/8/8/8 w - - 0 1\nroot rule kings\n",
+        status: Status::Refused,
+        text: b"refused line 3 text\n",
+    },
+    Row {
+        words: CHECK,
+        input: b"retro 1\nclaim illegal\nfen 8/8/8/8/8/8/8/8 w QK -\nroot rule kings\n",
+        status: Status::Refused,
+        text: b"refused line 3 text\n",
+    },
+    Row {
+        words: CHECK,
+        input: b"retro 1\nclaim illegal\nfen 8/8/8/8/8/8/8/8 w - -\nroot rule kings",
+        status: Status::Refused,
+        text: b"refused line 4 text\n",
+    },
+    Row {
+        words: CHECK,
+        input: b"retro 1\nclaim illegal\nfen 8/8/8/8/8/8/8/8 w - -\nroot back 1\n",
+        status: Status::Refused,
+        text: b"refused line 4 text\n",
+    },
+    Row {
+        words: CHECK,
+        input: b"retro 1\nclaim illegal\nfen 8/8/8/8/8/8/8/8 w - -\nroot rule kings\n\n",
+        status: Status::Refused,
+        text: b"refused line 5 text\n",
+    },
+    Row {
+        words: &[],
+        input: b"retro 1\n",
+        status: Status::BadWords,
+        text: b"",
+    },
+];
+
+pub(crate) const PLAYS: [Row; 13] = [
+    // White castles, and Black still may.
+    Row {
+        words: PLAY,
+        input: b"rnbqk2r/ppppppbp/5np1/8/8/5NP1/PPPPPPBP/RNBQ1RK1 b kq - 3 4\ng1f3 g8f6 g2g3 g7g6 f1g2 f8g7 e1g1\n",
+        status: Status::Done,
+        text: b"legal\n",
+    },
+    Row {
+        words: PLAY,
+        input: b"rnbqkbnr/pppppppp/8/8/8/8/PPPPPPPP/RNBQKBNR w KQkq -\n",
+        status: Status::Done,
+        text: b"legal\n",
+    },
+    // The double step that the fourth field demands was the last move.
+    Row {
+        words: PLAY,
+        input: b"rnbqkbnr/pppppppp/8/8/4P3/8/PPPP1PPP/RNBQKBNR b KQkq e3 0 1\r\n\r\n e2e4",
+        status: Status::Done,
+        text: b"legal\n",
+    },
+    // A capture en passant.
+    Row {
+        words: PLAY,
+        input: b"rnbqkbnr/1pp1pppp/p2P4/8/8/8/PPPP1PPP/RNBQKBNR b KQkq -\ne2e4 a7a6 e4e5 d7d5 e5d6\n",
+        status: Status::Done,
+        text: b"legal\n",
+    },
+    // The rights of a rook that was captured at home are lost.
+    Row {
+        words: PLAY,
+        input: b"rnbqkbnB/pppppp1p/8/6p1/8/1P6/P1PPPPPP/RN1QKBNR b KQkq -\nb2b3 g7g6 c1b2 g6g5 b2h8\n",
+        status: Status::Refused,
+        text: b"refused end\n",
+    },
+    Row {
+        words: PLAY,
+        input: b"rnbqkbnr/pppppppp/8/8/8/8/PPPPPPPP/RNBQKBNR w KQkq -\ne2e4 e7e5 e4e5\n",
+        status: Status::Refused,
+        text: b"refused ply 3\n",
+    },
+    // A word that is no move comes before a move that isn't legal.
+    Row {
+        words: PLAY,
+        input: b"rnbqkbnr/pppppppp/8/8/8/8/PPPPPPPP/RNBQKBNR w KQkq -\ne2e5 e9e5\n",
+        status: Status::Refused,
+        text: b"refused word 2\n",
+    },
+    Row {
+        words: PLAY,
+        input: b"rnbqkbnr/pppppppp/8/8/8/8/PPPPPPPP/RNBQKBNR w KQkq -\ne7e8k\n",
+        status: Status::Refused,
+        text: b"refused word 1\n",
+    },
+    Row {
+        words: PLAY,
+        input: b"rnbqkbnr/pppppppp/8/8/8/8/PPPPPPPP/RNBQKBNR w KQkq -\ng1f3\n",
+        status: Status::Refused,
+        text: b"refused end\n",
+    },
+    // A double step that was made two plies ago isn't the last move.
+    Row {
+        words: PLAY,
+        input: b"rnbqkbnr/1ppppppp/p7/8/4P3/8/PPPP1PPP/RNBQKBNR w KQkq a6\ne2e4 a7a6\n",
+        status: Status::Refused,
+        text: b"refused end\n",
+    },
+    Row {
+        words: PLAY,
+        input: b"",
+        status: Status::BadInput,
+        text: b"bad line 1\n",
+    },
+    Row {
+        words: PLAY,
+        input: b"\ne2e4\n",
+        status: Status::BadInput,
+        text: b"bad fen field 1 byte 0\n",
+    },
+    Row {
+        words: PLAY,
+        input: b"4k3/8/8/8/8/8/8/R3K2R w QK -\n",
+        status: Status::BadInput,
+        text: b"bad fen field 3 byte 25\n",
+    },
+];
+
+pub(crate) const UNMOVES: [Row; 5] = [
+    Row {
+        words: &["unmoves"],
+        input: b"8/8/8/8/8/8/8/9 w - -\n",
+        status: Status::BadInput,
+        text: b"bad fen field 1 byte 14\n",
+    },
+    Row {
+        words: &["unmoves"],
+        input: b"4k3/8/8/8/8/8/8/R3K2R w QK -\nx\n",
+        status: Status::BadInput,
+        text: b"bad fen field 3 byte 25\n",
+    },
+    Row {
+        words: &["unmoves"],
+        input: b"",
+        status: Status::BadInput,
+        text: b"bad line 1\n",
+    },
+    Row {
+        words: &["unmoves"],
+        input: b"4k3/8/8/8/8/8/8/4K3 w - -\n\n",
+        status: Status::BadInput,
+        text: b"bad line 2\n",
+    },
+    // No man is there that could have moved.
+    Row {
+        words: &["unmoves"],
+        input: b"8/8/8/8/8/8/8/8 w - -\n",
+        status: Status::Done,
+        text: b"total 0\n",
+    },
+];
+
+/// Words that call no command.
+pub(crate) const NO_COMMANDS: [&[&str]; 6] = [
+    &[],
+    &[""],
+    &["Check"],
+    &["check", "check"],
+    &["play "],
+    &["check", ""],
+];
