@@ -10,3 +10,4 @@ pub mod Attacked
 pub mod Ways
 pub mod Skipped
 pub mod Order
+pub mod NoPawns

@@ -3,7 +3,6 @@
 //! Articles are those of the FIDE Laws of Chess, in force from 1 January 2023.
 #![tactic(auto)]
 
-mod boards;
 mod laws;
 mod rules;
 

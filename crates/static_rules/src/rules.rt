@@ -3,10 +3,9 @@ ghost use Rattle.board_base.specs.declared.moves.Move.{Move};
 ghost use Rattle.query_base.specs.Reach.{Reaches};
 ghost use Rattle.static_rules.specs.Supports.{Supports};
 
-use crate::boards::{has_no_pawn_on_ends, has_one_king_each};
 use castle_history::held_fits;
 use men_account::account_ok;
-use play_rules::in_check;
+use play_rules::{has_no_pawn_on_ends, has_one_king_each, in_check};
 use query_base::{Query, RuleLine};
 
 fn breaks_law(query: &Query, rule: &RuleLine) -> bool

@@ -1,26 +1,26 @@
 -- Each board of a game is sane.
-use Rattle.std.proofs.Common.{◌≡◌, ℕ, zero, suc, ◌+◌, ◌<◌, Bool, true, false, cond, ◌&&◌, not, inl, inr, List, [], ◌∷◌, length, get_or, refl, ap, sym, ◌∙◌, arith}
-use Rattle.std.proofs.lemmas.Bool.{and_from, and_right, not_from_false, eq-eqb, cases_Bool}
+use Rattle.std.proofs.Common.{◌≡◌, ℕ, suc, ◌+◌, ◌<◌, Bool, true, false, cond, ◌&&◌, List, [], ◌∷◌, length, get_or, refl, ap, sym, ◌∙◌, arith}
+use Rattle.std.proofs.lemmas.Bool.{and_from, not_from_false, eq-eqb}
 use Rattle.std.proofs.lemmas.List.Sums.{sum_by-cons}
 use Rattle.std.specs.Prelude.{Option, None}
-use Rattle.std.specs.List.{count_by, list_all, range_with_len}
+use Rattle.std.specs.List.{count_by, range_with_len}
 use Rattle.board_base.proofs.Without.{are-no-odds}
-use Rattle.board_base.specs.Board.{Places, at, is_a, is_the, no_odds}
+use Rattle.board_base.specs.Board.{Places, at, is_the, no_odds}
 use Rattle.board_base.specs.Game.{IsGame, board_after, turn_after}
 use Rattle.board_base.specs.declared.men.Man.{Man}
 use Rattle.board_base.specs.declared.men.Colour.{Colour}
 use Rattle.board_base.specs.declared.men.Colour.TheVariants.{White, Black}
-use Rattle.board_base.specs.declared.men.Kind.TheVariants.{King, Pawn}
+use Rattle.board_base.specs.declared.men.Kind.TheVariants.{King}
 use Rattle.board_base.specs.declared.moves.Move.{Move}
 use Rattle.play_rules.specs.Kings.{kings}
-use Rattle.play_rules.specs.Laws.{HasNoPawnOnEnds, is_end}
+use Rattle.play_rules.proofs.NoPawns.{no_pawns}
 use Rattle.play_rules.proofs.Kings.{one_king_each}
 use Rattle.play_rules.proofs.Ends.{no_pawn_on_ends}
 use Rattle.play_rules.proofs.Attacked.{no_king_left_attacked}
 use Rattle.men_account.specs.Account.{is_any, men}
 use Rattle.men_account.proofs.Tally.{one_if}
 use Rattle.men_account.proofs.Surplus.{accounts_hold}
-use Rattle.unmove_gen.specs.Sane.{has_no_pawn_on_ends, has_one_king, is_sane}
+use Rattle.unmove_gen.specs.Sane.{has_one_king, is_sane}
 
 -- a count over the squares is a count over the places
 count-places : (p : Option Man → Bool) (f : ℕ → Bool) (xs : Places) (k : ℕ) → ((i : ℕ) → i < length xs → f (k + i) ≡ p (get_or xs i None)) → count_by f (range_with_len k (length xs)) ≡ count_by p xs
@@ -46,18 +46,7 @@ men-kings c board len =
 one-king : (g : List Move) → IsGame no_odds g → (c : Colour) → has_one_king (board_after no_odds g) c ≡ true
 one-king g game c = eq-eqb _ 1 (one_king_each no_odds g are-no-odds game c)
 
-all-range : (p : ℕ → Bool) → ((s : ℕ) → p s ≡ true) → (k n : ℕ) → list_all p (range_with_len k n) ≡ true
-all-range p h k zero = refl
-all-range p h k (suc n) = and_from _ _ (h k) (all-range p h (k + 1) n)
-
-no-pawns : (board : Places) → HasNoPawnOnEnds board → has_no_pawn_on_ends board ≡ true
-unfolding has_no_pawn_on_ends
-no-pawns board ends = all-range (λ s. not (is_end s && is_a Pawn (at board s))) (λ s. elim (cases_Bool (is_end s)) [
-  | inl end ↦ not_from_false _ (and_right _ _ (ends s end))
-  | inr inner ↦ ap (λ (b : Bool). not (b && is_a Pawn (at board s))) inner
-]) 0 64
-
 pub sane-in-game : (g : List Move) → IsGame no_odds g → is_sane (board_after no_odds g) (turn_after g) ≡ true
 unfolding is_sane
 sane-in-game g game =
-    and_from _ _ (and_from _ _ (and_from _ _ (and_from _ _ (and_from _ _ (one-king g game White) (accounts_hold no_odds g game White)) (one-king g game Black)) (accounts_hold no_odds g game Black)) (no-pawns _ (no_pawn_on_ends no_odds g game))) (not_from_false _ (no_king_left_attacked no_odds g game))
+    and_from _ _ (and_from _ _ (and_from _ _ (and_from _ _ (and_from _ _ (one-king g game White) (accounts_hold no_odds g game White)) (one-king g game Black)) (accounts_hold no_odds g game Black)) (no_pawns _ (no_pawn_on_ends no_odds g game))) (not_from_false _ (no_king_left_attacked no_odds g game))

@@ -1,22 +1,16 @@
 -- Boards that pass the tests that each board of a game passes.
 use Rattle.std.specs.Prelude.{Bool, ◌&&◌, not, ◌==◌}
-use Rattle.std.specs.List.{list_all, range_with_len}
-use Rattle.board_base.specs.Board.{Places, at, is_a, opponent}
+use Rattle.board_base.specs.Board.{Places, opponent}
 use Rattle.board_base.specs.Legal.{in_check}
 use Rattle.play_rules.specs.Kings.{kings}
-use Rattle.play_rules.specs.Laws.{is_end}
+use Rattle.play_rules.specs.Laws.{has_no_pawn_on_ends}
 use Rattle.men_account.specs.Account.{accounts_for}
 use Rattle.board_base.specs.declared.men.Colour.{Colour}
 use Rattle.board_base.specs.declared.men.Colour.TheVariants.{White, Black}
-use Rattle.board_base.specs.declared.men.Kind.TheVariants.{Pawn}
 
 -- Article 2.2: the side has one king
 abbrev pub has_one_king : Places → Colour → Bool
 has_one_king board c = kings c board == 1
-
--- Article 3.7: no pawn stands on rank 1 or rank 8
-unfoldable pub has_no_pawn_on_ends : Places → Bool
-has_no_pawn_on_ends board = list_all (λ s. not (is_end s && is_a Pawn (at board s))) (range_with_len 0 64)
 
 -- With c to move: each side has one king, no pawn stands on rank 1 or 8, no king of the other side is attacked by c, and neither
 -- side has more pawns and men that must have been promoted than it began with pawns.

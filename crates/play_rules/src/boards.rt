@@ -1,19 +1,10 @@
 ghost use Rattle.std.specs.Prelude.{◌≡◌, ◌<◌, ◌&&◌, ◌↔◌, IsTrue};
-ghost use Rattle.board_base.specs.Board.{at, is_a, is_the};
-ghost use Rattle.board_base.specs.declared.men.Kind.TheVariants.{King, Pawn};
+ghost use Rattle.board_base.specs.Board.{at, is_a};
+ghost use Rattle.board_base.specs.declared.men.Kind.TheVariants.{Pawn};
 ghost use Rattle.play_rules.specs.Kings.{HasOneKingEach, kings};
-ghost use Rattle.play_rules.specs.Laws.{HasNoPawnOnEnds, is_end};
+ghost use Rattle.play_rules.specs.Laws.{HasNoPawnOnEnds, has_no_pawn_on_ends, is_end};
 
-use board_base::{Board, Colour, Kind, Man, Square};
-
-fn is_king(colour: Colour, place: Option<Man>) -> bool
-    ensures { result ≡ is_the colour King place }
-{
-    match place {
-        None => false,
-        Some(man) => man.colour == colour && man.kind == Kind::King,
-    }
-}
+use board_base::{Board, Colour, Kind, Square, is_a, is_the};
 
 fn count_kings(colour: Colour, board: &Board) -> u8
     ensures { result ≡ kings colour board.now }
@@ -21,14 +12,14 @@ fn count_kings(colour: Colour, board: &Board) -> u8
     board.is_whole();
     let mut count = 0;
     for i in 0..64 {
-        if is_king(colour, board.at(Square::known(i))) {
+        if is_the(colour, Kind::King, board.at(Square::known(i))) {
             count += 1;
         }
     }
     count
 }
 
-/// Each colour has exactly one king (article 2.2).
+/// Whether each colour has exactly one king (article 2.2).
 pub fn has_one_king_each(board: &Board) -> bool
     ensures { IsTrue result ↔ HasOneKingEach board.now }
 {
@@ -38,17 +29,20 @@ pub fn has_one_king_each(board: &Board) -> bool
     count_kings(Colour::Black, board) == 1
 }
 
+/// A pawn stands on the square, which is on rank 1 or 8.
 fn is_pawn_on_end(board: &Board, index: u8) -> bool
     requires { index < 64 }
     ensures { result ≡ (is_end index && is_a Pawn (at board.now index)) }
 {
     let s = Square::known(index);
-    (s.rank() == 0 || s.rank() == 7) && board.at(s).is_some_and(|man| man.kind == Kind::Pawn)
+    (s.rank() == 0 || s.rank() == 7) && is_a(Kind::Pawn, board.at(s))
 }
 
-/// No pawn stands on the first or on the eighth rank (article 3.7).
+/// Whether no pawn stands on rank 1 or rank 8 (article 3.7).
+#[tactic(auto, unfolding(crate::specs::Laws::has_no_pawn_on_ends))]
 pub fn has_no_pawn_on_ends(board: &Board) -> bool
-    ensures { IsTrue result ↔ HasNoPawnOnEnds board.now }
+    ensures answer { result ≡ has_no_pawn_on_ends board.now }
+    ensures law { IsTrue result ↔ HasNoPawnOnEnds board.now }
 {
     for i in 0..64 {
         if is_pawn_on_end(board, i) {

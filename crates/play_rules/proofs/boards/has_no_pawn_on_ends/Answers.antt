@@ -1,15 +1,17 @@
-use Rattle.std.proofs.Common.{◌≡◌, ◌-◌, ◌&&◌, not, Bool, ℕ, sym, ap, ◌∙◌, arith}
+use Rattle.std.proofs.Common.{◌≡◌, ◌-◌, ◌&&◌, not, Bool, true, false, ℕ, sym, ap, ◌∙◌, arith}
 use Rattle.std.specs.List.{list_all, range_with_len}
 use Rattle.board_base.proofs.Ranges.{all_step, all_stop}
 use Rattle.board_base.specs.Board.{at, is_a}
 use Rattle.board_base.specs.declared.men.Kind.TheVariants.{Pawn}
-use Rattle.play_rules.specs.Laws.{is_end}
-use Rattle.unmove_gen.proofs.sanity.has_no_pawn_on_ends.Goals as goal
+use Rattle.play_rules.specs.Laws.{has_no_pawn_on_ends, is_end}
+use Rattle.play_rules.proofs.NoPawns.{answers_law}
+use Rattle.play_rules.proofs.boards.has_no_pawn_on_ends.Goals as goal
 
 pub returns-then-is_pawn_on_end : goal.returns-then-is_pawn_on_end
 returns-then-is_pawn_on_end c =
     let p : ℕ → Bool = λ s. not (is_end s && is_a Pawn (at c.args.board.now s)) in
-    all_stop p c.loop-i.i 64 _ c.loop-i-test.true (ap not (sym c.is_pawn_on_end.ensures ∙ c.if-is_pawn_on_end.true)) c.loop-i.invariant
+    let no : false ≡ has_no_pawn_on_ends c.args.board.now = all_stop p c.loop-i.i 64 _ c.loop-i-test.true (ap not (sym c.is_pawn_on_end.ensures ∙ c.if-is_pawn_on_end.true)) c.loop-i.invariant in
+    record { answer = no; law = answers_law _ _ no }
 
 pub loop-i-preserved : goal.loop-i-preserved
 loop-i-preserved c =
@@ -20,4 +22,5 @@ pub returns : goal.returns
 returns c =
     let p : ℕ → Bool = λ s. not (is_end s && is_a Pawn (at c.args.board.now s)) in
     let e : 0 ≡ 64 - c.loop-i.i = omega arith in
-    ap (λ (n : ℕ). list_all p (range_with_len c.loop-i.i n)) e ∙ c.loop-i.invariant
+    let yes : true ≡ has_no_pawn_on_ends c.args.board.now = ap (λ (n : ℕ). list_all p (range_with_len c.loop-i.i n)) e ∙ c.loop-i.invariant in
+    record { answer = yes; law = answers_law _ _ yes }

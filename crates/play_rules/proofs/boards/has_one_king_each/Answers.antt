@@ -1,7 +1,7 @@
 use Rattle.std.proofs.Common.{sym, ◌∙◌}
 use Rattle.std.proofs.lemmas.Bool.{eq-eqb, eqb-true}
 use Rattle.board_base.specs.declared.men.Colour.TheVariants.{White, Black}
-use Rattle.static_rules.proofs.boards.has_one_king_each.Goals as goal
+use Rattle.play_rules.proofs.boards.has_one_king_each.Goals as goal
 
 pub returns : goal.returns
 returns c = (
