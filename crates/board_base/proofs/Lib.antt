@@ -5,3 +5,4 @@ pub mod TextLemmas
 pub mod BitSets
 pub mod OneText
 pub mod Ordered
+pub mod Rights

@@ -1,36 +1,16 @@
 -- A game that contradicts a claim reaches its target.
-use Rattle.std.proofs.Common.{◌≡◌, ◌⊎◌, inl, inr, List, refl, sym, subst}
+use Rattle.std.proofs.Common.{inl, inr, List, sym, subst}
 use Rattle.std.specs.Prelude.{IsTrue}
 use Rattle.board_base.specs.Board.{no_odds}
 use Rattle.board_base.specs.Game.{unmoved}
-use Rattle.board_base.specs.Rights.{Rights, holds}
+use Rattle.board_base.proofs.Rights.{held_or_added}
 use Rattle.board_base.specs.declared.castles.Castle.{Castle}
-use Rattle.board_base.specs.declared.castles.Castle.TheVariants.{WhiteShort, WhiteLong, BlackShort, BlackLong}
 use Rattle.board_base.specs.declared.moves.Move.{Move}
 use Rattle.query_base.specs.Asked.{Asked}
 use Rattle.query_base.specs.Reach.{Contradicts, Reaches}
-use Rattle.query_base.specs.Targets.{target, with_castling}
+use Rattle.query_base.specs.Targets.{target}
 use Rattle.query_base.specs.declared.claims.Claim.{Claim}
 use Rattle.query_base.specs.declared.claims.Claim.TheVariants.{Illegal, Last, Lost}
-
--- a castling of the set with one more is that one, or was there before
-held-or-added : (held : Rights) (x c : Castle) → IsTrue (holds (with_castling held x) c) → (c ≡ x) ⊎ IsTrue (holds held c)
-held-or-added held WhiteShort WhiteShort h = inl refl
-held-or-added held WhiteShort WhiteLong h = inr h
-held-or-added held WhiteShort BlackShort h = inr h
-held-or-added held WhiteShort BlackLong h = inr h
-held-or-added held WhiteLong WhiteShort h = inr h
-held-or-added held WhiteLong WhiteLong h = inl refl
-held-or-added held WhiteLong BlackShort h = inr h
-held-or-added held WhiteLong BlackLong h = inr h
-held-or-added held BlackShort WhiteShort h = inr h
-held-or-added held BlackShort WhiteLong h = inr h
-held-or-added held BlackShort BlackShort h = inl refl
-held-or-added held BlackShort BlackLong h = inr h
-held-or-added held BlackLong WhiteShort h = inr h
-held-or-added held BlackLong WhiteLong h = inr h
-held-or-added held BlackLong BlackShort h = inr h
-held-or-added held BlackLong BlackLong h = inl refl
 
 pub contradiction-reaches : (g : List Move) (claim : Claim) (q : Asked) → Contradicts g claim q → Reaches g (target q claim)
 contradiction-reaches g Illegal q h = h
@@ -48,7 +28,7 @@ contradiction-reaches g (Lost x) q h = let r : Reaches g q = h.0 in record {
   turn = r.turn;
   only = r.only;
   barred = r.barred;
-  held = λ c there. elim (held-or-added q.held x c there) [
+  held = λ c there. elim (held_or_added q.held x c there) [
     | inl same ↦ subst (λ (y : Castle). IsTrue (unmoved no_odds g y)) (sym same) h.1
     | inr before ↦ r.held c before
   ];

@@ -37,6 +37,7 @@ fn take_letter(text: &[u8], letter: u8) -> (bool, &[u8])
 }
 
 /// The set, with this castling if it is given.
+#[tactic(auto, using(board_base::proofs::Rights::holds_added, board_base::proofs::Rights::holds_others))]
 fn with_given(set: CastleSet, castle: Castle, given: bool) -> CastleSet
     ensures here { holds result castle ≡ (holds set castle || given) }
     ensures others { (c : AnyCastle) → c ≢ castle → holds result c ≡ holds set c }

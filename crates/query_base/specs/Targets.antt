@@ -1,19 +1,10 @@
 -- The query that a claim is to be refuted at, and queries that ask no more than others.
-use Rattle.std.specs.Prelude.{◌≡◌, true, IfSome, Some}
-use Rattle.board_base.specs.Rights.{Rights}
-use Rattle.board_base.specs.declared.castles.Castle.{Castle}
-use Rattle.board_base.specs.declared.castles.Castle.TheVariants.{WhiteShort, WhiteLong, BlackShort, BlackLong}
+use Rattle.std.specs.Prelude.{◌≡◌, IfSome, Some}
+use Rattle.board_base.specs.Rights.{with_castling}
 use Rattle.query_base.specs.Asked.{Asked}
 use Rattle.query_base.specs.Ends.{IsWithin}
 use Rattle.query_base.specs.declared.claims.Claim.{Claim}
 use Rattle.query_base.specs.declared.claims.Claim.TheVariants.{Illegal, Last, Lost}
-
--- the set with this castling in it
-abbrev pub with_castling : Rights → Castle → Rights
-with_castling held WhiteShort = record held { white_short = true }
-with_castling held WhiteLong = record held { white_long = true }
-with_castling held BlackShort = record held { black_short = true }
-with_castling held BlackLong = record held { black_long = true }
 
 -- What a game that contradicts the claim reaches: the query itself; the query with the claimed last move barred; the query with the
 -- castling that is claimed to be lost still held.

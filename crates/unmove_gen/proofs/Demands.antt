@@ -1,6 +1,6 @@
 -- What a query asks of the last move, and its predecessor of the game before.
-use Rattle.std.proofs.Common.{◌≡◌, ◌≢◌, Bool, true, false, ◌&&◌, ◌||◌, not, inl, inr, List, [], ◌∷◌, ◌++◌, refl, ap, sym, ◌∙◌, subst}
-use Rattle.std.proofs.lemmas.Bool.{and_parts, and_from, and_right, and_cases, or_left, or_right, or_cases, not-true, not_from_false, both_ways, cases_Bool, false_from_ne_true}
+use Rattle.std.proofs.Common.{◌≡◌, Bool, true, false, ◌&&◌, not, inl, inr, List, [], ◌∷◌, ◌++◌, refl, ap, sym, ◌∙◌, subst}
+use Rattle.std.proofs.lemmas.Bool.{and_parts, and_from, and_right, and_cases, not-true, not_from_false, both_ways, cases_Bool, false_from_ne_true}
 use Rattle.std.proofs.lemmas.List.Folds.{list_all-append}
 use Rattle.std.proofs.lemmas.Option.{same_Some}
 use Rattle.std.specs.Prelude.{Option, Some, None, IsTrue, IfSome, ◌⊎◌}
@@ -12,7 +12,7 @@ use Rattle.board_base.specs.Rights.{Rights, holds}
 use Rattle.board_base.specs.declared.men.Kind.TheVariants.{Pawn}
 use Rattle.board_base.specs.declared.moves.Move.{Move}
 use Rattle.board_base.specs.declared.castles.Castle.{Castle}
-use Rattle.board_base.specs.declared.castles.Castle.TheVariants.{WhiteShort, WhiteLong, BlackShort, BlackLong}
+use Rattle.board_base.proofs.Rights.{held_or_added, holds_kept}
 use Rattle.castle_history.proofs.EachCastle.{castle-each, each-castle}
 use Rattle.play_rules.proofs.Doubles.{last_move-more}
 use Rattle.query_base.specs.Asked.{Asked}
@@ -73,61 +73,13 @@ pub barred-from : (o : Option Move) (g : List Move) (m : Move) → IfSome o (λ 
 barred-from None g m h = refl
 barred-from (Some n) g m h = not_from_false _ (false_from_ne_true _ (λ same. h (last_move-more g m ∙ ap Some (sym (move_is n m same)))))
 
--- equal castlings
-same_castle : Castle → Castle → Bool
-same_castle WhiteShort WhiteShort = true
-same_castle WhiteLong WhiteLong = true
-same_castle BlackShort BlackShort = true
-same_castle BlackLong BlackLong = true
-same_castle _ _ = false
-
-castle_is : (x y : Castle) → same_castle x y ≡ true → x ≡ y
-unfolding same_castle
-castle_is WhiteShort WhiteShort h = refl
-castle_is WhiteLong WhiteLong h = refl
-castle_is BlackShort BlackShort h = refl
-castle_is BlackLong BlackLong h = refl
-castle_is x y h = cc
-
-castle_self : (x : Castle) → same_castle x x ≡ true
-unfolding same_castle
-castle_self WhiteShort = refl
-castle_self WhiteLong = refl
-castle_self BlackShort = refl
-castle_self BlackLong = refl
-
--- the set with one more castling holds that one, and what it held
-holds-with : (held : Rights) (x y : Castle) → holds (with_castle held (Some x)) y ≡ (same_castle x y || holds held y)
-unfolding same_castle
-holds-with held WhiteShort y = elim y as (λ z. holds (with_castle held (Some WhiteShort)) z ≡ (same_castle WhiteShort z || holds held z)) [ WhiteShort ↦ refl | WhiteLong ↦ refl | BlackShort ↦ refl | BlackLong ↦ refl ]
-holds-with held WhiteLong y = elim y as (λ z. holds (with_castle held (Some WhiteLong)) z ≡ (same_castle WhiteLong z || holds held z)) [ WhiteShort ↦ refl | WhiteLong ↦ refl | BlackShort ↦ refl | BlackLong ↦ refl ]
-holds-with held BlackShort y = elim y as (λ z. holds (with_castle held (Some BlackShort)) z ≡ (same_castle BlackShort z || holds held z)) [ WhiteShort ↦ refl | WhiteLong ↦ refl | BlackShort ↦ refl | BlackLong ↦ refl ]
-holds-with held BlackLong y = elim y as (λ z. holds (with_castle held (Some BlackLong)) z ≡ (same_castle BlackLong z || holds held z)) [ WhiteShort ↦ refl | WhiteLong ↦ refl | BlackShort ↦ refl | BlackLong ↦ refl ]
-
 pub held-keeps : (held : Rights) (o : Option Castle) (x : Castle) → holds held x ≡ true → holds (with_castle held o) x ≡ true
 held-keeps held None x h = h
-held-keeps held (Some y) x h = holds-with held y x ∙ or_right _ _ h
-
-pub held-added : (held : Rights) (x : Castle) → holds (with_castle held (Some x)) x ≡ true
-held-added held x = holds-with held x x ∙ or_left _ _ (castle_self x)
+held-keeps held (Some y) x h = holds_kept held y x h
 
 pub held-from : (held : Rights) (o : Option Castle) (x : Castle) → holds (with_castle held o) x ≡ true → (holds held x ≡ true) ⊎ (o ≡ Some x)
 held-from held None x h = inl h
-held-from held (Some y) x h = elim (or_cases _ _ (sym (holds-with held y x) ∙ h)) [
-  | inl same ↦ inr (ap Some (castle_is y x same))
+held-from held (Some y) x h = elim (held_or_added held y x h) [
+  | inl same ↦ inr (ap Some (sym same))
   | inr has ↦ inl has
 ]
-
-same_rights : (a b : Rights) → ((x : Castle) → holds a x ≡ holds b x) → a ≡ b
-same_rights a b h =
-    ap (λ (t : Bool). record a { white_short = t }) (h WhiteShort)
-    ∙ ap (λ (t : Bool). record a { white_short = b.white_short; white_long = t }) (h WhiteLong)
-    ∙ ap (λ (t : Bool). record b { black_short = t; black_long = a.black_long }) (h BlackShort)
-    ∙ ap (λ (t : Bool). record b { black_long = t }) (h BlackLong)
-
--- the set that has one more castling, and else the same
-pub with_is : (held more : Rights) (x : Castle) → holds more x ≡ true → ((y : Castle) → y ≢ x → holds more y ≡ holds held y) → more ≡ with_castle held (Some x)
-with_is held more x added others = same_rights more (with_castle held (Some x)) (λ y. elim (cases_Bool (same_castle x y)) [
-  | inl same ↦ subst (λ (z : Castle). holds more z ≡ holds (with_castle held (Some x)) z) (castle_is x y same) (added ∙ sym (held-added held x))
-  | inr other ↦ others y (λ e. both_ways _ other (subst (λ (z : Castle). same_castle x z ≡ true) (sym e) (castle_self x))) ∙ ap (λ (b : Bool). b || holds held y) (sym other) ∙ sym (holds-with held x y)
-])

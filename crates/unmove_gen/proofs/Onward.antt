@@ -13,6 +13,7 @@ use Rattle.board_base.specs.declared.men.Kind.TheVariants.{Pawn}
 use Rattle.board_base.specs.declared.moves.Move.{Move}
 use Rattle.board_base.specs.declared.castles.Castle.{Castle}
 use Rattle.board_base.specs.declared.unmoves.Unmove.{Unmove}
+use Rattle.board_base.proofs.Rights.{holds_added}
 use Rattle.castle_history.specs.TakenBack.{castling_back}
 use Rattle.query_base.specs.Asked.{Asked}
 use Rattle.query_base.specs.Reach.{Reaches}
@@ -23,7 +24,7 @@ use Rattle.play_rules.proofs.Kings.{length-after, two-castles}
 use Rattle.unmove_gen.specs.Listed.{answered, before, candidates, every_right, is_listed, mover, unmoves}
 use Rattle.unmove_gen.specs.Predecessor.{predecessor, with_castle}
 use Rattle.unmove_gen.proofs.Castlings.{castled}
-use Rattle.unmove_gen.proofs.Demands.{barred-met, held-added, held-keeps, only-met, unmoved-more, untouched}
+use Rattle.unmove_gen.proofs.Demands.{barred-met, held-keeps, only-met, unmoved-more, untouched}
 use Rattle.unmove_gen.proofs.Equal.{opponent-twice, same_tests}
 use Rattle.unmove_gen.proofs.Exchanged.{legal-exchanged}
 use Rattle.unmove_gen.proofs.Marks.{captures, goes-same, none-answers}
@@ -51,7 +52,7 @@ onward-from g u q p r =
     let has : (x : Castle) → castling board u.mv ≡ Some x → every_right x ≡ rights x =
     λ x e.
     let back : castling_back q.board u.mv ≡ Some x = ap (λ (b : Places). castling_back b u.mv) (sym p.here) ∙ castled-played board c every_right u.mv x inside e (two-castles board c every_right (answered u c) u.mv x e l.manner) in
-    sym (r.held x (subst (λ (o : Option Castle). holds (with_castle q.held o) x ≡ true) (sym back) (held-added q.held x))) in
+    sym (r.held x (subst (λ (o : Option Castle). holds (with_castle q.held o) x ≡ true) (sym back) (holds_added q.held x))) in
     let passes : pawn_captures_en_passant board c (answered u c) u.mv ≡ pawn_captures_en_passant board c last u.mv =
     same_tests _ _ (passes-last board c last (answered u c) u.mv r.only) (λ h. sym (goes-same board c every_right (answered u c) u.mv l) ∙ (captures board c last u.mv h).goes) in
     let legal : legal_after no_odds g u.mv ≡ true =

@@ -1,9 +1,9 @@
 -- What is asked of a game before its last move.
-use Rattle.std.specs.Prelude.{Bool, true, cond, List, Option, Some, None}
+use Rattle.std.specs.Prelude.{Bool, cond, List, Option, Some, None}
 use Rattle.board_base.specs.Board.{no_odds, at}
 use Rattle.board_base.specs.Legal.{pawn_captures_en_passant}
 use Rattle.board_base.specs.Game.{board_after, turn_after, last_move}
-use Rattle.board_base.specs.Rights.{Rights}
+use Rattle.board_base.specs.Rights.{Rights, with_castling}
 use Rattle.castle_history.specs.TakenBack.{castling_back}
 use Rattle.query_base.specs.Asked.{Asked}
 use Rattle.unmove_gen.specs.TakenBack.{kind_of}
@@ -11,16 +11,12 @@ use Rattle.unmove_gen.specs.Listed.{answered, before, mover}
 use Rattle.board_base.specs.declared.men.Kind.TheVariants.{Pawn}
 use Rattle.board_base.specs.declared.moves.Move.{Move}
 use Rattle.board_base.specs.declared.castles.Castle.{Castle}
-use Rattle.board_base.specs.declared.castles.Castle.TheVariants.{WhiteShort, WhiteLong, BlackShort, BlackLong}
 use Rattle.board_base.specs.declared.unmoves.Unmove.{Unmove}
 
 -- the set with this castling added, if one is given
 abbrev pub with_castle : Rights → Option Castle → Rights
 with_castle held None = held
-with_castle held (Some WhiteShort) = record held { white_short = true }
-with_castle held (Some WhiteLong) = record held { white_long = true }
-with_castle held (Some BlackShort) = record held { black_short = true }
-with_castle held (Some BlackLong) = record held { black_long = true }
+with_castle held (Some x) = with_castling held x
 
 -- The query with the unmove taken back: the other side is to move, the castling that it takes back is held too (article 3.8), the
 -- last move was the double step that it answered, if it is en passant (article 3.7), and no move is barred.
