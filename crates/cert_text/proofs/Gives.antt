@@ -3,7 +3,8 @@ use Rattle.std.proofs.Common.{◌≡◌, ℕ, Bool, true, false, cond, List, Opt
 use Rattle.std.specs.Prelude.{IfSome}
 use Rattle.std.proofs.lemmas.Option.{same_Some}
 use Rattle.std.specs.Option.{option_map, option_and_then}
-use Rattle.fen_text.specs.Parts.{◌>>=◌, cut_at, parted, parted_as}
+use Rattle.board_base.specs.Texts.{◌>>=◌}
+use Rattle.fen_text.specs.Parts.{cut_at, parted, parted_as}
 
 -- what the option gives, if anything, has the property
 pub record Gives {A : Type 0} (o : Option A) (P : A → Type 0) : Type 0 where

@@ -1,9 +1,9 @@
 -- The line of a child by its parts.
 use Rattle.std.proofs.Common.{◌≡◌, ℕ, List, ◌∷◌, ◌++◌, Option, Some, None, refl, ap, ◌∙◌}
 use Rattle.std.specs.Option.{option_map}
-use Rattle.board_base.specs.Texts.{unmove_from}
+use Rattle.board_base.specs.Texts.{◌>>=◌, unmove_from}
 use Rattle.board_base.specs.declared.unmoves.Unmove.{Unmove}
-use Rattle.fen_text.specs.Parts.{◌>>=◌, Free}
+use Rattle.fen_text.specs.Parts.{Free}
 use Rattle.fen_text.proofs.PartLemmas.{parted_next, parted_end}
 use Rattle.cert_text.specs.NodeLines.{body_at, kid_body}
 use Rattle.cert_text.specs.declared.node_lines.BodyLine.{BodyLine}

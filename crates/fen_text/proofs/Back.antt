@@ -15,7 +15,7 @@ use Rattle.board_base.specs.declared.men.Kind.{Kind}
 use Rattle.board_base.specs.declared.men.Kind.TheVariants.{Pawn, Knight, Bishop, Rook, Queen, King}
 use Rattle.board_base.specs.declared.moves.Move.{Move}
 use Rattle.query_base.specs.Asked.{Asked, is_of_other_side}
-use Rattle.fen_text.specs.Parts.{◌>>=◌}
+use Rattle.board_base.specs.Texts.{◌>>=◌}
 use Rattle.fen_text.specs.Ranks.{is_run, places_of, is_symbol, runs_apart, rank_places, is_rank, rank}
 use Rattle.fen_text.specs.Fen.{ranks, placement, turn, rights, en_passant, en_passant_digit, double_over, asked, from_numbers, from_en_passant, from_rights, from_turn, fen}
 use Rattle.fen_text.specs.Spelling.{symbol, run_text, rank_text, rank_of, ranks_text, turn_letter, rights_text, en_passant_text, spelling}

@@ -8,7 +8,8 @@ use Rattle.std.specs.List.{list_all}
 use Rattle.std.specs.Option.{option_map}
 use Rattle.board_base.specs.Board.{Places}
 use Rattle.fen_text.specs.Ranks.{is_symbol, is_rank, rank_places, rank, runs_apart}
-use Rattle.fen_text.specs.Parts.{◌>>=◌, Free, IsPart}
+use Rattle.board_base.specs.Texts.{◌>>=◌}
+use Rattle.fen_text.specs.Parts.{Free, IsPart}
 use Rattle.fen_text.specs.Faults.{Begins, IsFault}
 use Rattle.fen_text.specs.Fen.{ranks}
 use Rattle.fen_text.specs.Placed.{IsPlaced}
