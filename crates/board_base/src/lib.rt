@@ -16,7 +16,7 @@ mod squares;
 mod texts;
 mod unmoves;
 
-pub use attacks::{files_between, is_ahead, is_clear, is_same, man_attacks, ranks_between};
+pub use attacks::{files_between, is_ahead, is_clear, man_attacks, ranks_between};
 pub use boards::Board;
 pub use castles::{Castle, CastleSet};
 pub use laws::{one_text_of_a_move, one_text_of_an_unmove, order_of_moves, order_of_unmoves};

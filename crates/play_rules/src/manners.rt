@@ -1,4 +1,6 @@
 ghost use Rattle.std.specs.Prelude.{◌≡◌};
+ghost use Rattle.board_base.specs.Board.{same_colour};
+ghost use Rattle.board_base.specs.Play.{side};
 ghost use Rattle.board_base.specs.Rights.{holds};
 ghost use Rattle.board_base.specs.Attacks.{attacks_from};
 ghost use Rattle.board_base.specs.Legal.{king_castles, man_moves, may_castle, may_go, pawn_captures, pawn_doubles, pawn_rank, pawn_steps};
@@ -7,7 +9,7 @@ use crate::castlings::castling;
 use crate::en_passant::pawn_captures_en_passant;
 use board_base::{
     Board, Castle, CastleSet, Colour, Kind, Move, Square, files_between, is_a, is_ahead, is_clear,
-    is_of, is_same, is_the, man_attacks, ranks_between,
+    is_of, is_the, man_attacks, ranks_between,
 };
 use castle_history::{home, target};
 
@@ -69,13 +71,20 @@ fn pawn_captures(board: &Board, colour: Colour, m: &Move) -> bool
         && is_of(colour.other(), board.at(m.to))
 }
 
+/// The castling is one of this colour's.
+fn is_side_of(colour: Colour, castle: Castle) -> bool
+    ensures { result ≡ same_colour colour (side castle) }
+{
+    colour == castle.side()
+}
+
 fn may_castle(board: &Board, colour: Colour, rights: CastleSet, castle: Castle) -> bool
     ensures { result ≡ may_castle board.now colour (λ x. holds rights x) castle }
 {
     let (king, rook) = home(castle);
     let (king_target, crossed) = target(castle);
     let enemy = colour.other();
-    is_same(colour, castle.side())
+    is_side_of(colour, castle)
         && rights.has(castle)
         && is_the(colour, Kind::King, board.at(king))
         && is_the(colour, Kind::Rook, board.at(rook))
