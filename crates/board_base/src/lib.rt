@@ -22,7 +22,7 @@ pub use castles::{Castle, CastleSet};
 pub use laws::{one_text_of_a_move, one_text_of_an_unmove, order_of_moves, order_of_unmoves};
 pub use memory::Memory;
 pub use men::{Colour, Kind, Man, is_a, is_of, is_the};
-pub use moves::Move;
+pub use moves::{Move, is_move};
 pub use orders::{cmp_move, cmp_unmove};
 pub use square_sets::SquareSet;
 pub use squares::Square;

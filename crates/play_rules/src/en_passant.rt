@@ -1,8 +1,8 @@
 ghost use Rattle.std.specs.Prelude.{◌≡◌};
-ghost use Rattle.board_base.specs.Legal.{is_move, pawn_captures_en_passant, same_promo};
+ghost use Rattle.board_base.specs.Legal.{pawn_captures_en_passant};
 ghost use Rattle.play_rules.specs.States.{crossing_rank, step_over};
 
-use board_base::{Board, Colour, Kind, Move, Square, is_a, is_the};
+use board_base::{Board, Colour, Kind, Move, Square, is_a, is_move, is_the};
 use ep_history::{double_of, double_over};
 
 fn crossing_rank(colour: Colour) -> u8
@@ -27,29 +27,6 @@ pub fn step_over(ep: Option<Square>, colour: Colour) -> Option<Move>
             }
         }
         None => None,
-    }
-}
-
-fn same_promo(a: Option<Kind>, b: Option<Kind>) -> bool
-    ensures { result ≡ same_promo a b }
-{
-    match (a, b) {
-        (None, None) => true,
-        (Some(a), Some(b)) => a == b,
-        _ => false,
-    }
-}
-
-fn is_move(last: &Option<Move>, m: &Move) -> bool
-    ensures { result ≡ is_move last.now m.now }
-{
-    match last {
-        None => false,
-        Some(l) => {
-            l.from.index() == m.from.index()
-                && l.to.index() == m.to.index()
-                && same_promo(l.promo, m.promo)
-        }
     }
 }
 

@@ -4,9 +4,9 @@ ghost use Rattle.query_base.specs.Reach.{Contradicts, Reaches};
 ghost use Rattle.query_base.specs.Targets.{Covers, target};
 
 use crate::claims::Claim;
-use crate::ends::{ends_with, is_within};
+use crate::ends::is_within;
 use crate::queries::Query;
-use board_base::Move;
+use board_base::{Move, is_move};
 
 /// The query that a game reaches exactly where it contradicts the claim about `query`: the query itself where it is claimed to be
 /// illegal; with the claimed last move barred; with the castling that is claimed to be lost added to those held. The query bars no
@@ -30,7 +30,7 @@ fn is_kept(first: &Option<Move>, second: &Option<Move>) -> bool
     ensures { IsTrue result ↔ IfSome first.now (λ m. second.now ≡ Some m) }
 {
     match first {
-        Some(m) => ends_with(second, m),
+        Some(m) => is_move(second, m),
         None => true,
     }
 }

@@ -1,10 +1,9 @@
 ghost use Rattle.std.specs.Prelude.{◌≡◌, ◌&&◌, not};
 ghost use Rattle.board_base.specs.Rights.{holds};
-ghost use Rattle.board_base.specs.Legal.{is_move, same_promo};
 ghost use Rattle.board_base.specs.Game.{touches};
 ghost use Rattle.unmove_gen.specs.Listed.{fits_ends, keeps_held, obeys, obeys_only};
 
-use board_base::{Castle, Kind, Move, Unmove, is_a, is_of};
+use board_base::{Castle, Kind, Move, Unmove, is_a, is_move, is_of};
 use castle_history::touches;
 use query_base::Query;
 
@@ -29,29 +28,6 @@ fn keeps_held(query: &Query, m: &Move) -> bool
         && keeps(query, m, Castle::WhiteLong)
         && keeps(query, m, Castle::BlackShort)
         && keeps(query, m, Castle::BlackLong)
-}
-
-fn same_promo(a: Option<Kind>, b: Option<Kind>) -> bool
-    ensures { result ≡ same_promo a b }
-{
-    match (a, b) {
-        (None, None) => true,
-        (Some(a), Some(b)) => a == b,
-        _ => false,
-    }
-}
-
-fn is_move(given: &Option<Move>, m: &Move) -> bool
-    ensures { result ≡ is_move given.now m.now }
-{
-    match given {
-        None => false,
-        Some(l) => {
-            l.from.index() == m.from.index()
-                && l.to.index() == m.to.index()
-                && same_promo(l.promo, m.promo)
-        }
-    }
 }
 
 /// The move is the only one that is allowed, if one is given.
