@@ -164,13 +164,13 @@ step_back White m fits =
     let b = and_parts (m.from / 8 == 6) (m.to == m.from - 8 - 8) a.0 in
     let e1 = eqb-true (m.from / 8) 6 b.0 in
     let e2 = eqb-true m.to (m.from - 8 - 8) b.1 in
-    (omega arith, sym (same_move (48 + (97 + file m.to - 97)) (32 + (97 + file m.to - 97)) None m (omega arith) (omega arith) (none_is m.promo a.1)))
+    (omega arith, sym (same_move (40 + (97 + file m.to - 97) + 8) (40 + (97 + file m.to - 97) - 8) None m (omega arith) (omega arith) (none_is m.promo a.1)))
 step_back Black m fits =
     let a = and_parts ((m.from / 8 == 1) && (m.to == m.from + 8 + 8)) (is_none m.promo) fits in
     let b = and_parts (m.from / 8 == 1) (m.to == m.from + 8 + 8) a.0 in
     let e1 = eqb-true (m.from / 8) 1 b.0 in
     let e2 = eqb-true m.to (m.from + 8 + 8) b.1 in
-    (omega arith, sym (same_move (8 + (97 + file m.to - 97)) (24 + (97 + file m.to - 97)) None m (omega arith) (omega arith) (none_is m.promo a.1)))
+    (omega arith, sym (same_move (16 + (97 + file m.to - 97) - 8) (16 + (97 + file m.to - 97) + 8) None m (omega arith) (omega arith) (none_is m.promo a.1)))
 
 en_passant_back : (c : Colour) (e : Option Move) → IsTrue (is_of_other_side c e) → en_passant c (en_passant_text c e) ≡ Some e
 en_passant_back c None fits = refl

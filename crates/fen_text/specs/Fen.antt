@@ -4,6 +4,7 @@ use Rattle.std.specs.Prelude.{ℕ, zero, suc, ◌+◌, ◌-◌, ◌*◌, Bool, t
 use Rattle.std.specs.List.{list_all, fold}
 use Rattle.std.specs.Option.{option_map}
 use Rattle.board_base.specs.Board.{Places}
+use Rattle.board_base.specs.Play.{ahead, behind}
 use Rattle.board_base.specs.Rights.{Rights}
 use Rattle.board_base.specs.declared.men.Colour.{Colour}
 use Rattle.board_base.specs.declared.men.Colour.TheVariants.{White, Black}
@@ -71,10 +72,14 @@ abbrev pub en_passant_digit : Colour → ℕ
 en_passant_digit White = 54
 en_passant_digit Black = 51
 
+-- the square of this file, from 0 for a, on that rank
+abbrev pub crossed_on : Colour → ℕ → ℕ
+crossed_on White f = 40 + f
+crossed_on Black f = 16 + f
+
 -- the double step of the other side on this file, from 0 for a
 abbrev pub double_over : Colour → ℕ → Move
-double_over White f = record { from = 48 + f; to = 32 + f; promo = None }
-double_over Black f = record { from = 8 + f; to = 24 + f; promo = None }
+double_over c f = record { from = ahead c (crossed_on c f); to = behind c (crossed_on c f); promo = None }
 
 -- a dash, or the square that a double step of the other side crossed
 abbrev pub en_passant : Colour → List ℕ → Option (Option Move)

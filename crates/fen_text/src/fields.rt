@@ -2,10 +2,11 @@ ghost use Rattle.std.specs.Prelude.{◌≡◌, ◌≢◌, ◌-◌, ◌+◌, ◌<
 ghost use Rattle.board_base.specs.Rights.{holds};
 ghost use Rattle.board_base.specs.declared.castles.Castle.{Castle as AnyCastle};
 ghost use Rattle.query_base.specs.Asked.{is_of_other_side};
-ghost use Rattle.fen_text.specs.Fen.{turn, mark, rights, rights_of, en_passant, en_passant_digit, double_over, is_digit, number};
+ghost use Rattle.fen_text.specs.Fen.{turn, mark, rights, rights_of, en_passant, en_passant_digit, crossed_on, double_over, is_digit, number};
 ghost use Rattle.fen_text.specs.Faults.{ReadsPart};
 
 use board_base::{Castle, CastleSet, Colour, Move, Square};
+use ep_history::double_over;
 
 /// Reads a side, `w` or `b`, or says how many bytes begin one.
 pub fn read_turn(text: &[u8]) -> Result<Colour, usize>
@@ -88,21 +89,26 @@ pub(crate) fn digit_of(turn: Colour) -> u8
     }
 }
 
+/// The square of this file, from 0 for a, on the rank on which this colour takes en passant.
+fn crossed_on(turn: Colour, file: u8) -> Square
+    requires { file < 8 }
+    ensures square { result ≡ crossed_on turn file }
+    ensures low { 8 ≤ result }
+    ensures high { result < 56 }
+{
+    match turn {
+        Colour::White => Square::known(40 + file),
+        Colour::Black => Square::known(16 + file),
+    }
+}
+
 /// The double step of the other side on this file, from 0 for a.
 fn double_step(turn: Colour, file: u8) -> Move
     requires { file < 8 }
     ensures step { result ≡ double_over turn file }
     ensures fits { IsTrue (is_of_other_side turn (Some result)) }
 {
-    let (from, to) = match turn {
-        Colour::White => (48 + file, 32 + file),
-        Colour::Black => (8 + file, 24 + file),
-    };
-    Move {
-        from: Square::known(from),
-        to: Square::known(to),
-        promo: None,
-    }
+    double_over(crossed_on(turn, file), turn)
 }
 
 /// The double step just made, or how many bytes begin such a field.
