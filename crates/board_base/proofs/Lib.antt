@@ -6,3 +6,4 @@ pub mod BitSets
 pub mod OneText
 pub mod Ordered
 pub mod Rights
+pub mod KindsOfMen

@@ -6,23 +6,22 @@ use Rattle.std.proofs.lemmas.List.FromFn.{length-map-range_with_len, get_or-map-
 use Rattle.std.proofs.lemmas.Option.{same_Some}
 use Rattle.std.specs.Prelude.{Option, Some, None, is_none}
 use Rattle.board_base.proofs.Without.{length-array}
-use Rattle.board_base.specs.Board.{Places, array_of, at, is_empty, is_of, is_a, same_kind, same_colour}
+use Rattle.board_base.specs.Board.{Places, array_of, at, is_empty, is_of, is_a, same_kind}
 use Rattle.board_base.specs.Play.{play, played_as, promoted, moved, castling, goes_en_passant, en_passant_victim}
 use Rattle.board_base.specs.Legal.{is_officer, promotion_fits}
 use Rattle.board_base.specs.Game.{IsGame, board_after, turn_after, unmoved, last_move}
 use Rattle.board_base.specs.declared.men.Colour.{Colour}
-use Rattle.board_base.specs.declared.men.Colour.TheVariants.{White, Black}
 use Rattle.board_base.specs.declared.men.Kind.{Kind}
-use Rattle.board_base.specs.declared.men.Kind.TheVariants.{Pawn, Knight, Bishop, Rook, Queen, King}
+use Rattle.board_base.specs.declared.men.Kind.TheVariants.{Pawn}
 use Rattle.board_base.specs.declared.men.Man.{Man}
 use Rattle.board_base.specs.declared.moves.Move.{Move}
 use Rattle.board_base.specs.declared.castles.Castle.{Castle}
+use Rattle.board_base.proofs.KindsOfMen.{kind_is, same_colour-self, same_kind-self}
 use Rattle.play_rules.proofs.Legality.{Legality, legality}
 use Rattle.play_rules.proofs.Games.{in_every_game, board_after-more}
 use Rattle.play_rules.proofs.Kings.{within, length-after}
 use Rattle.men_account.specs.Labels.{Labels, label_at, own_label, first_labels, relabelled, labels_from, labels_after, LabelsEachMan, AreApart, HoldsOfEach, HasColourOf, IsPromotedFrom}
 use Rattle.men_account.proofs.Moved.{on_square, moved_from, arrived, length-moved, at-moved, label-moved, moved_from-apart}
-use Rattle.men_account.proofs.Surplus.{pawn_is}
 
 -- if the man who began here was of another kind, he was a pawn
 abbrev WasPawn : Man → Option Man → Type 0
@@ -40,18 +39,6 @@ record Fits (first board : Places) (labels : Labels) : Type 0 where
   size : length labels ≡ 64
   agree : (s : ℕ) → Agrees first (at board s) (label_at labels s)
   apart : AreApart labels
-
-same_colour-self : (c : Colour) → same_colour c c ≡ true
-same_colour-self White = refl
-same_colour-self Black = refl
-
-same_kind-self : (k : Kind) → same_kind k k ≡ true
-same_kind-self Pawn = refl
-same_kind-self Knight = refl
-same_kind-self Bishop = refl
-same_kind-self Rook = refl
-same_kind-self Queen = refl
-same_kind-self King = refl
 
 -- a man who stands on his own square
 agrees-own : (first : Places) (s : ℕ) (place : Option Man) → at first s ≡ place → Agrees first place (cond (is_empty place) None (Some s))
@@ -113,7 +100,7 @@ agrees-from first board labels fits (Some s) = fits.agree s
 -- a pawn began as a pawn
 began-pawn : (place : Option Man) (m : Man) → same_kind Pawn m.kind ≡ true → WasPawn m place → is_a Pawn place ≡ true
 began-pawn place m pawn was = elim (cases_Bool (is_a m.kind place)) [
-  | inl same ↦ subst (λ (k : Kind). is_a k place ≡ true) (pawn_is m.kind pawn) same
+  | inl same ↦ subst (λ (k : Kind). is_a k place ≡ true) (sym (kind_is Pawn m.kind pawn)) same
   | inr other ↦ (was other).1
 ]
 

@@ -20,6 +20,7 @@ use Rattle.play_rules.proofs.Legality.{Manner, moves, steps, doubles, takes, pas
 use Rattle.play_rules.proofs.Games.{in_every_game, board_after-more}
 use Rattle.play_rules.proofs.Kings.{castle-ends, Ends, within, two-castles, length-carry, length-after, rook_home-within, crossed-within}
 use Rattle.board_base.proofs.Without.{at-without}
+use Rattle.board_base.proofs.KindsOfMen.{another_kind, kind_is}
 use Rattle.men_account.specs.Account.{men, is_light, is_dark, is_any, counts_of, excess_of, full_allowance, accounts_for}
 use Rattle.men_account.specs.declared.tallies.Counts.{Counts}
 use Rattle.men_account.proofs.Tally.{one_if, men-fewer, at-cleared, men-carry}
@@ -77,19 +78,11 @@ carry-surplus c board from to len f t same =
     none-gain (counts_of c board) (counts_of c (carry board from to None)) (same-count c Pawn is_any board from to len f t refl) (same-count c Queen is_any board from to len f t refl) (same-count c Rook is_any board from to len f t refl) (same-count c Knight is_any board from to len f t refl)
     (same-count c Bishop is_light board from to len f t (bishop-same c (at board from) (is_light from) (is_light to) same)) (same-count c Bishop is_dark board from to len f t (bishop-same c (at board from) (is_dark from) (is_dark to) (λ h. ap not (same h))))
 
-pub pawn_is : (k : Kind) → same_kind Pawn k ≡ true → k ≡ Pawn
-pawn_is Pawn h = refl
-pawn_is Knight h = cc
-pawn_is Bishop h = cc
-pawn_is Rook h = cc
-pawn_is Queen h = cc
-pawn_is King h = cc
-
 -- what a promotion of this man to a kind adds to the count of one kind
 promo-count : (c : Colour) (k : Kind) (among : ℕ → Bool) (board : Places) (from to : ℕ) (j : Kind) (m : Man) → length board ≡ 64 → from < 64 → to < 64 → at board from ≡ Some m → same_kind Pawn m.kind ≡ true → men c k among (carry board from to (Some j)) + one_if ((same_colour c m.colour && same_kind k Pawn) && among from) ≤ men c k among board + one_if ((same_colour c m.colour && same_kind k j) && among to)
 promo-count c k among board from to j m len f t there pawn =
     let e1 : one_if (is_the c k (at board from) && among from) ≡ one_if ((same_colour c m.colour && same_kind k Pawn) && among from) =
-    ap (λ (p : Option Man). one_if (is_the c k p && among from)) there ∙ ap (λ (i : Kind). one_if ((same_colour c m.colour && same_kind k i) && among from)) (pawn_is m.kind pawn) in
+    ap (λ (p : Option Man). one_if (is_the c k p && among from)) there ∙ ap (λ (i : Kind). one_if ((same_colour c m.colour && same_kind k i) && among from)) (sym (kind_is Pawn m.kind pawn)) in
     let e2 : one_if (is_the c k (promoted (Some j) (at board from)) && among to) ≡ one_if ((same_colour c m.colour && same_kind k j) && among to) =
     ap (λ (p : Option Man). one_if (is_the c k (promoted (Some j) p) && among to)) there in
     omega (arith, men-carry c k among board from to (Some j) len f t, e1, e2)
@@ -111,68 +104,24 @@ move-surplus c board from to (Some j) (Some m) reaches len f t there h same =
 diagonal : (f r f' r' : ℕ) → (f - f') + (f' - f) ≡ (r - r') + (r' - r) → (f + r) % 2 ≡ (f' + r') % 2
 diagonal f r f' r' h = omega arith
 
-bishop_kind : (board : Places) (c : Colour) (k : Kind) (s t : ℕ) → same_kind Bishop k ≡ true → kind_attacks board c k s t ≡ true → is_light s ≡ is_light t
-unfolding kind_attacks distance
-bishop_kind board c Bishop s t k h =
-    let e : files_apart s t ≡ ranks_apart s t = eqb-true _ _ (and_parts _ _ (and_parts _ _ h).0).1 in
-    ap (λ (n : ℕ). n == 1) (diagonal (file s) (rank s) (file t) (rank t) e)
-bishop_kind board c Pawn s t k h = cc
-bishop_kind board c Knight s t k h = cc
-bishop_kind board c Rook s t k h = cc
-bishop_kind board c Queen s t k h = cc
-bishop_kind board c King s t k h = cc
-
 bishop-steps : (board : Places) (place : Option Man) (s t : ℕ) → is_a Bishop place ≡ true → elim place as (λ _. Bool) [ None ↦ false | Some m ↦ kind_attacks board m.colour m.kind s t ] ≡ true → is_light s ≡ is_light t
+unfolding kind_attacks distance
 bishop-steps board None s t k h = cc
-bishop-steps board (Some m) s t k h = bishop_kind board m.colour m.kind s t k h
-
-no-pawn : (k : Kind) → same_kind Bishop k ≡ true → same_kind Pawn k ≡ false
-no-pawn Pawn h = cc
-no-pawn Knight h = cc
-no-pawn Bishop h = refl
-no-pawn Rook h = cc
-no-pawn Queen h = cc
-no-pawn King h = cc
-
-bishop-no_pawn : (place : Option Man) → is_a Bishop place ≡ true → is_a Pawn place ≡ false
-bishop-no_pawn None h = cc
-bishop-no_pawn (Some m) h = no-pawn m.kind h
+bishop-steps board (Some m) s t k h =
+    let goes : kind_attacks board m.colour Bishop s t ≡ true = subst (λ (j : Kind). kind_attacks board m.colour j s t ≡ true) (sym (kind_is Bishop m.kind k)) h in
+    let e : files_apart s t ≡ ranks_apart s t = eqb-true _ _ (and_parts _ _ (and_parts _ _ goes).0).1 in
+    ap (λ (n : ℕ). n == 1) (diagonal (file s) (rank s) (file t) (rank t) e)
 
 bishop-goes : (board : Places) (c : Colour) (rights : Castle → Bool) (last : Option Move) (m : Move) → castling board m ≡ None → is_a Bishop (at board m.from) ≡ true → Manner board c rights last m → is_light m.from ≡ is_light m.to
 unfolding man_moves attacks_from pawn_steps pawn_doubles pawn_captures pawn_captures_en_passant king_castles
 bishop-goes board c rights last m none bishop (moves h) = bishop-steps board (at board m.from) m.from m.to bishop (and_parts _ _ h).1
-bishop-goes board c rights last m none bishop (steps h) = absurd (both_ways _ (bishop-no_pawn _ bishop) (and_parts _ _ (and_parts _ _ (and_parts _ _ h).0).0).0)
-bishop-goes board c rights last m none bishop (doubles h) = absurd (both_ways _ (bishop-no_pawn _ bishop) (and_parts _ _ (and_parts _ _ (and_parts _ _ (and_parts _ _ (and_parts _ _ h).0).0).0).0).0)
-bishop-goes board c rights last m none bishop (takes h) = absurd (both_ways _ (bishop-no_pawn _ bishop) (and_parts _ _ (and_parts _ _ (and_parts _ _ h).0).0).0)
-bishop-goes board c rights last m none bishop (passes h) = absurd (both_ways _ (bishop-no_pawn _ bishop) (and_parts _ _ (and_parts _ _ h).0).0)
+bishop-goes board c rights last m none bishop (steps h) = absurd (both_ways _ (another_kind Pawn Bishop _ bishop) (and_parts _ _ (and_parts _ _ (and_parts _ _ h).0).0).0)
+bishop-goes board c rights last m none bishop (doubles h) = absurd (both_ways _ (another_kind Pawn Bishop _ bishop) (and_parts _ _ (and_parts _ _ (and_parts _ _ (and_parts _ _ (and_parts _ _ h).0).0).0).0).0)
+bishop-goes board c rights last m none bishop (takes h) = absurd (both_ways _ (another_kind Pawn Bishop _ bishop) (and_parts _ _ (and_parts _ _ (and_parts _ _ h).0).0).0)
+bishop-goes board c rights last m none bishop (passes h) = absurd (both_ways _ (another_kind Pawn Bishop _ bishop) (and_parts _ _ (and_parts _ _ h).0).0)
 bishop-goes board c rights last m none bishop (castles h) =
     let P : Option Castle → Type 0 = λ o. castles_as board c rights o ≡ true in
     absurd (both_ways false refl (subst P none h))
-
-bishop-is : (k : Kind) → same_kind Bishop k ≡ true → same_kind King k ≡ false
-bishop-is Pawn h = cc
-bishop-is Knight h = cc
-bishop-is Bishop h = refl
-bishop-is Rook h = cc
-bishop-is Queen h = cc
-bishop-is King h = cc
-
-bishop-no_king : (place : Option Man) → is_a Bishop place ≡ true → is_a King place ≡ false
-bishop-no_king None h = cc
-bishop-no_king (Some m) h = bishop-is m.kind h
-
-rook-is : (k : Kind) → same_kind Rook k ≡ true → same_kind Bishop k ≡ false
-rook-is Pawn h = cc
-rook-is Knight h = cc
-rook-is Bishop h = cc
-rook-is Rook h = refl
-rook-is Queen h = cc
-rook-is King h = cc
-
--- the home of the rook is of another colour than the square that it comes to, but no bishop stands there
-rook-no_bishop : (c : Colour) (place : Option Man) → is_the c Rook place ≡ true → is_a Bishop place ≡ false
-rook-no_bishop c None h = refl
-rook-no_bishop c (Some m) h = rook-is m.kind (and_parts _ _ h).1
 
 after-clear : (c : Colour) (board : Places) (m : Move) (b : Bool) → surplus c (cond b (set (carry board m.from m.to m.promo) (en_passant_victim m) None) (carry board m.from m.to m.promo)) ≤ surplus c (carry board m.from m.to m.promo)
 after-clear c board m false = omega arith
@@ -193,13 +142,13 @@ rook_home-not-target BlackLong e = omega arith
 castle-surplus : (k c : Colour) (board : Places) (rights : Castle → Bool) (m : Move) (x : Castle) → length board ≡ 64 → m.from < 64 → m.to < 64 → Ends m x board → may_castle board c rights x ≡ true → surplus k (carry (carry board m.from m.to None) (rook_home x) (crossed x) None) ≤ surplus k board
 castle-surplus k c board rights m x len f t ends may =
     let moved : Places = carry board m.from m.to None in
-    let rook = (and_parts _ _ (and_parts _ _ (and_parts _ _ (and_parts _ _ (and_parts _ _ may).0).0).0).0).1 in
+    let rook : is_the c Rook (at board (rook_home x)) ≡ true = (and_parts _ _ (and_parts _ _ (and_parts _ _ (and_parts _ _ (and_parts _ _ may).0).0).0).0).1 in
     let stays : at moved (rook_home x) ≡ at board (rook_home x) =
     get_or-set_other (set board m.from None) m.to (rook_home x) (at board m.from) None (λ z. rook_home-not-target x (z ∙ sym ends.to)) ∙ get_or-set_other board m.from (rook_home x) None None (λ z. rook_home-not-home x (z ∙ sym ends.from)) in
-    let quiet : is_a Bishop (at moved (rook_home x)) ≡ false = ap (is_a Bishop) stays ∙ rook-no_bishop c (at board (rook_home x)) rook in
+    let quiet : is_a Bishop (at moved (rook_home x)) ≡ false = ap (is_a Bishop) stays ∙ another_kind Bishop Rook (at board (rook_home x)) (and_parts _ _ rook).1 in
     let len' : length moved ≡ 64 = length-carry board m.from m.to None ∙ len in
     let second = carry-surplus k moved (rook_home x) (crossed x) len' (rook_home-within x) (crossed-within x) (λ h. absurd (both_ways _ quiet h)) in
-    let first = carry-surplus k board m.from m.to len f t (λ h. absurd (both_ways _ (bishop-no_king _ h) ends.king)) in
+    let first = carry-surplus k board m.from m.to len f t (λ h. absurd (both_ways _ (another_kind King Bishop _ h) ends.king)) in
     omega (arith, first, second)
 
 -- a legal move adds nothing to the surplus

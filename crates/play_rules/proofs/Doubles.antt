@@ -5,7 +5,7 @@ use Rattle.std.proofs.lemmas.List.{length-append, length-set, get_or-set_same, g
 use Rattle.std.proofs.lemmas.Option.{cond_some, same_Some}
 use Rattle.std.specs.Prelude.{Option, Some, None}
 use Rattle.std.specs.List.{last_or}
-use Rattle.board_base.specs.Board.{Places, at, is_a, is_the, same_kind, opponent, file, rank}
+use Rattle.board_base.specs.Board.{Places, at, is_a, is_the, opponent, file, rank}
 use Rattle.board_base.specs.Attacks.{distance, ranks_apart, one_ahead}
 use Rattle.board_base.specs.Play.{play, played_as, moved, ahead, carry, promoted, castling, goes_en_passant, en_passant_victim, double_of, double_step, king_home, king_target}
 use Rattle.board_base.specs.Legal.{legal_on, promotion_fits, is_officer, last_rank, pawn_rank, man_moves, pawn_steps, pawn_doubles, pawn_captures, pawn_captures_en_passant, king_castles, castles_as, is_move}
@@ -13,15 +13,16 @@ use Rattle.board_base.specs.declared.men.Man.{Man}
 use Rattle.board_base.specs.declared.men.Colour.{Colour}
 use Rattle.board_base.specs.declared.men.Colour.TheVariants.{White, Black}
 use Rattle.board_base.specs.declared.men.Kind.{Kind}
-use Rattle.board_base.specs.declared.men.Kind.TheVariants.{Pawn, Knight, Bishop, Rook, Queen, King}
+use Rattle.board_base.specs.declared.men.Kind.TheVariants.{Pawn, King}
 use Rattle.board_base.specs.declared.moves.Move.{Move}
 use Rattle.board_base.specs.declared.castles.Castle.{Castle}
 use Rattle.play_rules.specs.States.{crossed_by, double_crossing, step_over}
 use Rattle.play_rules.proofs.Legality.{Manner, moves, steps, doubles, takes, passes, castles, Legality}
 use Rattle.board_base.specs.declared.castles.Castle.TheVariants.{WhiteShort, WhiteLong, BlackShort, BlackLong}
 use Rattle.board_base.specs.Game.{IsGame, board_after, turn_after, last_move}
+use Rattle.board_base.proofs.KindsOfMen.{another_kind, no_officer}
 use Rattle.play_rules.proofs.Games.{in_every_game, board_after-more}
-use Rattle.play_rules.proofs.Kings.{castle-ends, pawn-no_king, length-after, length-carry}
+use Rattle.play_rules.proofs.Kings.{castle-ends, length-after, length-carry}
 use Rattle.play_rules.proofs.Legality.{legality}
 use Rattle.play_rules.proofs.EnPassant.{FitsDouble, FitsLast, en_passant-same}
 
@@ -60,7 +61,7 @@ en_passant-no-double {A} board c last m (Some d) e two h =
 
 pub castles-no-pawn : (board : Places) (c : Colour) (rights : Castle → Bool) (m : Move) (o : Option Castle) → castling board m ≡ o → is_a Pawn (at board m.from) ≡ true → castles_as board c rights o ≡ true → ⊥
 castles-no-pawn board c rights m None e pawn h = both_ways false refl h
-castles-no-pawn board c rights m (Some x) e pawn h = both_ways _ (pawn-no_king (at board m.from) pawn) (castle-ends board m x e).king
+castles-no-pawn board c rights m (Some x) e pawn h = both_ways _ (another_kind King Pawn (at board m.from) pawn) (castle-ends board m x e).king
 
 last_from : (o : Option Move) (g : List Move) (m : Move) → last_or o (g ++ m ∷ []) ≡ Some m
 last_from o [] m = refl
@@ -95,19 +96,11 @@ double-promo : (board : Places) (c : Colour) (m : Move) → promotion_fits board
 unfolding promotion_fits
 double-promo board c m fits double = double_no_promo board c m m.promo double.home double.apart fits
 
-pub officer-no_pawn : (k : Kind) → is_officer k ≡ true → same_kind Pawn k ≡ false
-officer-no_pawn Pawn h = cc
-officer-no_pawn Knight h = refl
-officer-no_pawn Bishop h = refl
-officer-no_pawn Rook h = refl
-officer-no_pawn Queen h = refl
-officer-no_pawn King h = refl
-
 -- a man who is a pawn at the end of his move was one before it
 still_pawn : (promo : Option Kind) (place : Option Man) (reaches : Bool) → elim promo as (λ _. Bool) [ None ↦ not (is_a Pawn place && reaches) | Some k ↦ is_a Pawn place && reaches && is_officer k ] ≡ true → is_a Pawn (promoted promo place) ≡ true → is_a Pawn place ≡ true
 still_pawn None place reaches h pawn = pawn
 still_pawn (Some k) None reaches h pawn = pawn
-still_pawn (Some k) (Some m) reaches h pawn = absurd (both_ways _ (officer-no_pawn k (and_parts _ _ h).1) pawn)
+still_pawn (Some k) (Some m) reaches h pawn = absurd (both_ways _ (no_officer Pawn k refl (and_parts _ _ h).1) pawn)
 
 target-plain : (board : Places) (m : Move) → m.to < length board → is_a Pawn (at (carry board m.from m.to m.promo) m.to) ≡ true → is_a Pawn (promoted m.promo (at board m.from)) ≡ true
 target-plain board m inside pawn =
@@ -157,7 +150,7 @@ fits-played board c rights last m o e len l h =
 
 -- a double step leaves its pawn on the target
 double-left : (board : Places) (c : Colour) (m : Move) (o : Option Castle) (promo : Option Kind) → castling board m ≡ o → m.to < length board → promo ≡ None → Doubles board c m → is_a Pawn (at (moved (promoted promo) m o (goes_en_passant board m) board) m.to) ≡ true
-double-left board c m (Some x) promo e inside none double = absurd (both_ways _ (pawn-no_king (at board m.from) double.pawn) (castle-ends board m x e).king)
+double-left board c m (Some x) promo e inside none double = absurd (both_ways _ (another_kind King Pawn (at board m.from) double.pawn) (castle-ends board m x e).king)
 double-left board c m None promo e inside none double =
     let straight : goes_en_passant board m ≡ false = and_left _ _ (and_right _ _ (ap not (eq-eqb _ _ double.file_is))) in
     let t : m.to < length (set board m.from None) = omega (arith, length-set board m.from None) in

@@ -20,11 +20,12 @@ use Rattle.board_base.specs.declared.castles.Castle.{Castle}
 use Rattle.board_base.specs.declared.castles.Castle.TheVariants.{WhiteShort, WhiteLong, BlackShort, BlackLong}
 use Rattle.board_base.proofs.Ranges.{all_in_range}
 use Rattle.board_base.proofs.Without.{at-without}
+use Rattle.board_base.proofs.KindsOfMen.{no_officer}
 use Rattle.play_rules.specs.Laws.{is_end, HasNoPawnOnEnds}
 use Rattle.play_rules.proofs.Legality.{Manner, moves, steps, doubles, takes, passes, castles, Legality, legality}
 use Rattle.play_rules.proofs.Games.{in_every_game, board_after-more}
 use Rattle.play_rules.proofs.Kings.{castle-ends, within, length-after}
-use Rattle.play_rules.proofs.Doubles.{castles-no-pawn, officer-no_pawn}
+use Rattle.play_rules.proofs.Doubles.{castles-no-pawn}
 
 ends-set : (board : Places) (i : ℕ) (v : Option Man) → (is_end i ≡ true → is_a Pawn v ≡ false) → HasNoPawnOnEnds board → HasNoPawnOnEnds (set board i v)
 ends-set board i v new old s end = elim (cases_eq s i) [
@@ -94,7 +95,7 @@ pawn-ends board c rights last m from small pawn end (castles h) = absurd (castle
 arrives : (promo : Option Kind) (place : Option Man) (reaches : Bool) → (is_a Pawn place ≡ true → reaches ≡ true) → elim promo as (λ _. Bool) [ None ↦ not (is_a Pawn place && reaches) | Some k ↦ is_a Pawn place && reaches && is_officer k ] ≡ true → is_a Pawn (promoted promo place) ≡ false
 arrives None place reaches last h = false_from_ne_true _ (λ pawn. both_ways _ (not-true _ h) (and_from _ _ pawn (last pawn)))
 arrives (Some k) None reaches last h = refl
-arrives (Some k) (Some m) reaches last h = officer-no_pawn k (and_parts _ _ h).1
+arrives (Some k) (Some m) reaches last h = no_officer Pawn k refl (and_parts _ _ h).1
 
 ends-played : (board : Places) (c : Colour) (rights : Castle → Bool) (last : Option Move) (m : Move) (o : Option Castle) → castling board m ≡ o → length board ≡ 64 → Legality board c rights last m → HasNoPawnOnEnds board → HasNoPawnOnEnds (played_as board m o)
 unfolding promotion_fits

@@ -8,7 +8,7 @@ use Rattle.std.specs.Prelude.{Option, Some, None}
 use Rattle.std.specs.List.{count_by, find, list_all, range_with_len}
 use Rattle.board_base.proofs.Ranges.{all_in_range}
 use Rattle.board_base.proofs.Without.{length-array, count-without}
-use Rattle.board_base.specs.Board.{Places, initial_array, array_of, AreOdds, is_in, may_lack, at, is_of, is_a, is_the, is_empty, same_kind, opponent, file, rank}
+use Rattle.board_base.specs.Board.{Places, initial_array, array_of, AreOdds, is_in, may_lack, at, is_of, is_a, is_the, is_empty, opponent, file, rank}
 use Rattle.board_base.specs.Play.{play, played_as, carry, promoted, castling, castling_from, all_castles, goes_en_passant, en_passant_victim, double_of, double_step, king_home, king_target, rook_home, crossed}
 use Rattle.board_base.specs.Legal.{promotion_fits, is_officer, is_move, man_moves, pawn_steps, pawn_doubles, pawn_captures, pawn_captures_en_passant, king_castles, castles_as, may_castle}
 use Rattle.board_base.specs.Attacks.{kind_attacks, attacks_from, is_open, king_distance, distance, on_the_way, toward}
@@ -17,11 +17,12 @@ use Rattle.board_base.specs.declared.men.Colour.TheVariants.{White, Black}
 use Rattle.board_base.specs.declared.men.Man.{Man}
 use Rattle.board_base.specs.declared.men.Colour.{Colour}
 use Rattle.board_base.specs.declared.men.Kind.{Kind}
-use Rattle.board_base.specs.declared.men.Kind.TheVariants.{Pawn, Knight, Bishop, Rook, Queen, King}
+use Rattle.board_base.specs.declared.men.Kind.TheVariants.{Pawn, King}
 use Rattle.board_base.specs.declared.moves.Move.{Move}
 use Rattle.board_base.specs.declared.castles.Castle.{Castle}
 use Rattle.board_base.specs.declared.castles.Castle.TheVariants.{WhiteShort, WhiteLong, BlackShort, BlackLong}
 use Rattle.board_base.specs.Game.{IsGame, board_after}
+use Rattle.board_base.proofs.KindsOfMen.{another_kind, kind_is, no_officer}
 use Rattle.play_rules.specs.Kings.{HasOneKingEach, kings}
 use Rattle.play_rules.proofs.Games.{in_every_game, board_after-more}
 
@@ -45,27 +46,6 @@ carry-count p board from to promo f t none there same =
     let e3 : n (promoted promo (at board from)) ≡ n (at board from) = ap (λ (x : Bool). cond x 1 0) same in
     omega (arith, left, came, e1, e2, e3)
 
-pawn_kind : (k : Kind) → same_kind Pawn k ≡ true → same_kind King k ≡ false
-pawn_kind King h = cc
-pawn_kind Pawn h = refl
-pawn_kind Knight h = refl
-pawn_kind Bishop h = refl
-pawn_kind Rook h = refl
-pawn_kind Queen h = refl
-
--- a pawn is no king, and neither is what a pawn becomes
-pub pawn-no_king : (place : Option Man) → is_a Pawn place ≡ true → is_a King place ≡ false
-pawn-no_king None h = refl
-pawn-no_king (Some m) h = pawn_kind m.kind h
-
-pub officer-no_king : (k : Kind) → is_officer k ≡ true → same_kind King k ≡ false
-officer-no_king King h = cc
-officer-no_king Pawn h = refl
-officer-no_king Knight h = refl
-officer-no_king Bishop h = refl
-officer-no_king Rook h = refl
-officer-no_king Queen h = refl
-
 -- a promotion makes no king of a man that was none
 promotion-king : (k : Colour) (promo : Option Kind) (place : Option Man) → (reaches : Bool) → elim promo as (λ _. Bool) [ None ↦ not (is_a Pawn place && reaches) | Some j ↦ is_a Pawn place && reaches && is_officer j ] ≡ true → is_the k King (promoted promo place) ≡ is_the k King place
 promotion-king k None place reaches h = refl
@@ -73,7 +53,7 @@ promotion-king k (Some j) None reaches h = refl
 promotion-king k (Some j) (Some m) reaches h =
     let parts = and_parts _ _ h in
     let pawn = and_parts _ _ parts.0 in
-    and_right _ _ (officer-no_king j parts.1) ∙ sym (and_right _ _ (pawn_kind m.kind pawn.0))
+    and_right _ _ (no_officer King j refl parts.1) ∙ sym (and_right _ _ (another_kind King Pawn (Some m) pawn.0))
 
 -- a place that passes a test that empty places don't pass is on the board
 pub within : (p : Option Man → Bool) (board : Places) (i : ℕ) → p None ≡ false → p (at board i) ≡ true → i < length board
@@ -109,7 +89,7 @@ en_passant_victim-from : (board : Places) (c : Colour) (last : Option Move) (m :
 en_passant_victim-from board c last m None e h = cc
 en_passant_victim-from board c last m (Some d) e h =
     let pawn = and_parts _ _ (and_parts _ _ h).1 in
-    rw (← double-en_passant_victim m d c e) (pawn-no_king _ pawn.1)
+    rw (← double-en_passant_victim m d c e) (another_kind King Pawn _ pawn.1)
 
 en_passant_victim-no_king : (board : Places) (c : Colour) (rights : Castle → Bool) (last : Option Move) (m : Move) → castling board m ≡ None → goes_en_passant board m ≡ true → Manner board c rights last m → is_a King (at board (en_passant_victim m)) ≡ false
 unfolding man_moves pawn_steps pawn_doubles pawn_captures pawn_captures_en_passant king_castles
@@ -128,18 +108,10 @@ en_passant_victim-no_king board c rights last m none t (castles h) =
     cc
 
 -- a king's move of two squares is no ordinary move of a king
-king_kind : (board : Places) (c : Colour) (k : Kind) (s t : ℕ) → same_kind King k ≡ true → kind_attacks board c k s t ≡ true → (king_distance s t == 1) ≡ true
-unfolding kind_attacks
-king_kind board c King s t k h = h
-king_kind board c Pawn s t k h = cc
-king_kind board c Knight s t k h = cc
-king_kind board c Bishop s t k h = cc
-king_kind board c Rook s t k h = cc
-king_kind board c Queen s t k h = cc
-
 king-steps : (board : Places) (place : Option Man) (s t : ℕ) → is_a King place ≡ true → elim place as (λ _. Bool) [ None ↦ false | Some m ↦ kind_attacks board m.colour m.kind s t ] ≡ true → (king_distance s t == 1) ≡ true
+unfolding kind_attacks
 king-steps board None s t k h = cc
-king-steps board (Some m) s t k h = king_kind board m.colour m.kind s t k h
+king-steps board (Some m) s t k h = subst (λ (j : Kind). kind_attacks board m.colour j s t ≡ true) (sym (kind_is King m.kind k)) h
 
 castle-two : (x : Castle) → (king_distance (king_home x) (king_target x) == 1) ≡ false
 unfolding king_distance distance
@@ -185,13 +157,13 @@ two-castles board c rights last m x e (moves h) =
     let two : (king_distance m.from m.to == 1) ≡ false = subst (λ (n : ℕ). (king_distance n m.to == 1) ≡ false) ends.from (subst (λ (n : ℕ). (king_distance (king_home x) n == 1) ≡ false) ends.to (castle-two x)) in
     not_both _ one two
 two-castles board c rights last m x e (steps h) =
-    not_both _ (castle-ends board m x e).king (pawn-no_king _ (and_parts _ _ (and_parts _ _ (and_parts _ _ h).0).0).0)
+    not_both _ (castle-ends board m x e).king (another_kind King Pawn _ (and_parts _ _ (and_parts _ _ (and_parts _ _ h).0).0).0)
 two-castles board c rights last m x e (doubles h) =
-    not_both _ (castle-ends board m x e).king (pawn-no_king _ (and_parts _ _ (and_parts _ _ (and_parts _ _ (and_parts _ _ (and_parts _ _ h).0).0).0).0).0)
+    not_both _ (castle-ends board m x e).king (another_kind King Pawn _ (and_parts _ _ (and_parts _ _ (and_parts _ _ (and_parts _ _ (and_parts _ _ h).0).0).0).0).0)
 two-castles board c rights last m x e (takes h) =
-    not_both _ (castle-ends board m x e).king (pawn-no_king _ (and_parts _ _ (and_parts _ _ (and_parts _ _ h).0).0).0)
+    not_both _ (castle-ends board m x e).king (another_kind King Pawn _ (and_parts _ _ (and_parts _ _ (and_parts _ _ h).0).0).0)
 two-castles board c rights last m x e (passes h) =
-    not_both _ (castle-ends board m x e).king (pawn-no_king _ (and_parts _ _ (and_parts _ _ h).0).0)
+    not_both _ (castle-ends board m x e).king (another_kind King Pawn _ (and_parts _ _ (and_parts _ _ h).0).0)
 two-castles board c rights last m x e (castles h) = subst (λ (o : Option Castle). castles_as board c rights o ≡ true) e h
 
 -- a write that leaves the answer of the test keeps the count
@@ -276,7 +248,7 @@ kings-after k c board rights last m (Some x) e len l =
     castle-kings k c board rights m x len f l.on_board l.no_king (castle-ends board m x e) (two-castles board c rights last m x e l.manner)
 kings-after k c board rights last m None e len l =
     let f : m.from < 64 = rw (← len) (within (is_of c) board m.from refl l.mover) in
-    plain-kings k board m (goes_en_passant board m) len f l.on_board l.no_king (promotion-king k m.promo (at board m.from) _ l.promotion) (λ t. (en_passant_victim-no_king board c rights last m e t l.manner, pawn-no_king _ (and_parts _ _ (and_parts _ _ t).0).0))
+    plain-kings k board m (goes_en_passant board m) len f l.on_board l.no_king (promotion-king k m.promo (at board m.from) _ l.promotion) (λ t. (en_passant_victim-no_king board c rights last m e t l.manner, another_kind King Pawn _ (and_parts _ _ (and_parts _ _ t).0).0))
 
 pub length-carry : (board : Places) (from to : ℕ) (promo : Option Kind) → length (carry board from to promo) ≡ length board
 length-carry board from to promo = length-set (set board from None) to _ ∙ length-set board from None

@@ -11,12 +11,12 @@ use Rattle.board_base.specs.Play.{castling, double_of, double_step, king_home, k
 use Rattle.board_base.specs.Legal.{promotion_fits, is_officer, last_rank, man_moves, pawn_steps, pawn_doubles, pawn_captures, pawn_captures_en_passant, king_castles, castles_as, is_move}
 use Rattle.board_base.specs.declared.men.Man.{Man}
 use Rattle.board_base.specs.declared.men.Colour.{Colour}
-use Rattle.board_base.specs.declared.men.Colour.TheVariants.{White, Black}
 use Rattle.board_base.specs.declared.men.Kind.{Kind}
 use Rattle.board_base.specs.declared.men.Kind.TheVariants.{Pawn, Knight, Bishop, Rook, Queen, King}
 use Rattle.board_base.specs.declared.moves.Move.{Move}
 use Rattle.board_base.specs.declared.castles.Castle.{Castle}
 use Rattle.board_base.specs.declared.castles.Castle.TheVariants.{WhiteShort, WhiteLong, BlackShort, BlackLong}
+use Rattle.board_base.proofs.KindsOfMen.{colour_is, kind_is}
 use Rattle.play_rules.specs.States.{Position, legal_at}
 use Rattle.play_rules.specs.Listed.{moves_between, moves_from, move_of}
 use Rattle.play_rules.specs.Reach.{may_reach, may_step}
@@ -62,28 +62,6 @@ only-plain p s t h =
     let no : (k : Kind) → legal_at p (move_of s t (Some k)) ≡ false = λ k. unfit p (move_of s t (Some k)) (ap (λ (b : Bool). b && is_officer k) h) in
     rw (no Knight, no Bishop, no Rook, no Queen)
 
-colour_same : (c d : Colour) → same_colour c d ≡ true → c ≡ d
-colour_same White White h = refl
-colour_same White Black h = cc
-colour_same Black White h = cc
-colour_same Black Black h = refl
-
-pawn_same : (k : Kind) → same_kind Pawn k ≡ true → Pawn ≡ k
-pawn_same Pawn h = refl
-pawn_same Knight h = cc
-pawn_same Bishop h = cc
-pawn_same Rook h = cc
-pawn_same Queen h = cc
-pawn_same King h = cc
-
-king_same : (k : Kind) → same_kind King k ≡ true → King ≡ k
-king_same King h = refl
-king_same Pawn h = cc
-king_same Knight h = cc
-king_same Bishop h = cc
-king_same Rook h = cc
-king_same Queen h = cc
-
 reach-near : (board : Places) (c : Colour) (k : Kind) (s t : ℕ) → same_kind Pawn k ≡ false → kind_attacks board c k s t ≡ true → may_reach board c k s t ≡ true
 unfolding may_reach may_step kind_attacks king_distance
 reach-near board c Pawn s t other h = cc
@@ -100,7 +78,7 @@ reach-near board c King s t other h =
 pawn-near : (board : Places) (c : Colour) (man : Man) (s t : ℕ) → same_colour c man.colour ≡ true → same_kind Pawn man.kind ≡ true → may_step c Pawn s t ≡ true → may_reach board man.colour man.kind s t ≡ true
 unfolding may_reach
 pawn-near board c man s t own pawn h =
-    subst (λ (d : Colour). may_reach board d man.kind s t ≡ true) (colour_same c man.colour own) (subst (λ (k : Kind). may_reach board c k s t ≡ true) (pawn_same man.kind pawn) h)
+    subst (λ (d : Colour). may_reach board d man.kind s t ≡ true) (colour_is c man.colour own) (subst (λ (k : Kind). may_reach board c k s t ≡ true) (kind_is Pawn man.kind pawn) h)
 
 ahead-near : (c : Colour) (s t : ℕ) → one_ahead c s t ≡ true → files_apart s t < 2 → may_step c Pawn s t ≡ true
 unfolding may_step
@@ -131,7 +109,7 @@ castles-near board c rights m man None e here h = absurd (both_ways false refl h
 castles-near board c rights m man (Some x) e here h =
     let ends = castle-ends board m x e in
     let king : same_kind King man.kind ≡ true = ap (is_a King) (sym here) ∙ ends.king in
-    subst (λ (k : Kind). may_reach board man.colour k m.from m.to ≡ true) (king_same man.kind king)
+    subst (λ (k : Kind). may_reach board man.colour k m.from m.to ≡ true) (kind_is King man.kind king)
     (subst (λ (t : ℕ). may_reach board man.colour King m.from t ≡ true) ends.to (subst (λ (s : ℕ). may_reach board man.colour King s (king_target x) ≡ true) ends.from (castle-near x board man.colour)))
 
 near : (board : Places) (c : Colour) (rights : Castle → Bool) (last : Option Move) (m : Move) (man : Man) → at board m.from ≡ Some man → same_colour c man.colour ≡ true → Manner board c rights last m → may_reach board man.colour man.kind m.from m.to ≡ true

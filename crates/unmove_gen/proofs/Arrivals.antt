@@ -17,6 +17,7 @@ use Rattle.board_base.specs.declared.moves.Move.{Move}
 use Rattle.board_base.specs.declared.castles.Castle.{Castle}
 use Rattle.board_base.specs.declared.castles.Castle.TheVariants.{WhiteShort, WhiteLong, BlackShort, BlackLong}
 use Rattle.board_base.specs.declared.unmoves.Unmove.{Unmove}
+use Rattle.board_base.proofs.KindsOfMen.{colour_is, kind_is, same_kind-self}
 use Rattle.query_base.specs.Asked.{Asked}
 use Rattle.play_rules.specs.Listed.{move_of}
 use Rattle.play_rules.specs.Reach.{may_reach}
@@ -26,7 +27,6 @@ use Rattle.play_rules.proofs.Skipped.{too-far}
 use Rattle.unmove_gen.specs.Listed.{answered, before, every_right, is_legal_before, is_listed, mover}
 use Rattle.unmove_gen.specs.Ways.{may_go_alone, may_have_made}
 use Rattle.unmove_gen.proofs.Back.{came, fits_as, placed}
-use Rattle.unmove_gen.proofs.Equal.{colour_is, kind_self, pawn_is}
 use Rattle.unmove_gen.proofs.Exchanged.{legal-exchanged}
 use Rattle.unmove_gen.proofs.Marks.{captures, goes-same, has_passed}
 use Rattle.unmove_gen.proofs.Members.{length-back}
@@ -94,8 +94,8 @@ made-as c m (Some k) None own fits went = absurd (both_ways false refl own)
 made-as c m (Some k) (Some was) own fits went =
     let parts = and_parts _ _ (and_parts _ _ fits).0 in
     let there : (rank m.to == last_rank was.colour) ≡ true = subst (λ (d : Colour). (rank m.to == last_rank d) ≡ true) (colour_is c was.colour own) parts.1 in
-    let step : may_go_alone was.colour Pawn m.from m.to ≡ true = subst (λ (j : Kind). may_go_alone was.colour j m.from m.to ≡ true) (sym (pawn_is was.kind parts.0)) (went was refl) in
-    and_from _ _ (and_from _ _ (kind_self k) there) step
+    let step : may_go_alone was.colour Pawn m.from m.to ≡ true = subst (λ (j : Kind). may_go_alone was.colour j m.from m.to ≡ true) (sym (kind_is Pawn was.kind parts.0)) (went was refl) in
+    and_from _ _ (and_from _ _ (same_kind-self k) there) step
 
 -- the man on the target of a listed unmove may have made its move
 pub listed-made : (q : Asked) (u : Unmove) → length q.board ≡ 64 → is_listed q u ≡ true → may_have_made (at q.board u.mv.to) u.mv ≡ true

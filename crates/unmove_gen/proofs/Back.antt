@@ -1,6 +1,6 @@
 -- A legal move, taken back.
 use Rattle.std.proofs.Common.{◌≡◌, ◌≢◌, ℕ, ◌<◌, Bool, true, false, cond, ◌&&◌, not, length, set, refl, sym, ap, ◌∙◌, arith}
-use Rattle.std.proofs.lemmas.Bool.{and_parts, and_left, both_ways, false_from_ne_true}
+use Rattle.std.proofs.lemmas.Bool.{and_parts, and_left, both_ways}
 use Rattle.std.proofs.lemmas.List.{set-set, set_comm, set-get_or, length-set, get_or-set_same, get_or-set_other}
 use Rattle.std.specs.Prelude.{Option, Some, None}
 use Rattle.board_base.specs.Board.{Places, at, is_of, is_a, man, opponent}
@@ -13,10 +13,11 @@ use Rattle.board_base.specs.declared.men.Kind.TheVariants.{Pawn, King}
 use Rattle.board_base.specs.declared.moves.Move.{Move}
 use Rattle.board_base.specs.declared.castles.Castle.{Castle}
 use Rattle.board_base.specs.declared.unmoves.Unmove.{Unmove}
+use Rattle.board_base.proofs.KindsOfMen.{another_kind, colour_is, colour_other, kind_is, no_officer}
 use Rattle.play_rules.proofs.Legality.{Legality}
-use Rattle.play_rules.proofs.Kings.{within, two-castles, castle-ends, Ends, crossed-empty, crossed-not-home, crossed-not-target, crossed-within, pawn-no_king, officer-no_king, length-carry}
+use Rattle.play_rules.proofs.Kings.{within, two-castles, castle-ends, Ends, crossed-empty, crossed-not-home, crossed-not-target, crossed-within, length-carry}
 use Rattle.unmove_gen.specs.TakenBack.{captured_by, capture_square, kind_of, rook_back, taken_back, unpromoted}
-use Rattle.unmove_gen.proofs.Equal.{colour_is, colour_other, empty_is, pawn_is}
+use Rattle.unmove_gen.proofs.Equal.{empty_is}
 use Rattle.unmove_gen.proofs.Castlings.{Castles, castle-there, castled, castles, none-castled, rook_home-not-crossed}
 use Rattle.unmove_gen.proofs.Marks.{Captures}
 
@@ -48,7 +49,7 @@ unpromoted-promoted : (promo : Option Kind) (place : Option Man) (reaches : Bool
 unpromoted-promoted None place reaches h = refl
 unpromoted-promoted (Some k) None reaches h = refl
 unpromoted-promoted (Some k) (Some m) reaches h =
-    ap (λ (j : Kind). Some (record m { kind = j })) (pawn_is m.kind (and_parts _ _ (and_parts _ _ h).0).0)
+    ap (λ (j : Kind). Some (record m { kind = j })) (kind_is Pawn m.kind (and_parts _ _ (and_parts _ _ h).0).0)
 
 -- a promotion makes no king
 king-promoted : (promo : Option Kind) (place : Option Man) (reaches : Bool) → fits_as place reaches promo ≡ true → is_a King (promoted promo place) ≡ is_a King place
@@ -56,15 +57,12 @@ king-promoted None place reaches h = refl
 king-promoted (Some k) None reaches h = refl
 king-promoted (Some k) (Some m) reaches h =
     let parts = and_parts _ _ h in
-    officer-no_king k parts.1 ∙ sym (pawn-no_king (Some m) (and_parts _ _ parts.0).0)
+    no_officer King k refl parts.1 ∙ sym (another_kind King Pawn (Some m) (and_parts _ _ parts.0).0)
 
 -- a man that is no pawn isn't promoted
 plain-officer : (place : Option Man) (promo : Option Kind) (reaches : Bool) → is_a Pawn place ≡ false → fits_as place reaches promo ≡ true → promo ≡ None
 plain-officer place None reaches off h = refl
 plain-officer place (Some k) reaches off h = absurd (both_ways _ off (and_parts _ _ (and_parts _ _ h).0).0)
-
-king-no_pawn : (place : Option Man) → is_a King place ≡ true → is_a Pawn place ≡ false
-king-no_pawn place h = false_from_ne_true _ (λ pawn. both_ways _ (pawn-no_king place pawn) h)
 
 promoted-of : (c : Colour) (promo : Option Kind) (place : Option Man) → is_of c (promoted promo place) ≡ is_of c place
 promoted-of c None place = refl
@@ -180,7 +178,7 @@ at-target board m true p apart = get_or-set_other (carry board m.from m.to m.pro
 
 not-promoted : (board : Places) (c : Colour) (rights : Castle → Bool) (last : Option Move) (m : Move) → is_a King (at board m.from) ≡ true → Legality board c rights last m → m.promo ≡ None
 unfolding promotion_fits
-not-promoted board c rights last m king l = plain-officer (at board m.from) m.promo _ (king-no_pawn _ king) l.promotion
+not-promoted board c rights last m king l = plain-officer (at board m.from) m.promo _ (another_kind Pawn King _ king) l.promotion
 
 came-as : (board : Places) (c : Colour) (rights : Castle → Bool) (last : Option Move) (m : Move) (b : Bool) (o : Option Castle) → castling board m ≡ o → goes_en_passant board m ≡ b → (b ≡ true → Captures board c m) → Placed board m → Legality board c rights last m → Came (played_as board m o) board c m
 came-as board c rights last m b None e marks k p l =
@@ -199,7 +197,7 @@ none-back c board m true p own other back k = en_passant-back c board m p own (e
 
 -- a king goes past nobody
 king-marks : (board : Places) (m : Move) (b : Bool) → is_a King (at board m.from) ≡ true → goes_en_passant board m ≡ b → marked b board m ≡ marked false board m
-king-marks board m b king marks = ap (λ (d : Bool). marked d board m) (sym marks ∙ and_left _ _ (and_left _ _ (king-no_pawn _ king)))
+king-marks board m b king marks = ap (λ (d : Bool). marked d board m) (sym marks ∙ and_left _ _ (and_left _ _ (another_kind Pawn King _ king)))
 
 back-as : (board : Places) (c : Colour) (rights : Castle → Bool) (last : Option Move) (m : Move) (b : Bool) (o : Option Castle) → castling board m ≡ o → goes_en_passant board m ≡ b → (b ≡ true → Captures board c m) → length board ≡ 64 → Legality board c rights last m → taken_back (played_as board m o) (marked b board m) ≡ board
 unfolding taken_back promotion_fits

@@ -9,14 +9,14 @@ use Rattle.board_base.specs.Play.{played_as, carry, castling, castling_from, sid
 use Rattle.board_base.specs.Legal.{may_castle}
 use Rattle.castle_history.specs.TakenBack.{castling_back, of_king, of_side}
 use Rattle.play_rules.proofs.Kings.{castle-ends, Ends, crossed-not-target}
-use Rattle.unmove_gen.proofs.Equal.{colour_is, empty_is}
+use Rattle.unmove_gen.proofs.Equal.{empty_is}
 use Rattle.board_base.specs.declared.men.Man.{Man}
 use Rattle.board_base.specs.declared.men.Colour.{Colour}
-use Rattle.board_base.specs.declared.men.Colour.TheVariants.{White, Black}
 use Rattle.board_base.specs.declared.men.Kind.TheVariants.{King}
 use Rattle.board_base.specs.declared.moves.Move.{Move}
 use Rattle.board_base.specs.declared.castles.Castle.{Castle}
 use Rattle.board_base.specs.declared.castles.Castle.TheVariants.{WhiteShort, WhiteLong, BlackShort, BlackLong}
+use Rattle.board_base.proofs.KindsOfMen.{colour_is, same_colour-self}
 
 pub rook_home-not-target : (x : Castle) → rook_home x ≢ king_target x
 rook_home-not-target WhiteShort e = omega arith
@@ -74,7 +74,7 @@ own-king : (x : Castle) (place : Option Man) → is_the (side x) King place ≡ 
 own-king x None h = absurd (both_ways false refl h)
 own-king x (Some m) h =
     let parts = and_parts _ _ h in
-    let own : same_colour m.colour (side x) ≡ true = subst (λ (c : Colour). same_colour c (side x) ≡ true) (colour_is (side x) m.colour parts.0) (elim (side x) as (λ c. same_colour c c ≡ true) [ White ↦ refl | Black ↦ refl ]) in
+    let own : same_colour m.colour (side x) ≡ true = subst (λ (c : Colour). same_colour c (side x) ≡ true) (colour_is (side x) m.colour parts.0) (same_colour-self (side x)) in
     cond-true (same_kind King m.kind) (of_side m.colour (Some x)) None parts.1 ∙ cond-true (same_colour m.colour (side x)) (Some x) None own
 
 -- a castling from here to there is found from its ends

@@ -2,60 +2,14 @@
 use Rattle.std.proofs.Common.{◌≡◌, Bool, true, false, [], ◌∷◌, refl, ap, sym, ◌∙◌}
 use Rattle.std.proofs.lemmas.Bool.{and_parts, and_from, both_ways, eqb-true, eq-eqb}
 use Rattle.std.specs.Prelude.{ℕ, Option, Some, None}
-use Rattle.board_base.specs.Board.{Places, same_colour, same_kind, is_the, man, opponent, is_empty}
+use Rattle.board_base.specs.Board.{Places, is_the, man, is_empty}
 use Rattle.board_base.specs.Legal.{is_move, same_promo}
 use Rattle.board_base.specs.declared.men.Man.{Man}
 use Rattle.board_base.specs.declared.men.Colour.{Colour}
-use Rattle.board_base.specs.declared.men.Colour.TheVariants.{White, Black}
 use Rattle.board_base.specs.declared.men.Kind.{Kind}
-use Rattle.board_base.specs.declared.men.Kind.TheVariants.{Pawn, Knight, Bishop, Rook, Queen, King}
 use Rattle.board_base.specs.declared.moves.Move.{Move}
+use Rattle.board_base.proofs.KindsOfMen.{colour_is, kind_is, same_colour-self, same_kind-self}
 use Rattle.unmove_gen.specs.Listed.{same_place, same_places}
-
-pub colour_is : (c d : Colour) → same_colour c d ≡ true → c ≡ d
-colour_is White White h = refl
-colour_is White Black h = cc
-colour_is Black White h = cc
-colour_is Black Black h = refl
-
-pub colour_other : (c d : Colour) → same_colour c d ≡ false → opponent c ≡ d
-colour_other White White h = cc
-colour_other White Black h = refl
-colour_other Black White h = refl
-colour_other Black Black h = cc
-
-pub opponent-twice : (c : Colour) → opponent (opponent c) ≡ c
-opponent-twice White = refl
-opponent-twice Black = refl
-
-pub pawn_is : (k : Kind) → same_kind Pawn k ≡ true → Pawn ≡ k
-pawn_is Pawn h = refl
-pawn_is Knight h = cc
-pawn_is Bishop h = cc
-pawn_is Rook h = cc
-pawn_is Queen h = cc
-pawn_is King h = cc
-
-pub kind_is : (k j : Kind) → same_kind k j ≡ true → k ≡ j
-kind_is Pawn j h = pawn_is j h
-kind_is Knight Knight h = refl
-kind_is Bishop Bishop h = refl
-kind_is Rook Rook h = refl
-kind_is Queen Queen h = refl
-kind_is King King h = refl
-kind_is k j h = cc
-
-pub colour_self : (c : Colour) → same_colour c c ≡ true
-colour_self White = refl
-colour_self Black = refl
-
-pub kind_self : (k : Kind) → same_kind k k ≡ true
-kind_self Pawn = refl
-kind_self Knight = refl
-kind_self Bishop = refl
-kind_self Rook = refl
-kind_self Queen = refl
-kind_self King = refl
 
 pub the_is : (c : Colour) (k : Kind) (place : Option Man) → is_the c k place ≡ true → place ≡ man c k
 the_is c k None h = cc
@@ -77,7 +31,7 @@ place_is (Some a) (Some b) h =
 
 place_self : (x : Option Man) → same_place x x ≡ true
 place_self None = refl
-place_self (Some m) = and_from _ _ (colour_self m.colour) (kind_self m.kind)
+place_self (Some m) = and_from _ _ (same_colour-self m.colour) (same_kind-self m.kind)
 
 pub places_are : (a b : Places) → same_places a b ≡ true → a ≡ b
 unfolding same_places
@@ -101,7 +55,7 @@ promo_is (Some j) (Some k) h = ap Some (kind_is j k h)
 
 promo_self : (a : Option Kind) → same_promo a a ≡ true
 promo_self None = refl
-promo_self (Some k) = kind_self k
+promo_self (Some k) = same_kind-self k
 
 moves_equal : (a b : Move) → a.from ≡ b.from → a.to ≡ b.to → a.promo ≡ b.promo → a ≡ b
 moves_equal a b f t p =

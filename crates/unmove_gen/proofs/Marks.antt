@@ -10,11 +10,12 @@ use Rattle.board_base.specs.Legal.{is_move, man_moves, pawn_steps, pawn_doubles,
 use Rattle.board_base.specs.declared.men.Colour.{Colour}
 use Rattle.board_base.specs.declared.men.Colour.TheVariants.{White, Black}
 use Rattle.board_base.specs.declared.men.Kind.{Kind}
-use Rattle.board_base.specs.declared.men.Kind.TheVariants.{Pawn}
+use Rattle.board_base.specs.declared.men.Kind.TheVariants.{Pawn, King}
 use Rattle.board_base.specs.declared.moves.Move.{Move}
 use Rattle.board_base.specs.declared.castles.Castle.{Castle}
+use Rattle.board_base.proofs.KindsOfMen.{another_kind}
 use Rattle.play_rules.proofs.Legality.{Manner, moves, steps, doubles, takes, passes, castles, Legality}
-use Rattle.play_rules.proofs.Kings.{pawn-no_king, empty-not}
+use Rattle.play_rules.proofs.Kings.{empty-not}
 use Rattle.unmove_gen.specs.Listed.{has_left}
 use Rattle.unmove_gen.proofs.Equal.{last_is, move_self, same_tests, the_is}
 
@@ -87,7 +88,7 @@ goes-captures board c rights last m none t (castles h) =
     absurd (both_ways false refl (subst P none h))
 
 pawn-no_castling : (board : Places) (m : Move) → goes_en_passant board m ≡ true → castling board m ≡ None
-pawn-no_castling board m h = cond-false _ (castling_from m.from m.to) None (pawn-no_king _ (and_parts _ _ (and_parts _ _ h).0).0)
+pawn-no_castling board m h = cond-false _ (castling_from m.from m.to) None (another_kind King Pawn _ (and_parts _ _ (and_parts _ _ h).0).0)
 
 -- a legal move goes so exactly where it is a capture en passant
 pub goes-same : (board : Places) (c : Colour) (rights : Castle → Bool) (last : Option Move) (m : Move) → Legality board c rights last m → goes_en_passant board m ≡ pawn_captures_en_passant board c last m

@@ -16,6 +16,7 @@ use Rattle.board_base.specs.declared.men.Kind.TheVariants.{Pawn, Knight, Bishop,
 use Rattle.board_base.specs.declared.moves.Move.{Move}
 use Rattle.board_base.specs.declared.castles.Castle.{Castle}
 use Rattle.board_base.specs.declared.unmoves.Unmove.{Unmove}
+use Rattle.board_base.proofs.KindsOfMen.{kind_is}
 use Rattle.castle_history.specs.TakenBack.{castling_back}
 use Rattle.query_base.specs.Asked.{Asked}
 use Rattle.play_rules.specs.Listed.{promotions}
@@ -24,7 +25,6 @@ use Rattle.unmove_gen.specs.TakenBack.{capture_square, captured_by, rook_back, t
 use Rattle.unmove_gen.specs.Listed.{before, candidates, is_listed, is_marked, mover, taking, unmoves, unmoves_of}
 use Rattle.unmove_gen.specs.Numbers.{number_at}
 use Rattle.unmove_gen.proofs.Back.{fits_as}
-use Rattle.unmove_gen.proofs.Equal.{pawn_is}
 use Rattle.unmove_gen.proofs.Numbered.{candidate-at, candidates-long}
 use Rattle.unmove_gen.proofs.Parts.{Parts, legality_of, parts}
 use Rattle.unmove_gen.proofs.Rest.{contains-filter, passes-filter}
@@ -93,7 +93,7 @@ at-capture board u inside =
 
 pawn-taken : (captured : Option Kind) → elim captured as (λ _. Bool) [ None ↦ false | Some k ↦ same_kind Pawn k ] ≡ true → captured ≡ Some Pawn
 pawn-taken None h = cc
-pawn-taken (Some k) h = ap Some (sym (pawn_is k h))
+pawn-taken (Some k) h = ap Some (sym (kind_is Pawn k h))
 
 no-king : (c : Colour) (place : Option Man) (k : Kind) → is_of c place ≡ true → is_a King (captured_by place (Some k)) ≡ false → same_kind King k ≡ false
 no-king c None k own h = absurd (both_ways false refl own)

@@ -14,6 +14,7 @@ use Rattle.board_base.specs.declared.moves.Move.{Move}
 use Rattle.board_base.specs.declared.castles.Castle.{Castle}
 use Rattle.board_base.specs.declared.unmoves.Unmove.{Unmove}
 use Rattle.board_base.proofs.Rights.{holds_added}
+use Rattle.board_base.proofs.KindsOfMen.{opponent-twice}
 use Rattle.castle_history.specs.TakenBack.{castling_back}
 use Rattle.query_base.specs.Asked.{Asked}
 use Rattle.query_base.specs.Reach.{Reaches}
@@ -25,7 +26,7 @@ use Rattle.unmove_gen.specs.Listed.{answered, before, candidates, every_right, i
 use Rattle.unmove_gen.specs.Predecessor.{predecessor, with_castle}
 use Rattle.unmove_gen.proofs.Castlings.{castled}
 use Rattle.unmove_gen.proofs.Demands.{barred-met, held-keeps, only-met, unmoved-more, untouched}
-use Rattle.unmove_gen.proofs.Equal.{opponent-twice, same_tests}
+use Rattle.unmove_gen.proofs.Equal.{same_tests}
 use Rattle.unmove_gen.proofs.Exchanged.{legal-exchanged}
 use Rattle.unmove_gen.proofs.Marks.{captures, goes-same, none-answers}
 use Rattle.unmove_gen.proofs.Parts.{Parts, legality_of, parts}

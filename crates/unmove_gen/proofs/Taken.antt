@@ -14,6 +14,7 @@ use Rattle.board_base.specs.declared.men.Kind.TheVariants.{Pawn, King}
 use Rattle.board_base.specs.declared.moves.Move.{Move}
 use Rattle.board_base.specs.declared.castles.Castle.{Castle}
 use Rattle.board_base.specs.declared.unmoves.Unmove.{Unmove}
+use Rattle.board_base.proofs.KindsOfMen.{opponent-twice}
 use Rattle.castle_history.specs.TakenBack.{castling_back}
 use Rattle.query_base.specs.Asked.{Asked}
 use Rattle.query_base.specs.Reach.{Reaches, EndsWith}
@@ -28,7 +29,7 @@ use Rattle.unmove_gen.specs.Predecessor.{is_en_passant_after, predecessor, unmov
 use Rattle.unmove_gen.proofs.Back.{Placed, back, came, marked, placed}
 use Rattle.unmove_gen.proofs.Castlings.{castles, was-castling}
 use Rattle.unmove_gen.proofs.Demands.{barred-from, held-from, keeps-all, only-from, unmoved-before}
-use Rattle.unmove_gen.proofs.Equal.{opponent-twice, places_self}
+use Rattle.unmove_gen.proofs.Equal.{places_self}
 use Rattle.unmove_gen.proofs.Exchanged.{legal-exchanged}
 use Rattle.unmove_gen.proofs.Left.{left-in-game, play-leaves}
 use Rattle.unmove_gen.proofs.Marks.{Captures, answered-last, captures, goes-same, home-left, none-answers, self-answers}
