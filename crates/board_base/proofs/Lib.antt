@@ -7,3 +7,5 @@ pub mod OneText
 pub mod Ordered
 pub mod Rights
 pub mod KindsOfMen
+pub mod EachCastle
+pub mod CastleSquares

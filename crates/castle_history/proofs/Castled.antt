@@ -8,12 +8,12 @@ use Rattle.board_base.specs.Attacks.{distance, files_apart}
 use Rattle.board_base.specs.Board.{rank, same_kind}
 use Rattle.board_base.specs.Play.{all_castles, castling_from, king_home, king_target}
 use Rattle.board_base.specs.declared.castles.Castle.{Castle}
-use Rattle.board_base.specs.declared.castles.Castle.TheVariants.{WhiteShort, WhiteLong, BlackShort, BlackLong}
 use Rattle.board_base.specs.declared.men.Man.{Man}
 use Rattle.board_base.specs.declared.men.Colour.{Colour}
 use Rattle.board_base.specs.declared.men.Colour.TheVariants.{White, Black}
 use Rattle.board_base.specs.declared.men.Kind.TheVariants.{King}
 use Rattle.board_base.specs.declared.moves.Move.{Move}
+use Rattle.board_base.proofs.CastleSquares.{king_home-within, king_target-within}
 use Rattle.castle_history.specs.TakenBack.{goes_two, goes_two_from_home, king_square, of_king, of_side}
 
 abbrev is_missing : Colour → ℕ → ℕ → Bool
@@ -34,18 +34,6 @@ agreed false b h = sym (ap not h)
 none_passes : {A : Type 0} (p : A → Bool) (xs : List A) → ((x : A) → p x ≡ false) → find p xs ≡ None
 none_passes p [] fails = refl
 none_passes p (x ∷ xs) fails = ap (λ (b : Bool). cond b (Some x) (find p xs)) (fails x) ∙ none_passes p xs fails
-
-king_home-within : (x : Castle) → king_home x < 64
-king_home-within WhiteShort = omega arith
-king_home-within WhiteLong = omega arith
-king_home-within BlackShort = omega arith
-king_home-within BlackLong = omega arith
-
-king_target-within : (x : Castle) → king_target x < 64
-king_target-within WhiteShort = omega arith
-king_target-within WhiteLong = omega arith
-king_target-within BlackShort = omega arith
-king_target-within BlackLong = omega arith
 
 missing : (c : Colour) (from to : ℕ) → castling_from from to ≡ None → goes_two c from to ≡ false → is_missing c from to ≡ not (goes_two c from to)
 missing c from to none stays = ap (λ (o : Option Castle). is_none (of_side c o)) none ∙ sym (ap not stays)

@@ -1,2 +1,1 @@
 mod Castled
-pub mod EachCastle

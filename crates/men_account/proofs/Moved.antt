@@ -8,7 +8,7 @@ use Rattle.board_base.specs.Play.{carried, moved, rook_home, crossed, en_passant
 use Rattle.board_base.specs.Texts.{◌>>=◌}
 use Rattle.board_base.specs.declared.moves.Move.{Move}
 use Rattle.board_base.specs.declared.castles.Castle.{Castle}
-use Rattle.play_rules.proofs.Kings.{rook_home-within, crossed-within}
+use Rattle.board_base.proofs.CastleSquares.{crossed-within, rook_home-within}
 
 -- what stands on a square, if one is given
 abbrev pub on_square : {A : Type 0} → List (Option A) → Option ℕ → Option A

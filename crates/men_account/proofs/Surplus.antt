@@ -1,11 +1,11 @@
 -- No move adds to the pawns and the men above the allowance.
-use Rattle.std.proofs.Common.{◌≡◌, ◌≢◌, ℕ, ◌+◌, ◌-◌, ◌%◌, ◌<◌, ◌≤◌, ◌==◌, Bool, true, false, cond, ◌&&◌, not, List, ◌⊎◌, inl, inr, length, set, refl, ap, sym, ◌∙◌, subst, arith}
+use Rattle.std.proofs.Common.{◌≡◌, ℕ, ◌+◌, ◌-◌, ◌%◌, ◌<◌, ◌≤◌, ◌==◌, Bool, true, false, cond, ◌&&◌, not, List, ◌⊎◌, inl, inr, length, set, refl, ap, sym, ◌∙◌, subst, arith}
 use Rattle.std.proofs.lemmas.Bool.{and_parts, and_left, and_right, cases_Bool, both_ways, eqb-true, le-leb}
 use Rattle.std.proofs.lemmas.List.{get_or-set_other}
 use Rattle.std.specs.Prelude.{Option, Some, None}
 use Rattle.board_base.specs.Board.{Places, array_of, without, is_in, at, is_a, is_the, is_of, same_kind, same_colour, initial_array, file, rank}
 use Rattle.board_base.specs.Attacks.{distance, files_apart, ranks_apart, attacks_from, kind_attacks}
-use Rattle.board_base.specs.Play.{play, played_as, carry, promoted, castling, goes_en_passant, en_passant_victim, king_home, king_target, rook_home, crossed}
+use Rattle.board_base.specs.Play.{play, played_as, carry, promoted, castling, goes_en_passant, en_passant_victim, rook_home, crossed}
 use Rattle.board_base.specs.Legal.{promotion_fits, is_officer, man_moves, pawn_steps, pawn_doubles, pawn_captures, pawn_captures_en_passant, king_castles, castles_as, may_castle}
 use Rattle.board_base.specs.Game.{IsGame, board_after, turn_after, unmoved, last_move}
 use Rattle.board_base.specs.declared.men.Man.{Man}
@@ -15,12 +15,12 @@ use Rattle.board_base.specs.declared.men.Kind.{Kind}
 use Rattle.board_base.specs.declared.men.Kind.TheVariants.{Pawn, Knight, Bishop, Rook, Queen, King}
 use Rattle.board_base.specs.declared.moves.Move.{Move}
 use Rattle.board_base.specs.declared.castles.Castle.{Castle}
-use Rattle.board_base.specs.declared.castles.Castle.TheVariants.{WhiteShort, WhiteLong, BlackShort, BlackLong}
 use Rattle.play_rules.proofs.Legality.{Manner, moves, steps, doubles, takes, passes, castles, Legality, legality}
 use Rattle.play_rules.proofs.Games.{in_every_game, board_after-more}
-use Rattle.play_rules.proofs.Kings.{castle-ends, Ends, within, two-castles, length-carry, length-after, rook_home-within, crossed-within}
+use Rattle.play_rules.proofs.Kings.{castle-ends, Ends, within, two-castles, length-carry, length-after}
 use Rattle.board_base.proofs.Without.{at-without}
 use Rattle.board_base.proofs.KindsOfMen.{another_kind, kind_is}
+use Rattle.board_base.proofs.CastleSquares.{crossed-within, rook_home-not-home, rook_home-not-target, rook_home-within}
 use Rattle.men_account.specs.Account.{men, is_light, is_dark, is_any, counts_of, excess_of, full_allowance, accounts_for}
 use Rattle.men_account.specs.declared.tallies.Counts.{Counts}
 use Rattle.men_account.proofs.Tally.{one_if, men-fewer, at-cleared, men-carry}
@@ -126,18 +126,6 @@ bishop-goes board c rights last m none bishop (castles h) =
 after-clear : (c : Colour) (board : Places) (m : Move) (b : Bool) → surplus c (cond b (set (carry board m.from m.to m.promo) (en_passant_victim m) None) (carry board m.from m.to m.promo)) ≤ surplus c (carry board m.from m.to m.promo)
 after-clear c board m false = omega arith
 after-clear c board m true = let after : Places = carry board m.from m.to m.promo in fewer-surplus c after (set after (en_passant_victim m) None) (at-cleared after (en_passant_victim m))
-
-rook_home-not-home : (x : Castle) → rook_home x ≢ king_home x
-rook_home-not-home WhiteShort e = omega arith
-rook_home-not-home WhiteLong e = omega arith
-rook_home-not-home BlackShort e = omega arith
-rook_home-not-home BlackLong e = omega arith
-
-rook_home-not-target : (x : Castle) → rook_home x ≢ king_target x
-rook_home-not-target WhiteShort e = omega arith
-rook_home-not-target WhiteLong e = omega arith
-rook_home-not-target BlackShort e = omega arith
-rook_home-not-target BlackLong e = omega arith
 
 castle-surplus : (k c : Colour) (board : Places) (rights : Castle → Bool) (m : Move) (x : Castle) → length board ≡ 64 → m.from < 64 → m.to < 64 → Ends m x board → may_castle board c rights x ≡ true → surplus k (carry (carry board m.from m.to None) (rook_home x) (crossed x) None) ≤ surplus k board
 castle-surplus k c board rights m x len f t ends may =

@@ -7,7 +7,7 @@ use Rattle.std.specs.Prelude.{Option, Some, None}
 use Rattle.std.specs.List.{last_or}
 use Rattle.board_base.specs.Board.{Places, at, is_a, is_the, opponent, file, rank}
 use Rattle.board_base.specs.Attacks.{distance, ranks_apart, one_ahead}
-use Rattle.board_base.specs.Play.{play, played_as, moved, ahead, carry, promoted, castling, goes_en_passant, en_passant_victim, double_of, double_step, king_home, king_target}
+use Rattle.board_base.specs.Play.{play, played_as, moved, ahead, carry, promoted, castling, goes_en_passant, en_passant_victim, double_of, double_step, king_home}
 use Rattle.board_base.specs.Legal.{legal_on, promotion_fits, is_officer, last_rank, pawn_rank, man_moves, pawn_steps, pawn_doubles, pawn_captures, pawn_captures_en_passant, king_castles, castles_as, is_move}
 use Rattle.board_base.specs.declared.men.Man.{Man}
 use Rattle.board_base.specs.declared.men.Colour.{Colour}
@@ -18,9 +18,9 @@ use Rattle.board_base.specs.declared.moves.Move.{Move}
 use Rattle.board_base.specs.declared.castles.Castle.{Castle}
 use Rattle.play_rules.specs.States.{crossed_by, double_crossing, step_over}
 use Rattle.play_rules.proofs.Legality.{Manner, moves, steps, doubles, takes, passes, castles, Legality}
-use Rattle.board_base.specs.declared.castles.Castle.TheVariants.{WhiteShort, WhiteLong, BlackShort, BlackLong}
 use Rattle.board_base.specs.Game.{IsGame, board_after, turn_after, last_move}
 use Rattle.board_base.proofs.KindsOfMen.{another_kind, no_officer}
+use Rattle.board_base.proofs.CastleSquares.{castle-one-rank}
 use Rattle.play_rules.proofs.Games.{in_every_game, board_after-more}
 use Rattle.play_rules.proofs.Kings.{castle-ends, length-after, length-carry}
 use Rattle.play_rules.proofs.Legality.{legality}
@@ -117,13 +117,6 @@ target-pawn board m true inside pawn = elim (cases_eq m.to (en_passant_victim m)
       absurd (both_ways _ gone pawn)
   | inr other ↦ target-plain board m inside (ap (is_a Pawn) (sym (get_or-set_other (carry board m.from m.to m.promo) (en_passant_victim m) m.to None None other)) ∙ pawn)
 ]
-
-castle-one-rank : (x : Castle) → (ranks_apart (king_home x) (king_target x) == 2) ≡ false
-unfolding distance
-castle-one-rank WhiteShort = refl
-castle-one-rank WhiteLong = refl
-castle-one-rank BlackShort = refl
-castle-one-rank BlackLong = refl
 
 -- the move left a pawn on its target, two ranks from its origin
 abbrev pub LeftDouble : Places → Move → Type 0

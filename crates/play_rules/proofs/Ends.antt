@@ -17,10 +17,10 @@ use Rattle.board_base.specs.declared.men.Kind.{Kind}
 use Rattle.board_base.specs.declared.men.Kind.TheVariants.{Pawn}
 use Rattle.board_base.specs.declared.moves.Move.{Move}
 use Rattle.board_base.specs.declared.castles.Castle.{Castle}
-use Rattle.board_base.specs.declared.castles.Castle.TheVariants.{WhiteShort, WhiteLong, BlackShort, BlackLong}
 use Rattle.board_base.proofs.Ranges.{all_in_range}
 use Rattle.board_base.proofs.Without.{at-without}
 use Rattle.board_base.proofs.KindsOfMen.{no_officer}
+use Rattle.board_base.proofs.EachCastle.{each-castle}
 use Rattle.play_rules.specs.Laws.{is_end, HasNoPawnOnEnds}
 use Rattle.play_rules.proofs.Legality.{Manner, moves, steps, doubles, takes, passes, castles, Legality, legality}
 use Rattle.play_rules.proofs.Games.{in_every_game, board_after-more}
@@ -39,17 +39,11 @@ ends-set board i v new old s end = elim (cases_eq s i) [
 ends-carry : (board : Places) (from to : ℕ) (promo : Option Kind) → (is_end to ≡ true → is_a Pawn (promoted promo (at board from)) ≡ false) → HasNoPawnOnEnds board → HasNoPawnOnEnds (carry board from to promo)
 ends-carry board from to promo new old = ends-set (set board from None) to (promoted promo (at board from)) new (ends-set board from None (λ _. refl) old)
 
-home-end : (x : Castle) → is_end (king_home x) ≡ true
-home-end WhiteShort = refl
-home-end WhiteLong = refl
-home-end BlackShort = refl
-home-end BlackLong = refl
+pub is_end-king_home : (x : Castle) → is_end (king_home x) ≡ true
+is_end-king_home = each-castle (λ x. is_end (king_home x)) refl
 
-rook-end : (x : Castle) → is_end (rook_home x) ≡ true
-rook-end WhiteShort = refl
-rook-end WhiteLong = refl
-rook-end BlackShort = refl
-rook-end BlackLong = refl
+pub is_end-rook_home : (x : Castle) → is_end (rook_home x) ≡ true
+is_end-rook_home = each-castle (λ x. is_end (rook_home x)) refl
 
 -- a pawn that goes ahead comes to no end but its last rank
 ahead-last : (c : Colour) (s t : ℕ) → s < 64 → t < 64 → one_ahead c s t ≡ true → is_end t ≡ true → rank t ≡ last_rank c
@@ -101,9 +95,9 @@ ends-played : (board : Places) (c : Colour) (rights : Castle → Bool) (last : O
 unfolding promotion_fits
 ends-played board c rights last m (Some x) e len l old =
     let ends = castle-ends board m x e in
-    let king : is_a Pawn (at board m.from) ≡ false = ap (λ (s : ℕ). is_a Pawn (at board s)) (sym ends.from) ∙ old (king_home x) (home-end x) in
+    let king : is_a Pawn (at board m.from) ≡ false = ap (λ (s : ℕ). is_a Pawn (at board s)) (sym ends.from) ∙ old (king_home x) (is_end-king_home x) in
     let moved : HasNoPawnOnEnds (carry board m.from m.to None) = ends-carry board m.from m.to None (λ _. king) old in
-    ends-carry (carry board m.from m.to None) (rook_home x) (crossed x) None (λ _. moved (rook_home x) (rook-end x)) moved
+    ends-carry (carry board m.from m.to None) (rook_home x) (crossed x) None (λ _. moved (rook_home x) (is_end-rook_home x)) moved
 ends-played board c rights last m None e len l old =
     let from : m.from < 64 = rw (← len) (within (is_of c) board m.from refl l.mover) in
     let small : m.to < 64 = l.on_board in

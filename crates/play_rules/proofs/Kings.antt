@@ -11,7 +11,7 @@ use Rattle.board_base.proofs.Without.{length-array, count-without}
 use Rattle.board_base.specs.Board.{Places, initial_array, array_of, AreOdds, is_in, may_lack, at, is_of, is_a, is_the, is_empty, opponent, file, rank}
 use Rattle.board_base.specs.Play.{play, played_as, carry, promoted, castling, castling_from, all_castles, goes_en_passant, en_passant_victim, double_of, double_step, king_home, king_target, rook_home, crossed}
 use Rattle.board_base.specs.Legal.{promotion_fits, is_officer, is_move, man_moves, pawn_steps, pawn_doubles, pawn_captures, pawn_captures_en_passant, king_castles, castles_as, may_castle}
-use Rattle.board_base.specs.Attacks.{kind_attacks, attacks_from, is_open, king_distance, distance, on_the_way, toward}
+use Rattle.board_base.specs.Attacks.{kind_attacks, attacks_from, king_distance}
 use Rattle.play_rules.proofs.Legality.{Manner, moves, steps, doubles, takes, passes, castles, Legality, legality}
 use Rattle.board_base.specs.declared.men.Colour.TheVariants.{White, Black}
 use Rattle.board_base.specs.declared.men.Man.{Man}
@@ -20,9 +20,9 @@ use Rattle.board_base.specs.declared.men.Kind.{Kind}
 use Rattle.board_base.specs.declared.men.Kind.TheVariants.{Pawn, King}
 use Rattle.board_base.specs.declared.moves.Move.{Move}
 use Rattle.board_base.specs.declared.castles.Castle.{Castle}
-use Rattle.board_base.specs.declared.castles.Castle.TheVariants.{WhiteShort, WhiteLong, BlackShort, BlackLong}
 use Rattle.board_base.specs.Game.{IsGame, board_after}
 use Rattle.board_base.proofs.KindsOfMen.{another_kind, kind_is, no_officer}
+use Rattle.board_base.proofs.CastleSquares.{castle-two, crossed-empty, crossed-not-home, crossed-not-target, crossed-within, rook_home-within}
 use Rattle.play_rules.specs.Kings.{HasOneKingEach, kings}
 use Rattle.play_rules.proofs.Games.{in_every_game, board_after-more}
 
@@ -113,20 +113,6 @@ unfolding kind_attacks
 king-steps board None s t k h = cc
 king-steps board (Some m) s t k h = subst (λ (j : Kind). kind_attacks board m.colour j s t ≡ true) (sym (kind_is King m.kind k)) h
 
-castle-two : (x : Castle) → (king_distance (king_home x) (king_target x) == 1) ≡ false
-unfolding king_distance distance
-castle-two WhiteShort = refl
-castle-two WhiteLong = refl
-castle-two BlackShort = refl
-castle-two BlackLong = refl
-
-pub crossed-empty : (board : Places) (x : Castle) → is_open board (king_home x) (rook_home x) ≡ true → is_empty (at board (crossed x)) ≡ true
-unfolding king_distance distance on_the_way toward
-crossed-empty board WhiteShort h = (and_parts _ _ h).0
-crossed-empty board WhiteLong h = (and_parts _ _ h).0
-crossed-empty board BlackShort h = (and_parts _ _ h).0
-crossed-empty board BlackLong h = (and_parts _ _ h).0
-
 find-passes : {A : Type 0} (p : A → Bool) (xs : List A) (y : A) → find p xs ≡ Some y → p y ≡ true
 find-passes {A} p [] y e = cc
 find-passes {A} p (x ∷ xs) y e = elim (cases_Bool (p x)) [
@@ -176,30 +162,6 @@ same-count p board i v old new = elim (cases_lt i (length board)) [
       omega (arith, sum_by-set n board i v None inside, e1, e2)
   | inr past ↦ ap (count_by p) (set_past board i v past)
 ]
-
-pub crossed-not-home : (x : Castle) → crossed x ≢ king_home x
-crossed-not-home WhiteShort e = omega arith
-crossed-not-home WhiteLong e = omega arith
-crossed-not-home BlackShort e = omega arith
-crossed-not-home BlackLong e = omega arith
-
-pub crossed-not-target : (x : Castle) → crossed x ≢ king_target x
-crossed-not-target WhiteShort e = omega arith
-crossed-not-target WhiteLong e = omega arith
-crossed-not-target BlackShort e = omega arith
-crossed-not-target BlackLong e = omega arith
-
-pub crossed-within : (x : Castle) → crossed x < 64
-crossed-within WhiteShort = omega arith
-crossed-within WhiteLong = omega arith
-crossed-within BlackShort = omega arith
-crossed-within BlackLong = omega arith
-
-pub rook_home-within : (x : Castle) → rook_home x < 64
-rook_home-within WhiteShort = omega arith
-rook_home-within WhiteLong = omega arith
-rook_home-within BlackShort = omega arith
-rook_home-within BlackLong = omega arith
 
 -- a place that is empty or has no king is none of a king's
 no_king-the : (k : Colour) (place : Option Man) → is_a King place ≡ false → is_the k King place ≡ false

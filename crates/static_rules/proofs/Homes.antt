@@ -11,38 +11,14 @@ use Rattle.board_base.specs.declared.men.Kind.{Kind}
 use Rattle.board_base.specs.declared.men.Kind.TheVariants.{Pawn, Rook, King}
 use Rattle.board_base.specs.declared.moves.Move.{Move}
 use Rattle.board_base.specs.declared.castles.Castle.{Castle}
-use Rattle.board_base.specs.declared.castles.Castle.TheVariants.{WhiteShort, WhiteLong, BlackShort, BlackLong}
 use Rattle.board_base.proofs.Without.{at-without}
+use Rattle.board_base.proofs.CastleSquares.{king_home-by_rank, rank-crossed, rank-rook_home}
+use Rattle.board_base.proofs.EachCastle.{each-castle}
 use Rattle.castle_history.specs.Homes.{are_at_home}
-use Rattle.play_rules.specs.Laws.{is_end, HasNoPawnOnEnds}
+use Rattle.play_rules.specs.Laws.{HasNoPawnOnEnds}
 use Rattle.play_rules.proofs.Games.{in_every_game, board_after-more}
 use Rattle.play_rules.proofs.Kings.{castle-ends}
-use Rattle.play_rules.proofs.Ends.{no_pawn_on_ends}
-
-rank-rook_home : (x : Castle) → rank (rook_home x) ≡ rank (king_home x)
-rank-rook_home WhiteShort = refl
-rank-rook_home WhiteLong = refl
-rank-rook_home BlackShort = refl
-rank-rook_home BlackLong = refl
-
-rank-crossed : (x : Castle) → rank (crossed x) ≡ rank (king_home x)
-rank-crossed WhiteShort = refl
-rank-crossed WhiteLong = refl
-rank-crossed BlackShort = refl
-rank-crossed BlackLong = refl
-
--- kings at home on one rank are one king
-king_home-by_rank : (x : Castle) → king_home x ≡ 8 * rank (king_home x) + 4
-king_home-by_rank WhiteShort = refl
-king_home-by_rank WhiteLong = refl
-king_home-by_rank BlackShort = refl
-king_home-by_rank BlackLong = refl
-
-is_end-king_home : (x : Castle) → is_end (king_home x) ≡ true
-is_end-king_home WhiteShort = refl
-is_end-king_home WhiteLong = refl
-is_end-king_home BlackShort = refl
-is_end-king_home BlackLong = refl
+use Rattle.play_rules.proofs.Ends.{is_end-king_home, no_pawn_on_ends}
 
 at-carry : (board : Places) (from to s : ℕ) (promo : Option Kind) → s ≢ from → s ≢ to → at (carry board from to promo) s ≡ at board s
 at-carry board from to s promo not_from not_to = get_or-set_other (set board from None) to s _ None not_to ∙ get_or-set_other board from s None None not_from
@@ -95,17 +71,11 @@ home-stays board m x untouched no_pawn home =
 
 first-king : (x : Castle) → is_the (side x) King (at initial_array (king_home x)) ≡ true
 unfolding initial_array
-first-king WhiteShort = refl
-first-king WhiteLong = refl
-first-king BlackShort = refl
-first-king BlackLong = refl
+first-king = each-castle (λ x. is_the (side x) King (at initial_array (king_home x))) refl
 
 first-rook : (x : Castle) → is_the (side x) Rook (at initial_array (rook_home x)) ≡ true
 unfolding initial_array
-first-rook WhiteShort = refl
-first-rook WhiteLong = refl
-first-rook BlackShort = refl
-first-rook BlackLong = refl
+first-rook = each-castle (λ x. is_the (side x) Rook (at initial_array (rook_home x))) refl
 
 first-at_home : (o : List Bool) (x : Castle) → unmoved o [] x ≡ true → are_at_home (array_of o) x ≡ true
 unfolding array_of

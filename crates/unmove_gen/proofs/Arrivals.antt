@@ -15,9 +15,9 @@ use Rattle.board_base.specs.declared.men.Kind.{Kind}
 use Rattle.board_base.specs.declared.men.Kind.TheVariants.{Pawn, Knight, Bishop, Rook, Queen, King}
 use Rattle.board_base.specs.declared.moves.Move.{Move}
 use Rattle.board_base.specs.declared.castles.Castle.{Castle}
-use Rattle.board_base.specs.declared.castles.Castle.TheVariants.{WhiteShort, WhiteLong, BlackShort, BlackLong}
 use Rattle.board_base.specs.declared.unmoves.Unmove.{Unmove}
 use Rattle.board_base.proofs.KindsOfMen.{colour_is, kind_is, same_kind-self}
+use Rattle.board_base.proofs.EachCastle.{each-castle}
 use Rattle.query_base.specs.Asked.{Asked}
 use Rattle.play_rules.specs.Listed.{move_of}
 use Rattle.play_rules.specs.Reach.{may_reach}
@@ -68,10 +68,7 @@ all_rights = record { white_short = true; white_long = true; black_short = true;
 
 all-held : (x : Castle) → holds all_rights x ≡ true
 unfolding all_rights
-all-held WhiteShort = refl
-all-held WhiteLong = refl
-all-held BlackShort = refl
-all-held BlackLong = refl
+all-held = each-castle (holds all_rights) refl
 
 -- a man who may go so may do so on an empty board
 reach-alone : (board : Places) (c : Colour) (k : Kind) (s t : ℕ) → may_reach board c k s t ≡ true → may_go_alone c k s t ≡ true

@@ -14,11 +14,12 @@ use Rattle.board_base.specs.declared.moves.Move.{Move}
 use Rattle.board_base.specs.declared.castles.Castle.{Castle}
 use Rattle.board_base.specs.declared.unmoves.Unmove.{Unmove}
 use Rattle.board_base.proofs.KindsOfMen.{another_kind, colour_is, colour_other, kind_is, no_officer}
+use Rattle.board_base.proofs.CastleSquares.{crossed-empty, crossed-not-home, crossed-not-target, crossed-within, rook_home-not-crossed}
 use Rattle.play_rules.proofs.Legality.{Legality}
-use Rattle.play_rules.proofs.Kings.{within, two-castles, castle-ends, Ends, crossed-empty, crossed-not-home, crossed-not-target, crossed-within, length-carry}
+use Rattle.play_rules.proofs.Kings.{within, two-castles, castle-ends, Ends, length-carry}
 use Rattle.unmove_gen.specs.TakenBack.{captured_by, capture_square, kind_of, rook_back, taken_back, unpromoted}
 use Rattle.unmove_gen.proofs.Equal.{empty_is}
-use Rattle.unmove_gen.proofs.Castlings.{Castles, castle-there, castled, castles, none-castled, rook_home-not-crossed}
+use Rattle.unmove_gen.proofs.Castlings.{Castles, castle-there, castled, castles, none-castled}
 use Rattle.unmove_gen.proofs.Marks.{Captures}
 
 -- the unmove of a move on the board before it, marked en passant or not

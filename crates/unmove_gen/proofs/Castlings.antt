@@ -1,47 +1,22 @@
 -- The castling that a move takes back.
-use Rattle.std.proofs.Common.{◌≡◌, ◌≢◌, ℕ, ◌<◌, Bool, true, false, cond, length, set, inl, inr, refl, ap, sym, ◌∙◌, subst, arith}
+use Rattle.std.proofs.Common.{◌≡◌, ℕ, ◌<◌, Bool, true, false, cond, length, set, inl, inr, refl, ap, sym, ◌∙◌, subst, arith}
 use Rattle.std.proofs.lemmas.Bool.{and_parts, both_ways, cases_Bool, cond-true, cond-false}
 use Rattle.std.proofs.lemmas.List.{length-set, get_or-set_same, get_or-set_other}
 use Rattle.std.specs.Prelude.{Option, Some, None}
-use Rattle.board_base.specs.Board.{Places, at, is_a, is_the, is_empty, same_colour, same_kind}
-use Rattle.board_base.specs.Attacks.{distance, is_open, king_distance, on_the_way, toward}
+use Rattle.board_base.specs.Board.{Places, at, is_a, is_the, same_colour, same_kind}
+use Rattle.board_base.specs.Attacks.{is_open}
 use Rattle.board_base.specs.Play.{played_as, carry, castling, castling_from, side, king_home, king_target, rook_home, crossed}
 use Rattle.board_base.specs.Legal.{may_castle}
 use Rattle.castle_history.specs.TakenBack.{castling_back, of_king, of_side}
-use Rattle.play_rules.proofs.Kings.{castle-ends, Ends, crossed-not-target}
+use Rattle.play_rules.proofs.Kings.{castle-ends, Ends}
 use Rattle.unmove_gen.proofs.Equal.{empty_is}
 use Rattle.board_base.specs.declared.men.Man.{Man}
 use Rattle.board_base.specs.declared.men.Colour.{Colour}
 use Rattle.board_base.specs.declared.men.Kind.TheVariants.{King}
 use Rattle.board_base.specs.declared.moves.Move.{Move}
 use Rattle.board_base.specs.declared.castles.Castle.{Castle}
-use Rattle.board_base.specs.declared.castles.Castle.TheVariants.{WhiteShort, WhiteLong, BlackShort, BlackLong}
 use Rattle.board_base.proofs.KindsOfMen.{colour_is, same_colour-self}
-
-pub rook_home-not-target : (x : Castle) → rook_home x ≢ king_target x
-rook_home-not-target WhiteShort e = omega arith
-rook_home-not-target WhiteLong e = omega arith
-rook_home-not-target BlackShort e = omega arith
-rook_home-not-target BlackLong e = omega arith
-
-pub rook_home-not-crossed : (x : Castle) → rook_home x ≢ crossed x
-rook_home-not-crossed WhiteShort e = omega arith
-rook_home-not-crossed WhiteLong e = omega arith
-rook_home-not-crossed BlackShort e = omega arith
-rook_home-not-crossed BlackLong e = omega arith
-
-pub king_home-not-rook_home : (x : Castle) → king_home x ≢ rook_home x
-king_home-not-rook_home WhiteShort e = omega arith
-king_home-not-rook_home WhiteLong e = omega arith
-king_home-not-rook_home BlackShort e = omega arith
-king_home-not-rook_home BlackLong e = omega arith
-
-target-empty : (board : Places) (x : Castle) → is_open board (king_home x) (rook_home x) ≡ true → is_empty (at board (king_target x)) ≡ true
-unfolding king_distance distance on_the_way toward
-target-empty board WhiteShort h = (and_parts _ _ (and_parts _ _ h).1).0
-target-empty board WhiteLong h = (and_parts _ _ (and_parts _ _ h).1).0
-target-empty board BlackShort h = (and_parts _ _ (and_parts _ _ h).1).0
-target-empty board BlackLong h = (and_parts _ _ (and_parts _ _ h).1).0
+use Rattle.board_base.proofs.CastleSquares.{crossed-not-target, rook_home-not-target, target-empty}
 
 -- what a castling asks for: its right, its king, and a free way
 pub record Castles (board : Places) (rights : Castle → Bool) (x : Castle) : Type 0 where

@@ -12,8 +12,8 @@ use Rattle.board_base.specs.Rights.{Rights, holds}
 use Rattle.board_base.specs.declared.men.Kind.TheVariants.{Pawn}
 use Rattle.board_base.specs.declared.moves.Move.{Move}
 use Rattle.board_base.specs.declared.castles.Castle.{Castle}
+use Rattle.board_base.proofs.EachCastle.{castle-each, each-castle}
 use Rattle.board_base.proofs.Rights.{held_or_added, holds_kept}
-use Rattle.castle_history.proofs.EachCastle.{castle-each, each-castle}
 use Rattle.play_rules.proofs.Doubles.{last_move-more}
 use Rattle.query_base.specs.Asked.{Asked}
 use Rattle.query_base.specs.Reach.{EndsWith}

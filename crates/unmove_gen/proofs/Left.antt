@@ -10,12 +10,12 @@ use Rattle.board_base.specs.Game.{IsGame, board_after, last_move}
 use Rattle.board_base.specs.declared.men.Kind.{Kind}
 use Rattle.board_base.specs.declared.moves.Move.{Move}
 use Rattle.board_base.specs.declared.castles.Castle.{Castle}
+use Rattle.board_base.proofs.CastleSquares.{crossed-not-home, rook_home-not-home}
 use Rattle.play_rules.proofs.Legality.{legality}
 use Rattle.play_rules.proofs.Games.{in_every_game, board_after-more}
 use Rattle.play_rules.proofs.Doubles.{last_move-more}
-use Rattle.play_rules.proofs.Kings.{castle-ends, crossed-not-home, length-after, length-carry}
+use Rattle.play_rules.proofs.Kings.{castle-ends, length-after, length-carry}
 use Rattle.unmove_gen.proofs.Back.{Placed, placed}
-use Rattle.unmove_gen.proofs.Castlings.{king_home-not-rook_home}
 
 carry-leaves : (board : Places) (from to : ℕ) (promo : Option Kind) → from ≢ to → from < length board → at (carry board from to promo) from ≡ None
 carry-leaves board from to promo apart inside =
@@ -39,7 +39,7 @@ played-leaves board m (Some x) e p =
     let ends = castle-ends board m x e in
     let moved : Places = carry board m.from m.to None in
     get_or-set_other (set moved (rook_home x) None) (crossed x) m.from (at moved (rook_home x)) None (λ z. crossed-not-home x (sym z ∙ sym ends.from))
-    ∙ get_or-set_other moved (rook_home x) m.from None None (λ z. king_home-not-rook_home x (ends.from ∙ z)) ∙ carry-leaves board m.from m.to None p.apart p.origin
+    ∙ get_or-set_other moved (rook_home x) m.from None None (λ z. rook_home-not-home x (sym z ∙ sym ends.from)) ∙ carry-leaves board m.from m.to None p.apart p.origin
 
 pub play-leaves : (board : Places) (m : Move) → Placed board m → at (play board m) m.from ≡ None
 unfolding play

@@ -5,7 +5,7 @@ use Rattle.std.specs.List.{list_all}
 use Rattle.board_base.specs.Play.{all_castles}
 use Rattle.board_base.specs.Rights.{holds}
 use Rattle.castle_history.specs.Homes.{are_at_home}
-use Rattle.castle_history.proofs.EachCastle.{each-held}
+use Rattle.board_base.proofs.EachCastle.{each-held}
 use Rattle.castle_history.proofs.homes.held_fits.Goals as goal
 
 pub returns : goal.returns
