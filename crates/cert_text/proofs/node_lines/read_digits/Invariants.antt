@@ -1,4 +1,4 @@
-use Rattle.cert_text.proofs.Numbers.{NumberSoFar}
+use Rattle.fen_text.proofs.NumberLemmas.{NumberSoFar}
 use Rattle.cert_text.proofs.node_lines.read_digits.Given as goal
 
 abbrev pub invariant-loop-byte : goal.invariant-loop-byte
