@@ -112,7 +112,8 @@ first-ends : list_all (λ s. not (is_end s && is_a Pawn (at initial_array s))) (
 unfolding initial_array
 first-ends = refl
 
-end-inside : (s : ℕ) → is_end s ≡ true → s < 64
+-- a square of rank 1 or 8 is on the board
+pub end-inside : (s : ℕ) → is_end s ≡ true → s < 64
 end-inside s end = elim (or_cases _ _ end) [
   | inl first ↦ let e : rank s ≡ 0 = eqb-true _ 0 first in omega arith
   | inr last ↦ let e : rank s ≡ 7 = eqb-true _ 7 last in omega arith

@@ -1,11 +1,12 @@
 -- The test of each square for pawns on rank 1 or 8 is the law that there are none.
-use Rattle.std.proofs.Common.{◌≡◌, ℕ, zero, suc, ◌+◌, ◌<◌, Bool, true, ◌&&◌, not, inl, inr, refl, ap, sym, ◌∙◌, arith}
-use Rattle.std.proofs.lemmas.Bool.{and_from, and_right, or_cases, eqb-true, not_from_false, not-true, cases_Bool, both_ways, false_from_ne_true}
+use Rattle.std.proofs.Common.{◌≡◌, ℕ, zero, suc, ◌+◌, Bool, true, ◌&&◌, not, inl, inr, refl, ap, sym, ◌∙◌, arith}
+use Rattle.std.proofs.lemmas.Bool.{and_from, and_right, not_from_false, not-true, cases_Bool, both_ways, false_from_ne_true}
 use Rattle.std.specs.Prelude.{◌↔◌, IsTrue}
 use Rattle.std.specs.List.{list_all, range_with_len}
 use Rattle.board_base.proofs.Ranges.{all_in_range}
-use Rattle.board_base.specs.Board.{Places, at, is_a, rank}
+use Rattle.board_base.specs.Board.{Places, at, is_a}
 use Rattle.board_base.specs.declared.men.Kind.TheVariants.{Pawn}
+use Rattle.play_rules.proofs.Ends.{end-inside}
 use Rattle.play_rules.specs.Laws.{HasNoPawnOnEnds, has_no_pawn_on_ends, is_end}
 
 all-range : (p : ℕ → Bool) → ((s : ℕ) → p s ≡ true) → (k n : ℕ) → list_all p (range_with_len k n) ≡ true
@@ -18,13 +19,6 @@ no_pawns board ends = all-range (λ s. not (is_end s && is_a Pawn (at board s)))
   | inl end ↦ not_from_false _ (and_right _ _ (ends s end))
   | inr inner ↦ ap (λ (b : Bool). not (b && is_a Pawn (at board s))) inner
 ]) 0 64
-
--- a square of rank 1 or 8 is on the board
-end-inside : (s : ℕ) → is_end s ≡ true → s < 64
-end-inside s end = elim (or_cases _ _ end) [
-  | inl first ↦ let e : rank s ≡ 0 = eqb-true _ 0 first in omega arith
-  | inr last ↦ let e : rank s ≡ 7 = eqb-true _ 7 last in omega arith
-]
 
 no_pawn-here : (board : Places) → has_no_pawn_on_ends board ≡ true → HasNoPawnOnEnds board
 unfolding has_no_pawn_on_ends

@@ -10,7 +10,7 @@ use Rattle.board_base.specs.declared.men.Kind.{Kind}
 use Rattle.board_base.specs.declared.men.Kind.TheVariants.{Pawn, Knight, Bishop, Rook, Queen, King}
 use Rattle.board_base.proofs.Ranges.{all_in_range}
 use Rattle.board_base.specs.Board.{Places, at, file, is_empty, is_in, rank}
-use Rattle.board_base.specs.Attacks.{distance, files_apart, is_open, king_distance, on_one_diagonal, on_one_line, on_the_way, ranks_apart, toward}
+use Rattle.board_base.specs.Attacks.{distance, files_apart, is_open, king_distance, one_ahead, on_one_diagonal, on_one_line, on_the_way, ranks_apart, toward}
 use Rattle.play_rules.specs.declared.lines.Change.{Change}
 use Rattle.play_rules.specs.declared.lines.Change.TheVariants.{Falls, Stays, Rises}
 use Rattle.play_rules.specs.declared.lines.Direction.{Direction}
@@ -149,10 +149,11 @@ blocked board d s k t low full lies clear = elim (cases_lt k (king_distance s t)
   | inr near ↦ omega arith
 ]
 
-one-rank : (a b : ℕ) → (b ≡ a + 1) ⊎ (a ≡ b + 1) → distance a b < 3
+-- one rank ahead for either colour is not far
+one_ahead-near : (c : Colour) (s t : ℕ) → one_ahead c s t ≡ true → ranks_apart s t < 3
 unfolding distance
-one-rank a b (inl up) = omega arith
-one-rank a b (inr down) = omega arith
+one_ahead-near White s t h = let up : rank t ≡ rank s + 1 = eqb-true _ _ h in omega arith
+one_ahead-near Black s t h = let down : rank s ≡ rank t + 1 = eqb-true _ _ h in omega arith
 
 some_product : (x y : ℕ) → x * y ≡ 2 → x < 3
 some_product x zero e = omega arith
@@ -161,25 +162,11 @@ some_product x (suc y) e = omega arith
 -- a step goes two files and two ranks at most
 pub step-near : (c : Colour) (k : Kind) (s t : ℕ) → may_step c k s t ≡ true → (files_apart s t < 3) × (ranks_apart s t < 3)
 unfolding may_step
-step-near White Pawn s t h = elim (or_cases _ _ h) [
+step-near c Pawn s t h = elim (or_cases _ _ h) [
   | inl one ↦
       let parts = and_parts _ _ one in
-      let up : rank t ≡ rank s + 1 = eqb-true _ _ parts.0 in
       let near : files_apart s t < 2 = ltb-true _ _ parts.1 in
-      (omega arith, one-rank (rank s) (rank t) (inl up))
-  | inr two ↦
-      let parts = and_parts _ _ two in
-      let same : file s ≡ file t = eqb-true _ _ parts.0 in
-      let far : ranks_apart s t ≡ 2 = eqb-true _ 2 parts.1 in
-      let none : files_apart s t ≡ 0 = zero-apart _ _ same in
-      (omega arith, omega arith)
-]
-step-near Black Pawn s t h = elim (or_cases _ _ h) [
-  | inl one ↦
-      let parts = and_parts _ _ one in
-      let down : rank s ≡ rank t + 1 = eqb-true _ _ parts.0 in
-      let near : files_apart s t < 2 = ltb-true _ _ parts.1 in
-      (omega arith, one-rank (rank s) (rank t) (inr down))
+      (omega arith, one_ahead-near c s t parts.0)
   | inr two ↦
       let parts = and_parts _ _ two in
       let same : file s ≡ file t = eqb-true _ _ parts.0 in
