@@ -1,5 +1,5 @@
 -- How many squares pass a test of the square and the man on it, after a write.
-use Rattle.std.proofs.Common.{◌≡◌, ◌≢◌, ℕ, zero, suc, ◌+◌, ◌-◌, ◌<◌, ◌≤◌, Bool, true, false, cond, ◌&&◌, ◌⊎◌, inl, inr, List, [], ◌∷◌, length, set, refl, ap, ◌∙◌, arith}
+use Rattle.std.proofs.Common.{◌≡◌, ◌≢◌, ℕ, zero, suc, ◌+◌, ◌<◌, ◌≤◌, Bool, true, false, cond, ◌&&◌, ◌⊎◌, inl, inr, List, [], ◌∷◌, length, set, refl, ap, ◌∙◌, arith}
 use Rattle.std.proofs.lemmas.Bool.{both_ways, cases_eq, cases_lt}
 use Rattle.std.proofs.lemmas.List.{length-set, get_or-set_same, get_or-set_other, set_past}
 use Rattle.std.proofs.lemmas.List.Sums.{sum_by-cons}
@@ -89,21 +89,9 @@ men-carry c k among board from to promo len f t =
     let len' : length (set board from None) ≡ 64 = length-set board from None ∙ len in
     omega (arith, men-set c k among board from None len f, men-set c k among (set board from None) to (promoted promo (at board from)) len' t)
 
--- a count that goes on
-pub count_yes : (p : ℕ → Bool) (k n so_far total : ℕ) → k < n → p k ≡ true → so_far + count_by p (range_with_len k (n - k)) ≡ total → so_far + 1 + count_by p (range_with_len (k + 1) (n - (k + 1))) ≡ total
-count_yes p k n so_far total below here left =
-    let e : n - k ≡ suc (n - (k + 1)) = omega arith in
-    let split : count_by p (range_with_len k (n - k)) ≡ one_if (p k) + count_by p (range_with_len (k + 1) (n - (k + 1))) = ap (λ (m : ℕ). count_by p (range_with_len k m)) e ∙ count-cons p k (range_with_len (k + 1) (n - (k + 1))) in
-    omega (arith, split, left, ap one_if here)
-
-pub count_no : (p : ℕ → Bool) (k n so_far total : ℕ) → k < n → p k ≡ false → so_far + count_by p (range_with_len k (n - k)) ≡ total → so_far + count_by p (range_with_len (k + 1) (n - (k + 1))) ≡ total
-count_no p k n so_far total below here left =
-    let e : n - k ≡ suc (n - (k + 1)) = omega arith in
-    let split : count_by p (range_with_len k (n - k)) ≡ one_if (p k) + count_by p (range_with_len (k + 1) (n - (k + 1))) = ap (λ (m : ℕ). count_by p (range_with_len k m)) e ∙ count-cons p k (range_with_len (k + 1) (n - (k + 1))) in
-    omega (arith, split, left, ap one_if here)
-
-pub count_end : (p : ℕ → Bool) (k n so_far total : ℕ) → n ≤ k → so_far + count_by p (range_with_len k (n - k)) ≡ total → so_far ≡ total
-count_end p k n so_far total past left =
-    let e : n - k ≡ 0 = omega arith in
-    let none : count_by p (range_with_len k (n - k)) ≡ 0 = ap (λ (m : ℕ). count_by p (range_with_len k m)) e in
-    omega (arith, none, left)
+-- a test on one number more
+pub count-end : (p : ℕ → Bool) (n k : ℕ) → count_by p (range_with_len k (suc n)) ≡ count_by p (range_with_len k n) + one_if (p (k + n))
+count-end p zero k = let e : one_if (p k) ≡ one_if (p (k + 0)) = ap (λ (s : ℕ). one_if (p s)) (omega arith) in omega (arith, count-cons p k [], e)
+count-end p (suc n) k =
+    let e : one_if (p (k + 1 + n)) ≡ one_if (p (k + suc n)) = ap (λ (s : ℕ). one_if (p s)) (omega arith) in
+    omega (arith, count-cons p k (range_with_len (k + 1) (suc n)), count-cons p k (range_with_len (k + 1) n), count-end p n (k + 1), e)

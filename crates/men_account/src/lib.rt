@@ -4,7 +4,6 @@
 #![tactic(auto)]
 
 mod laws;
-mod shades;
 mod sums;
 mod tallies;
 

@@ -1,46 +1,67 @@
-ghost use Rattle.std.specs.Prelude.{◌≡◌, ◌-◌, ◌≤◌, ◌<◌, ◌&&◌};
-ghost use Rattle.board_base.specs.Board.{at, is_the};
-ghost use Rattle.men_account.specs.Account.{accounts_for, counts_of, excess_of, men};
-ghost use Rattle.men_account.specs.Shades.{is_of_shade};
+ghost use Rattle.std.specs.Prelude.{◌≡◌, ◌-◌, ◌≤◌, ◌<◌};
+ghost use Rattle.men_account.specs.Account.{accounts_for, counts_of, excess_of, is_light};
+ghost use Rattle.men_account.specs.Tallies.{AreBelow, with_man, with_place};
 
-use crate::shades::{Shade, is_of_shade};
 use crate::tallies::{Allowance, Counts};
-use board_base::{Board, Colour, Kind, Square, is_the};
+use board_base::{Board, Colour, Kind, Man, Square};
 
-fn is_counted(board: &Board, colour: Colour, kind: Kind, shade: Shade, s: Square) -> bool
-    ensures { result ≡ (is_the colour kind (at board.now s) && is_of_shade shade s) }
+/// The square is light (article 2.1): its file and its rank, both counted from 0, have an odd sum.
+fn is_light(s: Square) -> bool
+    ensures { result ≡ is_light s }
 {
-    is_the(colour, kind, board.at(s)) && is_of_shade(shade, s)
+    (s.file() + s.rank()) % 2 == 1
 }
 
-/// How many men of this colour and kind stand on squares of this shade, at most 64.
-#[tactic(auto, unfolding(crate::specs::Account::men))]
-fn count(board: &Board, colour: Colour, kind: Kind, shade: Shade) -> u8
-    ensures value { result ≡ men colour kind (λ s. is_of_shade shade s) board.now }
-    ensures few { result ≤ 64 }
+/// The counts with one man more, of this kind and on this square.
+fn with_man(so_far: Counts, kind: Kind, s: Square) -> Counts
+    requires { AreBelow 64 so_far }
+    ensures { result ≡ with_man so_far kind s }
 {
-    let mut total = 0;
-    for i in 0..64 {
-        if is_counted(board, colour, kind, shade, Square::known(i)) {
-            total += 1;
+    let mut counts = so_far;
+    match kind {
+        Kind::Pawn => counts.pawns += 1,
+        Kind::Knight => counts.knights += 1,
+        Kind::Bishop => {
+            if is_light(s) {
+                counts.light_bishops += 1;
+            } else {
+                counts.dark_bishops += 1;
+            }
         }
+        Kind::Rook => counts.rooks += 1,
+        Kind::Queen => counts.queens += 1,
+        Kind::King => counts.kings += 1,
     }
-    total
+    counts
+}
+
+/// The counts with what stands on this square, if it is a man of this side.
+fn with_place(so_far: Counts, side: Colour, place: Option<Man>, s: Square) -> Counts
+    requires { AreBelow 64 so_far }
+    ensures { result ≡ with_place so_far side place s }
+{
+    match place {
+        Some(man) => {
+            if side == man.colour {
+                with_man(so_far, man.kind, s)
+            } else {
+                so_far
+            }
+        }
+        None => so_far,
+    }
 }
 
 /// The men that a side has on the board.
 pub fn counts(board: &Board, side: Colour) -> Counts
     ensures { result ≡ counts_of side board.now }
 {
-    Counts {
-        pawns: count(board, side, Kind::Pawn, Shade::Both),
-        knights: count(board, side, Kind::Knight, Shade::Both),
-        light_bishops: count(board, side, Kind::Bishop, Shade::Light),
-        dark_bishops: count(board, side, Kind::Bishop, Shade::Dark),
-        rooks: count(board, side, Kind::Rook, Shade::Both),
-        queens: count(board, side, Kind::Queen, Shade::Both),
-        kings: count(board, side, Kind::King, Shade::Both),
+    let mut total = Counts::none();
+    for i in 0..64 {
+        let s = Square::known(i);
+        total = with_place(total, side, board.at(s), s);
     }
+    total
 }
 
 /// What a count is above its allowance, and 0 where it isn't above.

@@ -1,5 +1,6 @@
 ghost use Rattle.std.specs.Prelude.{◌≡◌};
 ghost use Rattle.men_account.specs.Account.{full_allowance};
+ghost use Rattle.men_account.specs.Tallies.{no_men_counted};
 
 /// How many men a side has of each kind (article 2.2), the bishops told apart by the colour of the square that they stand on.
 #[derive(Clone, Copy, PartialEq, Eq, Debug)]
@@ -13,6 +14,23 @@ pub struct Counts {
     pub rooks: u8,
     pub queens: u8,
     pub kings: u8,
+}
+
+impl Counts {
+    /// No man at all.
+    pub(crate) fn none() -> Counts
+        ensures { result ≡ no_men_counted }
+    {
+        Counts {
+            pawns: 0,
+            knights: 0,
+            light_bishops: 0,
+            dark_bishops: 0,
+            rooks: 0,
+            queens: 0,
+            kings: 0,
+        }
+    }
 }
 
 /// How many men of each kind a side may have without a promotion.
