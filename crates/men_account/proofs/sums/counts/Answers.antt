@@ -6,7 +6,7 @@ use Rattle.men_account.proofs.BySquares.{counts_among, square_more, few_among, w
 use Rattle.men_account.proofs.sums.counts.Goals as goal
 
 pub with_place-total-requires : goal.with_place-total-requires
-with_place-total-requires c = rw c.loop-i.invariant.so_far (few_among c.args.side c.args.board.now c.loop-i.i 64 c.loop-i-test.true)
+with_place-total-requires c = rw c.loop-i.invariant.so_far (few_among c.args.side c.args.board.now c.loop-i.i 64 (omega arith))
 
 pub loop-i-preserved : goal.loop-i-preserved
 loop-i-preserved c =
