@@ -1,8 +1,8 @@
--- Kinds and colours, by the tests that tell them.
+-- Men, their kinds and their colours, by the tests that tell them.
 use Rattle.std.proofs.Common.{◌≡◌, true, false, refl, ap, sym, ◌∙◌}
 use Rattle.std.proofs.lemmas.Bool.{both_ways, false_from_ne_true}
-use Rattle.std.specs.Prelude.{Option, Some, None}
-use Rattle.board_base.specs.Board.{is_a, opponent, same_colour, same_kind}
+use Rattle.std.specs.Prelude.{Option, Some, None, is_some}
+use Rattle.board_base.specs.Board.{is_a, is_empty, opponent, same_colour, same_kind}
 use Rattle.board_base.specs.Legal.{is_officer}
 use Rattle.board_base.specs.declared.men.Man.{Man}
 use Rattle.board_base.specs.declared.men.Colour.{Colour}
@@ -53,3 +53,7 @@ another_kind i j (Some m) h = ap (same_kind i) (sym (kind_is j m.kind h))
 -- what a pawn becomes is of no kind but an officer's
 pub no_officer : (i k : Kind) → is_officer i ≡ false → is_officer k ≡ true → same_kind i k ≡ false
 no_officer i k none officer = false_from_ne_true _ (λ same. both_ways _ none (ap is_officer (kind_is i k same) ∙ officer))
+
+pub full-some : (place : Option Man) → is_some place ≡ true → is_empty place ≡ false
+full-some None h = cc
+full-some (Some m) h = refl

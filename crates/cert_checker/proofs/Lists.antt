@@ -1,5 +1,5 @@
 -- Members of a list by its first element, and lists by their last.
-use Rattle.std.proofs.Common.{◌≡◌, zero, suc, ◌⊎◌, inl, inr, List, [], ◌∷◌, ◌++◌, refl, ap, arith}
+use Rattle.std.proofs.Common.{◌≡◌, suc, ◌⊎◌, inl, inr, List, [], ◌∷◌, ◌++◌, refl, ap, arith}
 use Rattle.std.specs.List.{Contains}
 
 pub contains-first : {A : Type 0} (x : A) (xs : List A) → Contains (x ∷ xs) x
@@ -7,10 +7,6 @@ contains-first {A} x xs = (0, omega arith, refl)
 
 pub contains-later : {A : Type 0} (y : A) (xs : List A) (x : A) → Contains xs x → Contains (y ∷ xs) x
 contains-later {A} y xs x (k, inside, e) = (suc k, omega arith, e)
-
-pub contains-cases : {A : Type 0} (y : A) (xs : List A) (x : A) → Contains (y ∷ xs) x → (y ≡ x) ⊎ Contains xs x
-contains-cases {A} y xs x (zero, inside, e) = inl e
-contains-cases {A} y xs x (suc k, inside, e) = inr (k, omega arith, e)
 
 pub contains-none : {A : Type 0} (x : A) → Contains [] x → ⊥
 contains-none {A} x (k, inside, e) = omega arith

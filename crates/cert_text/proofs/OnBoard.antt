@@ -1,20 +1,13 @@
 -- What is read as an unmove has its squares on the board.
-use Rattle.std.proofs.Common.{◌≡◌, ℕ, ◌+◌, ◌-◌, ◌*◌, ◌<◌, ◌&&◌, List, [], ◌∷◌, Option, Some, None, refl, subst, arith}
+use Rattle.std.proofs.Common.{◌≡◌, ℕ, ◌+◌, ◌-◌, ◌*◌, ◌<◌, ◌&&◌, List, [], ◌∷◌, Option, Some, subst, arith}
 use Rattle.std.specs.Prelude.{nat_le}
 use Rattle.std.specs.Option.{option_map}
 use Rattle.std.proofs.lemmas.Bool.{and_parts, leb-true}
-use Rattle.std.proofs.lemmas.Option.{cond_some, same_Some}
+use Rattle.std.proofs.lemmas.Option.{cond_some}
 use Rattle.board_base.specs.declared.men.Kind.{Kind}
 use Rattle.board_base.specs.declared.unmoves.Unmove.{Unmove}
 use Rattle.board_base.specs.Texts.{◌>>=◌, square_at, promo_head, after_promo, capture_of, unmove_as, unmove_from}
-
-bound : {A B : Type 0} (o : Option A) (f : A → Option B) (y : B) → (o >>= f) ≡ Some y → (x : A) × (o ≡ Some x) × (f x ≡ Some y)
-bound None f y e = absurd cc
-bound (Some x) f y e = (x, refl, e)
-
-mapped : {A B : Type 0} (o : Option A) (f : A → B) (y : B) → option_map f o ≡ Some y → (x : A) × (f x ≡ y)
-mapped None f y e = absurd cc
-mapped (Some x) f y e = (x, same_Some _ _ e)
+use Rattle.fen_text.proofs.PartLemmas.{bound_some, mapped_some}
 
 square_small : (a b s : ℕ) → square_at a b ≡ Some s → s < 64
 square_small a b s e =
@@ -39,7 +32,7 @@ unmove_on_board (a ∷ b ∷ []) u e = absurd cc
 unmove_on_board (a ∷ b ∷ c ∷ []) u e = absurd cc
 unmove_on_board (a ∷ b ∷ c ∷ d ∷ rest) u e =
     let p : Option Kind = promo_head rest in
-    let f = bound (square_at a b) (λ from. square_at c d >>= (λ to. option_map (unmove_as from to p) (capture_of p (after_promo rest)))) u e in
-    let t = bound (square_at c d) (λ to. option_map (unmove_as f.0 to p) (capture_of p (after_promo rest))) u f.2 in
-    let x = mapped (capture_of p (after_promo rest)) (unmove_as f.0 t.0 p) u t.2 in
-    subst OnBoard x.1 (record { from = square_small a b f.0 f.1; to = square_small c d t.0 t.1 })
+    let f = bound_some (square_at a b) (λ from. square_at c d >>= (λ to. option_map (unmove_as from to p) (capture_of p (after_promo rest)))) u e in
+    let t = bound_some (square_at c d) (λ to. option_map (unmove_as f.0 to p) (capture_of p (after_promo rest))) u f.2 in
+    let x = mapped_some (unmove_as f.0 t.0 p) (capture_of p (after_promo rest)) u t.2 in
+    subst OnBoard x.2 (record { from = square_small a b f.0 f.1; to = square_small c d t.0 t.1 })

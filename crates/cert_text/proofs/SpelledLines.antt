@@ -3,15 +3,15 @@ use Rattle.std.proofs.Common.{◌≡◌, ℕ, zero, suc, ◌-◌, ◌≤◌, Boo
 use Rattle.std.specs.Prelude.{codes}
 use Rattle.std.proofs.lemmas.Bool.{and_parts, and_from, cond-true, lt-ltb, ltb-true}
 use Rattle.std.proofs.lemmas.Bool.Decides.{Decides-eqb}
-use Rattle.std.proofs.lemmas.Option.{cond_some, same_Some, some_pair_parts, option_and_then_some}
+use Rattle.std.proofs.lemmas.Option.{cond_some, some_pair_parts, option_and_then_some}
 use Rattle.std.proofs.lemmas.Slice.Eq.{ends_is}
 use Rattle.std.specs.List.{starts_with, ends_with}
-use Rattle.std.specs.Option.{option_map, option_and_then}
+use Rattle.std.specs.Option.{option_and_then}
 use Rattle.board_base.specs.declared.unmoves.Unmove.{Unmove}
 use Rattle.board_base.specs.Texts.{unmove_from, unmove_text, can_promote, can_capture}
 use Rattle.board_base.proofs.OneText.{unmove_read}
 use Rattle.board_base.proofs.TextLemmas.{unmove_back}
-use Rattle.fen_text.proofs.PartLemmas.{followed}
+use Rattle.fen_text.proofs.PartLemmas.{followed, mapped_some}
 use Rattle.cert_text.specs.Lines.{ended, without_end, said}
 use Rattle.cert_text.specs.NodeLines.{body_at, root_body, kid_body, node_line}
 use Rattle.cert_text.specs.Writable.{body_text, root_text, kid_text, line_text, has_text, fits_depth}
@@ -130,15 +130,11 @@ kid_read depth line u b e =
 
 -- any node's line
 
-mapped : {A B : Type 0} (f : A → B) (o : Option A) (y : B) → option_map f o ≡ Some y → (x : A) × (o ≡ Some x) × (f x ≡ y)
-mapped f None y e = absurd cc
-mapped f (Some x) y e = (x, refl, same_Some (f x) y e)
-
 -- what is read as a node's line is its text
 pub node_read : (depth : ℕ) (text : List ℕ) (n : NodeLine) → node_line depth text ≡ Some n → text ≡ line_text n
 node_read zero text n e =
-    let m = mapped (λ (b : BodyLine). record { label = None; body = b }) (root_body text) n e in
+    let m = mapped_some (λ (b : BodyLine). record { label = None; body = b }) (root_body text) n e in
     (root_text_read text m.0 m.1).text_is ∙ ap line_text m.2
 node_read (suc depth) text n e =
-    let m = mapped (λ (k : Unmove × BodyLine). record { label = Some k.0; body = k.1 }) (kid_body (suc depth) text) n e in
+    let m = mapped_some (λ (k : Unmove × BodyLine). record { label = Some k.0; body = k.1 }) (kid_body (suc depth) text) n e in
     (kid_text_read (suc depth) text m.0.0 m.0.1 m.1).text_is ∙ ap line_text m.2

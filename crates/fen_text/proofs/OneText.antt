@@ -15,7 +15,7 @@ use Rattle.query_base.specs.Asked.{Asked}
 use Rattle.fen_text.specs.Ranks.{letter, is_run, places_of, is_symbol, runs_apart, rank_places, is_rank, rank}
 use Rattle.fen_text.specs.Fen.{ranks, placement, turn, mark, castle_letters, marks, is_nothing, is_dash, no_rights, rights_of, rights, en_passant, en_passant_digit, double_over, number, Position, asked, from_numbers, from_en_passant, from_rights, from_turn, fen, unnumbered, fen_of_four}
 use Rattle.fen_text.specs.Spelling.{symbol, run_text, rank_text, rank_of, ranks_text, turn_letter, letter_if, rights_text, en_passant_text, spelling}
-use Rattle.fen_text.proofs.PartLemmas.{some_value, parted_known, followed}
+use Rattle.fen_text.proofs.PartLemmas.{some_value, parted_known, followed, mapped_some}
 use Rattle.fen_text.proofs.RankLemmas.{run_places, letter_len, letter_symbol}
 use Rattle.fen_text.proofs.PlacementLemmas.{rank_length}
 use Rattle.fen_text.proofs.Lengths.{spelling_bound}
@@ -102,10 +102,6 @@ unfolding ranks_text
 ranks_front zero xs ys long = ap (rank_text 0) (rank_front 0 xs ys long)
 ranks_front (suc n) xs ys long =
     ap (λ (l : Places). rank_text 0 l ++ 47 ∷ ranks_text n (xs ++ ys)) (rank_front (suc n) xs ys long) ∙ ap (λ (t : List ℕ). rank_text 0 (rank_of (suc n) xs) ++ 47 ∷ t) (ranks_front n xs ys (omega arith))
-
-mapped_some : {A B : Type 0} (f : A → B) (o : Option A) (y : B) → option_map f o ≡ Some y → (x : A) × (o ≡ Some x) × (f x ≡ y)
-mapped_some f None y e = absurd (cc)
-mapped_some f (Some x) y e = (x, refl, cc)
 
 ranks_spelled : (n : ℕ) (text : List ℕ) (board : Places) → ranks n text ≡ Some board → (text ≡ ranks_text n board) × (length board ≡ 8 * n + 8)
 unfolding ranks ranks_text

@@ -24,7 +24,7 @@ pub record FitsDouble (c : Colour) (l : Move) : Type 0 where
 abbrev pub FitsLast : Places → Colour → Move → Type 0
 FitsLast board c l = (is_a Pawn (at board l.to) && (ranks_apart l.from l.to == 2)) ≡ true → FitsDouble c l
 
-moves_equal : (a b : Move) → a.from ≡ b.from → a.to ≡ b.to → a.promo ≡ b.promo → a ≡ b
+pub moves_equal : (a b : Move) → a.from ≡ b.from → a.to ≡ b.to → a.promo ≡ b.promo → a ≡ b
 moves_equal a b f t p =
     ap (λ (x : ℕ). record a { from = x }) f ∙ ap (λ (x : ℕ). record a { from = b.from; to = x }) t ∙ ap (λ (x : Option Kind). record b { promo = x }) p
 

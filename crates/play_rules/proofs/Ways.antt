@@ -2,8 +2,7 @@
 use Rattle.std.proofs.Common.{◌≡◌, ◌≢◌, ℕ, zero, suc, List, length, ◌+◌, ◌-◌, ◌*◌, ◌<◌, ◌≤◌, ◌==◌, ◌⊎◌, max, Bool, true, false, cond, ◌&&◌, ◌||◌, not, inl, inr, set, refl, ap, sym, ◌∙◌, subst, arith}
 use Rattle.std.proofs.lemmas.Bool.{and_parts, or_cases, cases_lt, cases_eq, cond-true, cond-false, eqb-true, lt-ltb, both_ways, not-true, ltb-true, or_right, eqb-false, false_from_ne_true}
 use Rattle.std.proofs.lemmas.List.{get_or-set_same, get_or-set_other}
-use Rattle.std.specs.Prelude.{Option, Some, None, is_some, nat_lt}
-use Rattle.board_base.specs.declared.men.Man.{Man}
+use Rattle.std.specs.Prelude.{nat_lt}
 use Rattle.board_base.specs.declared.men.Colour.{Colour}
 use Rattle.board_base.specs.declared.men.Colour.TheVariants.{White, Black}
 use Rattle.board_base.specs.declared.men.Kind.{Kind}
@@ -137,10 +136,6 @@ nearer-more board d s k to set_of inside here before t small lies clear near = e
       let same : t ≡ to = sym (along-end d s t lies) ∙ ap (along d s) e ∙ sym here in
       ap (is_in (set set_of to true)) same ∙ get_or-set_same set_of to true false inside
 ]
-
-pub full-some : (place : Option Man) → is_some place ≡ true → is_empty place ≡ false
-full-some None h = cc
-full-some (Some m) h = refl
 
 -- past a man no line is open
 pub blocked : (board : Places) (d : Direction) (s k t : ℕ) → 1 ≤ k → is_empty (at board (along d s k)) ≡ false → LiesAlong d s t → is_open board s t ≡ true → king_distance s t < k + 1

@@ -1,8 +1,7 @@
 -- A castling's king and rook stand at home until one of them moves or is captured.
-use Rattle.std.proofs.Common.{◌≡◌, ◌≢◌, ℕ, ◌+◌, ◌*◌, ◌==◌, Bool, true, false, cond, ◌||◌, not, List, [], ◌∷◌, ◌++◌, set, refl, ap, sym, ◌∙◌, subst, arith}
+use Rattle.std.proofs.Common.{◌≡◌, ◌≢◌, ℕ, ◌+◌, ◌*◌, ◌==◌, Bool, true, false, cond, ◌||◌, List, [], set, refl, ap, sym, ◌∙◌, subst, arith}
 use Rattle.std.proofs.lemmas.Bool.{and_parts, and_from, or_parts, not-true, eqb-false, both_ways}
 use Rattle.std.proofs.lemmas.List.{get_or-set_other}
-use Rattle.std.proofs.lemmas.List.Folds.{list_all-append}
 use Rattle.std.specs.Prelude.{Option, Some, None}
 use Rattle.board_base.specs.Board.{Places, initial_array, array_of, at, is_a, is_the, rank}
 use Rattle.board_base.specs.Play.{play, played_as, carry, castling, goes_en_passant, en_passant_victim, side, king_home, rook_home, crossed}
@@ -16,7 +15,7 @@ use Rattle.board_base.proofs.CastleSquares.{king_home-by_rank, rank-crossed, ran
 use Rattle.board_base.proofs.EachCastle.{each-castle}
 use Rattle.castle_history.specs.Homes.{are_at_home}
 use Rattle.play_rules.specs.Laws.{HasNoPawnOnEnds}
-use Rattle.play_rules.proofs.Games.{in_every_game, board_after-more}
+use Rattle.play_rules.proofs.Games.{in_every_game, board_after-more, unmoved-before}
 use Rattle.play_rules.proofs.Kings.{castle-ends}
 use Rattle.play_rules.proofs.Ends.{is_end-king_home, no_pawn_on_ends}
 
@@ -84,12 +83,6 @@ first-at_home o x there =
     let king : at (array_of o) (king_home x) ≡ at initial_array (king_home x) = at-without o initial_array (king_home x) ∙ ap (λ (b : Bool). cond b None (at initial_array (king_home x))) lacks.0 in
     let rook : at (array_of o) (rook_home x) ≡ at initial_array (rook_home x) = at-without o initial_array (rook_home x) ∙ ap (λ (b : Bool). cond b None (at initial_array (rook_home x))) lacks.1 in
     and_from _ _ (ap (is_the (side x) King) king ∙ first-king x) (ap (is_the (side x) Rook) rook ∙ first-rook x)
-
-unmoved-before : (o : List Bool) (g : List Move) (m : Move) (x : Castle) → unmoved o (g ++ m ∷ []) x ≡ true → (unmoved o g x ≡ true) × (touches m x ≡ false)
-unmoved-before o g m x h =
-    let parts = and_parts _ _ h in
-    let moves = and_parts _ _ (sym (list_all-append (λ n. not (touches n x)) g (m ∷ [])) ∙ parts.1) in
-    (and_from _ _ parts.0 moves.0, not-true _ (and_parts _ _ moves.1).0)
 
 -- the king and the rook of a castling whose right is held stand at home, in every game
 pub rights_have_homes : (o : List Bool) (g : List Move) (x : Castle) → IsGame o g → unmoved o g x ≡ true → are_at_home (board_after o g) x ≡ true

@@ -1,13 +1,11 @@
 -- What a query asks of the last move, and its predecessor of the game before.
 use Rattle.std.proofs.Common.{◌≡◌, Bool, true, false, ◌&&◌, not, inl, inr, List, [], ◌∷◌, ◌++◌, refl, ap, sym, ◌∙◌, subst}
 use Rattle.std.proofs.lemmas.Bool.{and_parts, and_from, and_right, and_cases, not-true, not_from_false, both_ways, cases_Bool, false_from_ne_true}
-use Rattle.std.proofs.lemmas.List.Folds.{list_all-append}
 use Rattle.std.proofs.lemmas.Option.{same_Some}
 use Rattle.std.specs.Prelude.{Option, Some, None, IsTrue, IfSome, ◌⊎◌}
-use Rattle.std.specs.List.{list_all}
 use Rattle.board_base.specs.Board.{Places, at, is_a}
 use Rattle.board_base.specs.Legal.{is_move}
-use Rattle.board_base.specs.Game.{touches, unmoved}
+use Rattle.board_base.specs.Game.{touches}
 use Rattle.board_base.specs.Rights.{Rights, holds}
 use Rattle.board_base.specs.declared.men.Kind.TheVariants.{Pawn}
 use Rattle.board_base.specs.declared.moves.Move.{Move}
@@ -33,21 +31,6 @@ keeps-all q m h = castle-each (λ y. not (holds q.held y && touches m y)) (λ x.
   | inl has ↦ not_from_false _ (and_right _ _ (h x has))
   | inr lacks ↦ subst (λ (b : Bool). not (b && touches m x) ≡ true) (sym lacks) refl
 ])
-
--- one more move
-all-more : (g : List Move) (m : Move) (x : Castle) → list_all (λ n. not (touches n x)) (g ++ m ∷ []) ≡ (list_all (λ n. not (touches n x)) g && (not (touches m x) && true))
-all-more g m x = list_all-append (λ n. not (touches n x)) g (m ∷ [])
-
-pub unmoved-more : (o : List Bool) (g : List Move) (m : Move) (x : Castle) → unmoved o g x ≡ true → touches m x ≡ false → unmoved o (g ++ m ∷ []) x ≡ true
-unmoved-more o g m x before here =
-    let parts = and_parts _ _ before in
-    and_from _ _ parts.0 (all-more g m x ∙ and_from _ _ parts.1 (and_from _ _ (not_from_false _ here) refl))
-
-pub unmoved-before : (o : List Bool) (g : List Move) (m : Move) (x : Castle) → unmoved o (g ++ m ∷ []) x ≡ true → (unmoved o g x ≡ true) × (touches m x ≡ false)
-unmoved-before o g m x h =
-    let parts = and_parts _ _ h in
-    let rest = and_parts _ _ (sym (all-more g m x) ∙ parts.1) in
-    (and_from _ _ parts.0 rest.0, not-true _ (and_parts _ _ rest.1).0)
 
 -- a move that is demanded, or barred
 pub only-met : (o : Option Move) (board : Places) (g : List Move) (m : Move) → obeys_only o board m ≡ true → IfSome o (λ n. EndsWith (g ++ m ∷ []) n × IsTrue (is_a Pawn (at board n.to)))

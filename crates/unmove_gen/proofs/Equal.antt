@@ -1,7 +1,7 @@
 -- Equal men, boards and moves, by the tests that tell them.
 use Rattle.std.proofs.Common.{◌≡◌, Bool, true, false, [], ◌∷◌, refl, ap, sym, ◌∙◌}
 use Rattle.std.proofs.lemmas.Bool.{and_parts, and_from, both_ways, eqb-true, eq-eqb}
-use Rattle.std.specs.Prelude.{ℕ, Option, Some, None}
+use Rattle.std.specs.Prelude.{Option, Some, None}
 use Rattle.board_base.specs.Board.{Places, is_the, man, is_empty}
 use Rattle.board_base.specs.Legal.{is_move, same_promo}
 use Rattle.board_base.specs.declared.men.Man.{Man}
@@ -9,6 +9,7 @@ use Rattle.board_base.specs.declared.men.Colour.{Colour}
 use Rattle.board_base.specs.declared.men.Kind.{Kind}
 use Rattle.board_base.specs.declared.moves.Move.{Move}
 use Rattle.board_base.proofs.KindsOfMen.{colour_is, kind_is, same_colour-self, same_kind-self}
+use Rattle.play_rules.proofs.EnPassant.{moves_equal}
 use Rattle.unmove_gen.specs.Listed.{same_place, same_places}
 
 pub the_is : (c : Colour) (k : Kind) (place : Option Man) → is_the c k place ≡ true → place ≡ man c k
@@ -56,10 +57,6 @@ promo_is (Some j) (Some k) h = ap Some (kind_is j k h)
 promo_self : (a : Option Kind) → same_promo a a ≡ true
 promo_self None = refl
 promo_self (Some k) = same_kind-self k
-
-moves_equal : (a b : Move) → a.from ≡ b.from → a.to ≡ b.to → a.promo ≡ b.promo → a ≡ b
-moves_equal a b f t p =
-    ap (λ (x : ℕ). record a { from = x }) f ∙ ap (λ (x : ℕ). record a { from = b.from; to = x }) t ∙ ap (λ (x : Option Kind). record b { promo = x }) p
 
 pub move_is : (l m : Move) → is_move (Some l) m ≡ true → l ≡ m
 move_is l m h =

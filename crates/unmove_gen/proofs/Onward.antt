@@ -19,13 +19,13 @@ use Rattle.castle_history.specs.TakenBack.{castling_back}
 use Rattle.query_base.specs.Asked.{Asked}
 use Rattle.query_base.specs.Reach.{Reaches}
 use Rattle.play_rules.proofs.Legality.{Legality}
-use Rattle.play_rules.proofs.Games.{game_more, board_after-more}
+use Rattle.play_rules.proofs.Games.{board_after-more, game_more, unmoved-more}
 use Rattle.play_rules.proofs.Doubles.{turn_after-more}
 use Rattle.play_rules.proofs.Kings.{length-after, two-castles}
 use Rattle.unmove_gen.specs.Listed.{answered, before, candidates, every_right, is_listed, mover, unmoves}
 use Rattle.unmove_gen.specs.Predecessor.{predecessor, with_castle}
 use Rattle.unmove_gen.proofs.Castlings.{castled}
-use Rattle.unmove_gen.proofs.Demands.{barred-met, held-keeps, only-met, unmoved-more, untouched}
+use Rattle.unmove_gen.proofs.Demands.{barred-met, held-keeps, only-met, untouched}
 use Rattle.unmove_gen.proofs.Equal.{same_tests}
 use Rattle.unmove_gen.proofs.Exchanged.{legal-exchanged}
 use Rattle.unmove_gen.proofs.Marks.{captures, goes-same, none-answers}

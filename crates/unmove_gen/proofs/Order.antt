@@ -4,15 +4,14 @@ use Rattle.std.proofs.lemmas.Bool.{cases_lt}
 use Rattle.std.proofs.lemmas.Option.{same_Some, slice_get-get_or}
 use Rattle.std.proofs.lemmas.List.Kept.{AllPairs-filter}
 use Rattle.std.specs.Prelude.{Option, Some, slice_get}
-use Rattle.std.specs.Cmp.{nat_cmp_is}
-use Rattle.std.specs.Ordering.{nat_cmp}
-use Rattle.std.specs.declared.cmp.Ordering.TheVariants.{Equal, Less}
+use Rattle.std.specs.declared.cmp.Ordering.TheVariants.{Less}
 use Rattle.board_base.specs.Texts.{capture_place, place_of, unmove_order}
 use Rattle.board_base.specs.declared.men.Kind.{Kind}
 use Rattle.board_base.specs.declared.moves.Move.{Move}
 use Rattle.board_base.specs.declared.unmoves.Unmove.{Unmove}
 use Rattle.query_base.specs.Asked.{Asked}
 use Rattle.play_rules.specs.Listed.{promotions}
+use Rattle.play_rules.proofs.Order.{equal, less}
 use Rattle.unmove_gen.specs.Ascending.{IsAscending}
 use Rattle.unmove_gen.specs.Listed.{candidates, is_listed, unmoves, unmoves_of}
 use Rattle.unmove_gen.proofs.Numbered.{Numbered, numbered}
@@ -36,12 +35,6 @@ capture-place m (suc (suc (suc (suc zero)))) u h = sym (ap capture_place (same_S
 capture-place m (suc (suc (suc (suc (suc zero))))) u h = sym (ap capture_place (same_Some _ _ h))
 capture-place m (suc (suc (suc (suc (suc (suc zero)))))) u h = sym (ap capture_place (same_Some _ _ h))
 capture-place m (suc (suc (suc (suc (suc (suc (suc r))))))) u h = cc
-
-less : (x y : ℕ) → x < y → nat_cmp x y ≡ Less
-less x y below = sym (nat_cmp_is x y Less below)
-
-equal : (x y : ℕ) → x ≡ y → nat_cmp x y ≡ Equal
-equal x y same = sym (nat_cmp_is x y Equal same)
 
 numbers-order : (i j : ℕ) (a b : Unmove) → i < j → Numbered i a → Numbered j b → unmove_order a b ≡ Less
 numbers-order i j a b below k l =

@@ -34,7 +34,7 @@ rest_skips {A} p (x ∷ xs) (suc i) (suc j) le none = rest_skips p xs i j (omega
 pub passes-filter : {A : Type 0} (p : A → Bool) (xs : List A) (x : A) → Contains (filter p xs) x → p x ≡ true
 passes-filter {A} p xs x h = All-contains (λ y. p y ≡ true) (filter p xs) x (filter_passes p xs) h
 
-contains-cases : {A : Type 0} (y : A) (ys : List A) (x : A) → Contains (y ∷ ys) x → (y ≡ x) ⊎ Contains ys x
+pub contains-cases : {A : Type 0} (y : A) (ys : List A) (x : A) → Contains (y ∷ ys) x → (y ≡ x) ⊎ Contains ys x
 contains-cases {A} y ys x (zero, inside, e) = inl e
 contains-cases {A} y ys x (suc k, inside, e) = inr (k, omega arith, e)
 

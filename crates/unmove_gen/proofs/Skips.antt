@@ -1,10 +1,9 @@
 -- Candidates that need not be tried.
-use Rattle.std.proofs.Common.{◌≡◌, ℕ, ◌+◌, ◌*◌, ◌<◌, true, false, length, refl, ap, sym, ◌∙◌, subst, arith}
+use Rattle.std.proofs.Common.{◌≡◌, ℕ, ◌+◌, ◌*◌, ◌<◌, true, false, length, ap, sym, ◌∙◌, subst, arith}
 use Rattle.std.proofs.lemmas.Bool.{both_ways, false_from_ne_true}
 use Rattle.std.proofs.lemmas.Option.{same_Some}
-use Rattle.std.specs.Prelude.{Option, Some, None, is_some, slice_get}
+use Rattle.std.specs.Prelude.{Some, slice_get}
 use Rattle.board_base.specs.Board.{at, is_empty, is_of}
-use Rattle.board_base.specs.declared.men.Man.{Man}
 use Rattle.board_base.specs.declared.moves.Move.{Move}
 use Rattle.query_base.specs.Asked.{Asked}
 use Rattle.play_rules.specs.Listed.{move_of, promotions}
@@ -14,10 +13,6 @@ use Rattle.unmove_gen.specs.Ways.{may_have_made}
 use Rattle.unmove_gen.proofs.Numbered.{numbered}
 use Rattle.unmove_gen.proofs.Parts.{parts}
 use Rattle.unmove_gen.proofs.Arrivals.{listed-made}
-
-pub full-some : (place : Option Man) → is_some place ≡ true → is_empty place ≡ false
-full-some None h = cc
-full-some (Some m) h = refl
 
 -- no man of the side that moved stands on the target
 pub skip-target : (q : Asked) (to from p r high : ℕ) → is_of (mover q) (at q.board to) ≡ false → high ≡ 2240 * (to + 1) → AreUnlisted q (number_at to from p r) high

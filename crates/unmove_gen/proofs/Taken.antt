@@ -19,7 +19,7 @@ use Rattle.castle_history.specs.TakenBack.{castling_back}
 use Rattle.query_base.specs.Asked.{Asked}
 use Rattle.query_base.specs.Reach.{Reaches, EndsWith}
 use Rattle.play_rules.proofs.Legality.{Legality, legality}
-use Rattle.play_rules.proofs.Games.{game_before, legal_last, board_after-more}
+use Rattle.play_rules.proofs.Games.{board_after-more, game_before, legal_last, unmoved-before}
 use Rattle.play_rules.proofs.Doubles.{turn_after-more}
 use Rattle.play_rules.proofs.Kings.{length-after, two-castles}
 use Rattle.unmove_gen.specs.TakenBack.{kind_of, taken_back}
@@ -28,7 +28,7 @@ use Rattle.unmove_gen.specs.Listed.{answered, before, candidates, every_right, h
 use Rattle.unmove_gen.specs.Predecessor.{is_en_passant_after, predecessor, unmove_after}
 use Rattle.unmove_gen.proofs.Back.{Placed, back, came, marked, placed}
 use Rattle.unmove_gen.proofs.Castlings.{castles, was-castling}
-use Rattle.unmove_gen.proofs.Demands.{barred-from, held-from, keeps-all, only-from, unmoved-before}
+use Rattle.unmove_gen.proofs.Demands.{barred-from, held-from, keeps-all, only-from}
 use Rattle.unmove_gen.proofs.Equal.{places_self}
 use Rattle.unmove_gen.proofs.Exchanged.{legal-exchanged}
 use Rattle.unmove_gen.proofs.Left.{left-in-game, play-leaves}

@@ -5,7 +5,8 @@ use Rattle.board_base.specs.Board.{at, is_empty, is_of, opponent}
 use Rattle.board_base.specs.declared.men.Colour.{Colour}
 use Rattle.unmove_gen.specs.Numbers.{AreUnlisted}
 use Rattle.unmove_gen.specs.Cursors.{number_of}
-use Rattle.unmove_gen.proofs.Skips.{full-some, skip-origin, skip-promotion, skip-target}
+use Rattle.board_base.proofs.KindsOfMen.{full-some}
+use Rattle.unmove_gen.proofs.Skips.{skip-origin, skip-promotion, skip-target}
 use Rattle.unmove_gen.proofs.lists.skipped.Goals as goal
 
 pub returns-then-not-is_of-clause-unlisted : goal.returns-then-not-is_of-clause-unlisted
