@@ -1,5 +1,6 @@
 mod Examples
 pub mod Ranges
+pub mod Lists
 pub mod Without
 pub mod TextLemmas
 pub mod BitSets

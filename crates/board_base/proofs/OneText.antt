@@ -1,7 +1,7 @@
 -- What is read as a value is the value's one text.
 use Rattle.std.proofs.Common.{◌≡◌, ℕ, ◌+◌, ◌-◌, ◌*◌, ◌/◌, ◌%◌, ◌≤◌, ◌==◌, Bool, true, false, cond, ◌&&◌, List, [], ◌∷◌, ◌++◌, refl, sym, ap, ◌∙◌, arith, option_map, subst, Option, Some, None, is_none}
 use Rattle.std.proofs.lemmas.Bool.{and_parts, cond_both, leb-true, eqb-true}
-use Rattle.std.proofs.lemmas.Option.{cond_some}
+use Rattle.std.proofs.lemmas.Option.{cond_some, same_Some}
 use Rattle.std.specs.Prelude.{nat_le}
 use Rattle.board_base.specs.declared.men.Kind.{Kind}
 use Rattle.board_base.specs.declared.men.Kind.TheVariants.{Pawn, Knight, Bishop, Rook, Queen, King}
@@ -23,13 +23,9 @@ through_map : {A B : Type 0} (o : Option A) (f : A → B) (y : B) → option_map
 through_map None f y e = absurd cc
 through_map (Some x) f y e = record { value = x; is = refl; gives = e }
 
--- one value is not read as another
-some_is : {A : Type 0} (x y : A) → Some x ≡ Some y → x ≡ y
-some_is x y e = cc
-
 -- a letter that was tested for
 letter_from : (b n : ℕ) (j k : Kind) → letter_of j ≡ n → (b == n) ≡ true → Some j ≡ Some k → b ≡ letter_of k
-letter_from b n j k l e h = eqb-true b n e ∙ sym l ∙ ap letter_of (some_is j k h)
+letter_from b n j k l e h = eqb-true b n e ∙ sym l ∙ ap letter_of (same_Some j k h)
 
 abbrev LetterOf : ℕ → Kind → Option Kind → Type 0
 LetterOf b k o = o ≡ Some k → b ≡ letter_of k
@@ -99,10 +95,10 @@ record IsTextOfPromo (text : List ℕ) (promo : Option Kind) : Type 0 where
   pub fits : can_promote promo ≡ true
 
 promo_read : (text : List ℕ) (promo : Option Kind) → promo_of text ≡ Some promo → IsTextOfPromo text promo
-promo_read [] promo e = subst (IsTextOfPromo []) (some_is None promo e) (record { spelling = refl; fits = refl })
+promo_read [] promo e = subst (IsTextOfPromo []) (same_Some None promo e) (record { spelling = refl; fits = refl })
 promo_read (b ∷ []) promo e =
     let t = through_map (officer_of b) (λ k. Some k) promo e in
-    subst (IsTextOfPromo (b ∷ [])) (some_is (Some t.value) promo t.gives) (record {
+    subst (IsTextOfPromo (b ∷ [])) (same_Some (Some t.value) promo t.gives) (record {
       spelling = ap (λ (n : ℕ). n ∷ []) (officer_letter b t.value t.is);
       fits = ap can_promote (sym t.is) ∙ officer_promotes b;
     })
@@ -142,7 +138,7 @@ abbrev ReadsCapture : Option Kind → List ℕ → Option Kind × Bool → Optio
 ReadsCapture promo text x o = o ≡ Some x → IsTextOfCapture promo text x
 
 capture_read : (promo : Option Kind) (text : List ℕ) (x : Option Kind × Bool) → capture_of promo text ≡ Some x → IsTextOfCapture promo text x
-capture_read promo [] x e = subst (IsTextOfCapture promo []) (some_is (None, false) x e) (record { spelling = refl; fits = nothing_captured promo })
+capture_read promo [] x e = subst (IsTextOfCapture promo []) (same_Some (None, false) x e) (record { spelling = refl; fits = nothing_captured promo })
 capture_read promo (a ∷ []) x e = absurd cc
 capture_read promo (a ∷ b ∷ []) x e =
     cond_both (a == 120) _ _ (ReadsCapture promo (a ∷ b ∷ []) x) captured
@@ -151,7 +147,7 @@ capture_read promo (a ∷ b ∷ []) x e =
     captured : (a == 120) ≡ true → ReadsCapture promo (a ∷ b ∷ []) x (option_map (λ k. (Some k, false)) (taken_of b))
     captured h e =
         let t = through_map (taken_of b) (λ k. (Some k, false)) x e in
-        subst (IsTextOfCapture promo (a ∷ b ∷ [])) (some_is (Some t.value, false) x t.gives) (record {
+        subst (IsTextOfCapture promo (a ∷ b ∷ [])) (same_Some (Some t.value, false) x t.gives) (record {
           spelling = ap (λ (n : ℕ). n ∷ b ∷ []) (eqb-true a 120 h) ∙ ap (λ (n : ℕ). 120 ∷ n ∷ []) (taken_letter b t.value t.is);
           fits = captures promo t.value (no_king_taken b t.value t.is);
         })
@@ -160,7 +156,7 @@ capture_read promo (a ∷ b ∷ []) x e =
     en_passant h e =
         let alone = and_parts ((a == 101) && (b == 112)) (is_none promo) h in
         let letters = and_parts (a == 101) (b == 112) alone.0 in
-        subst (IsTextOfCapture promo (a ∷ b ∷ [])) (some_is (Some Pawn, true) x e) (record {
+        subst (IsTextOfCapture promo (a ∷ b ∷ [])) (same_Some (Some Pawn, true) x e) (record {
           spelling = ap (λ (n : ℕ). n ∷ b ∷ []) (eqb-true a 101 letters.0) ∙ ap (λ (n : ℕ). 101 ∷ n ∷ []) (eqb-true b 112 letters.1);
           fits = none_captures promo alone.1;
         })
@@ -173,7 +169,7 @@ pub record IsTextOfMove (text : List ℕ) (m : Move) : Type 0 where
 
 move_from_parts : (a b c d from to : ℕ) (rest : List ℕ) (promo : Option Kind) (m : Move) → SquareText a b from → SquareText c d to → IsTextOfPromo rest promo → Some (record { from = from; to = to; promo = promo }) ≡ Some m → IsTextOfMove (a ∷ b ∷ c ∷ d ∷ rest) m
 move_from_parts a b c d from to rest promo m f t p e =
-    subst (IsTextOfMove (a ∷ b ∷ c ∷ d ∷ rest)) (some_is (record { from = from; to = to; promo = promo }) m e) (record { spelling = four a b c d from to rest (promo_text promo) f t p.spelling; promotion = p.fits })
+    subst (IsTextOfMove (a ∷ b ∷ c ∷ d ∷ rest)) (same_Some (record { from = from; to = to; promo = promo }) m e) (record { spelling = four a b c d from to rest (promo_text promo) f t p.spelling; promotion = p.fits })
 
 pub move_read : (text : List ℕ) (m : Move) → move_of text ≡ Some m → IsTextOfMove text m
 unfolding move_of
@@ -196,7 +192,7 @@ pub record IsTextOfUnmove (text : List ℕ) (u : Unmove) : Type 0 where
 unmove_from_parts : (a b c d from to : ℕ) (rest : List ℕ) (x : Option Kind × Bool) (u : Unmove) → SquareText a b from → SquareText c d to → IsTextOfCapture (promo_head rest) (after_promo rest) x → Some (unmove_as from to (promo_head rest) x) ≡ Some u → IsTextOfUnmove (a ∷ b ∷ c ∷ d ∷ rest) u
 unmove_from_parts a b c d from to rest x u f t capture e =
     let ends : rest ≡ promo_text (promo_head rest) ++ capture_text x.0 x.1 = promo_split rest ∙ ap (λ (l : List ℕ). promo_text (promo_head rest) ++ l) capture.spelling in
-    subst (IsTextOfUnmove (a ∷ b ∷ c ∷ d ∷ rest)) (some_is (unmove_as from to (promo_head rest) x) u e) (record {
+    subst (IsTextOfUnmove (a ∷ b ∷ c ∷ d ∷ rest)) (same_Some (unmove_as from to (promo_head rest) x) u e) (record {
       spelling = four a b c d from to rest (promo_text (promo_head rest) ++ capture_text x.0 x.1) f t ends;
       promotion = head_promotes rest;
       capture = capture.fits;

@@ -1,4 +1,3 @@
-pub mod Lists
 pub mod Children
 pub mod Walks
 pub mod Written

@@ -4,6 +4,7 @@ use Rattle.std.specs.Prelude.{Some, None, codes}
 use Rattle.std.proofs.lemmas.List.{append-nil}
 use Rattle.board_base.specs.Board.{no_men}
 use Rattle.board_base.specs.declared.men.Colour.TheVariants.{White}
+use Rattle.board_base.proofs.Lists.{same_first, same_rest}
 use Rattle.query_base.specs.Asked.{Asked}
 use Rattle.query_base.specs.declared.claims.Claim.{Claim}
 use Rattle.query_base.specs.declared.claims.Claim.TheVariants.{Illegal}
@@ -79,12 +80,6 @@ known = record { claim = Illegal; query = some_query; claim_is = claim_known; qu
 claimed : (l : List ℕ) (claim : Claim) → said claim_of l ≡ Some claim → Heads l some_fen
 claimed l claim e = record { claim = claim; query = some_query; claim_is = e; query_is = fen_known }
 
-pub first : {A : Type 0} {x y : A} {xs ys : List A} → x ∷ xs ≡ y ∷ ys → x ≡ y
-first e = cc
-
-pub rest_of : {A : Type 0} {x y : A} {xs ys : List A} → x ∷ xs ≡ y ∷ ys → xs ≡ ys
-rest_of e = cc
-
 pub bad1-end : IsBadAt AreLinesOf [] 1
 bad1-end = record {
   counted = omega arith;
@@ -96,35 +91,35 @@ pub bad1 : (l : List ℕ) (ls : Lines) → l ≢ head_line → IsBadAt AreLinesO
 bad1 l ls other = record {
   counted = omega arith;
   front = begins some_claim some_fen [] _ known refl;
-  bad = inl (omega arith, λ b. other (first b.2.parts));
+  bad = inl (omega arith, λ b. other (same_first b.2.parts));
 }
 
 pub bad2-end : IsBadAt AreLinesOf (head_line ∷ []) 2
 bad2-end = record {
   counted = omega arith;
   front = begins some_claim some_fen (head_line ∷ []) _ known refl;
-  bad = inr (refl, λ cert a. let e = rest_of a.parts in cc);
+  bad = inr (refl, λ cert a. let e = same_rest a.parts in cc);
 }
 
 pub bad2 : (l : List ℕ) (ls : Lines) → said claim_of l ≡ None → IsBadAt AreLinesOf (head_line ∷ l ∷ ls) 2
 bad2 l ls none = record {
   counted = omega arith;
   front = begins some_claim some_fen (head_line ∷ []) _ known refl;
-  bad = inl (omega arith, λ b. let e = ap (said claim_of) (first (rest_of b.2.parts)) in let found = b.2.claim in cc);
+  bad = inl (omega arith, λ b. let e = ap (said claim_of) (same_first (same_rest b.2.parts)) in let found = b.2.claim in cc);
 }
 
 pub bad3-end : (c : List ℕ) (claim : Claim) → said claim_of c ≡ Some claim → IsBadAt AreLinesOf (head_line ∷ c ∷ []) 3
 bad3-end c claim e = record {
   counted = omega arith;
   front = begins c some_fen (head_line ∷ c ∷ []) _ (claimed c claim e) refl;
-  bad = inr (refl, λ cert a. let e = rest_of (rest_of a.parts) in cc);
+  bad = inr (refl, λ cert a. let e = same_rest (same_rest a.parts) in cc);
 }
 
 pub bad3 : (c l : List ℕ) (ls : Lines) (claim : Claim) → said claim_of c ≡ Some claim → said query_of l ≡ None → IsBadAt AreLinesOf (head_line ∷ c ∷ l ∷ ls) 3
 bad3 c l ls claim e none = record {
   counted = omega arith;
   front = begins c some_fen (head_line ∷ c ∷ []) _ (claimed c claim e) refl;
-  bad = inl (omega arith, λ b. let e = ap (said query_of) (first (rest_of (rest_of b.2.parts))) in let found = b.2.query in cc);
+  bad = inl (omega arith, λ b. let e = ap (said query_of) (same_first (same_rest (same_rest b.2.parts))) in let found = b.2.query in cc);
 }
 
 pub bad4-end : (c f : List ℕ) (claim : Claim) (q : Asked) → said claim_of c ≡ Some claim → said query_of f ≡ Some q → IsBadAt AreLinesOf (head_line ∷ c ∷ f ∷ []) 4
@@ -132,7 +127,7 @@ bad4-end c f claim q e here = record {
   counted = omega arith;
   front =
       begins c f (head_line ∷ c ∷ f ∷ []) _ (record { claim = claim; query = q; claim_is = e; query_is = here }) refl;
-  bad = inr (refl, λ cert a. let e = rest_of (rest_of (rest_of a.parts)) in cc);
+  bad = inr (refl, λ cert a. let e = same_rest (same_rest (same_rest a.parts)) in cc);
 }
 
 pub bad4 : (c f l : List ℕ) (ls : Lines) (claim : Claim) (q : Asked) → said claim_of c ≡ Some claim → said query_of f ≡ Some q → said root_body l ≡ None → IsBadAt AreLinesOf (head_line ∷ c ∷ f ∷ l ∷ ls) 4
@@ -140,7 +135,7 @@ bad4 c f l ls claim q e here none = record {
   counted = omega arith;
   front =
       begins c f (head_line ∷ c ∷ f ∷ []) _ (record { claim = claim; query = q; claim_is = e; query_is = here }) refl;
-  bad = inl (omega arith, λ b. let e = ap (said root_body) (first (rest_of (rest_of (rest_of b.2.parts)))) in let found = b.2.root in cc);
+  bad = inl (omega arith, λ b. let e = ap (said root_body) (same_first (same_rest (same_rest (same_rest b.2.parts)))) in let found = b.2.root in cc);
 }
 
 -- a tree for all that is due below a root's line
@@ -157,9 +152,9 @@ tree_runs t lines below = ap (refused (put_due (body_of t) []) 5) (sym (append-n
 -- a certificate's text is not refused below its root's line
 cert_runs : (c f root : List ℕ) (body : BodyLine) (lines : Lines) (cert : Certificate) → said root_body root ≡ Some body → AreLinesOf (head_line ∷ c ∷ f ∷ root ∷ lines) cert → refused (put_due body []) 5 lines ≡ None
 cert_runs c f root body lines cert here a =
-    let rest = rest_of (rest_of (rest_of a.parts)) in
-    let same-root : root ≡ a.root_line = first rest in
-    let same : lines ≡ a.below = rest_of rest in
+    let rest = same_rest (same_rest (same_rest a.parts)) in
+    let same-root : root ≡ a.root_line = same_first rest in
+    let same : lines ≡ a.below = same_rest rest in
     let bodies : Some body ≡ Some (body_of cert.root) = sym here ∙ ap (said root_body) same-root ∙ a.root in
     let body-is : body ≡ body_of cert.root = cc in
     ap (λ (b : BodyLine). refused (put_due b []) 5 lines) body-is ∙ ap (refused (put_due (body_of cert.root) []) 5) same ∙ tree_runs cert.root a.below a.nodes

@@ -2,7 +2,6 @@
 use Rattle.std.proofs.Common.{◌≡◌, ℕ, zero, suc, ◌+◌, ◌/◌, ◌%◌, ◌<◌, ◌≤◌, ◌==◌, ◌||◌, Bool, true, false, not, List, [], ◌∷◌, ◌++◌, Option, Some, None, refl, ap, arith, nat_le, nat_lt}
 use Rattle.std.proofs.lemmas.Bool.{and_parts, and_from, ne_eqb, leb-true}
 use Rattle.std.proofs.lemmas.Fmt.{digits_decimal}
-use Rattle.std.specs.List.{list_all}
 use Rattle.std.specs.Fmt.{decimal}
 use Rattle.board_base.specs.Board.{Places}
 use Rattle.board_base.specs.Texts.{square_text, letter_of, promo_text, move_text, capture_text, unmove_text}
@@ -12,10 +11,11 @@ use Rattle.board_base.specs.declared.men.Kind.{Kind}
 use Rattle.board_base.specs.declared.men.Kind.TheVariants.{Pawn, Knight, Bishop, Rook, Queen, King}
 use Rattle.board_base.specs.declared.moves.Move.{Move}
 use Rattle.board_base.specs.declared.unmoves.Unmove.{Unmove}
+use Rattle.fen_text.proofs.NumberLemmas.{digits_free}
 use Rattle.query_base.specs.Asked.{Asked}
 use Rattle.query_base.specs.declared.rule_lines.RuleLine.{RuleLine}
 use Rattle.query_base.specs.declared.rule_lines.RuleLine.TheVariants.{Kings, Ranks, Check, Rights as RightsRule, Count}
-use Rattle.fen_text.specs.Fen.{is_digit, en_passant_digit}
+use Rattle.fen_text.specs.Fen.{en_passant_digit}
 use Rattle.fen_text.specs.Parts.{Free}
 use Rattle.fen_text.specs.Spelling.{symbol, run_text, rank_text, rank_of, ranks_text, turn_letter, rights_text, en_passant_text, spelling}
 use Rattle.fen_text.proofs.PartLemmas.{free_append}
@@ -53,13 +53,6 @@ pub unmove_free : (c : ℕ) (u : Unmove) → c < 48 → Free c (unmove_text u)
 unmove_free c u low =
     free_append c (move_text u.mv) (capture_text u.captured u.ep) (free_append c (square_text u.mv.from ++ square_text u.mv.to) (promo_text u.mv.promo) (free_append c (square_text u.mv.from) (square_text u.mv.to) (square_free c u.mv.from low) (square_free c u.mv.to low)) (promo_free c u.mv.promo low))
     (capture_free c u.captured u.ep low)
-
-digits_free : (c : ℕ) (text : List ℕ) → c < 48 → list_all is_digit text ≡ true → Free c text
-digits_free c [] low digits = refl
-digits_free c (d ∷ text) low digits =
-    let parts = and_parts (is_digit d) (list_all is_digit text) digits in
-    let digit = leb-true 48 d (and_parts (nat_le 48 d) (nat_le d 57) parts.0).0 in
-    higher c d text (omega arith) (digits_free c text low parts.1)
 
 decimal_free : (n : ℕ) → n ≤ 999999 → Free 10 (decimal n)
 decimal_free n few = digits_free 10 (decimal n) (omega arith) (digits_decimal model n (omega arith))

@@ -8,7 +8,7 @@ use Rattle.cert_text.specs.Lines.{said}
 use Rattle.cert_text.specs.NodeLines.{root_body, kid_body}
 use Rattle.cert_text.specs.Certificate.{Lines, Certificate, AreLinesOf, AreBelow, AreKids, body_of, claim_of, query_of}
 use Rattle.cert_text.specs.declared.node_lines.BodyLine.{BodyLine}
-use Rattle.cert_text.proofs.Bad.{first, rest_of}
+use Rattle.board_base.proofs.Lists.{same_first, same_rest}
 
 -- two trees that begin the same lines are one, and so is what follows them
 record SameTree (t u : Tree) (x y : Lines) : Type 0 where
@@ -55,8 +55,8 @@ mutual
   kids_same (more l t f) none depth a b x y size p q same = absurd (omega arith)
   kids_same (more l t f) (more v u g) depth a b x y size p q same =
       let all : p.0 ∷ ((p.1 ++ p.2) ++ x) ≡ q.0 ∷ ((q.1 ++ q.2) ++ y) = sym (ap (λ (ls : Lines). ls ++ x) p.3) ∙ same ∙ ap (λ (ls : Lines). ls ++ y) q.3 in
-      let kid = same_kid depth p.0 q.0 l v (body_of t) (body_of u) (first all) p.4 q.4 in
-      let after : p.1 ++ (p.2 ++ x) ≡ q.1 ++ (q.2 ++ y) = sym (append_assoc p.1 p.2 x) ∙ rest_of all ∙ append_assoc q.1 q.2 y in
+      let kid = same_kid depth p.0 q.0 l v (body_of t) (body_of u) (same_first all) p.4 q.4 in
+      let after : p.1 ++ (p.2 ++ x) ≡ q.1 ++ (q.2 ++ y) = sym (append_assoc p.1 p.2 x) ∙ same_rest all ∙ append_assoc q.1 q.2 y in
       let tree : SameTree t u (p.2 ++ x) (q.2 ++ y) = below_same t u depth p.1 q.1 (p.2 ++ x) (q.2 ++ y) kid.1 p.5 q.5 after in
       let others : SameKids f g x y = kids_same f g depth p.2 q.2 x y (omega arith) p.6 q.6 tree.rest in
       record {
@@ -72,9 +72,9 @@ one_said grammar k l x y same p q = same_Some x y (sym p ∙ ap (said grammar) s
 pub certificate_one : (lines : Lines) (c d : Certificate) → AreLinesOf lines c → AreLinesOf lines d → c ≡ d
 certificate_one lines c d p q =
     let all = sym p.parts ∙ q.parts in
-    let claim : c.claim ≡ d.claim = one_said claim_of p.claim_line q.claim_line c.claim d.claim (first (rest_of all)) p.claim q.claim in
-    let query : c.query ≡ d.query = one_said query_of p.fen_line q.fen_line c.query d.query (first (rest_of (rest_of all))) p.query q.query in
-    let own : body_of c.root ≡ body_of d.root = one_said root_body p.root_line q.root_line (body_of c.root) (body_of d.root) (first (rest_of (rest_of (rest_of all)))) p.root q.root in
-    let below : p.below ++ [] ≡ q.below ++ [] = ap (λ (l : Lines). l ++ []) (rest_of (rest_of (rest_of (rest_of all)))) in
+    let claim : c.claim ≡ d.claim = one_said claim_of p.claim_line q.claim_line c.claim d.claim (same_first (same_rest all)) p.claim q.claim in
+    let query : c.query ≡ d.query = one_said query_of p.fen_line q.fen_line c.query d.query (same_first (same_rest (same_rest all))) p.query q.query in
+    let own : body_of c.root ≡ body_of d.root = one_said root_body p.root_line q.root_line (body_of c.root) (body_of d.root) (same_first (same_rest (same_rest (same_rest all)))) p.root q.root in
+    let below : p.below ++ [] ≡ q.below ++ [] = ap (λ (l : Lines). l ++ []) (same_rest (same_rest (same_rest (same_rest all)))) in
     let tree : SameTree c.root d.root [] [] = below_same c.root d.root 0 p.below q.below [] [] own p.nodes q.nodes below in
     λ i. record { claim = claim i; query = query i; root = tree.tree i }

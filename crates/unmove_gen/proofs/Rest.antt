@@ -1,10 +1,10 @@
 -- What is left of a filtered list.
-use Rattle.std.proofs.Common.{◌≡◌, ℕ, zero, suc, ◌+◌, ◌<◌, ◌≤◌, Bool, true, false, cond, inl, inr, List, [], ◌∷◌, length, drop, refl, ap, sym, ◌∙◌, subst, arith}
-use Rattle.std.proofs.lemmas.Bool.{cases_Bool, cond-true, cond-false}
+use Rattle.std.proofs.Common.{◌≡◌, ℕ, zero, suc, ◌+◌, ◌<◌, ◌≤◌, Bool, true, false, List, [], ◌∷◌, length, drop, refl, ap, ◌∙◌, arith}
+use Rattle.std.proofs.lemmas.Bool.{cond-true, cond-false}
 use Rattle.std.proofs.lemmas.List.{drop_more, drop_all}
-use Rattle.std.proofs.lemmas.List.Elements.{All-contains, filter_passes, Contains-append_right}
+use Rattle.std.proofs.lemmas.List.Elements.{All-contains, filter_passes}
 use Rattle.std.proofs.lemmas.Option.{slice_get_within, get_or_from_slice_get}
-use Rattle.std.specs.Prelude.{Some, slice_get, ◌⊎◌}
+use Rattle.std.specs.Prelude.{Some, slice_get}
 use Rattle.std.specs.List.{Contains, filter}
 
 drop-at : {A : Type 0} (xs : List A) (i : ℕ) (x : A) → slice_get xs i ≡ Some x → drop i xs ≡ x ∷ drop (i + 1) xs
@@ -33,21 +33,3 @@ rest_skips {A} p (x ∷ xs) (suc i) (suc j) le none = rest_skips p xs i j (omega
 -- what stands in a filtered list
 pub passes-filter : {A : Type 0} (p : A → Bool) (xs : List A) (x : A) → Contains (filter p xs) x → p x ≡ true
 passes-filter {A} p xs x h = All-contains (λ y. p y ≡ true) (filter p xs) x (filter_passes p xs) h
-
-pub contains-cases : {A : Type 0} (y : A) (ys : List A) (x : A) → Contains (y ∷ ys) x → (y ≡ x) ⊎ Contains ys x
-contains-cases {A} y ys x (zero, inside, e) = inl e
-contains-cases {A} y ys x (suc k, inside, e) = inr (k, omega arith, e)
-
-pub contains-filter : {A : Type 0} (p : A → Bool) (xs : List A) (x : A) → Contains xs x → p x ≡ true → Contains (filter p xs) x
-contains-filter {A} p [] x h pass = h
-contains-filter {A} p (y ∷ ys) x h pass = elim (contains-cases y ys x h) [
-  | inl same ↦
-      let taken : cond (p y) (y ∷ filter p ys) (filter p ys) ≡ y ∷ filter p ys = cond-true _ _ _ (ap p same ∙ pass) in
-      subst (λ (l : List A). Contains l x) (sym taken) (0, omega arith, same)
-  | inr there ↦
-      let rest : Contains (filter p ys) x = contains-filter p ys x there pass in
-      elim (cases_Bool (p y)) [
-        | inl e ↦ subst (λ (l : List A). Contains l x) (sym (cond-true (p y) (y ∷ filter p ys) (filter p ys) e)) (Contains-append_right (y ∷ []) (filter p ys) x rest)
-        | inr e ↦ subst (λ (l : List A). Contains l x) (sym (cond-false (p y) (y ∷ filter p ys) (filter p ys) e)) rest
-      ]
-]

@@ -15,6 +15,7 @@ use Rattle.board_base.specs.declared.moves.Move.{Move}
 use Rattle.board_base.specs.declared.castles.Castle.{Castle}
 use Rattle.board_base.specs.declared.unmoves.Unmove.{Unmove}
 use Rattle.board_base.proofs.KindsOfMen.{opponent-twice}
+use Rattle.board_base.proofs.Lists.{contains-filter}
 use Rattle.castle_history.specs.TakenBack.{castling_back}
 use Rattle.query_base.specs.Asked.{Asked}
 use Rattle.query_base.specs.Reach.{Reaches, EndsWith}
@@ -34,7 +35,6 @@ use Rattle.unmove_gen.proofs.Exchanged.{legal-exchanged}
 use Rattle.unmove_gen.proofs.Left.{left-in-game, play-leaves}
 use Rattle.unmove_gen.proofs.Marks.{Captures, answered-last, captures, goes-same, home-left, none-answers, self-answers}
 use Rattle.unmove_gen.proofs.Members.{Fits, candidate-of}
-use Rattle.unmove_gen.proofs.Rest.{contains-filter}
 use Rattle.unmove_gen.proofs.SaneGames.{sane-in-game}
 
 -- what is known of the last move of a game that reaches the query

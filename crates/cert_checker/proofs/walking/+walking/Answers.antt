@@ -6,7 +6,7 @@ use Rattle.cert_text.specs.Tree.{none, size_all}
 use Rattle.cert_text.specs.Seen.{tree_of}
 use Rattle.cert_text.proofs.Forests.{rest-end}
 use Rattle.cert_checker.specs.Walk.{IsLabelFault, fault_at, next_line, Walks}
-use Rattle.cert_checker.proofs.Lists.{contains-first, contains-later}
+use Rattle.board_base.proofs.Lists.{contains-first, contains-later}
 use Rattle.cert_checker.proofs.Children.{rest-next, kid_smaller}
 use Rattle.cert_checker.proofs.Walks.{by_label, label_fault, at_end, fault_of, kid_walk, pushed}
 use Rattle.cert_checker.proofs.walking.+walking.Goals as goal
