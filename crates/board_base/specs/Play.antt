@@ -112,9 +112,13 @@ abbrev pub en_passant_rank : Colour → ℕ
 en_passant_rank White = 4
 en_passant_rank Black = 3
 
+-- Article 3.7: the double step over a square by the other side than this colour
+abbrev pub double_over : ℕ → Colour → Move
+double_over s c = record { from = ahead c s; to = behind c s; promo = None }
+
 -- the double step over the target of a capture en passant by this colour
 abbrev pub double_step : Move → Colour → Move
-double_step m c = record { from = ahead c m.to; to = behind c m.to; promo = None }
+double_step m c = double_over m.to c
 
 -- Article 3.7: the double step that a capture en passant by this colour answers, if the move may be one
 abbrev pub double_of : Move → Colour → Option Move

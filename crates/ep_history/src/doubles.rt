@@ -1,7 +1,7 @@
 ghost use Rattle.std.specs.Prelude.{◌≡◌, ◌&&◌, ◌==◌, ◌<◌, ◌≤◌, None, is_none};
 ghost use Rattle.board_base.specs.Board.{rank};
 ghost use Rattle.board_base.specs.Attacks.{files_apart, one_ahead};
-ghost use Rattle.board_base.specs.Play.{ahead, behind, double_of, en_passant_rank};
+ghost use Rattle.board_base.specs.Play.{double_of, double_over, en_passant_rank};
 
 use board_base::{Colour, Move, Square, files_between, is_ahead};
 
@@ -20,7 +20,7 @@ fn en_passant_rank(side: Colour) -> u8
 pub fn double_over(crossed: Square, side: Colour) -> Move
     requires low { 8 ≤ crossed }
     requires high { crossed < 56 }
-    ensures { result ≡ record { from = ahead side crossed; to = behind side crossed; promo = None } }
+    ensures { result ≡ double_over crossed side }
 {
     let above = Square::known(crossed.index() + 8);
     let below = Square::known(crossed.index() - 8);

@@ -17,7 +17,7 @@ use Rattle.board_base.specs.declared.moves.Move.{Move}
 use Rattle.query_base.specs.Asked.{Asked, is_of_other_side}
 use Rattle.board_base.specs.Texts.{◌>>=◌}
 use Rattle.fen_text.specs.Ranks.{is_run, places_of, is_symbol, runs_apart, rank_places, is_rank, rank}
-use Rattle.fen_text.specs.Fen.{ranks, placement, turn, rights, en_passant, en_passant_digit, double_over, asked, from_numbers, from_en_passant, from_rights, from_turn, fen}
+use Rattle.fen_text.specs.Fen.{ranks, placement, turn, rights, en_passant, en_passant_digit, double_on, asked, from_numbers, from_en_passant, from_rights, from_turn, fen}
 use Rattle.fen_text.specs.Spelling.{symbol, run_text, rank_text, rank_of, ranks_text, turn_letter, rights_text, en_passant_text, spelling}
 use Rattle.fen_text.proofs.PartLemmas.{parted_next, parted_end}
 use Rattle.fen_text.proofs.RankLemmas.{run_places, run_symbol}
@@ -158,7 +158,7 @@ none_is (Some x) e = cc
 same_move : (from to : ℕ) (promo : Option Kind) (m : Move) → m.from ≡ from → m.to ≡ to → m.promo ≡ promo → m ≡ record { from = from; to = to; promo = promo }
 same_move from to promo m e1 e2 e3 = λ i. record { from = e1 i; to = e2 i; promo = e3 i }
 
-step_back : (c : Colour) (m : Move) → IsTrue (is_of_other_side c (Some m)) → (file m.to < 8) × (double_over c (97 + file m.to - 97) ≡ m)
+step_back : (c : Colour) (m : Move) → IsTrue (is_of_other_side c (Some m)) → (file m.to < 8) × (double_on c (97 + file m.to - 97) ≡ m)
 step_back White m fits =
     let a = and_parts ((m.from / 8 == 6) && (m.to == m.from - 8 - 8)) (is_none m.promo) fits in
     let b = and_parts (m.from / 8 == 6) (m.to == m.from - 8 - 8) a.0 in
@@ -177,7 +177,7 @@ en_passant_back c None fits = refl
 en_passant_back c (Some m) fits =
     let back = step_back c m fits in
     let low = back.0 in
-    cond-true _ (Some (Some (double_over c (97 + file m.to - 97)))) None (and_from _ _ (and_from _ _ (le-leb 97 (97 + file m.to) (omega arith)) (le-leb (97 + file m.to) 104 (omega arith))) (eq-eqb (en_passant_digit c) (en_passant_digit c) refl))
+    cond-true _ (Some (Some (double_on c (97 + file m.to - 97)))) None (and_from _ _ (and_from _ _ (le-leb 97 (97 + file m.to) (omega arith)) (le-leb (97 + file m.to) 104 (omega arith))) (eq-eqb (en_passant_digit c) (en_passant_digit c) refl))
     ∙ ap (λ (x : Move). Some (Some x)) back.1
 
 pub text_back : (b : Places) (t : Colour) (r : Rights) (e : Option Move) → length b ≡ 64 → IsTrue (is_of_other_side t e) → fen (ranks_text 7 b ++ 32 ∷ turn_letter t ∷ 32 ∷ (rights_text r ++ 32 ∷ en_passant_text t e)) ≡ Some (asked b t r e, None)

@@ -8,7 +8,7 @@ use Rattle.board_base.specs.declared.men.Colour.{Colour}
 use Rattle.board_base.specs.declared.men.Colour.TheVariants.{White, Black}
 use Rattle.fen_text.specs.Parts.{Free}
 use Rattle.fen_text.specs.Faults.{Begins, IsFault}
-use Rattle.fen_text.specs.Fen.{turn, mark, castle_letters, marks, is_nothing, is_dash, no_rights, rights_of, rights, en_passant, en_passant_digit, double_over}
+use Rattle.fen_text.specs.Fen.{turn, mark, castle_letters, marks, is_nothing, is_dash, no_rights, rights_of, rights, en_passant, en_passant_digit, double_on}
 use Rattle.fen_text.proofs.PartLemmas.{Clean, not_some, some_is, stop, stop_at, stop_end}
 
 -- the side to move
@@ -246,14 +246,14 @@ en_passant_none c (b ∷ text) e = absurd (omega arith)
 
 bad_start : (c : Colour) (b : ℕ) → (b ≡ 45 → ⊥) → (nat_le 97 b && nat_le b 104) ≡ false → (x : List ℕ) → en_passant c (b ∷ x) ≡ None
 bad_start c b n1 n2 [] = cond-false _ (Some None) None (ne_eqb b 45 n1)
-bad_start c b n1 n2 (r ∷ []) = cond-false _ (Some (Some (double_over c (b - 97)))) None (and_left _ _ n2)
+bad_start c b n1 n2 (r ∷ []) = cond-false _ (Some (Some (double_on c (b - 97)))) None (and_left _ _ n2)
 bad_start c b n1 n2 (r ∷ d ∷ x) = refl
 
 pub en_passant_bad : (c : Colour) (text : List ℕ) → 0 < length text → (get_or text 0 0 ≡ 45 → ⊥) → (nat_le 97 (get_or text 0 0) && nat_le (get_or text 0 0) 104) ≡ false → IsFault (en_passant c) text 0
 en_passant_bad c text some n1 n2 = stop_at (en_passant c) text 0 some (45 ∷ [], refl) (λ x. bad_start c _ n1 n2 x)
 
 file_begun : (c : Colour) (f : ℕ) → (nat_le 97 f && nat_le f 104) ≡ true → Begins (en_passant c) (f ∷ [])
-file_begun c f good = (en_passant_digit c ∷ [], ap is_some (cond-true _ (Some (Some (double_over c (f - 97)))) None (and_from _ _ good (eq-eqb (en_passant_digit c) (en_passant_digit c) refl))))
+file_begun c f good = (en_passant_digit c ∷ [], ap is_some (cond-true _ (Some (Some (double_on c (f - 97)))) None (and_from _ _ good (eq-eqb (en_passant_digit c) (en_passant_digit c) refl))))
 
 pub en_passant_short : (c : Colour) (text : List ℕ) → length text ≡ 1 → (get_or text 0 0 ≡ 45 → ⊥) → (nat_le 97 (get_or text 0 0) && nat_le (get_or text 0 0) 104) ≡ true → IsFault (en_passant c) text 1
 en_passant_short c [] one ne good = absurd (omega arith)
@@ -261,7 +261,7 @@ en_passant_short c (f ∷ []) one ne good = stop_end (en_passant c) (f ∷ []) (
 en_passant_short c (f ∷ r ∷ text) one ne good = absurd (omega arith)
 
 bad_rank : (c : Colour) (f r : ℕ) → (r ≡ en_passant_digit c → ⊥) → (x : List ℕ) → en_passant c (f ∷ r ∷ x) ≡ None
-bad_rank c f r ne [] = cond-false _ (Some (Some (double_over c (f - 97)))) None (and_right _ _ (ne_eqb r (en_passant_digit c) ne))
+bad_rank c f r ne [] = cond-false _ (Some (Some (double_on c (f - 97)))) None (and_right _ _ (ne_eqb r (en_passant_digit c) ne))
 bad_rank c f r ne (d ∷ x) = refl
 
 pub en_passant_rank : (c : Colour) (text : List ℕ) → 1 < length text → (nat_le 97 (get_or text 0 0) && nat_le (get_or text 0 0) 104) ≡ true → (get_or text 1 0 ≡ en_passant_digit c → ⊥) → IsFault (en_passant c) text 1
@@ -269,8 +269,8 @@ en_passant_rank c [] two good ne = absurd (omega arith)
 en_passant_rank c (f ∷ []) two good ne = absurd (omega arith)
 en_passant_rank c (f ∷ r ∷ text) two good ne = stop_at (en_passant c) (f ∷ r ∷ text) 1 (omega arith) (file_begun c f good) (λ x. bad_rank c f r ne x)
 
-square_good : (c : Colour) (f r : ℕ) → (nat_le 97 f && nat_le f 104) ≡ true → r ≡ en_passant_digit c → en_passant c (f ∷ r ∷ []) ≡ Some (Some (double_over c (f - 97)))
-square_good c f r good e = cond-true _ (Some (Some (double_over c (f - 97)))) None (and_from _ _ good (eq-eqb r (en_passant_digit c) e))
+square_good : (c : Colour) (f r : ℕ) → (nat_le 97 f && nat_le f 104) ≡ true → r ≡ en_passant_digit c → en_passant c (f ∷ r ∷ []) ≡ Some (Some (double_on c (f - 97)))
+square_good c f r good e = cond-true _ (Some (Some (double_on c (f - 97)))) None (and_from _ _ good (eq-eqb r (en_passant_digit c) e))
 
 pub en_passant_over : (c : Colour) (text : List ℕ) → 2 < length text → (nat_le 97 (get_or text 0 0) && nat_le (get_or text 0 0) 104) ≡ true → get_or text 1 0 ≡ en_passant_digit c → IsFault (en_passant c) text 2
 en_passant_over c [] two good e = absurd (omega arith)
@@ -278,7 +278,7 @@ en_passant_over c (f ∷ []) two good e = absurd (omega arith)
 en_passant_over c (f ∷ r ∷ []) two good e = absurd (omega arith)
 en_passant_over c (f ∷ r ∷ d ∷ text) two good e = stop_at (en_passant c) (f ∷ r ∷ d ∷ text) 2 (omega arith) ([], ap is_some (square_good c f r good e)) (λ x. refl)
 
-pub en_passant_good : (c : Colour) (text : List ℕ) → length text ≡ 2 → (nat_le 97 (get_or text 0 0) && nat_le (get_or text 0 0) 104) ≡ true → get_or text 1 0 ≡ en_passant_digit c → en_passant c text ≡ Some (Some (double_over c (get_or text 0 0 - 97)))
+pub en_passant_good : (c : Colour) (text : List ℕ) → length text ≡ 2 → (nat_le 97 (get_or text 0 0) && nat_le (get_or text 0 0) 104) ≡ true → get_or text 1 0 ≡ en_passant_digit c → en_passant c text ≡ Some (Some (double_on c (get_or text 0 0 - 97)))
 en_passant_good c [] two good e = absurd (omega arith)
 en_passant_good c (f ∷ []) two good e = absurd (omega arith)
 en_passant_good c (f ∷ r ∷ []) two good e = square_good c f r good e
@@ -300,6 +300,6 @@ clean_en_passant c (f ∷ r ∷ []) s = elim (cases_Bool (nat_le 97 f && nat_le 
       let fs = and_parts (nat_le 97 f) (nat_le f 104) es.0 in
       let le = leb-true 97 f fs.0 in
       and_from _ _ (ap not (ne_eqb f 32 (λ x. omega arith))) (and_from _ _ (digit_no_space c r es.1) refl)
-  | inr e ↦ absurd (not_some (en_passant c (f ∷ r ∷ [])) (cond-false _ (Some (Some (double_over c (f - 97)))) None e) s)
+  | inr e ↦ absurd (not_some (en_passant c (f ∷ r ∷ [])) (cond-false _ (Some (Some (double_on c (f - 97)))) None e) s)
 ]
 clean_en_passant c (f ∷ r ∷ d ∷ text) s = absurd (true≢false (sym s))

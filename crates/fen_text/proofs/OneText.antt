@@ -13,7 +13,7 @@ use Rattle.board_base.specs.declared.men.Colour.TheVariants.{White, Black}
 use Rattle.board_base.specs.declared.moves.Move.{Move}
 use Rattle.query_base.specs.Asked.{Asked}
 use Rattle.fen_text.specs.Ranks.{letter, is_run, places_of, is_symbol, runs_apart, rank_places, is_rank, rank}
-use Rattle.fen_text.specs.Fen.{ranks, placement, turn, mark, castle_letters, marks, is_nothing, is_dash, no_rights, rights_of, rights, en_passant, en_passant_digit, double_over, number, Position, asked, from_numbers, from_en_passant, from_rights, from_turn, fen, unnumbered, fen_of_four}
+use Rattle.fen_text.specs.Fen.{ranks, placement, turn, mark, castle_letters, marks, is_nothing, is_dash, no_rights, rights_of, rights, en_passant, en_passant_digit, double_on, number, Position, asked, from_numbers, from_en_passant, from_rights, from_turn, fen, unnumbered, fen_of_four}
 use Rattle.fen_text.specs.Spelling.{symbol, run_text, rank_text, rank_of, ranks_text, turn_letter, letter_if, rights_text, en_passant_text, spelling}
 use Rattle.fen_text.proofs.PartLemmas.{some_value, parted_known, followed, mapped_some}
 use Rattle.fen_text.proofs.RankLemmas.{run_places, letter_len, letter_symbol}
@@ -164,7 +164,7 @@ rights_spelled text r e = elim (cases_Bool (is_dash text)) [
       given_spelled k.0 q.0 kk.0 qq.0 text (not-true (is_nothing text) tests.0) (all ∙ sym regrouped) ∙ ap rights_text p.1
 ]
 
-over_file : (c : Colour) (f : ℕ) → 97 ≤ f → f ≤ 104 → f ≡ 97 + file (double_over c (f - 97)).to
+over_file : (c : Colour) (f : ℕ) → 97 ≤ f → f ≤ 104 → f ≡ 97 + file (double_on c (f - 97)).to
 over_file White f low high = omega arith
 over_file Black f low high = omega arith
 
@@ -174,11 +174,11 @@ en_passant_spelled c (b ∷ []) o e =
     let P : Option Move → Type 0 = λ o. b ∷ [] ≡ en_passant_text c o in
     pick P b 45 None o None (λ s. ap (λ (d : ℕ). d ∷ []) s) (λ n. cc) e
 en_passant_spelled c (f ∷ r ∷ []) o e =
-    let p = cond_some (nat_le 97 f && nat_le f 104 && (r == en_passant_digit c)) (Some (double_over c (f - 97))) o e in
+    let p = cond_some (nat_le 97 f && nat_le f 104 && (r == en_passant_digit c)) (Some (double_on c (f - 97))) o e in
     let tests = and_parts (nat_le 97 f && nat_le f 104) (r == en_passant_digit c) p.0 in
     let bounds = and_parts (nat_le 97 f) (nat_le f 104) tests.0 in
     ap (λ (b : ℕ). b ∷ r ∷ []) (over_file c f (leb-true 97 f bounds.0) (leb-true f 104 bounds.1))
-    ∙ ap (λ (b : ℕ). (97 + file (double_over c (f - 97)).to) ∷ b ∷ []) (eqb-true r (en_passant_digit c) tests.1)
+    ∙ ap (λ (b : ℕ). (97 + file (double_on c (f - 97)).to) ∷ b ∷ []) (eqb-true r (en_passant_digit c) tests.1)
     ∙ ap (en_passant_text c) p.1
 en_passant_spelled c (f ∷ r ∷ b ∷ text) o e = cc
 

@@ -4,7 +4,7 @@ use Rattle.std.specs.Prelude.{ℕ, zero, suc, ◌+◌, ◌-◌, ◌*◌, Bool, t
 use Rattle.std.specs.List.{list_all, fold}
 use Rattle.std.specs.Option.{option_map}
 use Rattle.board_base.specs.Board.{Places}
-use Rattle.board_base.specs.Play.{ahead, behind}
+use Rattle.board_base.specs.Play.{double_over}
 use Rattle.board_base.specs.Rights.{Rights}
 use Rattle.board_base.specs.declared.men.Colour.{Colour}
 use Rattle.board_base.specs.declared.men.Colour.TheVariants.{White, Black}
@@ -72,20 +72,20 @@ abbrev pub en_passant_digit : Colour → ℕ
 en_passant_digit White = 54
 en_passant_digit Black = 51
 
--- the square of this file, from 0 for a, on that rank
+-- the square of this file, from 0 for a, that a double step of the other side crosses
 abbrev pub crossed_on : Colour → ℕ → ℕ
 crossed_on White f = 40 + f
 crossed_on Black f = 16 + f
 
 -- the double step of the other side on this file, from 0 for a
-abbrev pub double_over : Colour → ℕ → Move
-double_over c f = record { from = ahead c (crossed_on c f); to = behind c (crossed_on c f); promo = None }
+abbrev pub double_on : Colour → ℕ → Move
+double_on c f = double_over (crossed_on c f) c
 
 -- a dash, or the square that a double step of the other side crossed
 abbrev pub en_passant : Colour → List ℕ → Option (Option Move)
 en_passant c [] = None
 en_passant c (b ∷ []) = cond (b == 45) (Some None) None
-en_passant c (f ∷ r ∷ []) = cond (nat_le 97 f && nat_le f 104 && (r == en_passant_digit c)) (Some (Some (double_over c (f - 97)))) None
+en_passant c (f ∷ r ∷ []) = cond (nat_le 97 f && nat_le f 104 && (r == en_passant_digit c)) (Some (Some (double_on c (f - 97)))) None
 en_passant c (f ∷ r ∷ b ∷ text) = None
 
 abbrev pub is_digit : ℕ → Bool

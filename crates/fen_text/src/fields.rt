@@ -2,7 +2,7 @@ ghost use Rattle.std.specs.Prelude.{◌≡◌, ◌≢◌, ◌-◌, ◌+◌, ◌<
 ghost use Rattle.board_base.specs.Rights.{holds};
 ghost use Rattle.board_base.specs.declared.castles.Castle.{Castle as AnyCastle};
 ghost use Rattle.query_base.specs.Asked.{is_of_other_side};
-ghost use Rattle.fen_text.specs.Fen.{turn, mark, rights, rights_of, en_passant, en_passant_digit, crossed_on, double_over, is_digit, number};
+ghost use Rattle.fen_text.specs.Fen.{turn, mark, rights, rights_of, en_passant, en_passant_digit, crossed_on, double_on, is_digit, number};
 ghost use Rattle.fen_text.specs.Faults.{ReadsPart};
 
 use board_base::{Castle, CastleSet, Colour, Move, Square};
@@ -89,7 +89,7 @@ pub(crate) fn digit_of(turn: Colour) -> u8
     }
 }
 
-/// The square of this file, from 0 for a, on the rank on which this colour takes en passant.
+/// The square of this file, from 0 for a, that a double step of the other side crosses.
 fn crossed_on(turn: Colour, file: u8) -> Square
     requires { file < 8 }
     ensures square { result ≡ crossed_on turn file }
@@ -105,7 +105,7 @@ fn crossed_on(turn: Colour, file: u8) -> Square
 /// The double step of the other side on this file, from 0 for a.
 fn double_step(turn: Colour, file: u8) -> Move
     requires { file < 8 }
-    ensures step { result ≡ double_over turn file }
+    ensures step { result ≡ double_on turn file }
     ensures fits { IsTrue (is_of_other_side turn (Some result)) }
 {
     double_over(crossed_on(turn, file), turn)
