@@ -1,11 +1,10 @@
 ghost use Rattle.std.specs.Prelude.{◌≡◌, ◌≤◌, ◌<◌, ◌==◌, cond, IfSome, MatchOption, None, Some, length, is_none};
-ghost use Rattle.std.specs.List.{list_all};
-ghost use Rattle.fen_text.specs.Fen.{is_digit, turn, value};
+ghost use Rattle.fen_text.specs.Fen.{number as digits, turn};
 ghost use Rattle.cert_text.specs.NodeLines.{back_at, body_at, expand_at, is_plain, kid_body, node_line, number, root_body, rule_of};
 
 use crate::lines::is_text;
 use board_base::{Colour, Unmove, read_unmove};
-use fen_text::{read_turn, split_part};
+use fen_text::{read_decimal, read_turn, split_part};
 use query_base::RuleLine;
 
 /// What the line of a node says of its body.
@@ -28,25 +27,11 @@ pub struct NodeLine {
     pub body: BodyLine,
 }
 
-fn is_digit(byte: u8) -> bool
-    ensures { result ≡ is_digit byte }
-{
-    b'0' <= byte && byte <= b'9'
-}
-
-/// The value of at most six digits.
+/// The value of one to nine digits.
 fn read_digits(text: &[u8]) -> Option<u32>
-    requires { length text.now ≤ 6 }
-    ensures { result ≡ cond (list_all is_digit text.now) (Some (value text.now)) None }
+    ensures { result ≡ digits text.now }
 {
-    let mut value = 0;
-    for byte in text {
-        if !is_digit(*byte) {
-            return None;
-        }
-        value = 10 * value + u32::from(*byte - b'0');
-    }
-    Some(value)
+    read_decimal(text).ok()
 }
 
 fn is_plain(text: &[u8]) -> bool

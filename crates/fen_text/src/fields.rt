@@ -146,8 +146,8 @@ fn is_decimal(byte: u8) -> bool
 /// A number has at most so many digits, so that it is below 2^32.
 const MOST_DIGITS: usize = 9;
 
-/// A number of one to nine digits, or how many bytes begin one.
-pub(crate) fn read_number(text: &[u8]) -> Result<u32, usize>
+/// Reads a number of one to nine decimal digits, or says how many bytes begin one.
+pub fn read_decimal(text: &[u8]) -> Result<u32, usize>
     ensures { ReadsPart number text.now result }
 {
     let mut value: u32 = 0;

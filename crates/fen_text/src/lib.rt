@@ -12,7 +12,7 @@ mod ranks;
 mod writing;
 
 pub use faults::FenFault;
-pub use fields::read_turn;
+pub use fields::{read_decimal, read_turn};
 pub use laws::one_text_each;
 pub use parts::split_part;
 pub use positions::{read_fen, read_four_fields};

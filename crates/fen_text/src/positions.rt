@@ -3,7 +3,7 @@ ghost use Rattle.fen_text.specs.Fen.{from_numbers, from_en_passant, from_rights,
 ghost use Rattle.fen_text.specs.FenFaults.{Reads};
 
 use crate::faults::FenFault;
-use crate::fields::{read_en_passant, read_number, read_rights, read_turn};
+use crate::fields::{read_decimal, read_en_passant, read_rights, read_turn};
 use crate::parts::split_part;
 use crate::placements::read_placement;
 use board_base::{Board, CastleSet, Colour};
@@ -43,14 +43,14 @@ fn read_from_numbers(query: &Query, text: &[u8]) -> Result<(Query, Option<(u32, 
     ensures plain { IfOk result (λ p. p.0.barred ≡ None) }
 {
     let (part, rest) = split_part(text, b' ');
-    let half = match read_number(part) {
+    let half = match read_decimal(part) {
         Ok(half) => half,
         Err(at) => return Err(here(at)),
     };
     let Some(rest) = rest else {
         return Err(here(part.len()));
     };
-    match read_number(rest) {
+    match read_decimal(rest) {
         Ok(full) => Ok((*query, Some((half, full)))),
         Err(at) => Err(behind(part.len(), here(at))),
     }

@@ -17,4 +17,4 @@ returns-then-not-is_plain c = sym (number_padded _ (sym c.is_plain.ensures ∙ c
 pub returns : goal.returns
 returns c =
     let some = eqb-false _ 0 (sym c.is_empty.ensures ∙ c.if-is_empty.false) in
-    c.read_digits.ensures ∙ sym (number_digits c.args.text.now (omega arith) (omega (arith, c.if-text-gt6.false)) (sym c.is_plain.ensures ∙ c.if-not-is_plain.false))
+    c.read_digits.ensures ∙ number_digits c.args.text.now (omega arith) (omega (arith, c.if-text-gt6.false)) (sym c.is_plain.ensures ∙ c.if-not-is_plain.false)
