@@ -2,9 +2,15 @@
 #![tactic(auto)]
 
 #[cfg(test)]
+mod certificate_texts;
+#[cfg(test)]
 mod certificates;
 #[cfg(test)]
 mod driving;
+#[cfg(test)]
+mod fens;
+#[cfg(test)]
+mod first_faults;
 #[cfg(test)]
 mod perft;
 #[cfg(test)]

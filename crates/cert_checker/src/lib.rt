@@ -15,5 +15,3 @@ pub use laws::{
 };
 pub use refusals::{Accepted, Refused, Why};
 
-#[cfg(test)]
-mod tests;

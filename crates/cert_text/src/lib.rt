@@ -21,5 +21,3 @@ pub use node_lines::{BodyLine, NodeLine, read_line};
 pub use nodes::{Body, Kid, Kids, Node};
 pub use reading::read_cert;
 
-#[cfg(test)]
-mod tests;

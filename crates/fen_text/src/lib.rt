@@ -18,5 +18,3 @@ pub use parts::split_part;
 pub use positions::{read_fen, read_four_fields};
 pub use writing::write_fen;
 
-#[cfg(test)]
-mod tests;

@@ -1,7 +1,7 @@
-use crate::checking::check_bytes;
-use crate::laws::{one_answer, one_walk, walk_proves};
-use crate::refusals::{Refused, Why};
+//! What `check_bytes` answers, with the first fault.
+
 use board_base::{Move, Square, Unmove};
+use cert_checker::{Refused, Why, check_bytes, one_answer, one_walk, walk_proves};
 
 const CHECKED: &[u8] =
     b"retro 1\nclaim illegal\nfen 4k3/2N3N1/8/8/8/8/8/4K3 b - -\nroot expand 0\n";

@@ -1,11 +1,9 @@
-use crate::certificates::Cert;
-use crate::claims::read_claim;
-use crate::faults::CertFault;
-use crate::formats::fits_format;
-use crate::node_lines::{BodyLine, read_line};
-use crate::nodes::{Body, Kid, Kids, Node};
-use crate::reading::read_cert;
+//! The texts of certificates: what is read of lines and of whole texts, and which trees have one.
+
 use board_base::{Colour, Memory, Move, Square, Unmove, read_unmove};
+use cert_text::{
+    Body, BodyLine, Cert, CertFault, Kid, Kids, Node, fits_format, read_cert, read_claim, read_line,
+};
 use query_base::{Claim, RuleLine};
 use std::alloc::Global;
 use std::test::Fail;
