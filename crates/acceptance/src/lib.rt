@@ -1,4 +1,4 @@
-//! Tests that cross crates: boards, games, texts and runs whose right answers come from outside.
+//! The tests of the crates below: boards, games, texts, queries and runs whose right answers come from outside.
 #![tactic(auto)]
 
 #[cfg(test)]
@@ -12,7 +12,13 @@ mod fens;
 #[cfg(test)]
 mod first_faults;
 #[cfg(test)]
+mod games;
+#[cfg(test)]
+mod men;
+#[cfg(test)]
 mod perft;
+#[cfg(test)]
+mod queries;
 #[cfg(test)]
 mod retractions;
 #[cfg(test)]

@@ -55,34 +55,3 @@ pub fn covers(a: &Query, q: &Query) -> bool
     }
     is_kept(&a.barred, &q.barred)
 }
-
-#[cfg(test)]
-mod tests {
-    use super::*;
-    use board_base::{Board, Castle, CastleSet, Colour, Square};
-    use std::test::Fail;
-
-    #[test]
-    fn targets_ask_more(rt: HostRuntime) -> Result<(), Fail> {
-        let query = Query {
-            board: Board::array(),
-            turn: Colour::White,
-            held: CastleSet::none(),
-            only: None,
-            barred: None,
-        };
-        let m = Move {
-            from: Square::known(12),
-            to: Square::known(28),
-            promo: None,
-        };
-        let last = target(&query, &Claim::Last(m));
-        let lost = target(&query, &Claim::Lost(Castle::WhiteLong));
-        assert!(rt; target(&query, &Claim::Illegal) == query);
-        assert!(rt; last.barred == Some(m));
-        assert!(rt; lost.held.has(Castle::WhiteLong) && !lost.held.has(Castle::WhiteShort));
-        assert!(rt; covers(&query, &last) && !covers(&last, &query));
-        assert!(rt; covers(&query, &lost) && !covers(&lost, &query));
-        Ok(())
-    }
-}

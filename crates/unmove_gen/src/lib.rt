@@ -19,6 +19,3 @@ pub use laws::{
 };
 pub use lists::Unmoves;
 pub use predecessors::{is_unmove, pred};
-
-#[cfg(test)]
-mod tests;

@@ -1,5 +1,7 @@
-use crate::{GameFault, IllegalAt, read_game, replay};
+//! Games that are read from words and replayed.
+
 use board_base::Colour;
+use game_text::{GameFault, IllegalAt, read_game, replay};
 use std::test::Fail;
 
 #[test]
