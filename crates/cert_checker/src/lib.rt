@@ -14,4 +14,3 @@ pub use laws::{
     walk_proves,
 };
 pub use refusals::{Accepted, Refused, Why};
-

@@ -20,4 +20,3 @@ pub use laws::{one_fault_each, one_text_each, one_text_of_a_line};
 pub use node_lines::{BodyLine, NodeLine, read_line};
 pub use nodes::{Body, Kid, Kids, Node};
 pub use reading::read_cert;
-

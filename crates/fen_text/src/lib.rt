@@ -17,4 +17,3 @@ pub use laws::one_text_each;
 pub use parts::split_part;
 pub use positions::{read_fen, read_four_fields};
 pub use writing::write_fen;
-
