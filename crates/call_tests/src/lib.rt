@@ -1,0 +1,15 @@
+//! Tests of the calls of the crates below: what each answers on texts, boards and games that are written out.
+#![tactic(auto)]
+
+#[cfg(test)]
+mod certificate_texts;
+#[cfg(test)]
+mod fens;
+#[cfg(test)]
+mod first_faults;
+#[cfg(test)]
+mod games;
+#[cfg(test)]
+mod men;
+#[cfg(test)]
+mod queries;
