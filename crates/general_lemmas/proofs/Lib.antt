@@ -1,0 +1,9 @@
+pub mod Lists
+pub mod Ranges
+pub mod Splits
+pub mod Lasts
+pub mod Filtered
+pub mod Differing
+pub mod SumsAmong
+pub mod Counts
+pub mod Rounds
