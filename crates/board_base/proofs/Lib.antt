@@ -1,6 +1,4 @@
 mod Examples
-pub mod Ranges
-pub mod Lists
 pub mod Without
 pub mod TextLemmas
 pub mod BitSets
@@ -8,5 +6,8 @@ pub mod OneText
 pub mod Ordered
 pub mod Rights
 pub mod KindsOfMen
+pub mod Equal
+pub mod Passing
 pub mod EachCastle
 pub mod CastleSquares
+pub mod Duals

@@ -85,10 +85,6 @@ moved become m (Some x) en_passant places = carried (λ place. place) (carried (
 moved become m None en_passant places =
     cond en_passant (slice_set (carried become places m.from m.to) (en_passant_victim m) None) (carried become places m.from m.to)
 
--- the man on one square goes to another, where it becomes a man of this kind, if one is given
-abbrev pub carry : Places → ℕ → ℕ → Option Kind → Places
-carry board from to promo = carried (promoted promo) board from to
-
 -- the board after the move, which is this castling or none
 abbrev pub played_as : Places → Move → Option Castle → Places
 played_as board m castle = moved (promoted m.promo) m castle (goes_en_passant board m) board

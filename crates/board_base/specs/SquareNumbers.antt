@@ -1,3 +1,4 @@
+-- Inner: no public clause cites this file.
 -- Sets of squares and the numbers whose bits they are.
 use Rattle.std.proofs.Common.{◌≡◌, ℕ, zero, suc, ◌+◌, ◌*◌, ◌/◌, ◌^◌, ◌<◌, ◌==◌, Bool, true, false, cond, List, [], ◌∷◌, length, refl, ap, ◌∙◌, arith}
 use Rattle.std.proofs.Math.Nat.{pow-suc}
@@ -16,7 +17,7 @@ pub is_in-squares_of : (bits s : ℕ) → s < 64 → is_in (squares_of bits) s �
 unfolding squares_of
 is_in-squares_of bits s below = get_or-map-range_with_len (λ s. bit_at bits s == 1) 0 64 s s false below (let e : 0 + s ≡ s = omega arith in e)
 
-number_of-lt : (set : List Bool) → number_of set < 2 ^ length set
+pub number_of-lt : (set : List Bool) → number_of set < 2 ^ length set
 unfolding number_of
 number_of-lt [] = omega arith
 number_of-lt (true ∷ set) = omega (arith, number_of-lt set, pow-suc 2 (length set))

@@ -58,8 +58,8 @@ pub fn touches(m: &Move, c: Castle) -> bool
     m.from == king || m.from == rook || m.to == king || m.to == rook
 }
 
-/// The castling's king and rook stand at home.
-fn are_at_home(board: &Board, castle: Castle) -> bool
+/// Whether the castling's king and rook, of its colour, stand at home (article 3.8.2).
+pub fn are_at_home(board: &Board, castle: Castle) -> bool
     ensures { result ≡ are_at_home board.now castle }
 {
     let (king, rook) = home(castle);

@@ -6,5 +6,5 @@
 mod homes;
 mod taken_back;
 
-pub use homes::{castling_from, held_fits, home, target, touches};
+pub use homes::{are_at_home, castling_from, held_fits, home, target, touches};
 pub use taken_back::castle_of;
