@@ -4,5 +4,7 @@
 #![tactic(auto)]
 
 mod doubles;
+mod fits;
 
 pub use doubles::{double_of, double_over};
+pub use fits::ep_fits;

@@ -7,7 +7,8 @@ use Rattle.std.specs.Prelude.{Option, Some, None}
 use Rattle.std.specs.List.{last_or}
 use Rattle.board_base.specs.Board.{Places, at, is_a, is_the, opponent, file, rank}
 use Rattle.board_base.specs.Attacks.{distance, ranks_apart, one_ahead}
-use Rattle.board_base.specs.Play.{play, played_as, moved, ahead, carry, promoted, castling, goes_en_passant, en_passant_victim, double_of, double_step, king_home}
+use Rattle.board_base.specs.Play.{play, played_as, moved, ahead, promoted, castling, goes_en_passant, en_passant_victim, double_of, double_step, king_home}
+use Rattle.board_base.specs.Carry.{carry}
 use Rattle.board_base.specs.Legal.{legal_on, promotion_fits, is_officer, last_rank, pawn_rank, man_moves, pawn_steps, pawn_doubles, pawn_captures, pawn_captures_en_passant, king_castles, castles_as, is_move}
 use Rattle.board_base.specs.declared.men.Man.{Man}
 use Rattle.board_base.specs.declared.men.Colour.{Colour}
@@ -92,7 +93,7 @@ double-parts board c m h =
     let p2 = and_parts _ _ p3.0 in
     record { pawn = p2.0; home = eqb-true (rank m.from) (pawn_rank c) p2.1; file_is = eqb-true _ _ p3.1; apart = eqb-true (ranks_apart m.from m.to) 2 p4.1 }
 
-double-promo : (board : Places) (c : Colour) (m : Move) → promotion_fits board c m ≡ true → Doubles board c m → m.promo ≡ None
+pub double-promo : (board : Places) (c : Colour) (m : Move) → promotion_fits board c m ≡ true → Doubles board c m → m.promo ≡ None
 unfolding promotion_fits
 double-promo board c m fits double = double_no_promo board c m m.promo double.home double.apart fits
 

@@ -9,9 +9,9 @@ use Rattle.board_base.specs.Play.{ahead, behind, double_of, double_step, en_pass
 use Rattle.board_base.specs.Legal.{is_move, pawn_captures_en_passant}
 use Rattle.board_base.specs.declared.men.Colour.{Colour}
 use Rattle.board_base.specs.declared.men.Colour.TheVariants.{White, Black}
-use Rattle.board_base.specs.declared.men.Kind.{Kind}
 use Rattle.board_base.specs.declared.men.Kind.TheVariants.{Pawn}
 use Rattle.board_base.specs.declared.moves.Move.{Move}
+use Rattle.board_base.proofs.Equal.{moves_equal}
 use Rattle.play_rules.specs.States.{crossed_by, crossing_rank, step_over}
 
 -- what is known of a last move that was a pawn's double step; c is to move
@@ -23,10 +23,6 @@ pub record FitsDouble (c : Colour) (l : Move) : Type 0 where
 
 abbrev pub FitsLast : Places → Colour → Move → Type 0
 FitsLast board c l = (is_a Pawn (at board l.to) && (ranks_apart l.from l.to == 2)) ≡ true → FitsDouble c l
-
-pub moves_equal : (a b : Move) → a.from ≡ b.from → a.to ≡ b.to → a.promo ≡ b.promo → a ≡ b
-moves_equal a b f t p =
-    ap (λ (x : ℕ). record a { from = x }) f ∙ ap (λ (x : ℕ). record a { from = b.from; to = x }) t ∙ ap (λ (x : Option Kind). record b { promo = x }) p
 
 same_move : (c : Colour) (l : Move) → FitsDouble c l → step_over (Some (ahead c l.to)) c ≡ Some l
 same_move c l fits =

@@ -1,15 +1,16 @@
 -- Each legal move keeps the number of kings.
-use Rattle.std.proofs.Common.{◌≡◌, ℕ, ◌+◌, ◌-◌, ◌<◌, ◌≢◌, Bool, true, false, cond, ◌&&◌, not, ◌==◌, inl, inr, List, [], ◌∷◌, length, set, get_or, refl, ap, sym, ◌∙◌, subst, arith}
+use Rattle.std.proofs.Common.{◌≡◌, ℕ, ◌<◌, ◌≢◌, Bool, true, false, cond, ◌&&◌, not, ◌==◌, inl, inr, List, [], ◌∷◌, length, set, get_or, refl, ap, sym, ◌∙◌, subst, arith}
 use Rattle.std.proofs.lemmas.Bool.{and_parts, and_right, not-true, eqb-true, cases_eq, cases_lt, cases_Bool, cond-true, cond-false, both_ways, false_from_ne_true, and_from}
-use Rattle.std.proofs.lemmas.Option.{cond_some, same_Some}
+use Rattle.std.proofs.lemmas.Option.{same_Some}
 use Rattle.std.proofs.lemmas.List.{length-set, get_or-set_same, get_or-set_other, get_or_past, set_past}
 use Rattle.std.proofs.lemmas.List.Sums.{sum_by-set}
 use Rattle.std.specs.Prelude.{Option, Some, None}
 use Rattle.std.specs.List.{count_by, find, list_all, range_with_len}
-use Rattle.board_base.proofs.Ranges.{all_in_range}
+use Rattle.general_lemmas.proofs.Ranges.{all_in_range}
 use Rattle.board_base.proofs.Without.{length-array, count-without}
-use Rattle.board_base.specs.Board.{Places, initial_array, array_of, AreOdds, is_in, may_lack, at, is_of, is_a, is_the, is_empty, opponent, file, rank}
-use Rattle.board_base.specs.Play.{play, played_as, carry, promoted, castling, castling_from, all_castles, goes_en_passant, en_passant_victim, double_of, double_step, king_home, king_target, rook_home, crossed}
+use Rattle.board_base.specs.Board.{Places, initial_array, array_of, AreOdds, is_in, may_lack, at, is_of, is_a, is_the, is_empty, opponent, file}
+use Rattle.board_base.specs.Play.{play, played_as, promoted, castling, castling_from, all_castles, goes_en_passant, en_passant_victim, double_of, king_home, king_target, rook_home, crossed}
+use Rattle.board_base.specs.Carry.{carry}
 use Rattle.board_base.specs.Legal.{promotion_fits, is_officer, is_move, man_moves, pawn_steps, pawn_doubles, pawn_captures, pawn_captures_en_passant, king_castles, castles_as, may_castle}
 use Rattle.board_base.specs.Attacks.{kind_attacks, attacks_from, king_distance}
 use Rattle.play_rules.proofs.Legality.{Manner, moves, steps, doubles, takes, passes, castles, Legality, legality}
@@ -21,6 +22,7 @@ use Rattle.board_base.specs.declared.men.Kind.TheVariants.{Pawn, King}
 use Rattle.board_base.specs.declared.moves.Move.{Move}
 use Rattle.board_base.specs.declared.castles.Castle.{Castle}
 use Rattle.board_base.specs.Game.{IsGame, board_after}
+pub use Rattle.board_base.proofs.Passing.{double-en_passant_victim}
 use Rattle.board_base.proofs.KindsOfMen.{another_kind, kind_is, no_officer}
 use Rattle.board_base.proofs.CastleSquares.{castle-two, crossed-empty, crossed-not-home, crossed-not-target, crossed-within, rook_home-within}
 use Rattle.play_rules.specs.Kings.{HasOneKingEach, kings}
@@ -68,21 +70,6 @@ empty-not p (Some m) none h = cc
 
 not_both : {A : Type 0} (b : Bool) → b ≡ true → b ≡ false → A
 not_both b t f = cc
-
--- the double step that a capture en passant answers ended where the captured pawn stands
-double-en_passant_victim : (m d : Move) (c : Colour) → double_of m c ≡ Some d → d.to ≡ en_passant_victim m
-double-en_passant_victim m d White e =
-    let parts = cond_some _ (double_step m White) d e in
-    let p = and_parts _ _ (and_parts _ _ (and_parts _ _ parts.0).0).0 in
-    let up : rank m.to ≡ rank m.from + 1 = eqb-true _ _ p.1 in
-    let same : m.to - 8 ≡ d.to = ap (λ (x : Move). x.to) parts.1 in
-    omega arith
-double-en_passant_victim m d Black e =
-    let parts = cond_some _ (double_step m Black) d e in
-    let p = and_parts _ _ (and_parts _ _ (and_parts _ _ parts.0).0).0 in
-    let down : rank m.from ≡ rank m.to + 1 = eqb-true _ _ p.1 in
-    let same : m.to + 8 ≡ d.to = ap (λ (x : Move). x.to) parts.1 in
-    omega arith
 
 -- what a capture en passant takes is no king
 en_passant_victim-from : (board : Places) (c : Colour) (last : Option Move) (m : Move) (o : Option Move) → double_of m c ≡ o → elim o as (λ _. Bool) [ None ↦ false | Some d ↦ is_move last d && is_the (opponent c) Pawn (at board d.to) ] ≡ true → is_a King (at board (en_passant_victim m)) ≡ false

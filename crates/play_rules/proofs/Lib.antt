@@ -11,3 +11,4 @@ pub mod Ways
 pub mod Skipped
 pub mod Order
 pub mod NoPawns
+pub mod Left

@@ -3,7 +3,7 @@ use Rattle.std.proofs.Common.{◌≡◌, ℕ, zero, suc, ◌+◌, Bool, true, �
 use Rattle.std.proofs.lemmas.Bool.{and_from, and_right, not_from_false, not-true, cases_Bool, both_ways, false_from_ne_true}
 use Rattle.std.specs.Prelude.{◌↔◌, IsTrue}
 use Rattle.std.specs.List.{list_all, range_with_len}
-use Rattle.board_base.proofs.Ranges.{all_in_range}
+use Rattle.general_lemmas.proofs.Ranges.{all_in_range}
 use Rattle.board_base.specs.Board.{Places, at, is_a}
 use Rattle.board_base.specs.declared.men.Kind.TheVariants.{Pawn}
 use Rattle.play_rules.proofs.Ends.{end-inside}

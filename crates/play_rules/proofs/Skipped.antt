@@ -19,7 +19,7 @@ use Rattle.board_base.specs.declared.castles.Castle.TheVariants.{WhiteShort, Whi
 use Rattle.board_base.proofs.KindsOfMen.{colour_is, kind_is}
 use Rattle.play_rules.specs.States.{Position, legal_at}
 use Rattle.play_rules.specs.Listed.{moves_between, moves_from, move_of}
-use Rattle.play_rules.specs.Reach.{may_reach, may_step}
+use Rattle.play_rules.specs.Ways.{may_reach, may_step}
 use Rattle.play_rules.proofs.Legality.{Manner, moves, steps, doubles, takes, passes, castles, legality}
 use Rattle.play_rules.proofs.Kings.{castle-ends}
 
@@ -84,11 +84,11 @@ ahead-near : (c : Colour) (s t : ℕ) → one_ahead c s t ≡ true → files_apa
 unfolding may_step
 ahead-near c s t up close = or_left _ _ (and_from _ _ up (lt-ltb _ _ close))
 
-same-file : (s t : ℕ) → file s ≡ file t → files_apart s t < 2
+pub same-file : (s t : ℕ) → file s ≡ file t → files_apart s t < 2
 unfolding distance
 same-file s t e = omega arith
 
-one-apart : (s t : ℕ) → files_apart s t ≡ 1 → files_apart s t < 2
+pub one-apart : (s t : ℕ) → files_apart s t ≡ 1 → files_apart s t < 2
 one-apart s t e = omega arith
 
 en_passant-near : (board : Places) (c : Colour) (last : Option Move) (m : Move) (o : Option Move) → double_of m c ≡ o → elim o as (λ _. Bool) [ None ↦ false | Some d ↦ is_move last d && is_the (opponent c) Pawn (at board d.to) ] ≡ true → may_step c Pawn m.from m.to ≡ true

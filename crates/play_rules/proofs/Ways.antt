@@ -7,13 +7,13 @@ use Rattle.board_base.specs.declared.men.Colour.{Colour}
 use Rattle.board_base.specs.declared.men.Colour.TheVariants.{White, Black}
 use Rattle.board_base.specs.declared.men.Kind.{Kind}
 use Rattle.board_base.specs.declared.men.Kind.TheVariants.{Pawn, Knight, Bishop, Rook, Queen, King}
-use Rattle.board_base.proofs.Ranges.{all_in_range}
+use Rattle.general_lemmas.proofs.Ranges.{all_in_range}
 use Rattle.board_base.specs.Board.{Places, at, file, is_empty, is_in, rank}
 use Rattle.board_base.specs.Attacks.{distance, files_apart, is_open, king_distance, one_ahead, on_one_diagonal, on_one_line, on_the_way, ranks_apart, toward}
 use Rattle.play_rules.specs.declared.lines.Change.{Change}
 use Rattle.play_rules.specs.declared.lines.Change.TheVariants.{Falls, Stays, Rises}
 use Rattle.play_rules.specs.declared.lines.Direction.{Direction}
-use Rattle.play_rules.specs.Reach.{IsOff, LiesAlong, along, change, changed, may_step}
+use Rattle.play_rules.specs.Ways.{IsOff, LiesAlong, along, change, changed, may_step}
 
 by_tests : (up down : Bool) (a k : ℕ) → cond up (a + k) (cond down (a - k) a) ≡ changed (cond up Rises (cond down Falls Stays)) a k
 by_tests true down a k = refl

@@ -1,8 +1,7 @@
 ghost use Rattle.std.specs.Prelude.{◌≡◌, ◌&&◌, Bool, List, nat_lt, not};
-ghost use Rattle.board_base.specs.Board.{at, is_a, is_of, is_the, opponent};
+ghost use Rattle.board_base.specs.Board.{at, is_a, is_of};
 ghost use Rattle.board_base.specs.Rights.{holds};
-ghost use Rattle.board_base.specs.Attacks.{attacks};
-ghost use Rattle.board_base.specs.Legal.{in_check, is_officer, last_rank, legal_on, promotion_fits};
+ghost use Rattle.board_base.specs.Legal.{is_officer, last_rank, legal_on, promotion_fits};
 ghost use Rattle.board_base.specs.Game.{IsGame, legal_after};
 ghost use Rattle.play_rules.specs.States.{legal_at, StandsFor};
 ghost use Rattle.board_base.specs.declared.moves.Move.{Move as AMove};
@@ -12,7 +11,7 @@ use crate::en_passant::step_over;
 use crate::manners::may_go;
 use crate::moving::play;
 use crate::states::State;
-use board_base::{Board, CastleSet, Colour, Kind, Move, Square, is_a, is_of, is_the};
+use board_base::{Board, CastleSet, Colour, Kind, Move, in_check, is_a, is_of};
 
 fn is_officer(kind: Kind) -> bool
     ensures { result ≡ is_officer kind }
@@ -38,25 +37,6 @@ fn promotion_fits(board: &Board, colour: Colour, m: &Move) -> bool
         None => !reaches,
         Some(kind) => reaches && is_officer(kind),
     }
-}
-
-fn is_king_attacked(board: &Board, colour: Colour, s: Square) -> bool
-    ensures { result ≡ (is_the colour King (at board.now s) && attacks board.now s (opponent colour)) }
-{
-    is_the(colour, Kind::King, board.at(s)) && board.attacked(s, colour.other())
-}
-
-/// Whether some king of this side stands on a square that the other side attacks (article 3.9).
-#[tactic(auto, unfolding(board_base::specs::Legal::in_check))]
-pub fn in_check(board: &Board, side: Colour) -> bool
-    ensures { result ≡ in_check board.now side }
-{
-    for i in 0..64 {
-        if is_king_attacked(board, side, Square::known(i)) {
-            return true;
-        }
-    }
-    false
 }
 
 /// A man of the mover's stands on the origin, and neither another nor a king on the target.

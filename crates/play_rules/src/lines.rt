@@ -1,7 +1,8 @@
 ghost use Rattle.std.specs.Prelude.{◌≡◌, ◌<◌, ◌⊎◌, ℕ, true, IsTrue, IfSome, IfNone};
 ghost use Rattle.board_base.specs.Board.{file, is_in, rank};
 ghost use Rattle.board_base.specs.Attacks.{is_open};
-ghost use Rattle.play_rules.specs.Reach.{IsOff, IsWithin, LiesAlong, along, changed};
+ghost use Rattle.play_rules.specs.Reach.{IsWithin};
+ghost use Rattle.play_rules.specs.Ways.{IsOff, LiesAlong, along, changed};
 
 use board_base::{Board, Square};
 

@@ -1,6 +1,7 @@
 ghost use Rattle.std.specs.Prelude.{◌≡◌, ◌+◌, ◌*◌};
 ghost use Rattle.board_base.specs.Board.{at, file, rank};
-ghost use Rattle.board_base.specs.Play.{goes_en_passant, promoted, carry, play};
+ghost use Rattle.board_base.specs.Play.{goes_en_passant, promoted, play};
+ghost use Rattle.board_base.specs.Carry.{carry};
 
 use crate::castlings::castling;
 use board_base::{Board, Kind, Man, Move, Square, is_a};

@@ -1,7 +1,8 @@
 ghost use Rattle.std.specs.Prelude.{◌≡◌, ◌<◌, ◌&&◌, ◌==◌, ℕ, not, true};
 ghost use Rattle.board_base.specs.Board.{is_in, rank};
 ghost use Rattle.board_base.specs.Attacks.{is_open, on_one_diagonal, on_one_line};
-ghost use Rattle.play_rules.specs.Reach.{IsWithin, may_reach, may_step};
+ghost use Rattle.play_rules.specs.Reach.{IsWithin};
+ghost use Rattle.play_rules.specs.Ways.{may_reach, may_step};
 
 use crate::lines::{Change, Direction, add_line};
 use board_base::{Board, Kind, Man, Square, files_between, is_ahead, ranks_between};
@@ -31,7 +32,7 @@ fn add_diagonal(board: &Board, from: Square, targets: &mut [bool; 64])
 }
 
 /// A pawn, a knight or a king may go so, whatever stands on the board.
-#[tactic(auto, unfolding(crate::specs::Reach::may_step))]
+#[tactic(auto, unfolding(crate::specs::Ways::may_step))]
 fn may_step(man: Man, from: Square, to: Square) -> bool
     ensures { result ≡ may_step man.colour man.kind from to }
 {
@@ -82,7 +83,7 @@ fn add_steps(man: Man, from: Square, targets: &mut [bool; 64])
 }
 
 /// A set of squares outside which the man on `from` has no legal move.
-#[tactic(auto, unfolding(crate::specs::Reach::may_reach, board_base::specs::Attacks::kind_attacks))]
+#[tactic(auto, unfolding(crate::specs::Ways::may_reach, board_base::specs::Attacks::kind_attacks))]
 pub fn targets_of(board: &Board, man: Man, from: Square) -> [bool; 64]
     ensures { (t : ℕ) → t < 64 → may_reach board.now man.colour man.kind from t ≡ true → is_in result t ≡ true }
 {

@@ -1,6 +1,6 @@
 use Rattle.std.proofs.Common.{◌≡◌, ◌-◌, ◌&&◌, not, Bool, true, false, ℕ, sym, ap, ◌∙◌, arith}
 use Rattle.std.specs.List.{list_all, range_with_len}
-use Rattle.board_base.proofs.Ranges.{all_step, all_stop}
+use Rattle.general_lemmas.proofs.Ranges.{all_step, all_stop}
 use Rattle.board_base.specs.Board.{at, is_a}
 use Rattle.board_base.specs.declared.men.Kind.TheVariants.{Pawn}
 use Rattle.play_rules.specs.Laws.{has_no_pawn_on_ends, is_end}

@@ -3,7 +3,7 @@ use Rattle.std.proofs.lemmas.Bool.{cases_lt}
 use Rattle.std.specs.Prelude.{is_some}
 use Rattle.board_base.specs.Board.{at, is_empty}
 use Rattle.board_base.specs.Attacks.{king_distance}
-use Rattle.play_rules.specs.Reach.{along}
+use Rattle.play_rules.specs.Ways.{along}
 use Rattle.board_base.proofs.KindsOfMen.{full-some}
 use Rattle.play_rules.proofs.Ways.{blocked, distance-high, distance-low, in-more, nearer-more, on-board}
 use Rattle.play_rules.proofs.lines.add_line.Goals as goal

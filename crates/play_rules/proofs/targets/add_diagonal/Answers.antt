@@ -1,7 +1,7 @@
 use Rattle.std.proofs.Common.{inl, inr, subst, sym}
 use Rattle.std.proofs.lemmas.Bool.{and_parts}
 use Rattle.play_rules.specs.declared.lines.Direction.{Direction}
-use Rattle.play_rules.specs.Reach.{LiesAlong}
+use Rattle.play_rules.specs.Ways.{LiesAlong}
 use Rattle.play_rules.proofs.Ways.{diagonal}
 use Rattle.play_rules.proofs.targets.add_diagonal.Goals as goal
 

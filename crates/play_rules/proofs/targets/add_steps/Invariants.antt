@@ -1,6 +1,7 @@
 use Rattle.std.proofs.Common.{◌≡◌, ℕ, ◌<◌, true}
 use Rattle.board_base.specs.Board.{is_in, rank}
-use Rattle.play_rules.specs.Reach.{IsWithin, may_step}
+use Rattle.play_rules.specs.Reach.{IsWithin}
+use Rattle.play_rules.specs.Ways.{may_step}
 use Rattle.play_rules.proofs.targets.add_steps.Given as goal
 
 -- the squares on lower ranks are in
