@@ -1,0 +1,3 @@
+pub mod Tables
+pub mod Assignments
+pub mod Pairings

@@ -1,0 +1,2 @@
+pub mod PawnCosts
+pub mod Rows
