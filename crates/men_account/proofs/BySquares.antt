@@ -12,7 +12,7 @@ use Rattle.board_base.specs.declared.men.Man.{Man}
 use Rattle.men_account.specs.Account.{men, is_any, is_light, is_dark, counts_of}
 use Rattle.men_account.specs.Tallies.{with_man, with_place, AreBelow}
 use Rattle.men_account.specs.declared.tallies.Counts.{Counts}
-use Rattle.men_account.proofs.Tally.{one_if, count-end}
+use Rattle.general_lemmas.proofs.Counts.{one_if, count-end}
 
 -- how many of the first n squares have a man of this colour and kind, and pass this test
 abbrev among_first : Colour → Kind → (ℕ → Bool) → Places → ℕ → ℕ

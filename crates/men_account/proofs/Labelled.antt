@@ -68,7 +68,7 @@ first-agree o s = elim (cases_lt s 64) [
 ]
 
 -- a label before the first move is its own square
-first-is : (o : List Bool) (s l : ℕ) → label_at (first_labels o) s ≡ Some l → s ≡ l
+pub first-is : (o : List Bool) (s l : ℕ) → label_at (first_labels o) s ≡ Some l → s ≡ l
 first-is o s l e = elim (cases_lt s 64) [
   | inl inside ↦ own-label-is (array_of o) s l (is_empty (at (array_of o) s)) (sym (first-label o s inside) ∙ e)
   | inr past ↦
@@ -83,12 +83,12 @@ first-fits o = record {
   apart = λ s t l e1 e2. first-is o s l e1 ∙ sym (first-is o t l e2);
 }
 
-promoted-none : (promo : Option Kind) → promoted promo None ≡ None
+pub promoted-none : (promo : Option Kind) → promoted promo None ≡ None
 promoted-none None = refl
 promoted-none (Some k) = refl
 
 -- a label was on some square before
-on-label : (labels : Labels) (o : Option ℕ) (l : ℕ) → on_square labels o ≡ Some l → (s : ℕ) × (o ≡ Some s) × (label_at labels s ≡ Some l)
+pub on-label : (labels : Labels) (o : Option ℕ) (l : ℕ) → on_square labels o ≡ Some l → (s : ℕ) × (o ≡ Some s) × (label_at labels s ≡ Some l)
 on-label labels None l e = cc
 on-label labels (Some s) l e = (s, refl, e)
 

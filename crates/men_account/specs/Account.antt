@@ -45,6 +45,7 @@ abbrev pub excess_of : Counts → Allowance → ℕ
 excess_of n a =
     n.pawns + (n.queens - a.queens) + (n.rooks - a.rooks) + (n.knights - a.knights) + (n.light_bishops - a.light_bishops) + (n.dark_bishops - a.dark_bishops)
 
--- Articles 2.2 and 3.7: a side has no more pawns and men that must have been pawns than the eight pawns with which it begins
+-- Articles 2.2 and 3.7: a side's pawns and its men that must have been promoted, seen from the full array, are at most the eight pawns
+-- of the array
 abbrev pub accounts_for : Places → Colour → Bool
 accounts_for board c = nat_le (excess_of (counts_of c board) full_allowance) 8

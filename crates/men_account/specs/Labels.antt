@@ -56,3 +56,7 @@ HasColourOf first s l m = IsTrue (is_of m.colour (at first l))
 -- Article 3.7: if on his label there stood a man of another kind, it was a pawn, and he is now an officer
 abbrev pub IsPromotedFrom : Places → ℕ → ℕ → Man → Type 0
 IsPromotedFrom first s l m = is_a m.kind (at first l) ≡ false → IsTrue (is_officer m.kind) × IsTrue (is_a Pawn (at first l))
+
+-- Article 3.7: if on his label there stood no pawn on this first board, he is the man who stood there
+abbrev pub IsHimself : Places → ℕ → ℕ → Man → Type 0
+IsHimself first s l m = is_a Pawn (at first l) ≡ false → at first l ≡ Some m

@@ -1,3 +1,4 @@
+-- Inner: no public clause cites this file.
 -- Counts of men that are made square by square.
 use Rattle.std.specs.Prelude.{ℕ, ◌+◌, ◌<◌, cond, Option, Some, None}
 use Rattle.board_base.specs.Board.{same_colour}

@@ -72,8 +72,8 @@ fn surplus(count: u8, allowed: u8) -> u16
     count.saturating_sub(allowed) as u16
 }
 
-/// The pawns, and for each kind with an allowance what its count is above it, never less than 0 for a kind: the pawns, and
-/// those men that must have been pawns (article 3.7).
+/// The pawns, and for each kind with an allowance what its count is above it, never less than 0 for a kind: the pawns, and those
+/// men that must have been promoted if no more than the allowance began as officers (article 3.7).
 pub fn excess(c: &Counts, a: &Allowance) -> u16
     ensures { result ≡ excess_of c.now a.now }
 {
@@ -85,7 +85,8 @@ pub fn excess(c: &Counts, a: &Allowance) -> u16
         + surplus(c.dark_bishops, a.dark_bishops)
 }
 
-/// Whether the side's excess over what it began with is at most 8, the number of the pawns that it began with (article 2.2).
+/// Whether a side's pawns and its men that must have been promoted, seen from the full array, are at most the eight pawns of the array
+/// (articles 2.2 and 3.7).
 pub fn account_ok(board: &Board, side: Colour) -> bool
     ensures { result ≡ accounts_for board.now side }
 {

@@ -1,4 +1,5 @@
 use Rattle.men_account.proofs.Labelled.{labels_after-more, length-labels, labels-each_man, labels-apart, labels-colours, labels-promotions}
+use Rattle.men_account.proofs.PawnLaws.{himself}
 use Rattle.men_account.proofs.laws.men_keep_labels.Goals as goal
 
 pub returns-clause-moved : goal.returns-clause-moved
@@ -18,3 +19,6 @@ returns-clause-colours c = labels-colours
 
 pub returns-clause-promotions : goal.returns-clause-promotions
 returns-clause-promotions c = labels-promotions
+
+pub returns-clause-officers : goal.returns-clause-officers
+returns-clause-officers c = himself
