@@ -3,7 +3,7 @@ use std::marker::Model;
 
 /// A board, the side to move, and what is demanded of the games that lead there. They begin from the initial array (article 2.3).
 /// `only`, where it is given, is a double step of the side not to move: every value of this type keeps that.
-#[derive(Clone, Copy, PartialEq, Eq, Debug)]
+#[derive(Clone, Copy, PartialEq, Eq, Hash, Debug)]
 pub struct Query {
     /// The men on the 64 squares. Nothing is asked of them: any number of kings and pawns may stand anywhere.
     pub board: Board,

@@ -1,4 +1,4 @@
-use board_base::Colour;
+use board_base::{Colour, Potentials, SquareSet};
 
 /// A reason, of one line, why no game reaches a query. What each of them asks of the query is a formula of its own.
 #[derive(Clone, Copy, PartialEq, Eq, Debug)]
@@ -14,4 +14,12 @@ pub enum RuleLine {
     /// This side has more pawns, and men that must have been pawns (article 3.7), than the eight pawns that it began with (article
     /// 2.2).
     Count(Colour),
+    /// What stands on these squares can't have come there, and isn't what stood there in the array (article 2.3).
+    Frozen(SquareSet),
+    /// This side's pawns needed more captures (article 3.7.3) to come to their files than there were men to capture. What stands on the
+    /// squares of the set can't have come there. The potentials show how few captures bring the pawns there.
+    Caps(Colour, SquareSet, Potentials),
+    /// This side has more pawns, and men that must have been pawns (article 3.7), than the eight pawns that it began with, since some of
+    /// its officers must have been captured. What stands on the squares of the set can't have come there.
+    Promo(Colour, SquareSet),
 }

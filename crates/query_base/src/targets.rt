@@ -7,10 +7,12 @@ use crate::claims::Claim;
 use crate::ends::is_within;
 use crate::queries::Query;
 use board_base::{Move, is_move};
+use ep_history::{double_of, ep_fits};
 
 /// The query that a game reaches exactly where it contradicts the claim about `query`: the query itself where it is claimed to be
-/// illegal; with the claimed last move barred; with the castling that is claimed to be lost added to those held. The query bars no
-/// move of its own.
+/// illegal; with the claimed last move barred; with the castling that is claimed to be lost added to those held; with the double step
+/// barred that the claimed capture en passant answers, or the query itself where that capture doesn't fit its board. The query bars
+/// no move of its own.
 pub fn target(query: &Query, claim: &Claim) -> Query
     requires { query.now.barred ≡ None }
     ensures query { result ≡ target query.now claim.now }
@@ -21,6 +23,11 @@ pub fn target(query: &Query, claim: &Claim) -> Query
         Claim::Illegal => {}
         Claim::Last(m) => target.barred = Some(*m),
         Claim::Lost(castle) => target.held = query.held.with(*castle),
+        Claim::Ep(m) => {
+            if ep_fits(&query.board, query.turn, m) {
+                target.barred = double_of(m, query.turn);
+            }
+        }
     }
     target
 }

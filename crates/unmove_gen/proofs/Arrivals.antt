@@ -1,7 +1,6 @@
 -- Which moves may have brought a man to his square.
 use Rattle.std.proofs.Common.{◌≡◌, ℕ, ◌+◌, ◌==◌, Bool, true, false, cond, ◌&&◌, length, refl, ap, sym, ◌∙◌, subst, arith}
 use Rattle.std.proofs.lemmas.Bool.{and_parts, and_from, both_ways, cond-true, eqb-true, eq-eqb, true_from_ne_false}
-use Rattle.std.proofs.lemmas.Option.{cond_some}
 use Rattle.std.specs.Prelude.{Option, Some, None}
 use Rattle.board_base.specs.Board.{Places, at, is_a, is_empty, is_of, rank}
 use Rattle.board_base.specs.Attacks.{kind_attacks}
@@ -20,13 +19,15 @@ use Rattle.board_base.proofs.KindsOfMen.{colour_is, kind_is, same_kind-self}
 use Rattle.board_base.proofs.EachCastle.{each-castle}
 use Rattle.query_base.specs.Asked.{Asked}
 use Rattle.play_rules.specs.Listed.{move_of}
-use Rattle.play_rules.specs.Reach.{may_reach}
+use Rattle.play_rules.specs.Ways.{may_reach}
 use Rattle.play_rules.specs.States.{Position, legal_at, step_over}
 use Rattle.play_rules.proofs.Legality.{Legality}
 use Rattle.play_rules.proofs.Skipped.{too-far}
 use Rattle.unmove_gen.specs.Listed.{answered, before, every_right, is_legal_before, is_listed, mover}
 use Rattle.unmove_gen.specs.Ways.{may_go_alone, may_have_made}
-use Rattle.unmove_gen.proofs.Back.{came, fits_as, placed}
+use Rattle.board_base.proofs.Passing.{may_pass}
+use Rattle.play_rules.proofs.Left.{placed}
+use Rattle.unmove_gen.proofs.Back.{came, fits_as}
 use Rattle.unmove_gen.proofs.Exchanged.{legal-exchanged}
 use Rattle.unmove_gen.proofs.Marks.{captures, goes-same, has_passed}
 use Rattle.unmove_gen.proofs.Members.{length-back}
@@ -34,17 +35,15 @@ use Rattle.unmove_gen.proofs.Parts.{legality_of, parts}
 
 crossing : (c : Colour) (m : Move) (d : Move) → double_of m c ≡ Some d → step_over (Some m.to) c ≡ Some d
 crossing White m d e =
-    let parts = cond_some _ (double_step m White) d e in
-    let p1 = and_parts _ _ (and_parts _ _ (and_parts _ _ parts.0).0).0 in
-    let low : rank m.from ≡ 4 = eqb-true _ _ p1.0 in
-    let up : rank m.to ≡ rank m.from + 1 = eqb-true _ _ p1.1 in
-    cond-true _ (Some (double_step m White)) None (eq-eqb (rank m.to) 5 (omega arith)) ∙ ap Some parts.1
+    let may = may_pass m White d e in
+    let low : rank m.from ≡ 4 = may.rank_is in
+    let up : rank m.to ≡ rank m.from + 1 = eqb-true _ _ may.ahead_is in
+    cond-true _ (Some (double_step m White)) None (eq-eqb (rank m.to) 5 (omega arith)) ∙ ap Some may.double
 crossing Black m d e =
-    let parts = cond_some _ (double_step m Black) d e in
-    let p1 = and_parts _ _ (and_parts _ _ (and_parts _ _ parts.0).0).0 in
-    let low : rank m.from ≡ 3 = eqb-true _ _ p1.0 in
-    let down : rank m.from ≡ rank m.to + 1 = eqb-true _ _ p1.1 in
-    cond-true _ (Some (double_step m Black)) None (eq-eqb (rank m.to) 2 (omega arith)) ∙ ap Some parts.1
+    let may = may_pass m Black d e in
+    let low : rank m.from ≡ 3 = may.rank_is in
+    let down : rank m.from ≡ rank m.to + 1 = eqb-true _ _ may.ahead_is in
+    cond-true _ (Some (double_step m Black)) None (eq-eqb (rank m.to) 2 (omega arith)) ∙ ap Some may.double
 
 passed-same : (board : Places) (c : Colour) (m : Move) (o : Option Move) → double_of m c ≡ o → has_passed board c (step_over (Some m.to) c) o ≡ has_passed board c o o
 passed-same board c m None e = refl

@@ -4,7 +4,8 @@ use Rattle.std.proofs.lemmas.Bool.{and_parts, and_left, both_ways}
 use Rattle.std.proofs.lemmas.List.{set-set, set_comm, set-get_or, length-set, get_or-set_same, get_or-set_other}
 use Rattle.std.specs.Prelude.{Option, Some, None}
 use Rattle.board_base.specs.Board.{Places, at, is_of, is_a, man, opponent}
-use Rattle.board_base.specs.Play.{play, played_as, carried, carry, promoted, castling, goes_en_passant, en_passant_victim, rook_home, crossed}
+use Rattle.board_base.specs.Play.{play, played_as, carried, promoted, castling, goes_en_passant, en_passant_victim, rook_home, crossed}
+use Rattle.board_base.specs.Carry.{carry}
 use Rattle.board_base.specs.Legal.{promotion_fits, is_officer}
 use Rattle.board_base.specs.declared.men.Man.{Man}
 use Rattle.board_base.specs.declared.men.Colour.{Colour}
@@ -16,9 +17,10 @@ use Rattle.board_base.specs.declared.unmoves.Unmove.{Unmove}
 use Rattle.board_base.proofs.KindsOfMen.{another_kind, colour_is, colour_other, kind_is, no_officer}
 use Rattle.board_base.proofs.CastleSquares.{crossed-empty, crossed-not-home, crossed-not-target, crossed-within, rook_home-not-crossed}
 use Rattle.play_rules.proofs.Legality.{Legality}
-use Rattle.play_rules.proofs.Kings.{within, two-castles, castle-ends, Ends, length-carry}
+use Rattle.play_rules.proofs.Kings.{two-castles, castle-ends, Ends, length-carry}
+use Rattle.play_rules.proofs.Left.{Placed, placed}
 use Rattle.unmove_gen.specs.TakenBack.{captured_by, capture_square, kind_of, rook_back, taken_back, unpromoted}
-use Rattle.unmove_gen.proofs.Equal.{empty_is}
+use Rattle.board_base.proofs.Equal.{empty_is}
 use Rattle.unmove_gen.proofs.Castlings.{Castles, castle-there, castled, castles, none-castled}
 use Rattle.unmove_gen.proofs.Marks.{Captures}
 
@@ -84,19 +86,6 @@ captured-pawn c (Some m) own = ap (λ (d : Colour). man (opponent d) Pawn) (sym 
 captured-none : (place : Option Man) → captured_by place None ≡ None
 captured-none None = refl
 captured-none (Some m) = refl
-
--- where a legal move goes
-pub record Placed (board : Places) (m : Move) : Type 0 where
-  pub apart : m.from ≢ m.to
-  pub origin : m.from < length board
-  pub target : m.to < length board
-
-pub placed : (board : Places) (c : Colour) (rights : Castle → Bool) (last : Option Move) (m : Move) → length board ≡ 64 → Legality board c rights last m → Placed board m
-placed board c rights last m len l = record {
-  apart = λ z. both_ways (is_of c (at board m.from)) (ap (λ (k : ℕ). is_of c (at board k)) z ∙ l.not_own) l.mover;
-  origin = within (is_of c) board m.from refl l.mover;
-  target = let small : m.to < 64 = l.on_board in omega arith;
-}
 
 arrived : (board : Places) (m : Move) → Placed board m → at (carry board m.from m.to m.promo) m.to ≡ promoted m.promo (at board m.from)
 arrived board m p =

@@ -17,7 +17,7 @@ use Rattle.query_base.specs.Asked.{Asked}
 use Rattle.query_base.specs.Reach.{EndsWith}
 use Rattle.unmove_gen.specs.Listed.{keeps_held, obeys_only, obeys_barred}
 use Rattle.unmove_gen.specs.Predecessor.{with_castle}
-use Rattle.unmove_gen.proofs.Equal.{move_is, move_self}
+use Rattle.board_base.proofs.Equal.{move_is, move_self}
 
 -- no home of a right that is held is touched
 pub untouched : (q : Asked) (m : Move) → keeps_held q m ≡ true → (x : Castle) → holds q.held x ≡ true → touches m x ≡ false

@@ -1,8 +1,8 @@
+mod Examples
 pub mod Equal
 pub mod Castlings
 pub mod Numbered
 pub mod Order
-pub mod Rest
 pub mod Marks
 pub mod Back
 pub mod Exchanged
@@ -10,7 +10,6 @@ pub mod Demands
 pub mod Parts
 pub mod Onward
 pub mod SaneGames
-pub mod Left
 pub mod Members
 pub mod Taken
 pub mod Arrivals

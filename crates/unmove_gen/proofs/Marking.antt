@@ -11,7 +11,8 @@ use Rattle.board_base.specs.declared.men.Kind.TheVariants.{Pawn}
 use Rattle.board_base.specs.declared.moves.Move.{Move}
 use Rattle.board_base.specs.declared.unmoves.Unmove.{Unmove}
 use Rattle.unmove_gen.specs.Listed.{answered, has_left, is_marked, same_places, took_pawn}
-use Rattle.unmove_gen.proofs.Equal.{move_self, places_are, places_self, same_tests}
+use Rattle.board_base.proofs.Equal.{move_self}
+use Rattle.unmove_gen.proofs.Equal.{places_are, places_self, same_tests}
 use Rattle.unmove_gen.proofs.Marks.{has_passed, none-answers}
 
 -- boards that are compared as wholes are compared place by place

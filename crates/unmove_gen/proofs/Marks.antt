@@ -1,31 +1,27 @@
 -- Captures en passant, and how they are marked.
 use Rattle.std.proofs.Common.{◌≡◌, ◌≢◌, ◌+◌, ◌==◌, Bool, true, false, ◌&&◌, refl, ap, sym, ◌∙◌, subst, arith}
 use Rattle.std.proofs.lemmas.Bool.{and_parts, and_from, not-true, not_from_false, both_ways, cond-false, eqb-true, false_from_ne_true}
-use Rattle.std.proofs.lemmas.Option.{cond_some}
-use Rattle.std.specs.Prelude.{Option, Some, None, IsTrue, IfSome, is_none}
+use Rattle.std.specs.Prelude.{Option, Some, None, IsTrue, IfSome}
 use Rattle.board_base.specs.Board.{Places, at, is_a, is_of, is_the, is_empty, man, opponent, file, rank}
 use Rattle.board_base.specs.Attacks.{distance, files_apart, one_ahead}
-use Rattle.board_base.specs.Play.{castling, castling_from, double_of, double_step, goes_en_passant, en_passant_victim}
+use Rattle.board_base.specs.Play.{castling, castling_from, double_of, goes_en_passant, en_passant_victim}
 use Rattle.board_base.specs.Legal.{is_move, man_moves, pawn_steps, pawn_doubles, pawn_captures, pawn_captures_en_passant, king_castles, castles_as}
 use Rattle.board_base.specs.declared.men.Colour.{Colour}
 use Rattle.board_base.specs.declared.men.Colour.TheVariants.{White, Black}
-use Rattle.board_base.specs.declared.men.Kind.{Kind}
 use Rattle.board_base.specs.declared.men.Kind.TheVariants.{Pawn, King}
 use Rattle.board_base.specs.declared.moves.Move.{Move}
 use Rattle.board_base.specs.declared.castles.Castle.{Castle}
 use Rattle.board_base.proofs.KindsOfMen.{another_kind}
+use Rattle.board_base.proofs.Equal.{last_is, move_self, the_is}
+use Rattle.board_base.proofs.Passing.{may_pass, double-en_passant_victim, other-files}
 use Rattle.play_rules.proofs.Legality.{Manner, moves, steps, doubles, takes, passes, castles, Legality}
 use Rattle.play_rules.proofs.Kings.{empty-not}
 use Rattle.unmove_gen.specs.Listed.{has_left}
-use Rattle.unmove_gen.proofs.Equal.{last_is, move_self, same_tests, the_is}
+use Rattle.unmove_gen.proofs.Equal.{same_tests}
 
 -- the pawn that has just made this double step stands where it ended
 abbrev pub has_passed : Places → Colour → Option Move → Option Move → Bool
 has_passed board c last o = elim o as (λ _. Bool) [ None ↦ false | Some d ↦ is_move last d && is_the (opponent c) Pawn (at board d.to) ]
-
-none-promo : (promo : Option Kind) → is_none promo ≡ true → promo ≡ None
-none-promo None h = refl
-none-promo (Some k) h = cc
 
 origin-apart : (m : Move) → files_apart m.from m.to ≡ 1 → en_passant_victim m ≢ m.from
 unfolding distance
@@ -34,14 +30,6 @@ origin-apart m apart e = omega arith
 target-apart : (c : Colour) (m : Move) → one_ahead c m.from m.to ≡ true → en_passant_victim m ≢ m.to
 target-apart White m up e = let u : rank m.to ≡ rank m.from + 1 = eqb-true _ _ up in omega arith
 target-apart Black m up e = let u : rank m.from ≡ rank m.to + 1 = eqb-true _ _ up in omega arith
-
-behind-victim : (c : Colour) (m : Move) → one_ahead c m.from m.to ≡ true → (double_step m c).to ≡ en_passant_victim m
-behind-victim White m up = let u : rank m.to ≡ rank m.from + 1 = eqb-true _ _ up in omega arith
-behind-victim Black m up = let u : rank m.from ≡ rank m.to + 1 = eqb-true _ _ up in omega arith
-
-apart-files : (m : Move) → files_apart m.from m.to ≡ 1 → (file m.from == file m.to) ≡ false
-unfolding distance
-apart-files m h = false_from_ne_true _ (λ same. let e : file m.from ≡ file m.to = eqb-true _ _ same in absurd (omega arith))
 
 -- what is known of a capture en passant
 pub record Captures (board : Places) (c : Colour) (m : Move) : Type 0 where
@@ -54,19 +42,14 @@ pub record Captures (board : Places) (c : Colour) (m : Move) : Type 0 where
 captures-as : (board : Places) (c : Colour) (last : Option Move) (m : Move) (o : Option Move) → double_of m c ≡ o → (is_a Pawn (at board m.from) && is_empty (at board m.to)) ≡ true → has_passed board c last o ≡ true → Captures board c m
 captures-as board c last m None e ends h = absurd (both_ways false refl h)
 captures-as board c last m (Some d) e ends h =
-    let parts = cond_some _ (double_step m c) d e in
-    let p3 = and_parts _ _ parts.0 in
-    let p2 = and_parts _ _ p3.0 in
-    let p1 = and_parts _ _ p2.0 in
-    let apart : files_apart m.from m.to ≡ 1 = eqb-true _ 1 p2.1 in
-    let same : d.to ≡ en_passant_victim m = sym (ap (λ (x : Move). x.to) parts.1) ∙ behind-victim c m p1.1 in
+    let may = may_pass m c d e in
     let places = and_parts _ _ ends in
     record {
-      not_target = target-apart c m p1.1;
-      not_origin = origin-apart m apart;
-      pawn = ap (at board) (sym same) ∙ the_is (opponent c) Pawn (at board d.to) (and_parts _ _ h).1;
-      no_promo = none-promo m.promo p3.1;
-      goes = and_from _ _ (and_from _ _ places.0 (not_from_false _ (apart-files m apart))) places.1;
+      not_target = target-apart c m may.ahead_is;
+      not_origin = origin-apart m may.files;
+      pawn = ap (at board) (sym (double-en_passant_victim m d c e)) ∙ the_is (opponent c) Pawn (at board d.to) (and_parts _ _ h).1;
+      no_promo = may.promo;
+      goes = and_from _ _ (and_from _ _ places.0 (not_from_false _ (other-files m may.files))) places.1;
     }
 
 pub captures : (board : Places) (c : Colour) (last : Option Move) (m : Move) → pawn_captures_en_passant board c last m ≡ true → Captures board c m

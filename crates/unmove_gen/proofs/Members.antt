@@ -17,7 +17,7 @@ use Rattle.board_base.specs.declared.moves.Move.{Move}
 use Rattle.board_base.specs.declared.castles.Castle.{Castle}
 use Rattle.board_base.specs.declared.unmoves.Unmove.{Unmove}
 use Rattle.board_base.proofs.KindsOfMen.{kind_is}
-use Rattle.board_base.proofs.Lists.{contains-filter}
+use Rattle.general_lemmas.proofs.Lists.{contains-filter}
 use Rattle.castle_history.specs.TakenBack.{castling_back}
 use Rattle.query_base.specs.Asked.{Asked}
 use Rattle.play_rules.specs.Listed.{promotions}
@@ -28,7 +28,7 @@ use Rattle.unmove_gen.specs.Numbers.{number_at}
 use Rattle.unmove_gen.proofs.Back.{fits_as}
 use Rattle.unmove_gen.proofs.Numbered.{candidate-at, candidates-long}
 use Rattle.unmove_gen.proofs.Parts.{Parts, legality_of, parts}
-use Rattle.unmove_gen.proofs.Rest.{passes-filter}
+use Rattle.general_lemmas.proofs.Filtered.{passes-filter}
 
 officer-at : (k : Kind) → is_officer k ≡ true → (p : ℕ) × (p < 5) × (slice_get promotions p ≡ Some (Some k))
 officer-at Pawn h = cc

@@ -30,7 +30,7 @@ use Rattle.unmove_gen.proofs.Equal.{same_tests}
 use Rattle.unmove_gen.proofs.Exchanged.{legal-exchanged}
 use Rattle.unmove_gen.proofs.Marks.{captures, goes-same, none-answers}
 use Rattle.unmove_gen.proofs.Parts.{Parts, legality_of, parts}
-use Rattle.unmove_gen.proofs.Rest.{passes-filter}
+use Rattle.general_lemmas.proofs.Filtered.{passes-filter}
 
 castled-played : (board : Places) (c : Colour) (rights : Castle → Bool) (m : Move) (x : Castle) → m.to < length board → castling board m ≡ Some x → may_castle board c rights x ≡ true → castling_back (play board m) m ≡ Some x
 unfolding play

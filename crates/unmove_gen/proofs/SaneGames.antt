@@ -18,8 +18,8 @@ use Rattle.play_rules.proofs.Kings.{one_king_each}
 use Rattle.play_rules.proofs.Ends.{no_pawn_on_ends}
 use Rattle.play_rules.proofs.Attacked.{no_king_left_attacked}
 use Rattle.men_account.specs.Account.{is_any, men}
-use Rattle.men_account.proofs.Tally.{one_if}
-use Rattle.men_account.proofs.Surplus.{accounts_hold}
+use Rattle.general_lemmas.proofs.Counts.{one_if}
+use Rattle.men_account.proofs.Accounts.{accounts_hold}
 use Rattle.unmove_gen.specs.Sane.{has_one_king, is_sane}
 
 -- a count over the squares is a count over the places

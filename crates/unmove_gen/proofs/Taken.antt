@@ -15,7 +15,7 @@ use Rattle.board_base.specs.declared.moves.Move.{Move}
 use Rattle.board_base.specs.declared.castles.Castle.{Castle}
 use Rattle.board_base.specs.declared.unmoves.Unmove.{Unmove}
 use Rattle.board_base.proofs.KindsOfMen.{opponent-twice}
-use Rattle.board_base.proofs.Lists.{contains-filter}
+use Rattle.general_lemmas.proofs.Lists.{contains-filter}
 use Rattle.castle_history.specs.TakenBack.{castling_back}
 use Rattle.query_base.specs.Asked.{Asked}
 use Rattle.query_base.specs.Reach.{Reaches, EndsWith}
@@ -27,12 +27,12 @@ use Rattle.unmove_gen.specs.TakenBack.{kind_of, taken_back}
 use Rattle.unmove_gen.specs.Sane.{is_sane}
 use Rattle.unmove_gen.specs.Listed.{answered, before, candidates, every_right, has_left, is_legal_before, is_listed, is_marked, keeps_held, leads_here, mover, obeys, obeys_barred, obeys_only, same_places, took_pawn, unmoves}
 use Rattle.unmove_gen.specs.Predecessor.{is_en_passant_after, predecessor, unmove_after}
-use Rattle.unmove_gen.proofs.Back.{Placed, back, came, marked, placed}
+use Rattle.play_rules.proofs.Left.{Placed, placed, left-in-game, play-leaves}
+use Rattle.unmove_gen.proofs.Back.{back, came, marked}
 use Rattle.unmove_gen.proofs.Castlings.{castles, was-castling}
 use Rattle.unmove_gen.proofs.Demands.{barred-from, held-from, keeps-all, only-from}
 use Rattle.unmove_gen.proofs.Equal.{places_self}
 use Rattle.unmove_gen.proofs.Exchanged.{legal-exchanged}
-use Rattle.unmove_gen.proofs.Left.{left-in-game, play-leaves}
 use Rattle.unmove_gen.proofs.Marks.{Captures, answered-last, captures, goes-same, home-left, none-answers, self-answers}
 use Rattle.unmove_gen.proofs.Members.{Fits, candidate-of}
 use Rattle.unmove_gen.proofs.SaneGames.{sane-in-game}

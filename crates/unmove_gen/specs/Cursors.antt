@@ -1,3 +1,4 @@
+-- Inner: no public clause cites this file.
 -- Candidates by their parts.
 use Rattle.std.specs.Prelude.{ℕ}
 use Rattle.unmove_gen.specs.Numbers.{number_at}

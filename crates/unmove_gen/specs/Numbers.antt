@@ -1,3 +1,4 @@
+-- Inner: no public clause cites this file.
 -- Candidates by their numbers.
 use Rattle.std.specs.Prelude.{ℕ, ◌≡◌, ◌+◌, ◌*◌, ◌<◌, ◌≤◌, false, Some, slice_get}
 use Rattle.query_base.specs.Asked.{Asked}

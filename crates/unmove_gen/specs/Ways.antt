@@ -1,9 +1,10 @@
+-- Inner: no public clause cites this file.
 -- Which moves may have brought a man to his square, by his own way of moving alone.
 use Rattle.std.specs.Prelude.{ℕ, Bool, false, ◌&&◌, ◌||◌, ◌==◌, Option, Some, None}
 use Rattle.board_base.specs.Board.{rank, same_kind}
 use Rattle.board_base.specs.Attacks.{on_one_diagonal, on_one_line}
 use Rattle.board_base.specs.Legal.{last_rank}
-use Rattle.play_rules.specs.Reach.{may_step}
+use Rattle.play_rules.specs.Ways.{may_step}
 use Rattle.board_base.specs.declared.men.Man.{Man}
 use Rattle.board_base.specs.declared.men.Colour.{Colour}
 use Rattle.board_base.specs.declared.men.Kind.{Kind}

@@ -6,7 +6,7 @@ ghost use Rattle.unmove_gen.specs.Ways.{may_go_alone, may_have_made};
 use board_base::{Board, Colour, Kind, Man, Move, Square, files_between, is_ahead, ranks_between};
 
 /// A man may go so on an empty board, or step or capture so.
-#[tactic(auto, unfolding(crate::specs::Ways::may_go_alone, play_rules::specs::Reach::may_step))]
+#[tactic(auto, unfolding(crate::specs::Ways::may_go_alone, play_rules::specs::Ways::may_step))]
 fn may_go_alone(colour: Colour, kind: Kind, from: Square, to: Square) -> bool
     ensures { result ≡ may_go_alone colour kind from to }
 {

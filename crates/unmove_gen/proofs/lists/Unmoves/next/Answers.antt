@@ -2,7 +2,7 @@ use Rattle.std.proofs.Common.{◌≡◌, ◌<◌, ◌≤◌, ℕ, [], ◌∷◌,
 use Rattle.std.specs.List.{filter}
 use Rattle.unmove_gen.specs.Listed.{candidates, is_listed}
 use Rattle.unmove_gen.specs.Cursors.{number_of}
-use Rattle.unmove_gen.proofs.Rest.{rest_ends, rest_fails, rest_skips, rest_takes}
+use Rattle.general_lemmas.proofs.Filtered.{rest_ends, rest_fails, rest_skips, rest_takes}
 use Rattle.unmove_gen.proofs.Numbered.{candidates-long}
 use Rattle.unmove_gen.proofs.lists.Unmoves.next.Goals as goal
 
