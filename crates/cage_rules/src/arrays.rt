@@ -1,0 +1,51 @@
+ghost use Rattle.std.specs.Prelude.{◌≡◌, ◌↔◌, IsTrue, List, Bool};
+ghost use Rattle.board_base.specs.Board.{no_odds};
+ghost use Rattle.cage_rules.specs.Frozen.{IsAsArray, IsFrozen};
+ghost use Rattle.cage_rules.specs.Tests.{same_place, squares_alike};
+ghost use Rattle.play_rules.specs.Reach.{IsWithin};
+
+use crate::frozen::{has_whole_board, settled};
+use crate::sets::{both, is_same, is_whole, with_if};
+use board_base::{Board, Man, Square, SquareSet};
+use query_base::Query;
+
+fn is_same_place(a: Option<Man>, b: Option<Man>) -> bool
+    ensures { result ≡ same_place a b }
+{
+    match (a, b) {
+        (None, None) => true,
+        (Some(a), Some(b)) => a.colour == b.colour && a.kind == b.kind,
+        _ => false,
+    }
+}
+
+/// The squares that hold the same on both boards.
+fn squares_alike(board: &Board, first: &Board) -> SquareSet
+    ensures { result ≡ squares_alike board.now first.now }
+{
+    let mut alike = SquareSet::from_bits(0);
+    for i in 0..64 {
+        let s = Square::known(i);
+        alike = with_if(alike, s, is_same_place(board.at(s), first.at(s)));
+    }
+    alike
+}
+
+/// Whether each square of the set holds what the array has there (article 2.3).
+pub fn as_array(board: &Board, set: SquareSet) -> bool
+    ensures { IsTrue result ↔ IsAsArray no_odds board.now set }
+{
+    is_whole(set);
+    is_same(both(set, squares_alike(board, &Board::array())), set)
+}
+
+/// The greatest frozen set that is as in the array: it is frozen, holds what the array has there, and contains every set of which
+/// both are true.
+pub fn greatest_as_array(query: &Query) -> SquareSet
+    ensures frozen { IsFrozen query.now result }
+    ensures as_array { IsAsArray no_odds query.now.board result }
+    ensures greatest { (set : List Bool) → IsFrozen query.now set → IsAsArray no_odds query.now.board set → IsWithin set result }
+{
+    has_whole_board(query);
+    settled(query, squares_alike(&query.board, &Board::array()))
+}
