@@ -1,2 +1,10 @@
+pub mod Closed
+pub mod Left
+pub mod Tested
+pub mod Larger
+mod Best
 pub mod Homes
 pub mod Unreached
+pub mod Settling
+pub mod Settled
+pub mod AtHome

@@ -14,11 +14,12 @@ use Rattle.play_rules.proofs.Kings.{one_king_each}
 use Rattle.play_rules.proofs.Ends.{no_pawn_on_ends}
 use Rattle.play_rules.proofs.Attacked.{no_king_left_attacked}
 use Rattle.men_account.specs.Account.{accounts_for}
-use Rattle.men_account.proofs.Surplus.{accounts_hold}
+use Rattle.men_account.proofs.Accounts.{accounts_hold}
 use Rattle.query_base.specs.Asked.{Asked}
 use Rattle.query_base.specs.Reach.{Reaches}
 use Rattle.query_base.specs.declared.rule_lines.RuleLine.{RuleLine}
-use Rattle.query_base.specs.declared.rule_lines.RuleLine.TheVariants.{Kings, Ranks, Check, Rights, Count}
+use Rattle.query_base.specs.declared.rule_lines.RuleLine.TheVariants.{Kings, Ranks, Check, Rights, Count, Frozen, Caps, Promo}
+use Rattle.static_rules.proofs.Closed.{caps-unreached, frozen-unreached, promo-unreached}
 use Rattle.static_rules.specs.Supports.{Supports}
 use Rattle.static_rules.proofs.Homes.{rights_have_homes}
 
@@ -34,3 +35,6 @@ unreached q Rights broken g r =
     broken (λ x held. subst (λ (b : Places). are_at_home b x ≡ true) r.board (rights_have_homes no_odds g x r.game (r.held x held)))
 unreached q (Count side) broken g r =
     broken (subst (λ (b : Places). accounts_for b side ≡ true) r.board (accounts_hold no_odds g r.game side))
+unreached q (Frozen set) h g r = frozen-unreached q set h g r
+unreached q (Caps side set p) h g r = caps-unreached q side set p.u p.v h g r
+unreached q (Promo side set) h g r = promo-unreached q side set h g r

@@ -1,0 +1,176 @@
+-- Homes on which their men stand aren't dead, and those that an enemy pawn can strike aren't shielded.
+use Rattle.std.proofs.Common.{◌≡◌, ℕ, zero, suc, ◌+◌, ◌-◌, ◌<◌, ◌≤◌, inl, inr, Bool, true, false, cond, ◌&&◌, ◌||◌, ◌==◌, not, List, length, refl, sym, ap, ◌∙◌, subst, arith}
+use Rattle.std.specs.Prelude.{Option, None, Some, ℤ, pos, ◌+ℤ◌, ◌≤ℤ◌, ◌<ℤ◌}
+use Rattle.std.specs.List.{count_by, list_all, list_any, range_with_len}
+use Rattle.std.proofs.lemmas.Bool.{and_from, and_parts, both_ways, cases_Bool, false_from_ne_true, ltb-true, not-true, not_from_false, or_cases, or_from, or_left, or_parts, or_right}
+use Rattle.std.proofs.lemmas.Int.{ints}
+use Rattle.std.proofs.lemmas.List.Sums.{sum_by-cons}
+use Rattle.board_base.specs.Attacks.{distance}
+use Rattle.board_base.specs.Board.{Places, array_of, at, file, initial_array, is_a, is_in, is_of, is_the, no_odds, opponent, rank}
+use Rattle.board_base.specs.Legal.{is_officer}
+use Rattle.board_base.specs.declared.men.Colour.{Colour}
+use Rattle.board_base.specs.declared.men.Kind.{Kind}
+use Rattle.board_base.specs.declared.men.Kind.TheVariants.{Knight, Bishop, Rook, Queen}
+use Rattle.board_base.specs.declared.men.Man.{Man}
+use Rattle.board_base.proofs.KindsOfMen.{same_colour-self, same_kind-self}
+use Rattle.play_rules.specs.Laws.{is_end}
+use Rattle.men_account.specs.Account.{counts_of, excess_of, is_any, is_dark, is_light, men}
+use Rattle.men_account.specs.Homes.{allowance_of, men_of}
+use Rattle.men_account.specs.declared.tallies.Allowance.{Allowance}
+use Rattle.men_account.specs.declared.tallies.Counts.{Counts}
+use Rattle.query_base.specs.Asked.{Asked}
+use Rattle.cage_rules.specs.Refuted.{is_spent}
+use Rattle.cage_rules.specs.Regions.{beginner, is_dead, is_exposed, is_like, is_officer_home, is_shielded, is_struck, may_strike, region}
+use Rattle.cage_rules.proofs.Beginners.{officer-inside, whole-array}
+use Rattle.cage_rules.proofs.Greatest.{same-told}
+use Rattle.cage_rules.proofs.Regions.{region-home}
+use Rattle.cage_rules.proofs.Tested.{any-tells, at_board}
+use Rattle.assignment.specs.Assignments.{IsBounded, IsInjection, assignment_cost, total}
+use Rattle.assignment.proofs.Duality.{weak_duality}
+use Rattle.pawn_assign.specs.PawnCosts.{pawn_costs}
+use Rattle.static_rules.specs.Left.{left_with}
+use Rattle.static_rules.specs.SetRules.{HasMore, IsAbove}
+use Rattle.static_rules.specs.Stayed.{IsStayedAllowance, front, has_stayed, is_guarded, may_be_spent, may_spend}
+use Rattle.static_rules.proofs.Larger.{excess-more, less-count}
+use Rattle.static_rules.proofs.Left.{at-left, home-of}
+use Rattle.men_account.proofs.FirstMen.{sixteen}
+use Rattle.static_rules.proofs.Tested.{more-told}
+
+-- a man is like himself
+both-not : (a b : Bool) → a ≡ true → not (a && not b) ≡ true → b ≡ true
+both-not true true e h = refl
+both-not true false e h = h
+both-not false b e h = absurd (both_ways false refl e)
+
+like-self : (place : Option Man) → (is_a Knight place || is_a Bishop place || is_a Rook place || is_a Queen place) ≡ true → is_like place place ≡ true
+like-self None h = absurd (both_ways false refl h)
+like-self (Some m) h = and_from _ _ (same_colour-self m.colour) (same_kind-self m.kind)
+
+stayed-there : (board : Places) (h : ℕ) → has_stayed board h ≡ true → at board h ≡ beginner h
+unfolding beginner
+stayed-there board h stayed = same-told _ _ stayed ∙ whole-array h
+
+-- a home is alive on which its man stands
+pub alive-at-home : (board : Places) (set : List Bool) (h : ℕ) → is_officer_home h ≡ true → has_stayed board h ≡ true → is_dead board set h ≡ false
+unfolding is_dead
+alive-at-home board set h home stayed =
+    let inside : h < 64 = officer-inside h home in
+    false_from_ne_true _ (λ dead.
+    both_ways _ (not-true _ (at_board (λ t. not (is_in (region set h) t && is_like (beginner h) (at board t))) h dead inside))
+    (and_from _ _ (region-home set h inside) (subst (λ (p : Option Man). is_like (beginner h) p ≡ true) (sym (stayed-there board h stayed)) (like-self (beginner h) home))))
+
+-- Officers who stand where they began
+
+kept-both : (c : Colour) (k : Kind) (b : Bool) (place : Option Man) → is_the c k (cond b place None) ≡ true → (b ≡ true) × (is_the c k place ≡ true)
+kept-both c k true place h = (refl, h)
+kept-both c k false place h = absurd (both_ways false refl h)
+
+stayed-less : (board : Places) (set : List Bool) (c : Colour) (k : Kind) (among : ℕ → Bool) → is_officer k ≡ true → men c k among (left_with (has_stayed board) (array_of no_odds)) ≤ men c k (λ s. among s && not (is_dead board set s)) (array_of no_odds)
+unfolding men
+stayed-less board set c k among officer =
+    less-count (λ s. is_the c k (at (left_with (has_stayed board) (array_of no_odds)) s) && among s) (λ s. is_the c k (at (array_of no_odds) s) && (among s && not (is_dead board set s))) 0 64 (λ s low high here.
+    let inside : s < 64 = omega arith in
+    let parts = and_parts (is_the c k (at (left_with (has_stayed board) (array_of no_odds)) s)) (among s) here in
+    let kept = kept-both c k (has_stayed board s) (at (array_of no_odds) s) (ap (is_the c k) (sym (at-left (has_stayed board) (array_of no_odds) s inside)) ∙ parts.0) in
+    and_from _ _ kept.1 (and_from _ _ parts.1 (not_from_false _ (alive-at-home board set s (home-of no_odds c k s officer kept.1) kept.0))))
+
+-- no more than those who don't stand there have been promoted
+pub few-more : (q : Asked) (side : Colour) (a : Allowance) → IsStayedAllowance side q.board a → excess_of (counts_of side q.board) a ≤ 8 → (set : List Bool) → HasMore no_odds q side set → ⊥
+few-more q side a (knights, light, dark, rooks, queens) few set more =
+    let living : Allowance = allowance_of side (λ h. not (is_dead q.board set h)) (array_of no_odds) in
+    let least = excess-more (counts_of side q.board) living a (omega (arith, knights, stayed-less q.board set side Knight is_any refl)) (omega (arith, light, stayed-less q.board set side Bishop is_light refl)) (omega (arith, dark, stayed-less q.board set side Bishop is_dark refl)) (omega (arith, rooks, stayed-less q.board set side Rook is_any refl)) (omega (arith, queens, stayed-less q.board set side Queen is_any refl)) in
+    let above : 8 < excess_of (counts_of side q.board) living = ltb-true 8 _ ((more-told side _ _ refl).1 more) in
+    absurd (omega arith)
+
+-- Homes that an enemy pawn can strike
+
+-- an enemy pawn on u, which is neither on rank 1 nor on rank 8, strikes the man who begins on h
+strikes : ℕ → ℕ → Bool
+strikes h u = is_struck (beginner h) h u && not (is_end u)
+
+-- so it is from the squares beside the one in front
+is_struck_home : ℕ → Bool
+is_struck_home h = (file h == 0 || strikes h (front h - 1)) && (file h == 7 || strikes h (front h + 1))
+
+each-home : list_all (λ h. not (is_officer_home h && not (is_struck_home h))) (range_with_len 0 64) ≡ true
+unfolding beginner initial_array distance strikes is_struck_home
+each-home = refl
+
+unexposed : (set : List Bool) (h : ℕ) → is_officer_home h ≡ true → is_shielded set h ≡ true → is_exposed set (beginner h) h ≡ false
+unfolding is_shielded
+unexposed set h home shielded =
+    let inside : h < 64 = officer-inside h home in
+    false_from_ne_true _ (λ exposed. both_ways _ (not-true _ (at_board (λ t. not (is_in (region set h) t && is_exposed set (beginner h) t)) h shielded inside)) (and_from _ _ (region-home set h inside) exposed))
+
+-- a square from which the man at home would be struck is in the set
+in-front : (set : List Bool) (h u : ℕ) → u < 64 → is_exposed set (beginner h) h ≡ false → strikes h u ≡ true → is_in set u ≡ true
+unfolding is_exposed strikes
+in-front set h u inside safe strike = elim (cases_Bool (is_in set u)) [
+  | inl member ↦ member
+  | inr out ↦
+      let parts = and_parts (is_struck (beginner h) h u) (not (is_end u)) strike in
+      absurd (both_ways _ safe (any-tells (may_strike set (beginner h) h) 0 64 u (omega arith) (omega arith) (and_from _ _ parts.0 (not_from_false _ (or_from (is_end u) (is_in set u) (not-true _ parts.1) out)))))
+]
+
+front-low : (h : ℕ) → front h < 63
+front-low h = elim (cases_Bool (rank h == 0)) [
+  | inl first ↦ let is : front h ≡ 8 + file h = ap (λ (b : Bool). cond b (8 + file h) (48 + file h)) first in omega arith
+  | inr last ↦ let is : front h ≡ 48 + file h = ap (λ (b : Bool). cond b (8 + file h) (48 + file h)) last in omega arith
+]
+
+beside : (set : List Bool) (edge strike : Bool) (u : ℕ) → (strike ≡ true → is_in set u ≡ true) → (edge || strike) ≡ true → (edge || is_in set u) ≡ true
+beside set edge strike u there h = elim (or_cases edge strike h) [
+  | inl at_edge ↦ or_left edge (is_in set u) at_edge
+  | inr struck ↦ or_right edge (is_in set u) (there struck)
+]
+
+guarded : (set : List Bool) (h : ℕ) → is_officer_home h ≡ true → is_shielded set h ≡ true → is_guarded set h ≡ true
+unfolding is_struck_home
+guarded set h home shielded =
+    let safe = unexposed set h home shielded in
+    let low = front-low h in
+    let struck = and_parts _ _ (both-not (is_officer_home h) (is_struck_home h) home (at_board (λ t. not (is_officer_home t && not (is_struck_home t))) h each-home (officer-inside h home))) in
+    and_from _ _ (beside set (file h == 0) (strikes h (front h - 1)) (front h - 1) (in-front set h (front h - 1) (omega arith) safe) struck.0) (beside set (file h == 7) (strikes h (front h + 1)) (front h + 1) (in-front set h (front h + 1) (omega arith) safe) struck.1)
+
+spent-may : (board : Places) (set : List Bool) (h : ℕ) → is_spent board set h ≡ true → may_be_spent board set h ≡ true
+spent-may board set h spent =
+    let parts = and_parts (is_officer_home h && is_dead board set h) (is_shielded set h) spent in
+    let dead = and_parts (is_officer_home h) (is_dead board set h) parts.0 in
+    let gone : has_stayed board h ≡ false = false_from_ne_true _ (λ stayed. both_ways _ (alive-at-home board set h dead.0 stayed) dead.1) in
+    and_from _ _ (and_from _ _ dead.0 (not_from_false _ gone)) (guarded set h dead.0 parts.1)
+
+-- what passes a test that none passes isn't counted
+none-counted : (p q : ℕ → Bool) (k n : ℕ) → ((s : ℕ) → q s ≡ true → p s ≡ true) → list_any p (range_with_len k n) ≡ false → count_by q (range_with_len k n) ≡ 0
+none-counted p q k zero less none = refl
+none-counted p q k (suc n) less none =
+    let parts = or_parts (p k) (list_any p (range_with_len (k + 1) n)) none in
+    let rest = none-counted p q (k + 1) n less parts.1 in
+    let here : q k ≡ false = false_from_ne_true _ (λ passes. both_ways _ parts.0 (less k passes)) in
+    let zero_here : ◌≡◌ {A = ℕ} (cond (q k) 1 0) 0 = ap (λ (b : Bool). cond b 1 0) here in
+    omega (arith, sum_by-cons (λ x. cond (q x) 1 0) k (range_with_len (k + 1) n), rest, zero_here)
+
+none-spent : (c : Colour) (board : Places) (set : List Bool) → may_spend c board set ≡ false → men_of c (is_spent board set) (array_of no_odds) ≡ 0
+unfolding may_spend men_of
+none-spent c board set none =
+    none-counted (λ s. is_of c (at (array_of no_odds) s) && may_be_spent board set s) (λ s. is_of c (at (array_of no_odds) s) && is_spent board set s) 0 64 (λ s here.
+    let parts = and_parts (is_of c (at (array_of no_odds) s)) (is_spent board set s) here in and_from _ _ parts.0 (spent-may board set s parts.1)) none
+
+too-few : (cost on_board spent : ℕ) (all : ℕ) (sum : ℤ) → all ≡ 16 → spent ≡ 0 → cost + on_board ≤ 16 → sum ≤ℤ pos cost → pos all <ℤ (sum +ℤ pos (on_board + spent)) → ⊥
+too-few cost on_board spent all sum whole none few least above = absurd (omega (arith, ints))
+
+-- where no home may be spent, the pawns need no more captures than there are men gone
+pub few-needed : (q : Asked) (side : Colour) (set : List Bool) (table : List (List ℕ)) (files : List ℕ) (cost on_board : ℕ) → may_spend (opponent side) q.board set ≡ false → table ≡ pawn_costs no_odds side q.board → IsInjection 8 (length table) files → cost ≡ assignment_cost table files → on_board ≡ men_of (opponent side) is_any q.board → cost + on_board ≤ 16 → (u v : List ℤ) → IsAbove no_odds q side set u v → ⊥
+few-needed q side set table files cost on_board none same injection costs counted few u v h =
+    let least = weak_duality 8 table u v files (subst (λ (t : List (List ℕ)). IsBounded 8 t u v) (sym same) h.bounded) injection in
+    too-few (assignment_cost table files) (men_of (opponent side) is_any q.board) (men_of (opponent side) (is_spent q.board set) (array_of no_odds)) (men_of (opponent side) is_any (array_of no_odds)) (total u +ℤ total v) (sixteen (opponent side)) (none-spent (opponent side) q.board set none) (omega arith) least h.above
+
+-- The same, as the tests have it.
+
+pub few-from : (q : Asked) (side : Colour) (board : Places) (counted : Counts) (a : Allowance) (n : ℕ) → board ≡ q.board → counted ≡ counts_of side board → IsStayedAllowance side board a → n ≡ excess_of counted a → n ≤ 8 → (set : List Bool) → HasMore no_odds q side set → ⊥
+few-from q side board counted a n here counts stayed is few =
+    few-more q side a (subst (λ (b : Places). IsStayedAllowance side b a) here stayed) (subst (λ (m : ℕ). m ≤ 8) (is ∙ ap (λ (k : Counts). excess_of k a) (counts ∙ ap (counts_of side) here)) few)
+
+pub needed-from : (q : Asked) (side : Colour) (set : List Bool) (board : Places) (enemy other : Colour) (spends : Bool) (table : List (List ℕ)) (files : List ℕ) (cost on_board : ℕ) → board ≡ q.board → enemy ≡ opponent side → spends ≡ may_spend enemy board set → spends ≡ false → table ≡ pawn_costs no_odds side board → IsInjection 8 (length table) files → cost ≡ assignment_cost table files → other ≡ opponent side → on_board ≡ men_of other is_any board → cost + on_board ≤ 16 → (u v : List ℤ) → IsAbove no_odds q side set u v → ⊥
+needed-from q side set board enemy other spends table files cost on_board here against is none same injection costs against_too counted few =
+    few-needed q side set table files cost on_board (sym (ap (λ (c : Colour). may_spend c q.board set) against) ∙ sym (ap (λ (b : Places). may_spend enemy b set) here) ∙ sym is ∙ none) (same ∙ ap (pawn_costs no_odds side) here) injection costs
+    (counted ∙ ap (λ (c : Colour). men_of c is_any board) against_too ∙ ap (men_of (opponent side) is_any) here) few

@@ -1,0 +1,121 @@
+-- Counts of men on a board with only some of the men of another.
+use Rattle.std.proofs.Common.{◌≡◌, ℕ, zero, suc, ◌+◌, ◌<◌, ◌≤◌, Bool, true, false, cond, ◌&&◌, ◌||◌, not, List, refl, ap, sym, ◌∙◌, arith}
+use Rattle.std.proofs.lemmas.Bool.{and_right, both_ways, and_parts}
+use Rattle.std.proofs.lemmas.List.FromFn.{length-range_with_len, get_or-map-range_with_len}
+use Rattle.std.proofs.lemmas.List.Sums.{sum_by-cons, count_by-le-length}
+use Rattle.std.specs.Prelude.{Option, Some, None}
+use Rattle.std.specs.List.{count_by, range_with_len}
+use Rattle.board_base.specs.Board.{Places, array_of, initial_array, at, is_in, is_a, is_of, is_the, same_kind}
+use Rattle.board_base.specs.Legal.{is_officer}
+use Rattle.board_base.specs.declared.men.Man.{Man}
+use Rattle.board_base.specs.declared.men.Colour.{Colour}
+use Rattle.board_base.specs.declared.men.Kind.{Kind}
+use Rattle.board_base.specs.declared.men.Kind.TheVariants.{Pawn, Knight, Bishop, Rook, Queen, King}
+use Rattle.board_base.proofs.Without.{at-without}
+use Rattle.board_base.proofs.KindsOfMen.{kind_is}
+use Rattle.general_lemmas.proofs.Counts.{count-end}
+use Rattle.men_account.specs.Account.{men, is_any, is_light, is_dark, counts_of}
+use Rattle.men_account.specs.Homes.{allowance_of, men_of}
+use Rattle.men_account.specs.declared.tallies.Counts.{Counts}
+use Rattle.men_account.specs.declared.tallies.Allowance.{Allowance}
+use Rattle.cage_rules.proofs.Refuted.{officer-kind}
+use Rattle.cage_rules.specs.Regions.{beginner, is_dead, is_officer_home}
+use Rattle.static_rules.specs.Left.{left_with, may_live}
+
+-- two tests that agree on a range count alike
+pub same-count : (p q : ℕ → Bool) (k n : ℕ) → ((s : ℕ) → k ≤ s → s < k + n → p s ≡ q s) → count_by p (range_with_len k n) ≡ count_by q (range_with_len k n)
+same-count p q k zero same = refl
+same-count p q k (suc n) same =
+    let here : ◌≡◌ {A = ℕ} (cond (p k) 1 0) (cond (q k) 1 0) = ap (λ (b : Bool). cond b 1 0) (same k (omega arith) (omega arith)) in
+    let rest = same-count p q (k + 1) n (λ s low high. same s (omega arith) (omega arith)) in
+    omega (arith, sum_by-cons (λ x. cond (p x) 1 0) k (range_with_len (k + 1) n), sum_by-cons (λ x. cond (q x) 1 0) k (range_with_len (k + 1) n), here, rest)
+
+pub at-left : (keeps : ℕ → Bool) (first : Places) (s : ℕ) → s < 64 → at (left_with keeps first) s ≡ cond (keeps s) (at first s) None
+unfolding left_with
+at-left keeps first s inside = get_or-map-range_with_len (λ t. cond (keeps t) (at first t) None) 0 64 s s None inside (omega arith)
+
+-- an officer of the array stands on an officer's home
+officer-home : (c : Colour) (k : Kind) (place : Option Man) → is_officer k ≡ true → is_the c k place ≡ true → (is_a Knight place || is_a Bishop place || is_a Rook place || is_a Queen place) ≡ true
+officer-home c k None officer h = absurd (both_ways false refl h)
+officer-home c k (Some m) officer h =
+    let same : k ≡ m.kind = kind_is k m.kind (and_parts (is_of c (Some m)) (is_a k (Some m)) h).1 in
+    officer-kind m.kind (ap is_officer (sym same) ∙ officer)
+
+-- a man counts where he is left, that is where his home counts
+kept-officer : (home dead among there : Bool) → (there ≡ true → home ≡ true) → (cond (not (home && dead)) there false && among) ≡ (there && (among && not dead))
+kept-officer true true among true h = sym (and_right among false refl)
+kept-officer true true among false h = refl
+kept-officer true false true there h = refl
+kept-officer true false false there h = refl
+kept-officer false dead among true h = absurd (both_ways false refl (h refl))
+kept-officer false dead among false h = refl
+
+is_the-kept : (c : Colour) (k : Kind) (b : Bool) (place : Option Man) → is_the c k (cond b place None) ≡ cond b (is_the c k place) false
+is_the-kept c k true place = refl
+is_the-kept c k false place = refl
+
+kept-the : (c : Colour) (k : Kind) (b : Bool) (place : Option Man) → is_the c k (cond b None place) ≡ true → is_the c k place ≡ true
+kept-the c k true place h = absurd (both_ways false refl h)
+kept-the c k false place h = h
+
+pub home-of : (o : List Bool) (c : Colour) (k : Kind) (s : ℕ) → is_officer k ≡ true → is_the c k (at (array_of o) s) ≡ true → is_officer_home s ≡ true
+unfolding array_of beginner
+home-of o c k s officer h = officer-home c k (at initial_array s) officer (kept-the c k (is_in o s) (at initial_array s) (sym (ap (is_the c k) (at-without o initial_array s)) ∙ h))
+
+-- the officers who are left where homes are dead
+living-men : (o : List Bool) (board : Places) (set : List Bool) (c : Colour) (k : Kind) (among : ℕ → Bool) → is_officer k ≡ true → men c k among (left_with (may_live board set) (array_of o)) ≡ men c k (λ s. among s && not (is_dead board set s)) (array_of o)
+unfolding men
+living-men o board set c k among officer =
+    same-count (λ s. is_the c k (at (left_with (may_live board set) (array_of o)) s) && among s) (λ s. is_the c k (at (array_of o) s) && (among s && not (is_dead board set s))) 0 64 (λ s low high.
+    let inside : s < 64 = omega arith in
+    ap (λ (p : Option Man). is_the c k p && among s) (at-left (may_live board set) (array_of o) s inside)
+    ∙ ap (λ (b : Bool). b && among s) (is_the-kept c k (may_live board set s) (at (array_of o) s))
+    ∙ kept-officer (is_officer_home s) (is_dead board set s) (among s) (is_the c k (at (array_of o) s)) (home-of o c k s officer))
+
+abbrev allowance_as : ℕ → ℕ → ℕ → ℕ → ℕ → Allowance
+allowance_as n l d r q = record { knights = n; light_bishops = l; dark_bishops = d; rooks = r; queens = q }
+
+same_allowance : (n n' l l' d d' r r' q q' : ℕ) → n ≡ n' → l ≡ l' → d ≡ d' → r ≡ r' → q ≡ q' → allowance_as n l d r q ≡ allowance_as n' l' d' r' q'
+same_allowance n n' l l' d d' r r' q q' e1 e2 e3 e4 e5 = cc
+
+pub living-allowance : (o : List Bool) (board : Places) (set : List Bool) (c : Colour) (n : Counts) → n ≡ counts_of c (left_with (may_live board set) (array_of o)) → allowance_as n.knights n.light_bishops n.dark_bishops n.rooks n.queens ≡ allowance_of c (λ h. not (is_dead board set h)) (array_of o)
+living-allowance o board set c n e =
+    same_allowance _ _ _ _ _ _ _ _ _ _ (ap (λ (x : Counts). x.knights) e ∙ living-men o board set c Knight is_any refl) (ap (λ (x : Counts). x.light_bishops) e ∙ living-men o board set c Bishop is_light refl) (ap (λ (x : Counts). x.dark_bishops) e ∙ living-men o board set c Bishop is_dark refl) (ap (λ (x : Counts). x.rooks) e ∙ living-men o board set c Rook is_any refl) (ap (λ (x : Counts). x.queens) e ∙ living-men o board set c Queen is_any refl)
+
+kept-of : (c : Colour) (b : Bool) (place : Option Man) → (is_of c (cond b place None) && true) ≡ (is_of c place && b)
+kept-of c true place = refl
+kept-of c false place = sym (and_right (is_of c place) false refl)
+
+pub left-men : (c : Colour) (keeps : ℕ → Bool) (first : Places) → men_of c is_any (left_with keeps first) ≡ men_of c keeps first
+unfolding men_of
+left-men c keeps first =
+    same-count (λ s. is_of c (at (left_with keeps first) s) && is_any s) (λ s. is_of c (at first s) && keeps s) 0 64 (λ s low high.
+    ap (λ (p : Option Man). is_of c p && true) (at-left keeps first s (omega arith)) ∙ kept-of c (keeps s) (at first s))
+
+-- the men of a side on the first squares
+abbrev pub count_first : Colour → Places → ℕ → ℕ
+count_first c board i = count_by (λ s. is_of c (at board s) && is_any s) (range_with_len 0 i)
+
+abbrev one_of : Bool → ℕ
+one_of b = cond b 1 0
+
+one-more : (b : Bool) → ◌≡◌ {A = ℕ} (cond (b && true) 1 0) (cond b 1 0)
+one-more true = refl
+one-more false = refl
+
+pub men-more : (c : Colour) (board : Places) (place : Option Man) (i n after : ℕ) → n ≡ count_first c board i → place ≡ at board i → after ≡ n + cond (is_of c place) 1 0 → after ≡ count_first c board (i + 1)
+men-more c board place i n after so_far here e =
+    let grown = count-end (λ s. is_of c (at board s) && is_any s) i 0 in
+    let from_zero : 0 + i ≡ i = omega arith in
+    let last : ◌≡◌ {A = ℕ} (cond (is_of c (at board (0 + i)) && true) 1 0) (cond (is_of c (at board i)) 1 0) = one-more (is_of c (at board (0 + i))) ∙ ap (λ (s : ℕ). one_of (is_of c (at board s))) from_zero in
+    let same : ◌≡◌ {A = ℕ} (cond (is_of c place) 1 0) (cond (is_of c (at board i)) 1 0) = ap (λ (p : Option Man). one_of (is_of c p)) here in
+    let suc_i : i + 1 ≡ suc i = omega arith in
+    let next : count_first c board (i + 1) ≡ count_first c board (suc i) = ap (count_first c board) suc_i in
+    omega (arith, grown, last, same, next, so_far, e)
+
+pub few-first : (c : Colour) (board : Places) (i : ℕ) → count_first c board i ≤ i
+few-first c board i = omega (arith, count_by-le-length (λ s. is_of c (at board s) && is_any s) (range_with_len 0 i), length-range_with_len 0 i)
+
+pub all-first : (c : Colour) (board : Places) (i : ℕ) → i ≡ 64 → count_first c board i ≡ men_of c is_any board
+unfolding men_of
+all-first c board i e = ap (count_first c board) e

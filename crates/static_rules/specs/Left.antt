@@ -1,0 +1,14 @@
+-- Inner: no public clause cites this file.
+-- Boards with only some of the men of another, and which homes of officers count.
+use Rattle.std.specs.Prelude.{ℕ, Bool, cond, ◌&&◌, not, List, map, None}
+use Rattle.std.specs.List.{range_with_len}
+use Rattle.board_base.specs.Board.{Places, at}
+use Rattle.cage_rules.specs.Regions.{is_dead, is_officer_home}
+
+-- a board with only those men of this one who stand on squares that pass the test
+unfoldable pub left_with : (ℕ → Bool) → Places → Places
+left_with keeps first = map (λ s. cond (keeps s) (at first s) None) (range_with_len 0 64)
+
+-- the square is no home of an officer that is dead
+abbrev pub may_live : Places → List Bool → ℕ → Bool
+may_live board set h = not (is_officer_home h && is_dead board set h)

@@ -1,0 +1,135 @@
+ghost use Rattle.std.specs.Prelude.{◌≡◌, ◌↔◌, ◌+◌, length, IsTrue, List, pos, ◌+ℤ◌, ◌<ℤ◌};
+ghost use Rattle.board_base.specs.Board.{array_of, no_odds};
+ghost use Rattle.board_base.specs.Potentials.{ArePotentials};
+ghost use Rattle.board_base.specs.declared.moves.Move.{Move};
+ghost use Rattle.men_account.specs.Account.{is_any};
+ghost use Rattle.men_account.specs.Homes.{men_of};
+ghost use Rattle.cage_rules.specs.Refuted.{is_spent};
+ghost use Rattle.query_base.specs.Reach.{Reaches};
+ghost use Rattle.static_rules.specs.SetRules.{CapsSupports, FrozenSupports, HasMore, IsAbove, IsSettled, PromoSupports};
+ghost use Rattle.static_rules.specs.Greatest.{AreBest};
+
+use crate::living_homes::{living_allowance, men_of, spent_of};
+use board_base::{Board, Colour, Potentials, Square, SquareSet};
+use cage_rules::{as_array, is_frozen};
+use men_account::{counts, excess};
+use pawn_assign::{bound, costs, least};
+use query_base::Query;
+
+/// Tells the caller that a set has 64 truth values.
+pub(crate) fn is_whole(set: SquareSet)
+    ensures { length set ≡ 64 }
+{
+    let _ = set.has(Square::known(0));
+}
+
+/// Tells the caller what numbers potentials are.
+pub(crate) fn are_potentials(p: &Potentials)
+    ensures { ArePotentials p.now }
+{
+    let _ = p.v();
+}
+
+fn is_changed(query: &Query, set: SquareSet) -> bool
+    ensures { IsTrue result ↔ FrozenSupports no_odds query.now set }
+{
+    is_whole(set);
+    is_frozen(query, set) && !as_array(&query.board, set)
+}
+
+/// Whether the rule on frozen sets supports the query. Where it does, no game of any length reaches the query.
+pub(crate) fn frozen_supports(query: &Query, set: SquareSet) -> bool
+    ensures answer { IsTrue result ↔ FrozenSupports no_odds query.now set }
+    ensures unreached { IsTrue result → (g : List Move) → Reaches g query.now → ⊥ }
+{
+    is_changed(query, set)
+}
+
+fn is_settled(query: &Query, set: SquareSet) -> bool
+    ensures { IsTrue result ↔ IsSettled no_odds query.now set }
+{
+    is_whole(set);
+    is_frozen(query, set) && as_array(&query.board, set)
+}
+
+/// Whether the side's pawns, and its officers of each kind above its homes of the kind that aren't dead, are more than the eight pawns
+/// with which it began.
+pub(crate) fn has_more(query: &Query, side: Colour, set: SquareSet) -> bool
+    ensures { IsTrue result ↔ HasMore no_odds query.now side set }
+{
+    excess(
+        &counts(&query.board, side),
+        &living_allowance(&query.board, set, side),
+    ) > 8
+}
+
+fn promo_holds(query: &Query, side: Colour, set: SquareSet) -> bool
+    ensures { IsTrue result ↔ PromoSupports no_odds query.now side set }
+{
+    is_settled(query, set) && has_more(query, side, set)
+}
+
+/// Whether the rule on promoted men supports the query. Where it does, no game of any length reaches the query.
+pub(crate) fn promo_supports(query: &Query, side: Colour, set: SquareSet) -> bool
+    ensures answer { IsTrue result ↔ PromoSupports no_odds query.now side set }
+    ensures unreached { IsTrue result → (g : List Move) → Reaches g query.now → ⊥ }
+{
+    promo_holds(query, side, set)
+}
+
+/// Whether a sum is above the side's 16 men, less those on the board, less those of its homes that are dead and shielded.
+fn is_over(board: &Board, side: Colour, set: SquareSet, sum: i32) -> bool
+    ensures { IsTrue result ↔ (pos 16 <ℤ (sum +ℤ pos (men_of side is_any board.now + men_of side (is_spent board.now set) (array_of no_odds)))) }
+{
+    let on_board = men_of(board, side) as i32;
+    let lost = spent_of(board, set, side) as i32;
+    sum > 16 - on_board - lost
+}
+
+/// Whether the potentials are bounded by the costs of the side's pawns, and their sum is above the other side's men, less those on the
+/// board, less those of its homes that are dead and shielded.
+pub(crate) fn is_above(query: &Query, side: Colour, set: SquareSet, p: &Potentials) -> bool
+    ensures { IsTrue result ↔ IsAbove no_odds query.now side set p.now.u p.now.v }
+{
+    match costs(&query.board, side) {
+        Some(costs) => match bound(&costs, p) {
+            Some(sum) => is_over(&query.board, side.other(), set, sum),
+            None => false,
+        },
+        None => false,
+    }
+}
+
+/// Potentials of the side's pawns with the greatest sum that their costs bound.
+pub(crate) fn best_potentials(board: &Board, side: Colour) -> Potentials
+    ensures best { AreBest side board.now result.u result.v }
+    ensures known { ArePotentials result }
+{
+    match costs(board, side) {
+        Some(costs) => {
+            let p = least(&costs).potentials;
+            are_potentials(&p);
+            p
+        }
+        None => {
+            let p = Potentials::known(&[], &[0; 8]);
+            are_potentials(&p);
+            p
+        }
+    }
+}
+
+fn caps_holds(query: &Query, side: Colour, set: SquareSet, p: &Potentials) -> bool
+    ensures { IsTrue result ↔ CapsSupports no_odds query.now side set p.now.u p.now.v }
+{
+    are_potentials(p);
+    is_settled(query, set) && is_above(query, side, set, p)
+}
+
+/// Whether the rule on captures by pawns supports the query. Where it does, no game of any length reaches the query.
+pub(crate) fn caps_supports(query: &Query, side: Colour, set: SquareSet, p: &Potentials) -> bool
+    ensures answer { IsTrue result ↔ CapsSupports no_odds query.now side set p.now.u p.now.v }
+    ensures unreached { IsTrue result → (g : List Move) → Reaches g query.now → ⊥ }
+{
+    caps_holds(query, side, set, p)
+}
