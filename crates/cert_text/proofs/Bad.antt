@@ -4,7 +4,7 @@ use Rattle.std.specs.Prelude.{Some, None, codes}
 use Rattle.std.proofs.lemmas.List.{append-nil}
 use Rattle.board_base.specs.Board.{no_men}
 use Rattle.board_base.specs.declared.men.Colour.TheVariants.{White}
-use Rattle.board_base.proofs.Lists.{same_first, same_rest}
+use Rattle.general_lemmas.proofs.Lists.{same_first, same_rest}
 use Rattle.query_base.specs.Asked.{Asked}
 use Rattle.query_base.specs.declared.claims.Claim.{Claim}
 use Rattle.query_base.specs.declared.claims.Claim.TheVariants.{Illegal}
@@ -14,13 +14,14 @@ use Rattle.fen_text.specs.Parts.{parted}
 use Rattle.fen_text.specs.Ranks.{rank, places_of, is_symbol}
 use Rattle.cert_text.specs.Tree.{Tree, rule, back, expand}
 use Rattle.cert_text.specs.Lines.{ended, said}
-use Rattle.cert_text.specs.Texts.{Begins, IsBadAt}
+use Rattle.cert_text.specs.Texts.{Begins, IsBadAt, IfBadText}
 use Rattle.cert_text.specs.NodeLines.{root_body, body_at}
-use Rattle.cert_text.specs.Certificate.{Lines, Certificate, AreLinesOf, AreBelow, AreKids, body_of, head_line, claim_of, query_of}
+use Rattle.cert_text.specs.Certificate.{Lines, Certificate, AreLinesOf, AreBelow, AreKids, body_of, head_line, query_of}
+use Rattle.cert_text.specs.ClaimLines.{claim_of}
 use Rattle.cert_text.specs.Due.{put_due, refused}
 use Rattle.cert_text.specs.declared.node_lines.BodyLine.{BodyLine}
 use Rattle.cert_text.specs.declared.node_lines.BodyLine.TheVariants.{Rule, Back, Expand}
-use Rattle.cert_text.specs.Reading.{HasHeader, ReadsBelow, IfBadText, IsRefused}
+use Rattle.cert_text.specs.Reading.{HasHeader, ReadsBelow, IsRefused}
 use Rattle.cert_text.specs.declared.faults.CertFault.{CertFault}
 use Rattle.cert_text.specs.declared.faults.CertFault.TheVariants.{BadText, Memory}
 use Rattle.cert_text.proofs.Due.{Fills, fills, stops, below_runs}

@@ -2,47 +2,30 @@
 use Rattle.std.proofs.Common.{◌≡◌, ℕ, ◌==◌, Bool, true, false, cond, List, [], ◌∷◌, ◌++◌, length, Option, Some, None, refl, sym, ap, ◌∙◌, subst, arith}
 use Rattle.std.specs.Prelude.{codes, IsTrue}
 use Rattle.std.specs.List.{concat, onto_first}
-use Rattle.std.specs.Str.{bytes_eq}
-use Rattle.std.proofs.lemmas.Option.{cond_some}
-use Rattle.std.proofs.lemmas.Slice.Eq.{bytes_eq-Decides}
 use Rattle.std.specs.Option.{option_map}
 use Rattle.board_base.specs.Board.{Places}
 use Rattle.board_base.specs.Rights.{Rights}
 use Rattle.board_base.specs.declared.men.Colour.{Colour}
 use Rattle.board_base.specs.declared.moves.Move.{Move}
 use Rattle.query_base.specs.Asked.{Asked, is_of_other_side}
-use Rattle.query_base.specs.declared.claims.Claim.{Claim}
-use Rattle.query_base.specs.declared.claims.Claim.TheVariants.{Illegal}
 use Rattle.fen_text.specs.Fen.{Position, asked, turn, rights, placement, number, en_passant, from_numbers, from_en_passant, from_rights, from_turn, fen, fen_of_four, unnumbered}
 use Rattle.fen_text.specs.Spelling.{spelling}
 use Rattle.fen_text.proofs.Back.{read_back}
 use Rattle.fen_text.proofs.OneText.{four_spelled}
 use Rattle.cert_text.specs.Lines.{cut, ended, said}
-use Rattle.cert_text.specs.Certificate.{Lines, Certificate, AreLinesOf, IsTextOf, HasText, head_line, claim_of, query_of, body_of}
-use Rattle.cert_text.specs.Writable.{IsQuery, root_text, fits}
+use Rattle.cert_text.specs.Certificate.{Lines, Certificate, AreLinesOf, IsTextOf, HasText, head_line, query_of, body_of}
+use Rattle.cert_text.specs.ClaimLines.{claim_text}
+use Rattle.cert_text.specs.Writable.{is_written, IsQuery, fits}
+use Rattle.cert_text.specs.NodeLines.{root_text}
+use Rattle.cert_text.proofs.ClaimTexts.{claim_back, claim_read, claim_free}
+use Rattle.cert_text.specs.Written.{lines_below}
 use Rattle.cert_text.proofs.Gives.{Gives, mapped, always, nothing, in_parts, given}
 use Rattle.cert_text.proofs.Frees.{body_free, spelling_free}
-use Rattle.cert_text.proofs.Spelled.{begun}
+use Rattle.cert_text.proofs.Begun.{begun}
 use Rattle.cert_text.proofs.SpelledLines.{said_back, said_read, root_back, root_read, when}
-use Rattle.cert_text.proofs.TreeTexts.{AreWhole, cut_back, fits_own, below_back, below_fits, below_one}
+use Rattle.cert_text.proofs.TreeTexts.{AreWhole, cut_back, fits_own, below_back, below_fits, below_is}
 
-claim_back : said claim_of (ended (codes "claim illegal")) ≡ Some Illegal
-unfolding said claim_of
-claim_back = refl
-
--- a line that makes a claim is the one line of it, and the claim is that there is no game
-pub record IsClaimLine (line : List ℕ) (claim : Claim) : Type 0 where
-  pub line_is : line ≡ ended (codes "claim illegal")
-  pub claim_is : claim ≡ Illegal
-
-pub claim_read : (line : List ℕ) (claim : Claim) → said claim_of line ≡ Some claim → IsClaimLine line claim
-unfolding claim_of
-claim_read line claim e =
-    let says = said_read claim_of line claim e in
-    let read = cond_some (bytes_eq says.text (codes "claim illegal")) Illegal claim says.stands in
-    record { line_is = says.line_is ∙ ap ended ((bytes_eq-Decides says.text (codes "claim illegal")).0 read.0); claim_is = sym read.1 }
-
-fen_line : Asked → List ℕ
+unfoldable pub fen_line : Asked → List ℕ
 fen_line q = ended (codes "fen " ++ spelling q)
 
 query_back : (q : Asked) → length q.board ≡ 64 → q.barred ≡ None → IsTrue (is_of_other_side q.turn q.only) → said query_of (fen_line q) ≡ Some q
@@ -85,11 +68,11 @@ unfolding fen_of_four
 plain_fen text q e = given (unnumbered (fen text)) q (plain_unnumbered (fen text) (plain_position text)) e
 
 -- a line with a query is the one line of it, and no move is barred in it
-record IsFenLine (line : List ℕ) (q : Asked) : Type 0 where
-  line_is : line ≡ fen_line q
-  plain : q.barred ≡ None
+pub record IsFenLine (line : List ℕ) (q : Asked) : Type 0 where
+  pub line_is : line ≡ fen_line q
+  pub plain : q.barred ≡ None
 
-query_read : (line : List ℕ) (q : Asked) → said query_of line ≡ Some q → IsFenLine line q
+pub query_read : (line : List ℕ) (q : Asked) → said query_of line ≡ Some q → IsFenLine line q
 unfolding query_of fen_line
 query_read line q e =
     let says = said_read query_of line q e in
@@ -101,7 +84,7 @@ query_read line q e =
 
 -- a certificate that the grammar admits
 pub record IsWritable (cert : Certificate) : Type 0 where
-  pub claim : cert.claim ≡ Illegal
+  pub claim : is_written cert.claim ≡ true
   pub plain : cert.query.barred ≡ None
   pub root : fits 0 cert.root ≡ true
 
@@ -111,18 +94,18 @@ has_text cert known writable =
     let own = fits_own cert.root 0 writable.root in
     let below = below_back cert.root 0 (omega arith) writable.root in
     let body : List ℕ = root_text (body_of cert.root) in
-    let lines : Lines = head_line ∷ ended (codes "claim illegal") ∷ fen_line cert.query ∷ ended body ∷ below.lines in
+    let lines : Lines = head_line ∷ ended (claim_text cert.claim) ∷ fen_line cert.query ∷ ended body ∷ below.lines in
     let whole-below : AreWhole (ended body ∷ below.lines) = (record { text = body; line_is = refl; free = body_free 0 (body_of cert.root) (omega arith) own }, below.whole) in
     let whole-fen : AreWhole (fen_line cert.query ∷ ended body ∷ below.lines) = (record { text = codes "fen " ++ spelling cert.query; line_is = refl; free = spelling_free cert.query }, whole-below) in
-    let whole : AreWhole lines = (record { text = codes "retro 1"; line_is = refl; free = refl }, (record { text = codes "claim illegal"; line_is = refl; free = refl }, whole-fen)) in (
+    let whole : AreWhole lines = (record { text = codes "retro 1"; line_is = refl; free = refl }, (record { text = claim_text cert.claim; line_is = refl; free = claim_free cert.claim }, whole-fen)) in (
       concat lines,
       subst (λ (l : Lines). AreLinesOf l cert) (sym (cut_back lines whole)) (record {
-        claim_line = ended (codes "claim illegal");
+        claim_line = ended (claim_text cert.claim);
         fen_line = fen_line cert.query;
         root_line = ended body;
         below = below.lines;
         parts = refl;
-        claim = claim_back ∙ ap (λ (c : Claim). Some c) (sym writable.claim);
+        claim = claim_back cert.claim writable.claim;
         query = query_back cert.query known.whole writable.plain known.step;
         root = root_back (body_of cert.root) own;
         nodes = below.are;
@@ -133,20 +116,25 @@ pub writable : (lines : Lines) (cert : Certificate) → AreLinesOf lines cert �
 writable lines cert a =
     let root = root_read a.root_line (body_of cert.root) a.root in
     record {
-      claim = (claim_read a.claim_line cert.claim a.claim).claim_is;
+      claim = (claim_read a.claim_line cert.claim a.claim).written;
       plain = (query_read a.fen_line cert.query a.query).plain;
       root = below_fits cert.root 0 a.below root.fits a.nodes;
     }
 
--- the lines of a certificate are its one list of them
-pub lines_one : (a b : Lines) (cert : Certificate) → AreLinesOf a cert → AreLinesOf b cert → a ≡ b
-lines_one a b cert p q =
-    let claims : p.claim_line ≡ q.claim_line = (claim_read p.claim_line cert.claim p.claim).line_is ∙ sym (claim_read q.claim_line cert.claim q.claim).line_is in
-    let fens : p.fen_line ≡ q.fen_line = (query_read p.fen_line cert.query p.query).line_is ∙ sym (query_read q.fen_line cert.query q.query).line_is in
-    let roots : p.root_line ≡ q.root_line = (root_read p.root_line (body_of cert.root) p.root).line_is ∙ sym (root_read q.root_line (body_of cert.root) q.root).line_is in
-    let nodes : p.below ≡ q.below = below_one cert.root 0 p.below q.below p.nodes q.nodes in
-    p.parts ∙ ap (λ (l : List ℕ). head_line ∷ l ∷ p.fen_line ∷ p.root_line ∷ p.below) claims ∙ ap (λ (l : List ℕ). head_line ∷ q.claim_line ∷ l ∷ p.root_line ∷ p.below) fens
-    ∙ ap (λ (l : List ℕ). head_line ∷ q.claim_line ∷ q.fen_line ∷ l ∷ p.below) roots ∙ ap (λ (l : Lines). head_line ∷ q.claim_line ∷ q.fen_line ∷ q.root_line ∷ l) nodes ∙ sym q.parts
+-- what is written of a certificate
+abbrev pub cert_lines : Certificate → Lines
+cert_lines cert = head_line ∷ ended (claim_text cert.claim) ∷ ended (codes "fen " ++ spelling cert.query) ∷ ended (root_text (body_of cert.root)) ∷ lines_below cert.root
+
+-- the lines of a certificate are the ones that are written of it
+lines_are : (lines : Lines) (cert : Certificate) → AreLinesOf lines cert → lines ≡ cert_lines cert
+unfolding fen_line
+lines_are lines cert a =
+    let claim : List ℕ = ended (claim_text cert.claim) in
+    let own : List ℕ = ended (root_text (body_of cert.root)) in
+    a.parts ∙ ap (λ (l : List ℕ). head_line ∷ l ∷ a.fen_line ∷ a.root_line ∷ a.below) (claim_read a.claim_line cert.claim a.claim).line_is
+    ∙ ap (λ (l : List ℕ). head_line ∷ claim ∷ l ∷ a.root_line ∷ a.below) (query_read a.fen_line cert.query a.query).line_is
+    ∙ ap (λ (l : List ℕ). head_line ∷ claim ∷ fen_line cert.query ∷ l ∷ a.below) (root_read a.root_line (body_of cert.root) a.root).line_is
+    ∙ ap (λ (ls : Lines). head_line ∷ claim ∷ fen_line cert.query ∷ own ∷ ls) (below_is cert.root 0 a.below a.nodes)
 
 onto : (b : ℕ) (lines : Lines) → concat (onto_first b lines) ≡ b ∷ concat lines
 onto b [] = refl
@@ -157,10 +145,18 @@ step true b lines = refl
 step false b lines = onto b lines
 
 -- the lines of bytes are these bytes
-concat_cut : (bytes : List ℕ) → concat (cut bytes) ≡ bytes
+pub concat_cut : (bytes : List ℕ) → concat (cut bytes) ≡ bytes
 concat_cut [] = refl
 concat_cut (b ∷ bytes) = step (b == 10) b (cut bytes) ∙ ap (λ (l : List ℕ). b ∷ l) (concat_cut bytes)
 
+-- a text of a certificate is what is written of it
+pub text_is : (bytes : List ℕ) (cert : Certificate) → IsTextOf bytes cert → bytes ≡ concat (cert_lines cert)
+text_is bytes cert text = sym (concat_cut bytes) ∙ ap concat (lines_are (cut bytes) cert text)
+
 -- a certificate has one text
 pub text_one : (a b : List ℕ) (cert : Certificate) → IsTextOf a cert → IsTextOf b cert → a ≡ b
-text_one a b cert p q = sym (concat_cut a) ∙ ap concat (lines_one (cut a) (cut b) cert p q) ∙ concat_cut b
+text_one a b cert p q = text_is a cert p ∙ sym (text_is b cert q)
+
+-- what is written of a certificate that has a text is its text
+pub text_written : (cert : Certificate) (bytes : List ℕ) → HasText cert → bytes ≡ concat (cert_lines cert) → IsTextOf bytes cert
+text_written cert bytes (text, stands) e = subst (λ (l : List ℕ). IsTextOf l cert) (text_is text cert stands ∙ sym e) stands

@@ -8,7 +8,8 @@ use Rattle.cert_text.specs.Lines.{said}
 use Rattle.cert_text.specs.NodeLines.{kid_body}
 use Rattle.cert_text.specs.Certificate.{Lines, AreBelow, AreKids, body_of}
 use Rattle.cert_text.specs.Due.{put_due, refused}
-use Rattle.cert_text.specs.Reading.{ReadsBelow, ReadsKids, SaysKid, IfBadText, IsRefused}
+use Rattle.cert_text.specs.Reading.{ReadsBelow, ReadsKids, SaysKid, IsRefused}
+use Rattle.cert_text.specs.Texts.{IfBadText}
 use Rattle.cert_text.specs.declared.node_lines.BodyLine.{BodyLine}
 use Rattle.cert_text.specs.declared.faults.CertFault.{CertFault}
 use Rattle.cert_text.specs.declared.faults.CertFault.TheVariants.{BadText, Memory}

@@ -7,7 +7,7 @@ use Rattle.std.proofs.lemmas.Fmt.{digits_decimal, digits_value-decimal, length-d
 use Rattle.std.specs.Fmt.{decimal}
 use Rattle.std.specs.List.{list_all, fold}
 use Rattle.fen_text.specs.Fen.{is_digit, value}
-use Rattle.cert_text.specs.NodeLines.{is_plain, is_number, number}
+use Rattle.cert_text.specs.Arguments.{is_plain, is_number, number}
 
 pub model : IsNumeralModel (λ ds. list_all is_digit ds ≡ true) value
 model = numerals_by_fold _ (search rules) (λ n ds. fold (λ k d. 10 * k + (d - 48)) n ds) (search rules)

@@ -5,7 +5,8 @@ use Rattle.std.specs.Option.{option_map}
 use Rattle.std.proofs.lemmas.Bool.Decides.{nat_tests}
 use Rattle.board_base.specs.Texts.{unmove_from}
 use Rattle.cert_text.specs.Lines.{said}
-use Rattle.cert_text.specs.NodeLines.{HasRoom, kid_body, body_at, back_at, expand_at}
+use Rattle.cert_text.specs.NodeLines.{kid_body, body_at, back_at, expand_at}
+use Rattle.cert_text.specs.Reading.{HasRoom}
 use Rattle.cert_text.specs.declared.node_lines.BodyLine.TheVariants.{Back, Expand}
 use Rattle.cert_text.proofs.Gives.{Gives, either, after, mapped, always, nothing, in_parts}
 

@@ -3,8 +3,10 @@ use Rattle.std.proofs.Common.{◌≡◌, ℕ, zero, suc, ◌<◌, ◌≤◌, Lis
 use Rattle.std.specs.Prelude.{Some, None}
 use Rattle.std.proofs.lemmas.Option.{some_pair_parts}
 use Rattle.board_base.specs.declared.unmoves.Unmove.{Unmove}
-use Rattle.cert_text.specs.Tree.{Forest, Tree, none, more, count, kid_at, with_last, rest_of}
-use Rattle.cert_text.specs.Seen.{forest_of, tree_of}
+use Rattle.cert_text.specs.Tree.{Forest, Tree, none, more, count, kid_at, with_last}
+use Rattle.cert_text.specs.Sizes.{rest_of, size, size_all}
+use Rattle.cert_text.specs.Seen.{tree_of}
+use Rattle.cert_text.specs.SeenKids.{forest_of}
 use Rattle.cert_text.specs.declared.nodes.Kid.{Kid}
 
 pub count-forest : (ks : List Kid) → length ks ≡ count (forest_of ks)
@@ -38,3 +40,9 @@ rest-end none zero past = refl
 rest-end none (suc i) past = refl
 rest-end (more label tree rest) zero past = absurd (omega arith)
 rest-end (more label tree rest) (suc i) past = rest-end rest i (omega arith)
+
+-- a child's tree is smaller than all children together
+pub kid_smaller : (f : Forest) (i : ℕ) (l : Unmove) (t : Tree) → kid_at f i ≡ Some (l, t) → suc (size t) ≤ size_all f
+kid_smaller none i l t e = cc
+kid_smaller (more label tree rest) zero l t e = let s : size tree ≡ size t = ap size (some_pair_parts _ _ _ _ e).1 in omega arith
+kid_smaller (more label tree rest) (suc i) l t e = let h = kid_smaller rest i l t e in omega arith

@@ -13,16 +13,16 @@ use Rattle.board_base.specs.declared.moves.Move.{Move}
 use Rattle.board_base.specs.declared.unmoves.Unmove.{Unmove}
 use Rattle.fen_text.proofs.NumberLemmas.{digits_free}
 use Rattle.query_base.specs.Asked.{Asked}
-use Rattle.query_base.specs.declared.rule_lines.RuleLine.{RuleLine}
-use Rattle.query_base.specs.declared.rule_lines.RuleLine.TheVariants.{Kings, Ranks, Check, Rights as RightsRule, Count}
 use Rattle.fen_text.specs.Fen.{en_passant_digit}
 use Rattle.fen_text.specs.Parts.{Free}
 use Rattle.fen_text.specs.Spelling.{symbol, run_text, rank_text, rank_of, ranks_text, turn_letter, rights_text, en_passant_text, spelling}
 use Rattle.fen_text.proofs.PartLemmas.{free_append}
-use Rattle.cert_text.specs.Writable.{body_text, fits_depth}
+use Rattle.cert_text.specs.Writable.{fits_depth}
+use Rattle.cert_text.specs.NodeLines.{body_text}
 use Rattle.cert_text.specs.declared.node_lines.BodyLine.{BodyLine}
 use Rattle.cert_text.specs.declared.node_lines.BodyLine.TheVariants.{Rule, Back, Expand}
 use Rattle.cert_text.proofs.Decimals.{model}
+use Rattle.cert_text.proofs.RuleTexts.{name_free}
 
 -- a byte above c, in front of a text without c
 higher : (c b : ℕ) (text : List ℕ) → c < b → Free c text → Free c (b ∷ text)
@@ -48,26 +48,22 @@ capture_free c captured true low = higher c 101 (112 ∷ []) (omega arith) (high
 capture_free c None false low = refl
 capture_free c (Some k) false low = higher c 120 (letter_of k ∷ []) (omega arith) (higher c (letter_of k) [] (omega (arith, letter_high k)) refl)
 
+-- the text of a move has no byte below that of 0
+pub move_free : (c : ℕ) (m : Move) → c < 48 → Free c (move_text m)
+move_free c m low =
+    free_append c (square_text m.from ++ square_text m.to) (promo_text m.promo) (free_append c (square_text m.from) (square_text m.to) (square_free c m.from low) (square_free c m.to low)) (promo_free c m.promo low)
+
 -- the text of an unmove has no byte below that of 0
 pub unmove_free : (c : ℕ) (u : Unmove) → c < 48 → Free c (unmove_text u)
 unmove_free c u low =
-    free_append c (move_text u.mv) (capture_text u.captured u.ep) (free_append c (square_text u.mv.from ++ square_text u.mv.to) (promo_text u.mv.promo) (free_append c (square_text u.mv.from) (square_text u.mv.to) (square_free c u.mv.from low) (square_free c u.mv.to low)) (promo_free c u.mv.promo low))
-    (capture_free c u.captured u.ep low)
+    free_append c (move_text u.mv) (capture_text u.captured u.ep) (move_free c u.mv low) (capture_free c u.captured u.ep low)
 
 decimal_free : (n : ℕ) → n ≤ 999999 → Free 10 (decimal n)
 decimal_free n few = digits_free 10 (decimal n) (omega arith) (digits_decimal model n (omega arith))
 
-rule_free : (r : RuleLine) → Free 10 (body_text (Rule r))
-rule_free Kings = refl
-rule_free Ranks = refl
-rule_free Check = refl
-rule_free RightsRule = refl
-rule_free (Count White) = refl
-rule_free (Count Black) = refl
-
 -- the text of a body has no line end
 pub body_free : (depth : ℕ) (b : BodyLine) → depth ≤ 255 → fits_depth depth b ≡ true → Free 10 (body_text b)
-body_free depth (Rule r) low fits = rule_free r
+body_free depth (Rule r) low fits = name_free r fits
 body_free depth (Back k) low fits =
     let parts = and_parts (nat_le 1 k) (nat_le k depth) fits in
     let k-low = leb-true k depth parts.1 in

@@ -1,6 +1,9 @@
+mod Examples
+pub mod Tests
 pub mod Forests
 pub mod Numbers
 pub mod Cuts
+pub mod PartTexts
 pub mod KidLines
 pub mod Due
 pub mod Gives
@@ -8,12 +11,22 @@ pub mod Fitting
 pub mod Children
 pub mod Bad
 pub mod Decimals
+pub mod Begun
+pub mod HexTexts
+pub mod SignedTexts
+pub mod WordTexts
+pub mod NearNumbers
+pub mod RuleTexts
 pub mod Spelled
 pub mod OnBoard
 pub mod Frees
 pub mod SpelledLines
 pub mod TreeTexts
+pub mod ClaimTexts
 pub mod CertTexts
 pub mod Admitted
 pub mod OneCertificate
 pub mod OneFault
+pub mod WrittenSets
+pub mod WrittenNumbers
+pub mod WrittenTrees

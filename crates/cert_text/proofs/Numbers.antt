@@ -3,7 +3,8 @@ use Rattle.std.proofs.Common.{◌≡◌, ℕ, ◌<◌, ◌≤◌, Bool, true, fa
 use Rattle.std.proofs.lemmas.Bool.{and_left, and_right, le-leb, lt-leb, cond-false}
 use Rattle.std.specs.List.{list_all}
 use Rattle.fen_text.specs.Fen.{is_digit, value, number as digits}
-use Rattle.cert_text.specs.NodeLines.{is_plain, is_number, number}
+use Rattle.cert_text.specs.Arguments.{is_plain, is_number, number}
+use Rattle.cert_text.proofs.Tests.{both_true}
 
 no_number : (text : List ℕ) → is_number text ≡ false → number text ≡ None
 unfolding number
@@ -21,12 +22,9 @@ number_padded text padded = no_number text (and_left _ _ (and_right _ _ padded))
 last_of : (a b c d : Bool) → a ≡ true → b ≡ true → c ≡ true → (a && b && c && d) ≡ d
 last_of a b c d p q r = rw (p, q, r) refl
 
-both_of : (a b c : Bool) → a ≡ true → b ≡ true → (a && b && c) ≡ c
-both_of a b c p q = rw (p, q) refl
-
 -- with no leading zero, one to six digits stand for their value
 pub number_digits : (text : List ℕ) → 1 ≤ length text → length text ≤ 6 → is_plain text ≡ true → digits text ≡ number text
 unfolding number digits
 number_digits text some few plain =
-    ap (λ (b : Bool). cond b (Some (value text)) None) (both_of _ _ (list_all is_digit text) (le-leb 1 (length text) some) (le-leb (length text) 9 (omega arith))
+    ap (λ (b : Bool). cond b (Some (value text)) None) (both_true _ _ (list_all is_digit text) (le-leb 1 (length text) some) (le-leb (length text) 9 (omega arith))
     ∙ sym (last_of _ _ (is_plain text) (list_all is_digit text) (le-leb 1 (length text) some) (le-leb (length text) 6 few) plain))

@@ -5,8 +5,9 @@ use Rattle.std.specs.Option.{option_map}
 use Rattle.std.proofs.lemmas.Bool.{and_parts, leb-true}
 use Rattle.std.proofs.lemmas.Option.{cond_some}
 use Rattle.board_base.specs.declared.men.Kind.{Kind}
+use Rattle.board_base.specs.declared.moves.Move.{Move}
 use Rattle.board_base.specs.declared.unmoves.Unmove.{Unmove}
-use Rattle.board_base.specs.Texts.{◌>>=◌, square_at, promo_head, after_promo, capture_of, unmove_as, unmove_from}
+use Rattle.board_base.specs.Texts.{◌>>=◌, square_at, promo_of, move_of, promo_head, after_promo, capture_of, unmove_as, unmove_from}
 use Rattle.fen_text.proofs.PartLemmas.{bound_some, mapped_some}
 
 square_small : (a b s : ℕ) → square_at a b ≡ Some s → s < 64
@@ -19,6 +20,22 @@ square_small a b s e =
     let rank = leb-true b 56 last.1 in
     let is = parts.1 in
     omega arith
+
+pub record MoveOnBoard (m : Move) : Type 0 where
+  pub from : m.from < 64
+  pub to : m.to < 64
+
+pub move_on_board : (text : List ℕ) (m : Move) → move_of text ≡ Some m → MoveOnBoard m
+unfolding move_of
+move_on_board [] m e = absurd cc
+move_on_board (a ∷ []) m e = absurd cc
+move_on_board (a ∷ b ∷ []) m e = absurd cc
+move_on_board (a ∷ b ∷ c ∷ []) m e = absurd cc
+move_on_board (a ∷ b ∷ c ∷ d ∷ rest) m e =
+    let f = bound_some (square_at a b) (λ from. square_at c d >>= (λ to. option_map (λ p. record { from = from; to = to; promo = p }) (promo_of rest))) m e in
+    let t = bound_some (square_at c d) (λ to. option_map (λ p. record { from = f.0; to = to; promo = p }) (promo_of rest)) m f.2 in
+    let x = mapped_some (λ p. record { from = f.0; to = t.0; promo = p }) (promo_of rest) m t.2 in
+    subst MoveOnBoard x.2 (record { from = square_small a b f.0 f.1; to = square_small c d t.0 t.1 })
 
 pub record OnBoard (u : Unmove) : Type 0 where
   pub from : u.mv.from < 64

@@ -6,9 +6,10 @@ use Rattle.query_base.specs.declared.rule_lines.RuleLine.{RuleLine}
 use Rattle.cert_text.specs.Tree.{Tree, Forest, rule, back, expand, none, more, count}
 use Rattle.cert_text.specs.Lines.{said}
 use Rattle.cert_text.specs.NodeLines.{root_body, kid_body}
-use Rattle.cert_text.specs.Certificate.{Lines, Certificate, AreLinesOf, AreBelow, AreKids, body_of, claim_of, query_of}
+use Rattle.cert_text.specs.Certificate.{Lines, Certificate, AreLinesOf, AreBelow, AreKids, body_of, query_of}
+use Rattle.cert_text.specs.ClaimLines.{claim_of}
 use Rattle.cert_text.specs.declared.node_lines.BodyLine.{BodyLine}
-use Rattle.board_base.proofs.Lists.{same_first, same_rest}
+use Rattle.general_lemmas.proofs.Lists.{same_first, same_rest}
 
 -- two trees that begin the same lines are one, and so is what follows them
 record SameTree (t u : Tree) (x y : Lines) : Type 0 where

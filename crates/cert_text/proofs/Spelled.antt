@@ -1,35 +1,26 @@
 -- What is read as a line is its one text, and is read of it.
-use Rattle.std.proofs.Common.{◌≡◌, ℕ, ◌≤◌, ◌==◌, ◌||◌, ◌&&◌, true, List, ◌++◌, length, drop, Option, Some, None, refl, sym, ap, ◌∙◌, arith, nat_eq, nat_lt, nat_le}
+use Rattle.std.proofs.Common.{◌≡◌, ℕ, ◌≤◌, ◌==◌, ◌||◌, ◌&&◌, true, List, ◌++◌, drop, Option, Some, None, refl, sym, ap, ◌∙◌, arith, nat_eq, nat_lt, nat_le}
 use Rattle.std.specs.Prelude.{codes}
 use Rattle.std.proofs.lemmas.Bool.{and_parts, and_from, cond-true, cond_both, le-leb}
-use Rattle.std.proofs.lemmas.Bool.Decides.{Decides-eqb, nat_tests}
+use Rattle.std.proofs.lemmas.Bool.Decides.{nat_tests}
 use Rattle.std.proofs.lemmas.Option.{cond_some, same_Some}
-use Rattle.std.proofs.lemmas.Slice.Eq.{bytes_eq-Decides, starts_is}
 use Rattle.std.specs.List.{starts_with}
-use Rattle.std.specs.Str.{bytes_eq}
 use Rattle.std.specs.Option.{option_map, option_and_then}
-use Rattle.board_base.specs.declared.men.Colour.{Colour}
-use Rattle.board_base.specs.declared.men.Colour.TheVariants.{White, Black}
 use Rattle.query_base.specs.declared.rule_lines.RuleLine.{RuleLine}
-use Rattle.query_base.specs.declared.rule_lines.RuleLine.TheVariants.{Kings, Ranks, Check, Rights, Count}
-use Rattle.fen_text.specs.Fen.{turn}
-use Rattle.fen_text.proofs.OneText.{turn_spelled}
-use Rattle.cert_text.specs.NodeLines.{rule_of, number, back_at, expand_at, body_at}
-use Rattle.cert_text.specs.Writable.{rule_name, body_text, fits_depth}
+use Rattle.cert_text.specs.Arguments.{number}
+use Rattle.cert_text.specs.NodeLines.{rule_of, back_at, expand_at, body_at, body_text}
+use Rattle.cert_text.specs.Writable.{fits_depth, is_rule}
 use Rattle.cert_text.specs.declared.node_lines.BodyLine.{BodyLine}
 use Rattle.cert_text.specs.declared.node_lines.BodyLine.TheVariants.{Rule, Back, Expand}
+use Rattle.cert_text.proofs.Begun.{begun}
 use Rattle.cert_text.proofs.Decimals.{number_back, number_read}
+use Rattle.cert_text.proofs.RuleTexts.{Only, name_back, name_read, only_none}
 
 -- bodies
 
-rule_back : (depth : ℕ) (r : RuleLine) → body_at depth (body_text (Rule r)) ≡ Some (Rule r)
+rule_back : (depth : ℕ) (r : RuleLine) → is_rule r ≡ true → body_at depth (body_text (Rule r)) ≡ Some (Rule r)
 unfolding body_at
-rule_back depth Kings = refl
-rule_back depth Ranks = refl
-rule_back depth Check = refl
-rule_back depth Rights = refl
-rule_back depth (Count White) = refl
-rule_back depth (Count Black) = refl
+rule_back depth r known = ap (option_map (λ (r : RuleLine). Rule r)) (name_back r known)
 
 back_read : (depth k : ℕ) → k ≤ 999999 → body_at depth (body_text (Back k)) ≡ back_at depth k
 unfolding body_at
@@ -41,7 +32,7 @@ expand_read depth n few = ap (option_and_then (expand_at depth)) (number_back n 
 
 -- the text of a body is read as this body
 pub body_back : (depth : ℕ) (b : BodyLine) → depth ≤ 255 → fits_depth depth b ≡ true → body_at depth (body_text b) ≡ Some b
-body_back depth (Rule r) low fits = rule_back depth r
+body_back depth (Rule r) low fits = rule_back depth r fits
 body_back depth (Back k) low fits =
     let parts = and_parts (nat_le 1 k) (nat_le k depth) fits in
     back_read depth k (grind (arith, nat_tests)) ∙ cond-true (nat_le 1 k && nat_le k depth) (Some (Back k)) None fits
@@ -54,39 +45,12 @@ pub record IsTextOfBody (depth : ℕ) (text : List ℕ) (b : BodyLine) : Type 0 
   pub text_is : text ≡ body_text b
   pub fits : fits_depth depth b ≡ true
 
--- what an option gives, if anything, has the property
-abbrev Only : {A : Type 0} → (A → Type 0) → Option A → Type 0
-Only {A} P o = (a : A) → o ≡ Some a → P a
-
-only_none : {A : Type 0} (P : A → Type 0) → Only P None
-only_none P a e = absurd cc
-
-named : (name text : List ℕ) (r s : RuleLine) → rule_name r ≡ name → bytes_eq text name ≡ true → Some r ≡ Some s → text ≡ rule_name s
-named name text r s is same e = (bytes_eq-Decides text name).0 same ∙ sym is ∙ ap rule_name (same_Some r s e)
-
--- a text that begins so
-pub begun : (text front : List ℕ) → starts_with nat_eq text front ≡ true → text ≡ front ++ drop (length front) text
-begun text front = (starts_is Decides-eqb text front (starts_with nat_eq text front) refl).0
-
-after_count : (text : List ℕ) (o : Option Colour) → text ≡ codes "count " ++ drop 6 text → turn (drop 6 text) ≡ o → Only (λ r. text ≡ rule_name r) (option_map (λ side. Count side) o)
-after_count text None whole e r is = absurd cc
-after_count text (Some side) whole e r is =
-    whole ∙ ap (λ (l : List ℕ). codes "count " ++ l) (turn_spelled (drop 6 text) side e) ∙ ap rule_name (same_Some _ _ is)
-
-rule_read : (text : List ℕ) → Only (λ r. text ≡ rule_name r) (rule_of text)
-rule_read text =
-    cond_both (bytes_eq text (codes "kings")) _ _ (Only (λ r. text ≡ rule_name r)) (λ t r. named (codes "kings") text Kings r refl t)
-    (λ f. cond_both (bytes_eq text (codes "ranks")) _ _ (Only (λ r. text ≡ rule_name r)) (λ t r. named (codes "ranks") text Ranks r refl t)
-    (λ f. cond_both (bytes_eq text (codes "check")) _ _ (Only (λ r. text ≡ rule_name r)) (λ t r. named (codes "check") text Check r refl t)
-    (λ f. cond_both (bytes_eq text (codes "rights")) _ _ (Only (λ r. text ≡ rule_name r)) (λ t r. named (codes "rights") text Rights r refl t)
-    (λ f. cond_both (starts_with nat_eq text (codes "count ")) _ _ (Only (λ r. text ≡ rule_name r)) (λ t. after_count text (turn (drop 6 text)) (begun text (codes "count ") t) refl)
-    (λ f. only_none (λ r. text ≡ rule_name r))))))
-
 after_rule : (depth : ℕ) (text : List ℕ) (o : Option RuleLine) → text ≡ codes "rule " ++ drop 5 text → rule_of (drop 5 text) ≡ o → Only (IsTextOfBody depth text) (option_map (λ r. Rule r) o)
 after_rule depth text None whole e b is = absurd cc
 after_rule depth text (Some r) whole e b is =
     let same : Rule r ≡ b = same_Some _ _ is in
-    record { text_is = whole ∙ ap (λ (l : List ℕ). codes "rule " ++ l) (rule_read (drop 5 text) r e) ∙ ap body_text same; fits = ap (fits_depth depth) (sym same) }
+    let name = name_read (drop 5 text) r e in
+    record { text_is = whole ∙ ap (λ (l : List ℕ). codes "rule " ++ l) name.name_is ∙ ap body_text same; fits = ap (fits_depth depth) (sym same) ∙ name.known }
 
 after_back : (depth : ℕ) (text : List ℕ) (o : Option ℕ) → text ≡ codes "back " ++ drop 5 text → number (drop 5 text) ≡ o → Only (IsTextOfBody depth text) (option_and_then (back_at depth) o)
 after_back depth text None whole e b is = absurd cc

@@ -1,5 +1,5 @@
 -- Lines with their ends, and their texts.
-use Rattle.std.proofs.Common.{◌≡◌, ℕ, zero, suc, ◌-◌, ◌≤◌, Bool, true, false, cond, List, [], ◌∷◌, ◌++◌, length, drop, take, take_at, length-append, Option, Some, None, refl, ap, ◌∙◌, arith, nat_eq, nat_lt}
+use Rattle.std.proofs.Common.{◌≡◌, ℕ, zero, suc, ◌-◌, ◌≤◌, true, List, [], ◌∷◌, ◌++◌, length, drop, take, take_at, length-append, Option, Some, None, refl, ap, ◌∙◌, arith, nat_eq, nat_lt}
 use Rattle.std.specs.Prelude.{codes}
 use Rattle.std.proofs.lemmas.Bool.{and_parts, and_from, cond-true, lt-ltb, ltb-true}
 use Rattle.std.proofs.lemmas.Bool.Decides.{Decides-eqb}
@@ -13,16 +13,19 @@ use Rattle.board_base.proofs.OneText.{unmove_read}
 use Rattle.board_base.proofs.TextLemmas.{unmove_back}
 use Rattle.fen_text.proofs.PartLemmas.{followed, mapped_some}
 use Rattle.cert_text.specs.Lines.{ended, without_end, said}
-use Rattle.cert_text.specs.NodeLines.{body_at, root_body, kid_body, node_line}
-use Rattle.cert_text.specs.Writable.{body_text, root_text, kid_text, line_text, has_text, fits_depth}
+use Rattle.cert_text.specs.NodeLines.{body_at, root_body, kid_body, node_line, body_text, root_text, kid_text, line_text}
+use Rattle.cert_text.specs.Writable.{has_text, fits_depth}
 use Rattle.cert_text.specs.declared.node_lines.BodyLine.{BodyLine}
 use Rattle.cert_text.specs.declared.node_lines.NodeLine.{NodeLine}
 use Rattle.cert_text.proofs.KidLines.{labelled, kid_is}
 use Rattle.cert_text.proofs.Frees.{unmove_free}
 use Rattle.cert_text.proofs.OnBoard.{unmove_on_board}
-use Rattle.cert_text.proofs.Spelled.{body_back, body_read, begun}
+use Rattle.cert_text.proofs.Begun.{begun}
+use Rattle.cert_text.proofs.Spelled.{body_back, body_read}
+pub use Rattle.cert_text.proofs.Tests.{when}
 
-ends : (text : List ℕ) → without_end (ended text) ≡ Some text
+-- a line with its end taken off
+pub ends : (text : List ℕ) → without_end (ended text) ≡ Some text
 ends text =
     let is = (ends_is Decides-eqb (ended text) (10 ∷ []) (ends_with nat_eq (ended text) (10 ∷ [])) refl).1 text refl in
     let size : length text ≡ length (ended text) - 1 = omega (arith, length-append text (10 ∷ [])) in
@@ -49,11 +52,6 @@ pub said_read : {A : Type 0} (grammar : List ℕ → Option A) (line : List ℕ)
 unfolding said
 said_read grammar line x e =
     option_and_then_some grammar (without_end line) x e (λ text here stands. record { text = text; line_is = ended_by line text here; stands = stands })
-
--- where a test was met
-pub when : {A : Type 0} (b : Bool) (o : Option A) (x : A) → cond b o None ≡ Some x → (b ≡ true) × (o ≡ Some x)
-when true o x e = (refl, e)
-when false o x e = absurd cc
 
 -- the root's line
 
@@ -93,16 +91,16 @@ kid_back depth u b low label fits =
     said_back (kid_body depth) (kid_text u b) (u, b) (kid_is depth (kid_text u b) (unmove_text u) (body_text b) u (Some b) (unmove_free 32 u (omega arith)) refl (unmove_back u (ltb-true u.mv.from 64 first.0) (ltb-true u.mv.to 64 first.1) third.1 last.1) (body_back depth b low fits))
 
 -- a text is the one of a child with this label and this body
-record IsTextOfKid (depth : ℕ) (text : List ℕ) (u : Unmove) (b : BodyLine) : Type 0 where
-  text_is : text ≡ kid_text u b
-  label : has_text u ≡ true
-  fits : fits_depth depth b ≡ true
+pub record IsTextOfKid (depth : ℕ) (text : List ℕ) (u : Unmove) (b : BodyLine) : Type 0 where
+  pub text_is : text ≡ kid_text u b
+  pub label : has_text u ≡ true
+  pub fits : fits_depth depth b ≡ true
 
 labelled_some : (u v : Unmove) (o : Option BodyLine) (b : BodyLine) → labelled u o ≡ Some (v, b) → (u ≡ v) × (o ≡ Some b)
 labelled_some u v None b e = absurd cc
 labelled_some u v (Some a) b e = let p = some_pair_parts u v a b e in (p.0, ap (λ (c : BodyLine). Some c) p.1)
 
-kid_text_read : (depth : ℕ) (text : List ℕ) (u : Unmove) (b : BodyLine) → kid_body depth text ≡ Some (u, b) → IsTextOfKid depth text u b
+pub kid_text_read : (depth : ℕ) (text : List ℕ) (u : Unmove) (b : BodyLine) → kid_body depth text ≡ Some (u, b) → IsTextOfKid depth text u b
 unfolding kid_body
 kid_text_read depth text u b e =
     let f = followed 32 unmove_from (λ u. None) (λ u rest. labelled u (body_at depth rest)) text (u, b) (λ x. refl) e in

@@ -9,7 +9,9 @@ use Rattle.fen_text.proofs.PartLemmas.{free_append}
 use Rattle.cert_text.specs.Tree.{Tree, Forest, rule, back, expand, none, more, count}
 use Rattle.cert_text.specs.Lines.{cut, ended}
 use Rattle.cert_text.specs.Certificate.{Lines, body_of, AreBelow, AreKids}
-use Rattle.cert_text.specs.Writable.{body_text, kid_text, has_text, fits_depth, fits, all_fit}
+use Rattle.cert_text.specs.Writable.{has_text, fits_depth, fits, all_fit}
+use Rattle.cert_text.specs.NodeLines.{body_text, kid_text}
+use Rattle.cert_text.specs.Written.{lines_below, lines_of}
 use Rattle.cert_text.specs.declared.node_lines.BodyLine.TheVariants.{Expand}
 use Rattle.cert_text.proofs.Frees.{unmove_free, body_free}
 use Rattle.cert_text.proofs.SpelledLines.{kid_back, kid_read}
@@ -54,7 +56,7 @@ pub record Kids (kids : Forest) (depth : ℕ) : Type 0 where
   pub whole : AreWhole lines
 
 pub fits_own : (tree : Tree) (depth : ℕ) → fits depth tree ≡ true → fits_depth depth (body_of tree) ≡ true
-fits_own (rule r) depth fit = refl
+fits_own (rule r) depth fit = fit
 fits_own (back k) depth fit = fit
 fits_own (expand kids) depth fit = (and_parts (fits_depth depth (Expand (count kids))) (all_fit (suc depth) kids) fit).0
 
@@ -89,7 +91,7 @@ mutual
 mutual
   -- a tree that has lines is admitted
   pub below_fits : (tree : Tree) (depth : ℕ) (lines : Lines) → fits_depth depth (body_of tree) ≡ true → AreBelow tree depth lines → fits depth tree ≡ true
-  below_fits (rule r) depth lines own are = refl
+  below_fits (rule r) depth lines own are = own
   below_fits (back k) depth lines own are = own
   below_fits (expand kids) depth lines own are = and_from _ _ own (kids_fit kids (suc depth) lines are)
 
@@ -100,16 +102,16 @@ mutual
       and_from _ _ (and_from _ _ said.label (below_fits tree depth are.1 said.fits are.5)) (kids_fit rest depth are.2 are.6)
 
 mutual
-  -- a tree has one list of lines
-  pub below_one : (tree : Tree) (depth : ℕ) (a b : Lines) → AreBelow tree depth a → AreBelow tree depth b → a ≡ b
-  below_one (rule r) depth a b p q = p ∙ sym q
-  below_one (back k) depth a b p q = p ∙ sym q
-  below_one (expand kids) depth a b p q = kids_one kids (suc depth) a b p q
+  -- the lines below a node are the ones that are written of it
+  pub below_is : (tree : Tree) (depth : ℕ) (lines : Lines) → AreBelow tree depth lines → lines ≡ lines_below tree
+  below_is (rule r) depth lines are = are
+  below_is (back k) depth lines are = are
+  below_is (expand kids) depth lines are = kids_are kids (suc depth) lines are
 
-  kids_one : (kids : Forest) (depth : ℕ) (a b : Lines) → AreKids kids depth a → AreKids kids depth b → a ≡ b
-  kids_one none depth a b p q = p ∙ sym q
-  kids_one (more label tree rest) depth a b p q =
-      let own : p.0 ≡ q.0 = (kid_read depth p.0 label (body_of tree) p.4).line_is ∙ sym (kid_read depth q.0 label (body_of tree) q.4).line_is in
-      let below = below_one tree depth p.1 q.1 p.5 q.5 in
-      let others = kids_one rest depth p.2 q.2 p.6 q.6 in
-      p.3 ∙ ap (λ (l : List ℕ). l ∷ (p.1 ++ p.2)) own ∙ ap (λ (l : Lines). q.0 ∷ (l ++ p.2)) below ∙ ap (λ (l : Lines). q.0 ∷ (q.1 ++ l)) others ∙ sym q.3
+  kids_are : (kids : Forest) (depth : ℕ) (lines : Lines) → AreKids kids depth lines → lines ≡ lines_of kids
+  kids_are none depth lines are = are
+  kids_are (more label tree rest) depth lines are =
+      let own : List ℕ = ended (kid_text label (body_of tree)) in
+      are.3 ∙ ap (λ (l : List ℕ). l ∷ (are.1 ++ are.2)) (kid_read depth are.0 label (body_of tree) are.4).line_is
+      ∙ ap (λ (ls : Lines). own ∷ (ls ++ are.2)) (below_is tree depth are.1 are.5)
+      ∙ ap (λ (ls : Lines). own ∷ (lines_below tree ++ ls)) (kids_are rest depth are.2 are.6)

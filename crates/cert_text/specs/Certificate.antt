@@ -1,13 +1,12 @@
 -- The text of a certificate.
 use Rattle.std.specs.Prelude.{ℕ, suc, ◌≡◌, cond, nat_eq, List, [], ◌∷◌, ◌++◌, drop, codes, Option, Some, None}
 use Rattle.std.specs.List.{starts_with}
-use Rattle.std.specs.Str.{bytes_eq}
 use Rattle.query_base.specs.Asked.{Asked}
 use Rattle.query_base.specs.declared.claims.Claim.{Claim}
-use Rattle.query_base.specs.declared.claims.Claim.TheVariants.{Illegal}
 use Rattle.fen_text.specs.Fen.{fen_of_four}
 use Rattle.cert_text.specs.Tree.{Tree, Forest, rule, back, expand, none, more, count}
 use Rattle.cert_text.specs.Lines.{cut, ended, said}
+use Rattle.cert_text.specs.ClaimLines.{claim_of}
 use Rattle.cert_text.specs.NodeLines.{root_body, kid_body}
 use Rattle.cert_text.specs.declared.node_lines.BodyLine.{BodyLine}
 use Rattle.cert_text.specs.declared.node_lines.BodyLine.TheVariants.{Rule, Back, Expand}
@@ -23,10 +22,6 @@ pub record Certificate : Type 0 where
 
 abbrev pub head_line : List ℕ
 head_line = ended (codes "retro 1")
-
--- the claim of a text, of which there is one so far
-unfoldable pub claim_of : List ℕ → Option Claim
-claim_of text = cond (bytes_eq text (codes "claim illegal")) (Some Illegal) None
 
 -- the query of a text: `fen` and a FEN of four fields
 unfoldable pub query_of : List ℕ → Option Asked

@@ -1,9 +1,11 @@
+-- Inner: no public clause cites this file.
 -- The children of a child are fewer than the whole.
 use Rattle.std.specs.Prelude.{◌≤◌, List, [], ◌∷◌}
 use Rattle.std.proofs.Common.{arith}
 use denote.Param.Weighed.{most}
-use Rattle.cert_text.specs.Tree.{size, size_all}
-use Rattle.cert_text.specs.Seen.{body_tree, forest_of}
+use Rattle.cert_text.specs.Sizes.{size, size_all}
+use Rattle.cert_text.specs.Seen.{body_tree}
+use Rattle.cert_text.specs.SeenKids.{forest_of}
 use Rattle.cert_text.specs.declared.nodes.Body.{Body}
 use Rattle.cert_text.specs.declared.nodes.Body.TheVariants.{Rule, Back, Expand}
 use Rattle.cert_text.specs.declared.nodes.Kid.{Kid}

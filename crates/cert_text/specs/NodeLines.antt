@@ -1,38 +1,43 @@
 -- The lines of nodes, without their ends.
-use Rattle.std.specs.Prelude.{ℕ, zero, suc, ◌<◌, Bool, cond, ◌&&◌, ◌||◌, ◌==◌, not, nat_lt, nat_le, nat_eq, List, length, drop, slice_index, codes, Option, Some, None}
-use Rattle.std.specs.List.{list_all, starts_with}
+use Rattle.std.specs.Prelude.{ℕ, zero, suc, ◌≡◌, cond, ◌&&◌, ◌||◌, ◌==◌, nat_lt, nat_le, nat_eq, List, [], ◌∷◌, ◌++◌, drop, codes, Option, Some, None}
+use Rattle.std.specs.List.{starts_with}
 use Rattle.std.specs.Str.{bytes_eq}
 use Rattle.std.specs.Option.{option_map, option_and_then}
-use Rattle.board_base.specs.Texts.{unmove_from}
+use Rattle.std.specs.Fmt.{decimal}
+use Rattle.board_base.specs.Texts.{unmove_from, unmove_text}
+use Rattle.board_base.specs.declared.men.Colour.{Colour}
 use Rattle.board_base.specs.declared.unmoves.Unmove.{Unmove}
 use Rattle.query_base.specs.declared.rule_lines.RuleLine.{RuleLine}
-use Rattle.query_base.specs.declared.rule_lines.RuleLine.TheVariants.{Kings, Ranks, Check, Rights, Count}
-use Rattle.fen_text.specs.Fen.{is_digit, turn, value}
+use Rattle.query_base.specs.declared.rule_lines.RuleLine.TheVariants.{Kings, Ranks, Check, Rights, Count, Frozen, Caps, Promo}
+use Rattle.fen_text.specs.Fen.{turn}
+use Rattle.fen_text.specs.Spelling.{turn_letter}
+use Rattle.cert_text.specs.Arguments.{number, potentials_of, potentials_text, set_of, set_text}
 use Rattle.fen_text.specs.Parts.{parted}
 use Rattle.cert_text.specs.declared.node_lines.BodyLine.{BodyLine}
 use Rattle.cert_text.specs.declared.node_lines.BodyLine.TheVariants.{Rule, Back, Expand}
 use Rattle.cert_text.specs.declared.node_lines.NodeLine.{NodeLine}
 
--- the first digit is 0 only where there is no other
-abbrev pub is_plain : List ℕ → Bool
-is_plain text = (length text == 1) || not (slice_index text 0 == 48)
+-- behind `count`, `promo` and `caps` stands the letter of a side; then a set, and potentials
+unfoldable pub promo_of : List ℕ → Option RuleLine
+promo_of text = parted 32 turn (λ side. None) (λ side rest. option_map (λ set. Promo side set) (set_of rest)) text
 
--- one to six decimal digits, with no leading zero
-abbrev pub is_number : List ℕ → Bool
-is_number text = nat_le 1 (length text) && nat_le (length text) 6 && is_plain text && list_all is_digit text
+unfoldable pub set_and_potentials : Colour → List ℕ → Option RuleLine
+set_and_potentials side text = parted 32 set_of (λ set. None) (λ set rest. option_map (λ p. Caps side set p) (potentials_of rest)) text
 
--- the number, from 0 to 999999, that a text stands for
-unfoldable pub number : List ℕ → Option ℕ
-number text = cond (is_number text) (Some (value text)) None
+unfoldable pub caps_of : List ℕ → Option RuleLine
+caps_of text = parted 32 turn (λ side. None) set_and_potentials text
 
--- the rule of this name; behind `count` stands the letter of a side
+-- the rule of this name, with what stands behind it
 abbrev pub rule_of : List ℕ → Option RuleLine
 rule_of name =
     cond (bytes_eq name (codes "kings")) (Some Kings) (
     cond (bytes_eq name (codes "ranks")) (Some Ranks) (
     cond (bytes_eq name (codes "check")) (Some Check) (
     cond (bytes_eq name (codes "rights")) (Some Rights) (
-    cond (starts_with nat_eq name (codes "count ")) (option_map (λ side. Count side) (turn (drop 6 name))) None))))
+    cond (starts_with nat_eq name (codes "count ")) (option_map (λ side. Count side) (turn (drop 6 name))) (
+    cond (starts_with nat_eq name (codes "frozen ")) (option_map (λ set. Frozen set) (set_of (drop 7 name))) (
+    cond (starts_with nat_eq name (codes "caps ")) (caps_of (drop 5 name)) (
+    cond (starts_with nat_eq name (codes "promo ")) (promo_of (drop 6 name)) None)))))))
 
 -- from 1 to the node's depth
 abbrev pub back_at : ℕ → ℕ → Option BodyLine
@@ -62,8 +67,39 @@ abbrev pub node_line : ℕ → List ℕ → Option NodeLine
 node_line zero text = option_map (λ b. record { label = None; body = b }) (root_body text)
 node_line (suc n) text = option_map (λ kid. record { label = Some kid.0; body = kid.1 }) (kid_body (suc n) text)
 
--- only at a depth below 255 has a node children
-abbrev pub HasRoom : ℕ → BodyLine → Type 0
-HasRoom depth (Rule r) = Unit {0}
-HasRoom depth (Back k) = Unit {0}
-HasRoom depth (Expand n) = 0 < n → depth < 255
+-- the one text of a rule
+abbrev pub rule_name : RuleLine → List ℕ
+rule_name Kings = codes "kings"
+rule_name Ranks = codes "ranks"
+rule_name Check = codes "check"
+rule_name Rights = codes "rights"
+rule_name (Count side) = codes "count " ++ turn_letter side ∷ []
+rule_name (Frozen set) = codes "frozen " ++ set_text set
+rule_name (Caps side set p) = codes "caps " ++ turn_letter side ∷ 32 ∷ (set_text set ++ 32 ∷ potentials_text p)
+rule_name (Promo side set) = codes "promo " ++ turn_letter side ∷ 32 ∷ set_text set
+
+-- the one text of a body
+abbrev pub body_text : BodyLine → List ℕ
+body_text (Rule r) = codes "rule " ++ rule_name r
+body_text (Back k) = codes "back " ++ decimal k
+body_text (Expand n) = codes "expand " ++ decimal n
+
+-- the one text of a child
+abbrev pub kid_text : Unmove → BodyLine → List ℕ
+kid_text u b = unmove_text u ++ 32 ∷ body_text b
+
+-- the one text of the root
+abbrev pub root_text : BodyLine → List ℕ
+root_text b = codes "root " ++ body_text b
+
+abbrev pub labelled_text : Option Unmove → BodyLine → List ℕ
+labelled_text None b = root_text b
+labelled_text (Some u) b = kid_text u b
+
+-- the one text of a node's line, without its end
+abbrev pub line_text : NodeLine → List ℕ
+line_text n = labelled_text n.label n.body
+
+-- some text is read as this line at some depth
+abbrev pub IsLine : NodeLine → Type 0
+IsLine n = (depth : ℕ) × (text : List ℕ) × (node_line depth text ≡ Some n)

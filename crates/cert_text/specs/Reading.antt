@@ -1,5 +1,6 @@
+-- Inner: no public clause cites this file.
 -- What the parts of the reader give.
-use Rattle.std.specs.Prelude.{ℕ, ◌+◌, ◌≡◌, List, ◌∷◌, ◌++◌, length, Some}
+use Rattle.std.specs.Prelude.{ℕ, ◌+◌, ◌≡◌, ◌<◌, List, ◌∷◌, ◌++◌, length, Some}
 use Rattle.std.proofs.Common.{suc}
 use Rattle.board_base.specs.declared.unmoves.Unmove.{Unmove}
 use Rattle.query_base.specs.Asked.{Asked}
@@ -7,11 +8,11 @@ use Rattle.query_base.specs.declared.claims.Claim.{Claim}
 use Rattle.cert_text.specs.Tree.{Tree, Forest, count}
 use Rattle.cert_text.specs.Lines.{said}
 use Rattle.cert_text.specs.NodeLines.{root_body, kid_body}
-use Rattle.cert_text.specs.Certificate.{Lines, head_line, claim_of, query_of, body_of, AreBelow, AreKids}
+use Rattle.cert_text.specs.Certificate.{Lines, head_line, query_of, body_of, AreBelow, AreKids}
+use Rattle.cert_text.specs.ClaimLines.{claim_of}
 use Rattle.cert_text.specs.Due.{refused}
 use Rattle.cert_text.specs.declared.node_lines.BodyLine.{BodyLine}
-use Rattle.cert_text.specs.declared.faults.CertFault.{CertFault}
-use Rattle.cert_text.specs.declared.faults.CertFault.TheVariants.{BadText, Memory}
+use Rattle.cert_text.specs.declared.node_lines.BodyLine.TheVariants.{Rule, Back, Expand}
 
 -- the lines in front of others that are below a node with this body at this depth
 pub record ReadsBelow (body : BodyLine) (depth : ℕ) (lines : Lines) (line : ℕ) (tree : Tree) (rest : Lines) (next : ℕ) : Type 0 where
@@ -28,11 +29,6 @@ pub record ReadsKids (number depth : ℕ) (lines : Lines) (line : ℕ) (kids : F
   pub lines_count : next ≡ line + length front
   pub size : count kids ≡ number
   pub are : AreKids kids (suc depth) front
-
--- the line that this is the fault of
-abbrev pub IfBadText : CertFault → (ℕ → Type 0) → Type 0
-IfBadText (BadText n) P = P n
-IfBadText Memory P = Unit {0}
 
 -- wherever a node at this depth is read, the lines are refused at line n
 abbrev pub IsRefused : (List ℕ → List ℕ) → ℕ → Lines → ℕ → ℕ → Type 0
@@ -51,3 +47,9 @@ pub record HasHeader (lines : Lines) (claim : Claim) (query : Asked) (body : Bod
   pub claim_is : said claim_of claim_line ≡ Some claim
   pub query_is : said query_of fen_line ≡ Some query
   pub body_is : said root_body root_line ≡ Some body
+
+-- only at a depth below 255 has a node children
+abbrev pub HasRoom : ℕ → BodyLine → Type 0
+HasRoom depth (Rule r) = Unit {0}
+HasRoom depth (Back k) = Unit {0}
+HasRoom depth (Expand n) = 0 < n → depth < 255

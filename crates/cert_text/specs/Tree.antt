@@ -31,20 +31,3 @@ kid_at (more label tree rest) (suc i) = kid_at rest i
 abbrev pub with_last : Forest → Unmove → Tree → Forest
 with_last none label tree = more label tree none
 with_last (more l t rest) label tree = more l t (with_last rest label tree)
-
--- the children from this place on
-abbrev pub rest_of : Forest → ℕ → Forest
-rest_of f zero = f
-rest_of none (suc i) = none
-rest_of (more label tree rest) (suc i) = rest_of rest i
-
-abbrev mutual
-  -- a number above those of a tree's parts
-  pub size : Tree → ℕ
-  size (rule r) = 1
-  size (back k) = 1
-  size (expand kids) = suc (size_all kids)
-
-  pub size_all : Forest → ℕ
-  size_all none = 1
-  size_all (more label tree rest) = suc (size tree + size_all rest)

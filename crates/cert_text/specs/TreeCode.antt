@@ -1,3 +1,4 @@
+-- Inner: no public clause cites this file.
 -- Trees as lists, from which they can be had back: by this code a proof tells two of them apart.
 use Rattle.std.specs.Prelude.{ℕ, ◌+◌, ◌≡◌, ◌⊎◌, List, [], ◌∷◌, refl}
 use Rattle.std.specs.Coded.{Coded, code_by, coded×, coded⊎, coded_list, coded_ℕ}
@@ -6,7 +7,8 @@ use Rattle.board_base.specs.declared.unmoves.Unmove.{Unmove}
 use Rattle.board_base.specs.contracts.unmoves.Unmove as unmoves
 use Rattle.query_base.specs.declared.rule_lines.RuleLine.{RuleLine}
 use Rattle.query_base.specs.contracts.rule_lines.RuleLine as rules
-use Rattle.cert_text.specs.Tree.{Tree, Forest, rule, back, expand, none, more, size, size_all}
+use Rattle.cert_text.specs.Tree.{Tree, Forest, rule, back, expand, none, more}
+use Rattle.cert_text.specs.Sizes.{size, size_all}
 
 -- 0 for a list, or one more than a number of steps; a rule; a label
 abbrev pub Token : Type 0

@@ -1,45 +1,58 @@
--- The texts of nodes' lines, and which trees have a text.
-use Rattle.std.specs.Prelude.{ℕ, suc, ◌≡◌, Bool, true, ◌&&◌, ◌||◌, ◌==◌, nat_lt, nat_le, List, [], ◌∷◌, ◌++◌, length, codes, IsTrue, Option, Some, None}
-use Rattle.std.specs.Fmt.{decimal}
-use Rattle.board_base.specs.Texts.{unmove_text, can_promote, can_capture}
+-- Inner: no public clause cites this file.
+-- Which claims and which trees have a text, and what is known of all that may stand in them.
+use Rattle.std.specs.Prelude.{ℕ, suc, ◌≡◌, Bool, true, ◌&&◌, ◌||◌, ◌==◌, nat_lt, nat_le, List, length, IsTrue, ℤ, nat_abs}
+use Rattle.std.specs.List.{list_all}
+use Rattle.board_base.specs.Potentials.{Duals}
+use Rattle.board_base.specs.Texts.{can_promote, can_capture}
+use Rattle.board_base.specs.declared.moves.Move.{Move}
 use Rattle.board_base.specs.declared.unmoves.Unmove.{Unmove}
+use Rattle.query_base.specs.declared.claims.Claim.{Claim}
+use Rattle.query_base.specs.declared.claims.Claim.TheVariants.{Illegal, Last, Lost, Ep}
 use Rattle.query_base.specs.declared.rule_lines.RuleLine.{RuleLine}
-use Rattle.query_base.specs.declared.rule_lines.RuleLine.TheVariants.{Kings, Ranks, Check, Rights, Count}
+use Rattle.query_base.specs.declared.rule_lines.RuleLine.TheVariants.{Kings, Ranks, Check, Rights, Count, Frozen, Caps, Promo}
 use Rattle.query_base.specs.Asked.{Asked, is_of_other_side}
-use Rattle.fen_text.specs.Spelling.{turn_letter}
+use Rattle.cert_text.specs.ClaimLines.{promotes_well}
 use Rattle.cert_text.specs.Tree.{Tree, Forest, rule, back, expand, none, more, count}
 use Rattle.cert_text.specs.declared.node_lines.BodyLine.{BodyLine}
 use Rattle.cert_text.specs.declared.node_lines.BodyLine.TheVariants.{Rule, Back, Expand}
-use Rattle.cert_text.specs.declared.node_lines.NodeLine.{NodeLine}
 
-abbrev pub rule_name : RuleLine → List ℕ
-rule_name Kings = codes "kings"
-rule_name Ranks = codes "ranks"
-rule_name Check = codes "check"
-rule_name Rights = codes "rights"
-rule_name (Count side) = codes "count " ++ turn_letter side ∷ []
+-- the move's squares are on the board
+abbrev pub is_on_board : Move → Bool
+is_on_board m = nat_lt m.from 64 && nat_lt m.to 64
 
--- the one text of a body
-abbrev pub body_text : BodyLine → List ℕ
-body_text (Rule r) = codes "rule " ++ rule_name r
-body_text (Back k) = codes "back " ++ decimal k
-body_text (Expand n) = codes "expand " ++ decimal n
+-- the squares of a claim's move are on the board
+abbrev pub stays_on_board : Claim → Bool
+stays_on_board Illegal = true
+stays_on_board (Last m) = is_on_board m
+stays_on_board (Lost x) = true
+stays_on_board (Ep m) = is_on_board m
 
--- the one text of a child
-abbrev pub kid_text : Unmove → BodyLine → List ℕ
-kid_text u b = unmove_text u ++ 32 ∷ body_text b
+-- the claim has a text
+abbrev pub is_written : Claim → Bool
+is_written claim = stays_on_board claim && promotes_well claim
 
--- the one text of the root
-abbrev pub root_text : BodyLine → List ℕ
-root_text b = codes "root " ++ body_text b
+-- what is known of each set of squares: it has 64 truth values
+abbrev pub is_whole : List Bool → Bool
+is_whole set = length set == 64
 
-abbrev pub labelled_text : Option Unmove → BodyLine → List ℕ
-labelled_text None b = root_text b
-labelled_text (Some u) b = kid_text u b
+-- the number is from -64 to 64
+abbrev pub is_near : ℤ → Bool
+is_near x = nat_le (nat_abs x) 64
 
--- the one text of a node's line, without its end
-abbrev pub line_text : NodeLine → List ℕ
-line_text n = labelled_text n.label n.body
+-- what is known of all potentials: at most eight pawns and exactly eight files, each with such a number
+abbrev pub are_near : Duals → Bool
+are_near d = nat_le (length d.u) 8 && (length d.v == 8) && list_all is_near d.u && list_all is_near d.v
+
+-- what is known of each rule line
+abbrev pub is_rule : RuleLine → Bool
+is_rule Kings = true
+is_rule Ranks = true
+is_rule Check = true
+is_rule Rights = true
+is_rule (Count side) = true
+is_rule (Frozen set) = is_whole set
+is_rule (Caps side set p) = is_whole set && are_near p
+is_rule (Promo side set) = is_whole set
 
 -- the unmove has a text
 abbrev pub has_text : Unmove → Bool
@@ -47,14 +60,14 @@ has_text u = nat_lt u.mv.from 64 && nat_lt u.mv.to 64 && can_promote u.mv.promo 
 
 -- the grammar admits the body at this depth
 abbrev pub fits_depth : ℕ → BodyLine → Bool
-fits_depth depth (Rule r) = true
+fits_depth depth (Rule r) = is_rule r
 fits_depth depth (Back k) = nat_le 1 k && nat_le k depth
 fits_depth depth (Expand n) = ((n == 0) || nat_lt depth 255) && nat_le n 999999
 
 abbrev mutual
   -- the grammar admits the tree at this depth
   pub fits : ℕ → Tree → Bool
-  fits depth (rule r) = true
+  fits depth (rule r) = is_rule r
   fits depth (back k) = fits_depth depth (Back k)
   fits depth (expand kids) = fits_depth depth (Expand (count kids)) && all_fit (suc depth) kids
 

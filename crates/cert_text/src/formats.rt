@@ -1,17 +1,17 @@
 ghost use Rattle.std.specs.Prelude.{◌≡◌, ◌↔◌, ◌&&◌, ◌<◌, IsTrue, None, suc};
 ghost use Rattle.board_base.specs.Texts.{can_capture, can_promote};
-ghost use Rattle.query_base.specs.declared.claims.Claim.TheVariants.{Illegal};
 ghost use Rattle.cert_text.specs.Tree.{count};
 ghost use Rattle.cert_text.specs.Seen.{tree_of};
 ghost use Rattle.cert_text.specs.SeenCert.{cert_of};
 ghost use Rattle.cert_text.specs.Certificate.{HasText};
-ghost use Rattle.cert_text.specs.Writable.{IsQuery, all_fit, fits, fits_depth, has_text};
+ghost use Rattle.cert_text.specs.Writable.{is_on_board, is_written, IsQuery, all_fit, fits, fits_depth, has_text, is_rule};
 ghost use Rattle.cert_text.specs.declared.node_lines.BodyLine.TheVariants.{Back, Expand};
 
+use crate::arguments::{are_near, is_whole};
 use crate::certificates::Cert;
 use crate::nodes::{Body, Kids, Node};
-use board_base::{Kind, Unmove};
-use query_base::{Claim, Query};
+use board_base::{Kind, Move, Unmove};
+use query_base::{Claim, Query, RuleLine};
 
 fn can_promote(promo: Option<Kind>) -> bool
     ensures { result ≡ can_promote promo }
@@ -54,13 +54,24 @@ fn is_expand(count: usize, depth: u8) -> bool
     (count == 0 || depth < 255) && count <= 999_999
 }
 
+fn is_rule(rule: &RuleLine) -> bool
+    ensures { result ≡ is_rule rule.now }
+{
+    match rule {
+        RuleLine::Frozen(set) => is_whole(*set),
+        RuleLine::Caps(_, set, p) => is_whole(*set) && are_near(p),
+        RuleLine::Promo(_, set) => is_whole(*set),
+        _ => true,
+    }
+}
+
 /// Whether the grammar admits the node at this depth, with all that is below it.
 #[cycle(formats)]
 fn fits_node(node: &Node, depth: u8) -> bool
     ensures { result ≡ fits depth (tree_of node.now) }
 {
     match &node.body {
-        Body::Rule(_) => true,
+        Body::Rule(rule) => is_rule(rule),
         Body::Back(steps) => is_back(*steps, depth),
         Body::Expand(kids) => is_expand(kids.len(), depth) && all_fit(kids, depth),
     }
@@ -85,11 +96,22 @@ fn all_fit(kids: &Kids, depth: u8) -> bool
     true
 }
 
+/// The squares of a move are on the board.
+fn is_on_board(m: &Move) -> bool
+    ensures { result ≡ is_on_board m.now }
+{
+    m.from.index() < 64 && m.to.index() < 64
+}
+
 /// Whether the claim has a text.
 fn is_written(claim: &Claim) -> bool
-    ensures { IsTrue result ↔ (claim.now ≡ Illegal) }
+    ensures { result ≡ is_written claim.now }
 {
-    matches!(claim, Claim::Illegal)
+    match claim {
+        Claim::Illegal | Claim::Lost(_) => true,
+        Claim::Last(m) => is_on_board(m) && can_promote(m.promo),
+        Claim::Ep(m) => is_on_board(m) && m.promo.is_none(),
+    }
 }
 
 /// Whether no move is barred.

@@ -3,7 +3,8 @@ ghost use Rattle.std.specs.Str.{bytes_eq};
 ghost use Rattle.cert_text.specs.Lines.{cut, said};
 ghost use Rattle.cert_text.specs.Texts.{IsBadAt};
 ghost use Rattle.cert_text.specs.NodeLines.{root_body};
-ghost use Rattle.cert_text.specs.Certificate.{AreLinesOf, claim_of, query_of};
+ghost use Rattle.cert_text.specs.Certificate.{AreLinesOf, query_of};
+ghost use Rattle.cert_text.specs.ClaimLines.{claim_of};
 ghost use Rattle.cert_text.specs.Reading.{HasHeader};
 
 use crate::claims::read_claim;

@@ -1,7 +1,8 @@
-ghost use Rattle.std.specs.Prelude.{ℕ, ◌≡◌, List, Some};
+ghost use Rattle.std.specs.Prelude.{ℕ, ◌≡◌, IsTrue, List, Some};
+ghost use Rattle.query_base.specs.declared.claims.Claim.{Claim as AnyClaim};
+ghost use Rattle.cert_text.specs.ClaimLines.{claim_of, claim_text, promotes_well};
 ghost use Rattle.cert_text.specs.Lines.{cut};
-ghost use Rattle.cert_text.specs.NodeLines.{node_line};
-ghost use Rattle.cert_text.specs.Writable.{line_text};
+ghost use Rattle.cert_text.specs.NodeLines.{node_line, line_text};
 ghost use Rattle.cert_text.specs.declared.node_lines.NodeLine.{NodeLine as AnyLine};
 ghost use Rattle.cert_text.specs.Texts.{IsBadAt};
 ghost use Rattle.cert_text.specs.Certificate.{AreLinesOf, Certificate as AnyCertificate, IsTextOf};
@@ -9,6 +10,12 @@ ghost use Rattle.cert_text.specs.Certificate.{AreLinesOf, Certificate as AnyCert
 /// What is read as the line of a node is the one text of that line. This does nothing when it runs.
 pub fn one_text_of_a_line()
     ensures { (depth : ℕ) (text : List ℕ) (n : AnyLine) → node_line depth text ≡ Some n → text ≡ line_text n }
+{}
+
+/// What is read as a claim is the one text of that claim, and it promotes as a text can say. This does nothing when it runs.
+pub fn one_text_of_a_claim()
+    ensures text { (text : List ℕ) (claim : AnyClaim) → claim_of text ≡ Some claim → text ≡ claim_text claim }
+    ensures promotion { (text : List ℕ) (claim : AnyClaim) → claim_of text ≡ Some claim → IsTrue (promotes_well claim) }
 {}
 
 /// A certificate has one text, and a text stands for one certificate. This does nothing when it runs.

@@ -1,10 +1,11 @@
 ghost use Rattle.std.specs.Prelude.{◌≡◌, ◌≤◌, ◌<◌, ◌==◌, cond, IfSome, MatchOption, None, Some, length, is_none};
-ghost use Rattle.fen_text.specs.Fen.{number as digits, turn};
-ghost use Rattle.cert_text.specs.NodeLines.{back_at, body_at, expand_at, is_plain, kid_body, node_line, number, root_body, rule_of};
+ghost use Rattle.fen_text.specs.Fen.{turn};
+ghost use Rattle.cert_text.specs.NodeLines.{back_at, body_at, caps_of, expand_at, kid_body, node_line, promo_of, root_body, rule_of, set_and_potentials};
 
+use crate::arguments::{read_number, read_potentials, read_set};
 use crate::lines::is_text;
 use board_base::{Colour, Unmove, read_unmove};
-use fen_text::{read_decimal, read_turn, split_part};
+use fen_text::{read_turn, split_part};
 use query_base::RuleLine;
 
 /// What the line of a node says of its body.
@@ -27,39 +28,55 @@ pub struct NodeLine {
     pub body: BodyLine,
 }
 
-/// The value of one to nine digits.
-fn read_digits(text: &[u8]) -> Option<u32>
-    ensures { result ≡ digits text.now }
-{
-    read_decimal(text).ok()
-}
-
-fn is_plain(text: &[u8]) -> bool
-    requires { 1 ≤ length text.now }
-    ensures { result ≡ is_plain text.now }
-{
-    text.len() == 1 || text[0] != b'0'
-}
-
-fn read_number(text: &[u8]) -> Option<u32>
-    ensures { result ≡ number text.now }
-{
-    if text.is_empty() {
-        return None;
-    }
-    if text.len() > 6 {
-        return None;
-    }
-    if !is_plain(text) {
-        return None;
-    }
-    read_digits(text)
-}
-
 fn read_side(letter: &[u8]) -> Option<Colour>
     ensures { result ≡ turn letter.now }
 {
     read_turn(letter).ok()
+}
+
+fn read_promo(text: &[u8]) -> Option<RuleLine>
+    ensures { result ≡ promo_of text.now }
+{
+    let (letter, set) = split_part(text, b' ');
+    let Some(set) = set else {
+        return None;
+    };
+    let Some(side) = read_side(letter) else {
+        return None;
+    };
+    match read_set(set) {
+        Some(set) => Some(RuleLine::Promo(side, set)),
+        None => None,
+    }
+}
+
+fn read_set_and_potentials(side: Colour, text: &[u8]) -> Option<RuleLine>
+    ensures { result ≡ set_and_potentials side text.now }
+{
+    let (set, potentials) = split_part(text, b' ');
+    let Some(potentials) = potentials else {
+        return None;
+    };
+    let Some(set) = read_set(set) else {
+        return None;
+    };
+    match read_potentials(potentials) {
+        Some(p) => Some(RuleLine::Caps(side, set, p)),
+        None => None,
+    }
+}
+
+fn read_caps(text: &[u8]) -> Option<RuleLine>
+    ensures { result ≡ caps_of text.now }
+{
+    let (letter, rest) = split_part(text, b' ');
+    let Some(rest) = rest else {
+        return None;
+    };
+    match read_side(letter) {
+        Some(side) => read_set_and_potentials(side, rest),
+        None => None,
+    }
 }
 
 fn read_rule(name: &[u8]) -> Option<RuleLine>
@@ -78,6 +95,15 @@ fn read_rule(name: &[u8]) -> Option<RuleLine>
             Some(side) => Some(RuleLine::Count(side)),
             None => None,
         }
+    } else if name.starts_with(b"frozen ") {
+        match read_set(&name[7..]) {
+            Some(set) => Some(RuleLine::Frozen(set)),
+            None => None,
+        }
+    } else if name.starts_with(b"caps ") {
+        read_caps(&name[5..])
+    } else if name.starts_with(b"promo ") {
+        read_promo(&name[6..])
     } else {
         None
     }
@@ -157,9 +183,11 @@ pub(crate) fn read_kid(depth: u8, text: &[u8]) -> Option<(Unmove, BodyLine)>
 }
 
 /// Reads the line of a node at this depth, without its end: at depth 0 `root`, and below it the unmove that leads to the node;
-/// then a space, and its body. That is `rule` with one of the names `kings`, `ranks`, `check`, `rights`, `count w` and `count b`,
+/// then a space, and its body. That is `rule` with one of the names `kings`, `ranks`, `check`, `rights`, `count w` and `count b`, or with
+/// `frozen` and a set, `promo` with `w` or `b` and a set, or `caps` with `w` or `b`, a set, zero to eight numbers, `/` and eight numbers;
 /// `back` with a number from 1 to the depth, or `expand` with one from 0 to 999,999, which at depth 255 is 0. Numbers are decimal,
-/// with no leading zero other than `0` itself, and one space parts two words. None comes exactly where the text is none of these.
+/// with no leading zero other than `0` itself; those of `caps` are from -64 to 64, with a `-` in front of those below 0; a set is its number
+/// of sixteen hexadecimal digits, with letters in lower case. One space parts two words. None comes exactly where the text is none of these.
 pub fn read_line(line: &[u8], depth: u8) -> Option<NodeLine>
     ensures line { result ≡ node_line depth line.now }
     ensures label { IfSome result (λ n. is_none n.label ≡ (depth == 0)) }

@@ -45,14 +45,15 @@ pub struct Kids {
 }
 
 impl Model for Kids {
-    ghost use Rattle.cert_text.specs.Tree.{Forest, size_all};
+    ghost use Rattle.cert_text.specs.Tree.{Forest};
+    ghost use Rattle.cert_text.specs.Sizes.{size_all};
     ghost use Rattle.cert_text.specs.TreeCode.{forest_code};
 
     ghost Value = { Forest };
 
     ghost coded = { forest_code };
 
-    ghost use Rattle.cert_text.specs.Seen.{forest_of};
+    ghost use Rattle.cert_text.specs.SeenKids.{forest_of};
 
     ghost view = { λ k. forest_of k.items.items };
 

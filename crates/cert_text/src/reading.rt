@@ -2,11 +2,11 @@ ghost use Rattle.std.specs.Prelude.{◌≡◌, ◌<◌, ◌≤◌, ◌+◌, ◌�
 ghost use Rattle.cert_text.specs.Seen.{tree_of};
 ghost use Rattle.cert_text.specs.SeenCert.{cert_of};
 ghost use Rattle.cert_text.specs.Lines.{cut, said};
-ghost use Rattle.cert_text.specs.Texts.{IsBadAt};
-ghost use Rattle.cert_text.specs.NodeLines.{HasRoom, kid_body};
+ghost use Rattle.cert_text.specs.Texts.{IsBadAt, IfBadText};
+ghost use Rattle.cert_text.specs.NodeLines.{kid_body};
+ghost use Rattle.cert_text.specs.Reading.{HasRoom, IsRefused, ReadsBelow, ReadsKids, SaysKid};
 ghost use Rattle.cert_text.specs.Due.{put_due, refused};
 ghost use Rattle.cert_text.specs.Certificate.{AreLinesOf, IsTextOf};
-ghost use Rattle.cert_text.specs.Reading.{IfBadText, IsRefused, ReadsBelow, ReadsKids, SaysKid};
 
 use crate::certificates::Cert;
 use crate::faults::CertFault;
@@ -155,7 +155,7 @@ fn read_kids(
 ///
 /// `Ok` comes exactly where the bytes are so, with the certificate that they say. `BadText` comes exactly otherwise: the lines
 /// before `line` begin a certificate's text, and with it they begin none, or the bytes end too early. A last piece with no line
-/// end counts as a line, and no certificate begins with it. `Memory` comes only for want of memory.
+/// end counts as a line, and no certificate begins with it. Want of memory is a free answer: `Memory` may take the place of both.
 pub fn read_cert(alloc: Global, bytes: &[u8]) -> Result<Cert, CertFault>
     requires { length bytes.now ≤ 67_108_864 }
     ensures ok { IfOk result (λ c. IsTextOf bytes.now (cert_of c)) }

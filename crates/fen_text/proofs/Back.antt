@@ -7,6 +7,7 @@ use Rattle.std.proofs.lemmas.Grind.{flat_map-append}
 use Rattle.std.proofs.Math.Seq.{take-add}
 use Rattle.std.specs.List.{list_all}
 use Rattle.std.specs.Option.{option_map}
+use Rattle.board_base.proofs.Equal.{none_is}
 use Rattle.board_base.specs.Board.{Places, file}
 use Rattle.board_base.specs.Rights.{Rights}
 use Rattle.board_base.specs.declared.men.Colour.{Colour}
@@ -150,10 +151,6 @@ flags_back true true true true = refl
 
 rights_back : (r : Rights) → rights (rights_text r) ≡ Some r
 rights_back r = flags_back r.white_short r.white_long r.black_short r.black_long
-
-none_is : {A : Type 0} (o : Option A) → is_none o ≡ true → o ≡ None
-none_is None e = refl
-none_is (Some x) e = cc
 
 same_move : (from to : ℕ) (promo : Option Kind) (m : Move) → m.from ≡ from → m.to ≡ to → m.promo ≡ promo → m ≡ record { from = from; to = to; promo = promo }
 same_move from to promo m e1 e2 e3 = λ i. record { from = e1 i; to = e2 i; promo = e3 i }

@@ -8,7 +8,7 @@ use Rattle.std.proofs.lemmas.List.Sums.{length-filter, count_by-le-length}
 use Rattle.board_base.specs.Texts.{move_of}
 use Rattle.board_base.specs.declared.moves.Move.{Move}
 use Rattle.game_text.specs.Words.{words, is_blank, AreTextsOf, FirstBad}
-use Rattle.game_text.proofs.Splits.{split_at}
+use Rattle.general_lemmas.proofs.Splits.{split_at}
 
 -- there are as many texts as moves
 pub same_count : (texts : List (List ℕ)) (g : List Move) → AreTextsOf texts g → length texts ≡ length g

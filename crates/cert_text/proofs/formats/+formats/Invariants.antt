@@ -1,5 +1,5 @@
 use Rattle.std.proofs.Common.{◌≡◌, ◌+◌, ◌-◌, ◌*◌, suc}
-use Rattle.cert_text.specs.Tree.{rest_of}
+use Rattle.cert_text.specs.Sizes.{rest_of}
 use Rattle.cert_text.specs.Writable.{all_fit}
 use Rattle.cert_text.proofs.formats.+formats.Given as goal
 

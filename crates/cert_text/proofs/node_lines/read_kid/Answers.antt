@@ -1,11 +1,7 @@
-use Rattle.std.proofs.Common.{◌≡◌, ℕ, List, ◌∷◌, ◌++◌, sym, subst, Option, Bor}
-use Rattle.std.specs.Prelude.{MatchOption}
+use Rattle.std.proofs.Common.{sym, subst}
 use Rattle.cert_text.proofs.KidLines.{no_space, no_unmove, kid_is}
+use Rattle.cert_text.proofs.PartTexts.{Cut}
 use Rattle.cert_text.proofs.node_lines.read_kid.Goals as goal
-
--- how the text was cut
-abbrev Cut : List ℕ → List ℕ → Option (Bor (List ℕ)) → Type 0
-Cut text label rest = MatchOption rest (text ≡ label) (λ r. text ≡ label ++ 32 ∷ r.now)
 
 pub returns-in_default : goal.returns-in_default
 returns-in_default c =

@@ -1,7 +1,7 @@
 use Rattle.std.proofs.Common.{subst, sym}
 use Rattle.std.specs.Prelude.{Option, IfSome}
 use Rattle.board_base.specs.declared.unmoves.Unmove.{Unmove}
-use Rattle.cert_text.specs.NodeLines.{HasRoom}
+use Rattle.cert_text.specs.Reading.{HasRoom}
 use Rattle.cert_text.specs.declared.node_lines.BodyLine.{BodyLine}
 use Rattle.cert_text.proofs.Fitting.{kid_fits}
 use Rattle.cert_text.proofs.reading.next_kid.Goals as goal

@@ -1,6 +1,7 @@
 use Rattle.std.proofs.Common.{◌∙◌, ap}
 use Rattle.cert_text.specs.Tree.{Forest, with_last}
-use Rattle.cert_text.specs.Seen.{forest_of, tree_of}
+use Rattle.cert_text.specs.Seen.{tree_of}
+use Rattle.cert_text.specs.SeenKids.{forest_of}
 use Rattle.cert_text.proofs.Forests.{forest-push}
 use Rattle.cert_text.proofs.nodes.Kids.push.Goals as goal
 

@@ -1,7 +1,7 @@
 use Rattle.std.proofs.Common.{◌≡◌, length, ◌∙◌, sym, arith}
 use Rattle.std.proofs.lemmas.Bool.{eqb-true, eqb-false}
 use Rattle.cert_text.proofs.Numbers.{number_empty, number_long, number_padded, number_digits}
-use Rattle.cert_text.proofs.node_lines.read_number.Goals as goal
+use Rattle.cert_text.proofs.arguments.read_number.Goals as goal
 
 pub returns-then-is_empty : goal.returns-then-is_empty
 returns-then-is_empty c =

@@ -1,0 +1,66 @@
+-- Lines that are put after one another.
+use Rattle.std.proofs.Common.{◌≡◌, ℕ, zero, suc, ◌+◌, ◌&&◌, true, List, ◌++◌, sym, ap, ◌∙◌, subst, arith}
+use Rattle.std.specs.Prelude.{Some, None}
+use Rattle.std.specs.List.{concat}
+use Rattle.std.proofs.lemmas.Bool.{and_parts}
+use Rattle.std.proofs.lemmas.List.{append_assoc}
+use Rattle.std.proofs.lemmas.List.Folds.{concat-append}
+use Rattle.std.proofs.lemmas.Option.{some_pair_parts}
+use Rattle.board_base.specs.declared.unmoves.Unmove.{Unmove}
+use Rattle.fen_text.proofs.PartLemmas.{mapped_some}
+use Rattle.cert_text.specs.Tree.{Tree, Forest, none, more, kid_at}
+use Rattle.cert_text.specs.Sizes.{rest_of}
+use Rattle.cert_text.specs.Lines.{ended}
+use Rattle.cert_text.specs.Certificate.{body_of}
+use Rattle.cert_text.specs.NodeLines.{kid_body, root_body, kid_text, IsLine}
+use Rattle.cert_text.specs.Writable.{all_fit, fits, has_text}
+use Rattle.cert_text.specs.Written.{IsLabel, lines_below, lines_of}
+use Rattle.cert_text.specs.declared.node_lines.BodyLine.{BodyLine}
+use Rattle.cert_text.specs.declared.node_lines.NodeLine.{NodeLine}
+use Rattle.cert_text.proofs.Forests.{rest-more}
+use Rattle.cert_text.proofs.SpelledLines.{kid_text_read}
+
+-- a child that the grammar admits
+pub record IsAdmitted (depth : ℕ) (label : Unmove) (t : Tree) : Type 0 where
+  pub label_fits : has_text label ≡ true
+  pub tree_fits : fits depth t ≡ true
+
+pub admitted : (f : Forest) (i depth : ℕ) (label : Unmove) (t : Tree) → all_fit depth f ≡ true → kid_at f i ≡ Some (label, t) → IsAdmitted depth label t
+admitted none i depth label t fit e = absurd cc
+admitted (more l s rest) zero depth label t fit e =
+    let same = some_pair_parts l label s t e in
+    let own = and_parts (has_text l) (fits depth s) (and_parts (has_text l && fits depth s) (all_fit depth rest) fit).0 in
+    record { label_fits = ap has_text (sym same.0) ∙ own.0; tree_fits = ap (fits depth) (sym same.1) ∙ own.1 }
+admitted (more l s rest) (suc i) depth label t fit e =
+    admitted rest i depth label t (and_parts (has_text l && fits depth s) (all_fit depth rest) fit).1 e
+
+-- the lines of a child and of those after it
+lines_next : (f : Forest) (i : ℕ) (label : Unmove) (t : Tree) → kid_at f i ≡ Some (label, t) → concat (lines_of (rest_of f i)) ≡ ended (kid_text label (body_of t)) ++ (concat (lines_below t) ++ concat (lines_of (rest_of f (i + 1))))
+lines_next f i label t e =
+    let next : suc i ≡ i + 1 = omega arith in
+    ap (λ (g : Forest). concat (lines_of g)) (rest-more f i label t e)
+    ∙ ap (λ (l : List ℕ). ended (kid_text label (body_of t)) ++ l) (concat-append (lines_below t) (lines_of (rest_of f (suc i))) ∙ ap (λ (j : ℕ). concat (lines_below t) ++ concat (lines_of (rest_of f j))) next)
+
+regrouped : (o a b r : List ℕ) → ((o ++ a) ++ b) ++ r ≡ o ++ (a ++ (b ++ r))
+regrouped o a b r = simp append_assoc
+
+-- where a child's own line and the lines below it were put after others, those of the other children are still to come
+pub after_kid : (f : Forest) (i : ℕ) (label : Unmove) (t : Tree) (out own now : List ℕ) → kid_at f i ≡ Some (label, t) → own ≡ out ++ ended (kid_text label (body_of t)) → now ≡ own ++ concat (lines_below t) → now ++ concat (lines_of (rest_of f (i + 1))) ≡ out ++ concat (lines_of (rest_of f i))
+after_kid f i label t out own now e first second =
+    let a : List ℕ = ended (kid_text label (body_of t)) in
+    let b : List ℕ = concat (lines_below t) in
+    let r : List ℕ = concat (lines_of (rest_of f (i + 1))) in
+    ap (λ (l : List ℕ). l ++ r) (second ∙ ap (λ (l : List ℕ). l ++ b) first) ∙ regrouped out a b r ∙ ap (λ (l : List ℕ). out ++ l) (sym (lines_next f i label t e))
+
+-- five parts, put after one another
+pub put_together : (h x y z w a b c d e : List ℕ) → a ≡ h → b ≡ a ++ x → c ≡ b ++ y → d ≡ c ++ z → e ≡ d ++ w → e ≡ h ++ (x ++ (y ++ (z ++ w)))
+put_together h x y z w a b c d e p q r s t = simp (t, s, r, q, p, append_assoc)
+
+-- what is read as a line has a label with a text
+pub line_label : (n : NodeLine) → IsLine n → IsLabel n.label
+line_label n (zero, text, e) =
+    let m = mapped_some (λ (b : BodyLine). record { label = None; body = b }) (root_body text) n e in
+    subst (λ (k : NodeLine). IsLabel k.label) m.2 tt
+line_label n (suc depth, text, e) =
+    let m = mapped_some (λ (k : Unmove × BodyLine). record { label = Some k.0; body = k.1 }) (kid_body (suc depth) text) n e in
+    subst (λ (k : NodeLine). IsLabel k.label) m.2 (kid_text_read (suc depth) text m.0.0 m.0.1 m.1).label

@@ -1,0 +1,15 @@
+use Rattle.std.proofs.Common.{◌≡◌, ℕ, ◌≤◌, List, length, ap, arith, rules}
+use Rattle.std.specs.Prelude.{ℤ}
+use Rattle.std.specs.Fmt.{signed_decimal}
+use Rattle.board_base.specs.Potentials.{IsWithinLimit}
+use Rattle.cert_text.proofs.WrittenNumbers.{signed_short}
+use Rattle.cert_text.proofs.argument_writing.push_signed.Goals as goal
+
+few : (bytes : List ℕ) (x : ℤ) → bytes ≡ signed_decimal x → IsWithinLimit x → length bytes ≤ 3
+few bytes x is near = omega (arith, ap length is, signed_short x near)
+
+pub push_all-requires : goal.push_all-requires
+push_all-requires c = omega (arith, c.requires.room, few c.as_bytes.result.now c.args.number (search rules) c.requires.near)
+
+pub returns-clause-short : goal.returns-clause-short
+returns-clause-short c = omega (arith, c.push_all.ensures.longer, few c.as_bytes.result.now c.args.number (search rules) c.requires.near)

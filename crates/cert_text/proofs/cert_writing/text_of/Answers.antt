@@ -1,0 +1,27 @@
+use Rattle.std.proofs.Common.{◌++◌, ◌∙◌, List, ℕ, ap}
+use Rattle.std.proofs.lemmas.Bool.{and_parts}
+use Rattle.cert_text.specs.SeenCert.{cert_of}
+use Rattle.cert_text.specs.Certificate.{head_line}
+use Rattle.cert_text.specs.ClaimLines.{promotes_well}
+use Rattle.cert_text.specs.Writable.{stays_on_board}
+use Rattle.cert_text.proofs.CertTexts.{text_written, writable}
+use Rattle.cert_text.proofs.WrittenTrees.{put_together}
+use Rattle.cert_text.proofs.cert_writing.text_of.Goals as goal
+
+pub push_claim-requires : goal.push_claim-requires
+push_claim-requires c =
+    (and_parts (stays_on_board c.args.cert.now.claim) (promotes_well c.args.cert.now.claim) (writable _ (cert_of c.args.cert.now) c.requires.1).claim).1
+
+pub push_fen-requires : goal.push_fen-requires
+push_fen-requires c = (writable _ (cert_of c.args.cert.now) c.requires.1).plain
+
+pub push_own-requires-clause-fits : goal.push_own-requires-clause-fits
+push_own-requires-clause-fits c = (0, (writable _ (cert_of c.args.cert.now) c.requires.1).root)
+
+pub push_below-requires : goal.push_below-requires
+push_below-requires c = (0, (writable _ (cert_of c.args.cert.now) c.requires.1).root)
+
+pub returns : goal.returns
+returns c =
+    text_written (cert_of c.args.cert.now) c.push_below.new.out.items c.requires
+    (put_together _ _ _ _ _ _ _ _ _ _ (c.in_ok-push_ended.ensures ∙ ap (λ (l : List ℕ). l ++ head_line) c.new-out.ensures.items) c.in_ok-push_claim.ensures c.in_ok-push_fen.ensures c.in_ok-push_own.ensures c.in_ok-push_below.ensures)

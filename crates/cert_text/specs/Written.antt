@@ -1,0 +1,31 @@
+-- Inner: no public clause cites this file.
+-- What is written of lines and trees.
+use Rattle.std.specs.Prelude.{ℕ, List, [], ◌∷◌, ◌++◌, codes, IfSome, IsTrue, Option, Some, None}
+use Rattle.board_base.specs.Texts.{unmove_text}
+use Rattle.board_base.specs.declared.unmoves.Unmove.{Unmove}
+use Rattle.cert_text.specs.Tree.{Tree, Forest, rule, back, expand, none, more}
+use Rattle.cert_text.specs.Lines.{ended}
+use Rattle.cert_text.specs.Certificate.{Lines, body_of}
+use Rattle.cert_text.specs.NodeLines.{kid_text}
+use Rattle.cert_text.specs.Writable.{has_text}
+
+-- the label, if there is one, has a text
+abbrev pub IsLabel : Option Unmove → Type 0
+IsLabel label = IfSome label (λ u. IsTrue (has_text u))
+
+-- what stands before a node's body
+abbrev pub label_text : Option Unmove → List ℕ
+label_text None = codes "root "
+label_text (Some u) = unmove_text u ++ 32 ∷ []
+
+abbrev mutual
+  -- the lines that follow the own line of a node
+  pub lines_below : Tree → Lines
+  lines_below (rule r) = []
+  lines_below (back k) = []
+  lines_below (expand kids) = lines_of kids
+
+  -- the lines of children, one child after another
+  pub lines_of : Forest → Lines
+  lines_of none = []
+  lines_of (more label tree rest) = ended (kid_text label (body_of tree)) ∷ (lines_below tree ++ lines_of rest)

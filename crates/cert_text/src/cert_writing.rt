@@ -1,0 +1,132 @@
+ghost use Rattle.std.specs.Prelude.{ℕ, List, ◌≡◌, ◌++◌, IfOk, IsTrue, None, OnOk, codes, true};
+ghost use Rattle.std.specs.List.{concat};
+ghost use Rattle.fen_text.specs.Spelling.{spelling};
+ghost use Rattle.cert_text.specs.Certificate.{AreLinesOf, Certificate as AnyCertificate, HasText, IsTextOf, body_of};
+ghost use Rattle.cert_text.specs.ClaimLines.{claim_text, promotes_well};
+ghost use Rattle.cert_text.specs.Lines.{cut, ended};
+ghost use Rattle.cert_text.specs.Seen.{tree_of};
+ghost use Rattle.cert_text.specs.SeenCert.{cert_of};
+ghost use Rattle.cert_text.specs.Texts.{IsBadAt};
+ghost use Rattle.cert_text.specs.Writable.{all_fit, fits};
+ghost use Rattle.cert_text.specs.NodeLines.{labelled_text};
+ghost use Rattle.cert_text.specs.Written.{IsLabel, lines_below, lines_of};
+
+use crate::certificates::Cert;
+use crate::claims::write_claim;
+use crate::line_writing::push_line;
+use crate::node_lines::{BodyLine, NodeLine};
+use crate::nodes::{Body, Kids, Node};
+use arrayvec::ArrayVec;
+use board_base::{Memory, Unmove};
+use fen_text::write_fen;
+use query_base::{Claim, Query};
+use std::alloc::{AllocError, Global};
+
+/// Puts the text after the others, with a line end.
+fn push_ended(text: &[u8], out: &mut Vec<u8>) -> Result<(), AllocError>
+    ensures { OnOk result (out.new.items ≡ out.old.items ++ ended text.now) }
+{
+    out.extend_from_slice(text)?;
+    out.push(b'\n')?;
+    Ok(())
+}
+
+/// Puts the line of the claim after the others.
+fn push_claim(claim: &Claim, out: &mut Vec<u8>) -> Result<(), AllocError>
+    requires { IsTrue (promotes_well claim.now) }
+    ensures { OnOk result (out.new.items ≡ out.old.items ++ ended (claim_text claim.now)) }
+{
+    let mut text: ArrayVec<u8, 128> = ArrayVec::new();
+    write_claim(claim, &mut text);
+    push_ended(text.as_slice(), out)
+}
+
+/// Puts the line of the query after the others.
+fn push_fen(query: &Query, out: &mut Vec<u8>) -> Result<(), AllocError>
+    requires { query.now.barred ≡ None }
+    ensures { OnOk result (out.new.items ≡ out.old.items ++ ended (codes "fen " ++ spelling query.now)) }
+{
+    let mut fen: ArrayVec<u8, 128> = ArrayVec::new();
+    write_fen(query, &mut fen);
+    out.extend_from_slice(b"fen ")?;
+    push_ended(fen.as_slice(), out)
+}
+
+/// What the own line of a node says of it.
+fn body_line(node: &Node) -> BodyLine
+    requires { (depth : ℕ) × (fits depth (tree_of node.now) ≡ true) }
+    ensures { result ≡ body_of (tree_of node.now) }
+{
+    match &node.body {
+        Body::Rule(rule) => BodyLine::Rule(*rule),
+        Body::Back(steps) => BodyLine::Back(*steps),
+        Body::Expand(kids) => BodyLine::Expand(kids.len() as u32),
+    }
+}
+
+/// Puts the own line of a node after the others.
+fn push_own(label: Option<Unmove>, node: &Node, out: &mut Vec<u8>) -> Result<(), AllocError>
+    requires label { IsLabel label }
+    requires fits { (depth : ℕ) × (fits depth (tree_of node.now) ≡ true) }
+    ensures { OnOk result (out.new.items ≡ out.old.items ++ ended (labelled_text label (body_of (tree_of node.now)))) }
+{
+    let mut text: ArrayVec<u8, 128> = ArrayVec::new();
+    let body = body_line(node);
+    push_line(&NodeLine { label, body }, &mut text);
+    push_ended(text.as_slice(), out)
+}
+
+/// Puts the lines that follow the own line of a node after the others.
+#[cycle(writing)]
+fn push_below(node: &Node, out: &mut Vec<u8>) -> Result<(), AllocError>
+    requires { (depth : ℕ) × (fits depth (tree_of node.now) ≡ true) }
+    ensures { OnOk result (out.new.items ≡ out.old.items ++ concat (lines_below (tree_of node.now))) }
+{
+    match &node.body {
+        Body::Rule(_) | Body::Back(_) => Ok(()),
+        Body::Expand(kids) => push_kids(kids, out),
+    }
+}
+
+/// Puts the lines of the children, one child after another, after the others.
+#[cycle(writing)]
+fn push_kids(kids: &Kids, out: &mut Vec<u8>) -> Result<(), AllocError>
+    requires { (depth : ℕ) × (all_fit depth kids.now ≡ true) }
+    ensures { OnOk result (out.new.items ≡ out.old.items ++ concat (lines_of kids.now)) }
+{
+    for i in 0..kids.len() {
+        let kid = kids.get(i).unwrap();
+        push_own(Some(kid.label), &kid.node, out)?;
+        push_below(&kid.node, out)?;
+    }
+    Ok(())
+}
+
+/// The one text of the certificate, line after line.
+fn text_of(alloc: Global, cert: &Cert) -> Result<Vec<u8>, AllocError>
+    requires { HasText (cert_of cert.now) }
+    ensures { IfOk result (λ text. IsTextOf text.items (cert_of cert.now)) }
+{
+    let mut out = Vec::new(alloc);
+    push_ended(b"retro 1", &mut out)?;
+    push_claim(&cert.claim, &mut out)?;
+    push_fen(&cert.query, &mut out)?;
+    push_own(None, &cert.root, &mut out)?;
+    push_below(&cert.root, &mut out)?;
+    Ok(out)
+}
+
+/// Writes the one text of the certificate, for which there is one, as `fits_format` tells. `read_cert` reads it as this certificate:
+/// it stands for no other, and goes bad at no line. Want of memory is a free answer: `Err` may take the place of the text.
+pub fn write_cert(alloc: Global, cert: &Cert) -> Result<Vec<u8>, Memory>
+    requires { HasText (cert_of cert.now) }
+    ensures text { IfOk result (λ text. IsTextOf text.items (cert_of cert.now)) }
+    ensures alone { IfOk result (λ text. (other : List ℕ) → IsTextOf other (cert_of cert.now) → other ≡ text.items) }
+    ensures read { IfOk result (λ text. (other : AnyCertificate) → IsTextOf text.items other → other ≡ cert_of cert.now) }
+    ensures good { IfOk result (λ text. (n : ℕ) → IsBadAt AreLinesOf (cut text.items) n → ⊥) }
+{
+    match text_of(alloc, cert) {
+        Ok(text) => Ok(text),
+        Err(_) => Err(Memory),
+    }
+}

@@ -1,0 +1,136 @@
+ghost use Rattle.std.specs.Prelude.{ℕ, List, ◌≡◌, ◌+◌, ◌≤◌, ◌++◌, [], Some, length};
+ghost use Rattle.std.specs.Fmt.{decimal};
+ghost use Rattle.fen_text.specs.Spelling.{turn_letter};
+ghost use Rattle.cert_text.specs.NodeLines.{node_line, body_text, line_text, rule_name, IsLine};
+ghost use Rattle.cert_text.specs.Written.{IsLabel, label_text};
+
+use crate::argument_writing::{push_potentials, push_set};
+use crate::node_lines::{BodyLine, NodeLine};
+use arrayvec::ArrayVec;
+use board_base::{Colour, Unmove, write_unmove};
+use itoa::Buffer;
+use query_base::RuleLine;
+
+/// Puts these bytes, for which there is room, after the others.
+pub(crate) fn push_all(bytes: &[u8], out: &mut ArrayVec<u8, 128>)
+    requires { length out.old.items + length bytes.now ≤ 128 }
+    ensures text { out.new.items ≡ out.old.items ++ bytes.now }
+    ensures longer { length out.new.items ≡ length out.old.items + length bytes.now }
+{
+    let _ = out.try_extend_from_slice(bytes);
+}
+
+fn push_number(number: u32, out: &mut ArrayVec<u8, 128>)
+    requires { length out.old.items + 10 ≤ 128 }
+    ensures text { out.new.items ≡ out.old.items ++ decimal number }
+    ensures short { length out.new.items ≤ length out.old.items + 10 }
+{
+    let mut buffer = Buffer::new();
+    push_all(buffer.format(number).as_bytes(), out);
+}
+
+fn letter(side: Colour) -> u8
+    ensures { result ≡ turn_letter side }
+{
+    match side {
+        Colour::White => b'w',
+        Colour::Black => b'b',
+    }
+}
+
+/// Puts the name of the rule, with what stands behind it, after the others.
+fn push_rule(rule: &RuleLine, out: &mut ArrayVec<u8, 128>)
+    requires { length out.old.items + 89 ≤ 128 }
+    ensures text { out.new.items ≡ out.old.items ++ rule_name rule.now }
+    ensures short { length out.new.items ≤ length out.old.items + 89 }
+{
+    match rule {
+        RuleLine::Kings => push_all(b"kings", out),
+        RuleLine::Ranks => push_all(b"ranks", out),
+        RuleLine::Check => push_all(b"check", out),
+        RuleLine::Rights => push_all(b"rights", out),
+        RuleLine::Count(side) => {
+            push_all(b"count ", out);
+            out.push(letter(*side));
+        }
+        RuleLine::Frozen(set) => {
+            push_all(b"frozen ", out);
+            push_set(*set, out);
+        }
+        RuleLine::Caps(side, set, p) => {
+            push_all(b"caps ", out);
+            out.push(letter(*side));
+            out.push(b' ');
+            push_set(*set, out);
+            out.push(b' ');
+            push_potentials(p, out);
+        }
+        RuleLine::Promo(side, set) => {
+            push_all(b"promo ", out);
+            out.push(letter(*side));
+            out.push(b' ');
+            push_set(*set, out);
+        }
+    }
+}
+
+fn push_body(body: &BodyLine, out: &mut ArrayVec<u8, 128>)
+    requires { length out.old.items + 94 ≤ 128 }
+    ensures text { out.new.items ≡ out.old.items ++ body_text body.now }
+    ensures short { length out.new.items ≤ length out.old.items + 94 }
+{
+    match body {
+        BodyLine::Rule(rule) => {
+            push_all(b"rule ", out);
+            push_rule(rule, out);
+        }
+        BodyLine::Back(steps) => {
+            push_all(b"back ", out);
+            push_number(u32::from(*steps), out);
+        }
+        BodyLine::Expand(count) => {
+            push_all(b"expand ", out);
+            push_number(*count, out);
+        }
+    }
+}
+
+fn push_label(label: &Option<Unmove>, out: &mut ArrayVec<u8, 128>)
+    requires empty { out.old.items ≡ [] }
+    requires label { IsLabel label.now }
+    ensures text { out.new.items ≡ label_text label.now }
+    ensures short { length out.new.items ≤ 8 }
+{
+    match label {
+        None => push_all(b"root ", out),
+        Some(unmove) => {
+            let mut name: ArrayVec<u8, 8> = ArrayVec::new();
+            write_unmove(unmove, &mut name);
+            push_all(name.as_slice(), out);
+            out.push(b' ');
+        }
+    }
+}
+
+/// Writes the text of a node's line whose label, if it has one, has a text.
+pub(crate) fn push_line(line: &NodeLine, out: &mut ArrayVec<u8, 128>)
+    requires empty { out.old.items ≡ [] }
+    requires label { IsLabel line.now.label }
+    ensures text { out.new.items ≡ line_text line.now }
+    ensures short { length out.new.items ≤ 102 }
+{
+    push_label(&line.label, out);
+    push_body(&line.body, out);
+}
+
+/// Writes the one text of a node's line, without its end, of at most 102 bytes. `out` is empty before, and the line is one of the
+/// grammar: `read_line` reads some text at some depth as this line. At each such depth it reads what is written as this line.
+pub fn write_line(line: &NodeLine, out: &mut ArrayVec<u8, 128>)
+    requires empty { out.old.items ≡ [] }
+    requires line { IsLine line.now }
+    ensures text { out.new.items ≡ line_text line.now }
+    ensures short { length out.new.items ≤ 102 }
+    ensures read { (depth : ℕ) (text : List ℕ) → node_line depth text ≡ Some line.now → node_line depth out.new.items ≡ Some line.now }
+{
+    push_line(line, out);
+}
