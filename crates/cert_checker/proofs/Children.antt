@@ -1,9 +1,9 @@
 -- Children one after another, and how many lines a tree takes.
-use Rattle.std.proofs.Common.{◌≡◌, ℕ, zero, suc, ◌+◌, ◌*◌, ◌≤◌, length, ap, ◌∙◌, arith, length-append}
+use Rattle.std.proofs.Common.{◌≡◌, ℕ, suc, ◌+◌, ◌*◌, ◌≤◌, length, ap, ◌∙◌, arith, length-append}
 use Rattle.std.specs.Prelude.{Some}
-use Rattle.std.proofs.lemmas.Option.{some_pair_parts}
 use Rattle.board_base.specs.declared.unmoves.Unmove.{Unmove}
-use Rattle.cert_text.specs.Tree.{Tree, Forest, rule, back, expand, none, more, kid_at, rest_of, size, size_all}
+use Rattle.cert_text.specs.Tree.{Tree, Forest, rule, back, expand, none, more, kid_at}
+use Rattle.cert_text.specs.Sizes.{rest_of, size, size_all}
 use Rattle.cert_text.specs.Certificate.{Lines, AreBelow, AreKids}
 use Rattle.cert_text.proofs.Forests.{rest-more}
 
@@ -12,12 +12,6 @@ pub rest-next : (f : Forest) (i : ℕ) (l : Unmove) (t : Tree) → kid_at f i �
 rest-next f i l t here =
     let next : suc i ≡ i + 1 = omega arith in
     rest-more f i l t here ∙ ap (λ (j : ℕ). more l t (rest_of f j)) next
-
--- a child's tree is smaller than all children together
-pub kid_smaller : (f : Forest) (i : ℕ) (l : Unmove) (t : Tree) → kid_at f i ≡ Some (l, t) → suc (size t) ≤ size_all f
-kid_smaller none i l t e = cc
-kid_smaller (more label tree rest) zero l t e = let s : size tree ≡ size t = ap size (some_pair_parts _ _ _ _ e).1 in omega arith
-kid_smaller (more label tree rest) (suc i) l t e = let h = kid_smaller rest i l t e in omega arith
 
 mutual
   -- a tree is not much larger than the lines below its own

@@ -11,7 +11,8 @@ use Rattle.query_base.specs.Asked.{Asked}
 use Rattle.query_base.specs.Reach.{Contradicts, EndsWith, Reaches}
 use Rattle.query_base.specs.Targets.{target}
 use Rattle.query_base.specs.declared.claims.Claim.{Claim}
-use Rattle.query_base.specs.declared.claims.Claim.TheVariants.{Illegal, Last, Lost}
+use Rattle.query_base.specs.declared.claims.Claim.TheVariants.{Illegal, Last, Lost, Ep}
+use Rattle.query_base.proofs.EnPassant.{ep-reaches}
 
 -- a game that reaches a query also reaches one that asks for other castlings and bars another move, where it keeps to these
 asked-otherwise : (g : List Move) (q : Asked) (held : Rights) (barred : Option Move) → Reaches g q → ((x : Castle) → IsTrue (holds held x) → IsTrue (unmoved no_odds g x)) → IfSome barred (λ m. EndsWith g m → ⊥) → Reaches g (record q { held = held; barred = barred })
@@ -24,3 +25,4 @@ contradiction-reaches g (Lost x) q h = let r : Reaches g q = h.0 in asked-otherw
   | inl same ↦ subst (λ (y : Castle). IsTrue (unmoved no_odds g y)) (sym same) h.1
   | inr before ↦ r.held c before
 ]) r.barred
+contradiction-reaches g (Ep m) q h = ep-reaches g m q h

@@ -1,3 +1,4 @@
+mod Examples
 pub mod Children
 pub mod Walks
 pub mod Written

@@ -14,7 +14,7 @@ use Rattle.cert_text.specs.Tree.{Tree, Forest, rule, back, expand, none, more}
 use Rattle.cert_text.specs.Certificate.{Lines, Certificate, AreLinesOf}
 use Rattle.cert_checker.specs.Proving.{Proves, ProvesEach, ProvesClaim}
 use Rattle.cert_checker.specs.Walk.{Walked, fault_at, next_line, Onwards, ByLabel, Walks, WalksEach, WalksTo}
-use Rattle.board_base.proofs.Lists.{contains-first, contains-later}
+use Rattle.general_lemmas.proofs.Lists.{contains-first, contains-later}
 use Rattle.cert_checker.proofs.Walks.{WalksKid, by_label}
 use Rattle.cert_checker.proofs.Written.{CanBeWritten, IsWritten, AreWritten, tree_written}
 use Rattle.unmove_gen.proofs.Spelled.{captures_spelled}

@@ -14,7 +14,7 @@ use Rattle.unmove_gen.specs.Predecessor.{predecessor, unmove_after}
 use Rattle.unmove_gen.proofs.Taken.{listed_after, reached_after}
 use Rattle.cert_text.specs.Tree.{Tree, Forest, rule, back, expand, none, more}
 use Rattle.cert_checker.specs.Proving.{ancestor, Proves, ProvesEach}
-use Rattle.board_base.proofs.Lists.{by_last, contains-cases, contains-none}
+use Rattle.general_lemmas.proofs.Lists.{by_last, contains-cases, contains-none}
 
 -- no game of at most n moves reaches the query
 abbrev Safe : ℕ → Asked → Type 0

@@ -9,7 +9,8 @@ use Rattle.query_base.specs.Asked.{Asked}
 use Rattle.unmove_gen.specs.Predecessor.{predecessor}
 use Rattle.cert_text.specs.Tree.{Tree, Forest, more}
 use Rattle.std.specs.Prelude.{Option, Some, None, MatchOption}
-use Rattle.cert_checker.specs.Walk.{Fault, Walked, fault_at, Onwards, ByLabel, IsLabelFault, Walks, WalksEach, IsFault}
+use Rattle.cert_checker.specs.Walk.{Fault, Walked, fault_at, Onwards, ByLabel, Walks, WalksEach}
+use Rattle.cert_checker.specs.Walking.{IsLabelFault, IsFault}
 use Rattle.cert_checker.specs.declared.refusals.Refused.{Refused}
 use Rattle.cert_checker.specs.declared.refusals.Refused.TheVariants as refused
 

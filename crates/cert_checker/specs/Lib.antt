@@ -1,3 +1,4 @@
 pub mod Proving
 pub mod Walk
 pub mod Answers
+pub mod Walking

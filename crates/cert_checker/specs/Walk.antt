@@ -1,5 +1,5 @@
 -- The walk of a tree in preorder, up to its first fault.
-use Rattle.std.specs.Prelude.{ℕ, ◌+◌, ◌≡◌, ◌⊎◌, List, [], ◌∷◌, Option, Some, None, IsSomeAnd, Result, Ok, Err}
+use Rattle.std.specs.Prelude.{ℕ, ◌+◌, ◌≡◌, ◌⊎◌, List, [], ◌∷◌, IsSomeAnd}
 use Rattle.std.specs.declared.cmp.Ordering.{Ordering}
 use Rattle.std.specs.declared.cmp.Ordering.TheVariants.{Less, Equal, Greater}
 use Rattle.board_base.specs.Texts.{unmove_order}
@@ -15,8 +15,6 @@ use Rattle.cert_text.specs.Certificate.{Certificate}
 use Rattle.cert_checker.specs.Proving.{ancestor, target_of}
 use Rattle.cert_checker.specs.declared.refusals.Why.{Why}
 use Rattle.cert_checker.specs.declared.refusals.Why.TheVariants as why
-use Rattle.cert_checker.specs.declared.refusals.Refused.{Refused}
-use Rattle.cert_checker.specs.declared.refusals.Refused.TheVariants as refused
 
 -- an unmove that no child has, or why a node doesn't prove its query
 pub data Fault : Type 0 where
@@ -45,11 +43,6 @@ ByLabel Less u n walked Kid = walked ≡ fault_at n (unsupported why.Stray)
 ByLabel Greater u n walked Kid = walked ≡ fault_at n (unlisted u)
 ByLabel Equal u n walked Kid = Kid
 
--- the fault of a child on line n by its label, where this is the first unmove that no child had
-abbrev pub IsLabelFault : Option Unmove → Unmove → ℕ → Walked → Type 0
-IsLabelFault None label n walked = walked ≡ fault_at n (unsupported why.Stray)
-IsLabelFault (Some u) label n walked = ByLabel (unmove_order label u) u n walked ⊥
-
 abbrev mutual
   -- what the walk of a tree whose first line is n comes to, at this query and below these ancestors, the parent first
   pub Walks : Tree → Asked → List Asked → ℕ → Walked → Type 0
@@ -69,15 +62,3 @@ abbrev mutual
 -- what the walk of a certificate comes to, whose root stands on line 4
 abbrev pub WalksTo : Certificate → Walked → Type 0
 WalksTo cert walked = Walks cert.root (target_of cert) [] 4 walked
-
--- what a function answers is such a fault, unless memory ran out
-abbrev pub IsFault : Refused → (Walked → Type 0) → Type 0
-IsFault (refused.BadText n) P = ⊥
-IsFault (refused.Unlisted n u) P = P (fault_at n (unlisted u))
-IsFault (refused.Unsupported n w) P = P (fault_at n (unsupported w))
-IsFault refused.Memory P = Unit {0}
-
--- what a function answers is what a walk comes to, unless memory ran out
-abbrev pub IsWalked : Result ℕ Refused → (Walked → Type 0) → Type 0
-IsWalked (Ok n) P = P (next_line n)
-IsWalked (Err f) P = IsFault f P

@@ -12,7 +12,7 @@ use std::alloc::Global;
 /// Checks the certificate whose text these bytes are, at most 67,108,864 of them. `Ok` comes exactly where they are the text of a
 /// certificate that proves its claim, with that claim and its query. `BadText` comes exactly where they are no certificate's text.
 /// `Unlisted` and `Unsupported` come exactly otherwise, with the first fault that the walk of the certificate in preorder meets.
-/// `Memory` comes only for want of memory.
+/// Want of memory is a free answer: `Memory` may take the place of each of these.
 pub fn check_bytes(alloc: Global, bytes: &[u8]) -> Result<Accepted, Refused>
     requires { length bytes.now ≤ 67_108_864 }
 

@@ -6,6 +6,7 @@ ghost use Rattle.query_base.specs.declared.claims.Claim.{Claim as AnyClaim};
 ghost use Rattle.query_base.specs.Asked.{Asked};
 ghost use Rattle.cert_text.specs.Tree.{Tree};
 ghost use Rattle.cert_text.specs.Certificate.{AreLinesOf, Certificate, Lines};
+ghost use Rattle.cert_text.specs.ClaimLines.{promotes_well};
 ghost use Rattle.cert_checker.specs.Proving.{ProvesClaim};
 ghost use Rattle.cert_checker.specs.Walk.{Walked, Walks, WalksTo, next_line, unlisted};
 ghost use Rattle.cert_checker.specs.Answers.{Answer, Answers, accepted, fault};
@@ -27,7 +28,7 @@ pub fn one_answer()
 
 /// The law that no game contradicts the claim of a certificate that proves it.
 pub fn certificates_prove()
-    ensures { (lines : Lines) (cert : Certificate) → AreLinesOf lines cert → ProvesClaim cert → Holds cert.claim cert.query }
+    ensures { (cert : Certificate) → ProvesClaim cert → Holds cert.claim cert.query }
 {}
 
 /// The law that an unmove which an answer calls unlisted has a text.
@@ -39,4 +40,9 @@ pub fn unlisted_have_texts()
 /// The law that a query about which an answer accepts a claim bars no move.
 pub fn accepted_bar_no_move()
     ensures { (lines : Lines) (claim : AnyClaim) (q : Asked) → Answers lines (accepted claim q) → q.barred ≡ None }
+{}
+
+/// The law that a claim which an answer accepts has a text.
+pub fn accepted_have_texts()
+    ensures { (lines : Lines) (claim : AnyClaim) (q : Asked) → Answers lines (accepted claim q) → IsTrue (promotes_well claim) }
 {}

@@ -10,7 +10,7 @@ mod walking;
 
 pub use checking::check_bytes;
 pub use laws::{
-    accepted_bar_no_move, certificates_prove, one_answer, one_walk, unlisted_have_texts,
-    walk_proves,
+    accepted_bar_no_move, accepted_have_texts, certificates_prove, one_answer, one_walk,
+    unlisted_have_texts, walk_proves,
 };
 pub use refusals::{Accepted, Refused, Why};

@@ -3,10 +3,11 @@ ghost use Rattle.std.specs.declared.cmp.Ordering.TheVariants.{Equal};
 ghost use Rattle.board_base.specs.Texts.{unmove_order};
 ghost use Rattle.query_base.specs.Targets.{Covers};
 ghost use Rattle.unmove_gen.specs.Listed.{unmoves};
-ghost use Rattle.cert_text.specs.Tree.{size, size_all};
+ghost use Rattle.cert_text.specs.Sizes.{size, size_all};
 ghost use Rattle.cert_text.specs.Seen.{tree_of};
 ghost use Rattle.cert_checker.specs.Proving.{ancestor};
-ghost use Rattle.cert_checker.specs.Walk.{IsFault, IsLabelFault, IsWalked, Walks, WalksEach};
+ghost use Rattle.cert_checker.specs.Walk.{Walks, WalksEach};
+ghost use Rattle.cert_checker.specs.Walking.{IsFault, IsLabelFault, IsWalked};
 
 use crate::refusals::{Refused, Why};
 use board_base::{Unmove, cmp_unmove};

@@ -4,4 +4,4 @@ use Rattle.cert_checker.proofs.Contradicted.{contradiction-reaches}
 use Rattle.cert_checker.proofs.laws.certificates_prove.Goals as goal
 
 pub returns : goal.returns
-returns c lines cert text proves g contradicts = sound cert.root (target_of cert) proves g (contradiction-reaches g cert.claim cert.query contradicts)
+returns c cert proves g contradicts = sound cert.root (target_of cert) proves g (contradiction-reaches g cert.claim cert.query contradicts)

@@ -2,12 +2,14 @@ use Rattle.std.proofs.Common.{◌∙◌, List, reverse, refl, sym, ap, subst, ar
 use Rattle.std.specs.List.{Contains}
 use Rattle.std.specs.declared.cmp.Ordering.TheVariants.{Equal}
 use Rattle.board_base.specs.declared.unmoves.Unmove.{Unmove}
-use Rattle.cert_text.specs.Tree.{none, size_all}
+use Rattle.cert_text.specs.Tree.{none}
+use Rattle.cert_text.specs.Sizes.{size_all}
 use Rattle.cert_text.specs.Seen.{tree_of}
-use Rattle.cert_text.proofs.Forests.{rest-end}
-use Rattle.cert_checker.specs.Walk.{IsLabelFault, fault_at, next_line, Walks}
-use Rattle.board_base.proofs.Lists.{contains-first, contains-later}
-use Rattle.cert_checker.proofs.Children.{rest-next, kid_smaller}
+use Rattle.cert_text.proofs.Forests.{kid_smaller, rest-end}
+use Rattle.cert_checker.specs.Walk.{fault_at, next_line, Walks}
+use Rattle.cert_checker.specs.Walking.{IsLabelFault}
+use Rattle.general_lemmas.proofs.Lists.{contains-first, contains-later}
+use Rattle.cert_checker.proofs.Children.{rest-next}
 use Rattle.cert_checker.proofs.Walks.{by_label, label_fault, at_end, fault_of, kid_walk, pushed}
 use Rattle.cert_checker.proofs.walking.+walking.Goals as goal
 

@@ -2,7 +2,7 @@ use Rattle.std.proofs.Common.{◌≡◌, ◌+◌, ◌≤◌, [], ◌∷◌, ◌+
 use Rattle.std.specs.List.{Contains}
 use Rattle.board_base.specs.declared.unmoves.Unmove.{Unmove}
 use Rattle.unmove_gen.specs.Listed.{unmoves}
-use Rattle.cert_text.specs.Tree.{rest_of, size, size_all}
+use Rattle.cert_text.specs.Sizes.{rest_of, size, size_all}
 use Rattle.cert_text.specs.Seen.{tree_of}
 use Rattle.cert_checker.specs.Walk.{Walked, WalksEach}
 use Rattle.cert_checker.proofs.walking.+walking.Given as goal

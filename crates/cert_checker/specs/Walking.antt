@@ -1,0 +1,26 @@
+-- Inner: no public clause cites this file.
+-- What the functions of the walk answer.
+use Rattle.std.specs.Prelude.{ℕ, ◌≡◌, Option, Some, None, Result, Ok, Err}
+use Rattle.board_base.specs.Texts.{unmove_order}
+use Rattle.board_base.specs.declared.unmoves.Unmove.{Unmove}
+use Rattle.cert_checker.specs.declared.refusals.Why.TheVariants as why
+use Rattle.cert_checker.specs.declared.refusals.Refused.{Refused}
+use Rattle.cert_checker.specs.declared.refusals.Refused.TheVariants as refused
+use Rattle.cert_checker.specs.Walk.{ByLabel, Walked, fault_at, next_line, unlisted, unsupported}
+
+-- the fault of a child on line n by its label, where this is the first unmove that no child had
+abbrev pub IsLabelFault : Option Unmove → Unmove → ℕ → Walked → Type 0
+IsLabelFault None label n walked = walked ≡ fault_at n (unsupported why.Stray)
+IsLabelFault (Some u) label n walked = ByLabel (unmove_order label u) u n walked ⊥
+
+-- what a function answers is such a fault, unless memory ran out
+abbrev pub IsFault : Refused → (Walked → Type 0) → Type 0
+IsFault (refused.BadText n) P = ⊥
+IsFault (refused.Unlisted n u) P = P (fault_at n (unlisted u))
+IsFault (refused.Unsupported n w) P = P (fault_at n (unsupported w))
+IsFault refused.Memory P = Unit {0}
+
+-- what a function answers is what a walk comes to, unless memory ran out
+abbrev pub IsWalked : Result ℕ Refused → (Walked → Type 0) → Type 0
+IsWalked (Ok n) P = P (next_line n)
+IsWalked (Err f) P = IsFault f P
