@@ -1,0 +1,4 @@
+-- Searches whose visits are paid for by what they keep.
+pub mod Different
+pub mod GoodSteps
+pub mod Goods

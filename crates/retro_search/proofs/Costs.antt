@@ -1,0 +1,3 @@
+-- How many queries are visited.
+pub mod CostSums
+pub mod OneCost

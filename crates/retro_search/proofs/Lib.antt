@@ -1,0 +1,10 @@
+pub mod Covered
+pub mod Trees
+pub mod Lines
+pub mod Maps
+pub mod Settled
+pub mod Costs
+pub mod Expansions
+pub mod Bound
+pub mod Roots
+mod Examples

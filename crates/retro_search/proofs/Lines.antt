@@ -1,0 +1,4 @@
+-- First open lines.
+pub mod OpenLines
+pub mod LineEnds
+pub mod OneLine

@@ -1,0 +1,8 @@
+-- Trees, and what they prove.
+pub mod Ancestors
+pub mod Forests
+pub mod Heights
+pub mod FirstKids
+pub mod Fitting
+pub mod Refuting
+pub mod EagerTrees

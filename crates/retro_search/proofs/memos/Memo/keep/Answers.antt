@@ -1,0 +1,30 @@
+use Rattle.std.proofs.Common.{List, refl, sym, ◌∙◌, subst, arith}
+use Rattle.std.specs.List.{All}
+use Rattle.std.specs.Map.{values_of}
+use Rattle.cert_text.specs.Tree.{Tree}
+use Rattle.query_base.specs.Asked.{Asked}
+use Rattle.retro_search.specs.Kept.{IsKept, StandsAlone}
+use Rattle.retro_search.specs.declared.memos.Kept.{Kept}
+use Rattle.retro_search.proofs.Maps.Inserted.{all_inserted}
+use Rattle.indexmap.proofs.CallerLemmas.{insert_entry-new}
+use Rattle.retro_search.proofs.Maps.Lookups.{absent, eq}
+use Rattle.retro_search.proofs.memos.Memo.keep.Goals as goal
+
+pub returns-in-Ok-clause-sound : goal.returns-in-Ok-clause-sound
+returns-in-Ok-clause-sound c =
+    let alone = subst (λ (t : Tree). StandsAlone t c.args.query.now c.args.found.now.height c.args.found.now.lines) (sym c.in_ok-copied.ensures) c.requires.alone in
+    record {
+      each = subst (λ (es : List (Asked × Kept)). All IsKept (values_of es)) (sym c.in-Ok.ensures.entries) (all_inserted _ IsKept _ c.args.query.now _ alone c.requires.sound.each);
+      few = omega (arith, c.requires.sound.few, c.if-self-found.false);
+    }
+
+pub returns-in-Ok-clause-kept : goal.returns-in-Ok-clause-kept
+returns-in-Ok-clause-kept c room =
+    let kept : Kept = record { query = c.args.query.now; node = c.in_ok-copied.field-0; height = c.args.found.now.height; lines = c.args.found.now.lines } in
+    record {
+      kept = kept;
+      entries = c.in-Ok.ensures.entries ∙ insert_entry-new eq c.args.self.now.trees c.args.query.now kept (absent c.args.query.now c.args.self.now.trees.entries room.absent);
+      query_is = refl;
+      tree = c.in_ok-copied.ensures;
+      lines = refl;
+    }

@@ -1,0 +1,20 @@
+use Rattle.std.proofs.Common.{ℕ, ◌<◌, ◌∙◌, List, reverse, subst}
+use Rattle.std.specs.Prelude.{IfErr}
+use Rattle.query_base.specs.Asked.{Asked}
+use Rattle.retro_search.specs.Costs.{IsCost}
+use Rattle.retro_search.specs.Stops.{IfSpent}
+use Rattle.retro_search.proofs.Expansions.{if_err}
+use Rattle.retro_search.proofs.Bound.Goods.{root_paid, root_small}
+use Rattle.retro_search.proofs.solving.attempt.Goals as goal
+
+pub returns-clause-spent : goal.returns-clause-spent
+returns-clause-spent c =
+    subst (λ (l : List Asked). IfErr c.search.result (λ s. IfSpent s ((n : ℕ) → IsCost c.args.target.now c.args.depth (reverse l) n → c.args.nodes < n))) c.new-ancestors.ensures.items c.search.ensures.spent
+
+pub returns-clause-paid : goal.returns-clause-paid
+returns-clause-paid c memo =
+    if_err c.search.result _ _ (λ s paid. root_paid s c.args.target.now c.args.depth _ c.new-ancestors.result.items c.new-ancestors.ensures.items (c.new.ensures.on ∙ memo) c.new.ensures.empty.0 c.new.ensures.empty.1 c.requires.shallow paid) c.search.ensures.paid
+
+pub returns-clause-small : goal.returns-clause-small
+returns-clause-small c memo =
+    if_err c.search.result _ _ (λ s small. root_small s c.args.target.now c.args.depth _ c.new-ancestors.result.items c.new-ancestors.ensures.items (c.new.ensures.on ∙ memo) c.new.ensures.empty.0 c.new.ensures.empty.1 c.requires.shallow small) c.search.ensures.small

@@ -1,0 +1,48 @@
+use Rattle.std.proofs.Common.{◌≤◌, [], subst, arith}
+use Rattle.query_base.specs.Asked.{Asked}
+use Rattle.query_base.specs.Targets.{target}
+use Rattle.cert_text.specs.Seen.{tree_of}
+use Rattle.retro_search.specs.Refutable.{IsRefutable}
+use Rattle.retro_search.specs.Kept.{IsRefutation}
+use Rattle.retro_search.specs.Searched.{IsOpen}
+use Rattle.retro_search.specs.Sizes.{nodes_in}
+use Rattle.retro_search.proofs.Lines.LineEnds.{countered, undecided}
+use Rattle.retro_search.proofs.Trees.Refuting.{refutes_whole}
+use Rattle.retro_search.proofs.Roots.{exactly_open, held, if_countered, if_ok, if_undecided, refutable_root, written}
+use Rattle.retro_search.proofs.Bound.Goods.{memo_spent}
+use Rattle.retro_search.proofs.solving.solve.Goals as goal
+
+pub returns-in-Ok-clause-written : goal.returns-in-Ok-clause-written
+returns-in-Ok-clause-written c well =
+    let f : IsRefutation c.in-Ok.found (target c.args.query.now c.args.claim.now) c.args.depth [] = subst (λ (q : Asked). IsRefutation c.in-Ok.found q c.args.depth []) c.target.ensures.query c.in-Ok.ensures.refuted in
+    let few : nodes_in (tree_of c.in-Ok.found.node) ≤ 500000 = omega (arith, f.counted, f.few) in
+    written (tree_of c.in-Ok.found.node) c.args.claim.now c.args.query.now c.args.depth c.are_known.ensures.query c.are_known.ensures.claim well c.requires.unbarred c.requires.shallow few (refutes_whole c.in-Ok.found _ c.args.depth [] f)
+
+pub returns-in-Ok-clause-holds : goal.returns-in-Ok-clause-holds
+returns-in-Ok-clause-holds c =
+    held (tree_of c.in-Ok.found.node) c.args.claim.now c.args.query.now c.args.depth (refutes_whole c.in-Ok.found _ c.args.depth [] (subst (λ (q : Asked). IsRefutation c.in-Ok.found q c.args.depth []) c.target.ensures.query c.in-Ok.ensures.refuted))
+
+pub returns-in-Err-Open-clause-undecided : goal.returns-in-Err-Open-clause-undecided
+returns-in-Err-Open-clause-undecided c =
+    if_ok c.open_answer.result _ _ (λ f. if_undecided f _ _ (λ l h.
+    undecided c.in-Err-Open.line l c.target.result _ c.args.depth c.target.ensures.query (rw c.in-Err-Open.field-0-is at c.in-Err-Open.ensures.unrefuted) h.0 h.1)) c.open_answer.ensures.undecided
+
+pub returns-in-Err-Open-clause-countered : goal.returns-in-Err-Open-clause-countered
+returns-in-Err-Open-clause-countered c =
+    if_ok c.open_answer.result _ _ (λ f. if_countered f _ _ (λ g h.
+    countered c.in-Err-Open.line g c.target.result c.args.query.now c.args.claim.now c.args.depth c.target.ensures.query c.target.ensures.contradicted (rw c.in-Err-Open.field-0-is at c.in-Err-Open.ensures.unrefuted) h.0 h.1)) c.open_answer.ensures.countered
+
+pub returns-in-Err-Spent-clause-lone : goal.returns-in-Err-Spent-clause-lone
+returns-in-Err-Spent-clause-lone c =
+    memo_spent c.args.nodes c.target.result _ c.args.depth c.target.ensures.query (rw c.in-Err-Spent.field-0-is at c.in-Err-Spent.ensures.paid)
+
+pub returns-in-Ok-clause-exactly : goal.returns-in-Ok-clause-exactly
+returns-in-Ok-clause-exactly c = (
+  λ proved. refutable_root _ _ c.args.depth (refutes_whole c.in-Ok.found _ c.args.depth [] (subst (λ (q : Asked). IsRefutation c.in-Ok.found q c.args.depth []) c.target.ensures.query c.in-Ok.ensures.refuted)),
+  λ refutable. tt,
+)
+
+pub returns-in-Err-Open-clause-exactly : goal.returns-in-Err-Open-clause-exactly
+returns-in-Err-Open-clause-exactly c =
+    let o : IsOpen c.in-Err-Open.line c.target.result c.args.depth [] = rw c.in-Err-Open.field-0-is at c.in-Err-Open.ensures.unrefuted in
+    if_ok c.open_answer.result _ _ (λ f h. exactly_open f _ h (subst (λ (q : Asked). IsRefutable q c.args.depth [] → ⊥) c.target.ensures.query o.unrefuted)) c.open_answer.ensures.proved

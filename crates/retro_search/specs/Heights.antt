@@ -1,0 +1,15 @@
+-- Inner: no public clause cites this file.
+-- How high a certificate's tree is.
+use Rattle.std.specs.Prelude.{ℕ, suc, max}
+use Rattle.cert_text.specs.Tree.{Tree, Forest, rule, back, expand, none, more}
+
+abbrev mutual
+  -- 0 for a rule line or a step back; 1 for a node that is expanded without children, and else one more than its highest child
+  pub height : Tree → ℕ
+  height (rule r) = 0
+  height (back k) = 0
+  height (expand kids) = suc (height_of_all kids)
+
+  pub height_of_all : Forest → ℕ
+  height_of_all none = 0
+  height_of_all (more label tree rest) = max (height tree) (height_of_all rest)

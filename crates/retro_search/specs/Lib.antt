@@ -1,0 +1,14 @@
+pub mod Refutable
+pub mod Lines
+pub mod Costs
+pub mod Lone
+pub mod Sizes
+pub mod Answers
+pub mod Heights
+pub mod Stops
+pub mod Searched
+pub mod Kept
+pub mod Runs
+pub mod Eager
+pub mod Tidy
+pub mod Good

@@ -1,0 +1,155 @@
+ghost use Rattle.std.specs.Prelude.{ℕ, List, ◌≡◌, ◌+◌, ◌<◌, ◌≤◌, [], IfErr, IfOk, IsTrue, OnOk, false, length, reverse, suc, true};
+ghost use Rattle.query_base.specs.Reach.{Reaches};
+ghost use Rattle.cert_text.specs.Seen.{tree_of};
+ghost use Rattle.retro_search.specs.Refutable.{IsShut};
+ghost use Rattle.retro_search.specs.Costs.{IsCost};
+ghost use Rattle.retro_search.specs.Searched.{IsCostBelow, IsOpen};
+ghost use Rattle.retro_search.specs.Stops.{IfOpen, IfSpent, IfTooLarge};
+ghost use Rattle.retro_search.specs.Kept.{IsRefutation, IsSound, StandsAlone};
+ghost use Rattle.retro_search.specs.Runs.{GoesOn};
+ghost use Rattle.retro_search.specs.Tidy.{HasRoomFor, Keeps};
+ghost use Rattle.retro_search.specs.Good.{GoesWell, GoesWellBelow, IsGood, IsGoodBelow, IsPaid};
+ghost use Rattle.query_base.specs.Asked.{Asked};
+
+use crate::copying::copied;
+use crate::memos::Kept;
+use crate::refutations::{Children, MOST_NODES, Refutation};
+use crate::runs::Run;
+use crate::shutting::shut;
+use crate::stops::{OpenLine, Stop, lengthened};
+use query_base::{Query, is_array};
+use std::alloc::Global;
+use unmove_gen::{Unmoves, pred};
+
+/// A refutation by a copy of the tree that is kept.
+fn taken(alloc: Global, kept: &Kept) -> Result<Refutation, Stop>
+    ensures tree { IfOk result (λ found. tree_of found.node ≡ tree_of kept.now.node) }
+    ensures numbers { IfOk result (λ found. (found.lean ≡ 0) × (found.height ≡ kept.now.height) × (found.lines ≡ kept.now.lines)) }
+    ensures unrefuted { IfErr result (λ stop. stop ≡ Stop.Memory) }
+{
+    match copied(alloc, &kept.node) {
+        Ok(node) => Ok(Refutation {
+            node,
+            lean: 0,
+            height: kept.height,
+            lines: kept.lines,
+        }),
+        Err(_) => Err(Stop::Memory),
+    }
+}
+
+/// Keeps the refutation, if it leans on no ancestor. False where memory is wanting.
+fn settle(alloc: Global, query: &Query, found: &Refutation, run: &mut Run) -> bool
+    requires sound { IsSound run.old.memo }
+    requires alone { found.now.lean ≡ 0 → StandsAlone (tree_of found.now.node) query.now found.now.height found.now.lines }
+    ensures on { IsTrue result → (GoesOn run.old run.new × (run.new.left ≡ run.old.left)) }
+    ensures kept { IsTrue result → found.now.lean ≡ 0 → HasRoomFor run.old.memo query.now found.now.lines → Keeps run.old.memo query.now found.now run.new.memo }
+{
+    if found.lean != 0 {
+        return true;
+    }
+    match run.memo.keep(alloc, query, found) {
+        Ok(()) => true,
+        Err(_) => false,
+    }
+}
+
+/// Refutes the query at this depth below these ancestors, of which the parent comes last, with at most so many visits as are
+/// left; else says what stopped it.
+#[cycle(searching)]
+pub(crate) fn search(
+    alloc: Global,
+    query: &Query,
+    depth: u8,
+    ancestors: &mut Vec<Query>,
+    run: &mut Run,
+) -> Result<Refutation, Stop>
+    requires shallow { length ancestors.old.items + depth ≤ 64 }
+    requires sound { IsSound run.old.memo }
+    requires few { run.old.left ≤ MOST_NODES }
+    ensures refuted { IfOk result (λ found. IsRefutation found query.now depth (reverse ancestors.old.items)) }
+    ensures unrefuted { IfErr result (λ stop. IfOpen stop (λ line. IsOpen line query.now depth (reverse ancestors.old.items))) }
+    ensures plain { IfOk result (λ found. run.old.memo.on ≡ false → found.lines + run.new.left ≤ run.old.left) }
+    ensures too_large { IfErr result (λ stop. IfTooLarge stop (run.old.memo.on ≡ false → ⊥)) }
+    ensures cost { OnOk result ((n : ℕ) → IsCost query.now depth (reverse ancestors.old.items) n → run.old.left ≤ run.new.left + n) }
+    ensures spent { IfErr result (λ stop. IfSpent stop ((n : ℕ) → IsCost query.now depth (reverse ancestors.old.items) n → run.old.left < n)) }
+    ensures on { OnOk result (GoesOn run.old run.new) }
+    ensures kept { OnOk result (ancestors.new.items ≡ ancestors.old.items) }
+    ensures well { IfOk result (λ found. (ps : List Asked) (n : ℕ) → IsGood ps n query.now depth (reverse ancestors.old.items) run.old → GoesWell ps n query.now depth (reverse ancestors.old.items) found run.old run.new) }
+    ensures paid { IfErr result (λ stop. (ps : List Asked) (n : ℕ) → IsGood ps n query.now depth (reverse ancestors.old.items) run.old → IfSpent stop (IsPaid ps (reverse ancestors.old.items) run.old.left run.old.memo)) }
+    ensures small { IfErr result (λ stop. (ps : List Asked) (n : ℕ) → IsGood ps n query.now depth (reverse ancestors.old.items) run.old → IfTooLarge stop ⊥) }
+{
+    if run.left == 0 {
+        return Err(Stop::Spent);
+    }
+    run.left -= 1;
+    if let Some(found) = shut(query, ancestors) {
+        return Ok(found);
+    }
+    let at_array = is_array(query);
+    if depth == 0 || at_array {
+        return Err(Stop::Open(OpenLine {
+            back: Vec::new(alloc),
+            at_array,
+        }));
+    }
+    if let Some(kept) = run.memo.find(query, depth) {
+        return taken(alloc, kept);
+    }
+    match expand(alloc, query, depth - 1, ancestors, run) {
+        Ok(found) => {
+            if settle(alloc, query, &found, run) {
+                Ok(found)
+            } else {
+                Err(Stop::Memory)
+            }
+        }
+        Err(stop) => Err(stop),
+    }
+}
+
+/// Refutes the query, which isn't shut and isn't the array's, by its predecessors at this depth.
+#[cycle(searching)]
+fn expand(
+    alloc: Global,
+    query: &Query,
+    below: u8,
+    ancestors: &mut Vec<Query>,
+    run: &mut Run,
+) -> Result<Refutation, Stop>
+    requires room { length ancestors.old.items + below < 64 }
+    requires unshut { IsShut query.now (reverse ancestors.old.items) → ⊥ }
+    requires elsewhere { Reaches [] query.now → ⊥ }
+    requires sound { IsSound run.old.memo }
+    requires few { run.old.left < MOST_NODES }
+    ensures refuted { IfOk result (λ found. IsRefutation found query.now (suc below) (reverse ancestors.old.items)) }
+    ensures unrefuted { IfErr result (λ stop. IfOpen stop (λ line. IsOpen line query.now (suc below) (reverse ancestors.old.items))) }
+    ensures plain { IfOk result (λ found. run.old.memo.on ≡ false → found.lines + run.new.left ≤ run.old.left + 1) }
+    ensures too_large { IfErr result (λ stop. IfTooLarge stop (run.old.memo.on ≡ false → ⊥)) }
+    ensures cost { OnOk result ((n : ℕ) → IsCostBelow query.now below (reverse ancestors.old.items) n → run.old.left ≤ run.new.left + n) }
+    ensures spent { IfErr result (λ stop. IfSpent stop ((n : ℕ) → IsCostBelow query.now below (reverse ancestors.old.items) n → run.old.left < n)) }
+    ensures on { OnOk result (GoesOn run.old run.new) }
+    ensures kept { OnOk result (ancestors.new.items ≡ ancestors.old.items) }
+    ensures well { IfOk result (λ found. (ps : List Asked) (m : ℕ) → IsGoodBelow ps m query.now below (reverse ancestors.old.items) run.old → GoesWellBelow ps m query.now below (reverse ancestors.old.items) found run.old run.new) }
+    ensures paid { IfErr result (λ stop. (ps : List Asked) (m : ℕ) → IsGoodBelow ps m query.now below (reverse ancestors.old.items) run.old → IfSpent stop (IsPaid ps (reverse ancestors.old.items) (run.old.left + 1) run.old.memo)) }
+    ensures small { IfErr result (λ stop. (ps : List Asked) (m : ℕ) → IsGoodBelow ps m query.now below (reverse ancestors.old.items) run.old → IfTooLarge stop ⊥) }
+{
+    match ancestors.push(*query) {
+        Ok(()) => {}
+        Err(_) => return Err(Stop::Memory),
+    }
+    let mut children = Children::new(alloc);
+    let mut unmoves = Unmoves::new(query);
+    while let Some(unmove) = unmoves.next() {
+        let found = match search(alloc, &pred(query, &unmove), below, ancestors, run) {
+            Ok(found) => found,
+            Err(stop) => return Err(lengthened(stop, unmove)),
+        };
+        match children.add(unmove, found) {
+            Ok(()) => {}
+            Err(stop) => return Err(stop),
+        }
+    }
+    let _ = ancestors.pop();
+    Ok(children.finish())
+}

@@ -1,0 +1,85 @@
+ghost use Rattle.std.specs.Prelude.{◌≡◌, ◌<◌, ◌↔◌, IfSome, IsSomeAnd, IsTrue, MatchOption, length, reverse};
+ghost use Rattle.query_base.specs.Targets.{Covers};
+ghost use Rattle.cert_text.specs.Tree.{back, rule};
+ghost use Rattle.cert_text.specs.Seen.{tree_of};
+ghost use Rattle.cert_checker.specs.Proving.{ancestor};
+ghost use Rattle.retro_search.specs.Refutable.{IsCovered, IsShut};
+ghost use Rattle.retro_search.specs.Eager.{IsEager};
+ghost use Rattle.retro_search.specs.Kept.{IsRefutation};
+
+use crate::refutations::Refutation;
+use cert_text::{Body, Node};
+use query_base::{Query, RuleLine, covers};
+use static_rules::close;
+
+/// The ancestor so many steps above covers the query. The parent, one step above, comes last.
+fn is_covered(ancestors: &[Query], steps: u8, query: &Query) -> bool
+    ensures { IsTrue result ↔ IsSomeAnd (ancestor (reverse ancestors.now) steps) (λ a. Covers a query.now) }
+{
+    let steps = usize::from(steps);
+    if steps == 0 || ancestors.len() < steps {
+        return false;
+    }
+    covers(&ancestors[ancestors.len() - steps], query)
+}
+
+/// How many steps above the nearest ancestor stands that covers the query; None where none does. The parent comes last.
+fn steps_back(query: &Query, ancestors: &[Query]) -> Option<u8>
+    requires { length ancestors.now < 256 }
+    ensures { MatchOption result (IsCovered query.now (reverse ancestors.now) → ⊥) (λ k. IsSomeAnd (ancestor (reverse ancestors.now) k) (λ a. Covers a query.now)) }
+{
+    for i in 0..ancestors.len() {
+        let steps = (i + 1) as u8;
+        if is_covered(ancestors, steps, query) {
+            return Some(steps);
+        }
+    }
+    None
+}
+
+/// The refutation by a rule line that supports the query.
+fn by_rule(reason: RuleLine) -> Refutation
+    ensures tree { tree_of result.node ≡ rule reason }
+    ensures numbers { (result.lean ≡ 0) × (result.height ≡ 0) × (result.lines ≡ 1) }
+{
+    Refutation {
+        node: Node {
+            body: Body::Rule(reason),
+        },
+        lean: 0,
+        height: 0,
+        lines: 1,
+    }
+}
+
+/// The refutation by an ancestor that covers the query, so many steps above.
+fn by_ancestor(steps: u8) -> Refutation
+    ensures tree { tree_of result.node ≡ back steps }
+    ensures numbers { (result.lean ≡ steps) × (result.height ≡ 0) × (result.lines ≡ 1) }
+{
+    Refutation {
+        node: Node {
+            body: Body::Back(steps),
+        },
+        lean: steps,
+        height: 0,
+        lines: 1,
+    }
+}
+
+/// A tree of one node that refutes the query: a rule line that supports it, or a step back to an ancestor that covers it. None
+/// where neither is there. The parent comes last.
+pub(crate) fn shut(query: &Query, ancestors: &[Query]) -> Option<Refutation>
+    requires { length ancestors.now < 256 }
+    ensures shut { MatchOption result (IsShut query.now (reverse ancestors.now) → ⊥) (λ found. IsRefutation found query.now 0 (reverse ancestors.now)) }
+    ensures one { IfSome result (λ found. found.lines ≡ 1) }
+    ensures lone { IfSome result (λ found. (IsCovered query.now (reverse ancestors.now) → ⊥) → (found.lean ≡ 0) × IsEager (tree_of found.node) query.now) }
+{
+    if let Some(rule) = close(query) {
+        return Some(by_rule(rule));
+    }
+    match steps_back(query, ancestors) {
+        Some(steps) => Some(by_ancestor(steps)),
+        None => None,
+    }
+}
