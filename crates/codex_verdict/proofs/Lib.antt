@@ -1,0 +1,4 @@
+pub mod Captures
+pub mod Gathered
+pub mod Few
+pub mod AllRights

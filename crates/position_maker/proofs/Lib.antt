@@ -1,0 +1,6 @@
+mod Doubled
+mod Queries
+mod DrawnGames
+mod Found
+mod Runs
+mod Totals

@@ -1,0 +1,4 @@
+pub mod Draws
+pub mod Positions
+pub mod Samples
+pub mod Counted

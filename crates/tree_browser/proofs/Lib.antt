@@ -1,0 +1,3 @@
+mod OneTree
+mod Nearest
+mod Written
