@@ -5,90 +5,117 @@ use std::io;
 use std::io::{ErrorKind, Read, Write};
 use std::test::Fail;
 
-/// A reader that is interrupted at its first call and gives a byte at each later one.
+/// A reader that gives at most so many bytes a call, and may fail once, at its second call.
 #[derive(Drop)]
-struct InterruptedOnce {
-    is_over: bool,
+struct Reader {
+    left: &'static [u8],
+    most: usize,
+    calls: u32,
+    fails: bool,
 }
 
-impl Read for InterruptedOnce {
+impl Read for Reader {
     fn read(&mut self, buf: &mut [u8]) -> io::Result<usize> {
-        if !self.is_over {
-            self.is_over = true;
+        self.calls = self.calls.saturating_add(1);
+        if self.fails && self.calls == 2 {
             return Err(ErrorKind::Interrupted.into());
         }
-        if buf.is_empty() {
-            return Ok(0);
-        }
-        buf[0] = b'r';
-        Ok(1)
+        let n = self.most.min(buf.len()).min(self.left.len());
+        buf[..n].copy_from_slice(&self.left[..n]);
+        self.left = &self.left[n..];
+        Ok(n)
     }
 }
 
-/// A writer that takes all, but whose first flush fails.
+/// A writer that takes at most so many bytes a call, and passes them on when it is flushed. Its
+/// first write may fail, and its first flush.
 #[derive(Drop)]
-struct FlushFailsOnce {
-    is_over: bool,
+struct Writer {
+    most: usize,
+    write_fails: bool,
+    flush_fails: bool,
+    held: Vec<u8>,
+    passed_on: Vec<u8>,
 }
 
-impl Write for FlushFailsOnce {
+impl Write for Writer {
     fn write(&mut self, buf: &[u8]) -> io::Result<usize> {
-        Ok(buf.len())
+        if self.write_fails {
+            self.write_fails = false;
+            return Err(ErrorKind::Interrupted.into());
+        }
+        let n = self.most.min(buf.len());
+        self.held.extend_from_slice(&buf[..n])?;
+        Ok(n)
     }
 
     fn flush(&mut self) -> io::Result<()> {
-        if !self.is_over {
-            self.is_over = true;
-            return Err(ErrorKind::BrokenPipe.into());
+        if self.flush_fails {
+            self.flush_fails = false;
+            return Err(ErrorKind::Interrupted.into());
         }
+        self.passed_on.extend_from_slice(&self.held)?;
+        self.held.clear();
         Ok(())
     }
 }
 
 #[test]
-fn reads_from_a_reader_to_its_end(rt: HostRuntime) {
-    let mut source = StdSource::new(b"abc".as_slice());
-    let mut buf = [0; 2];
-    assert_eq!(rt; source.read(&mut buf), Ok(2));
-    assert!(rt; buf.as_slice() == b"ab".as_slice());
-    assert_eq!(rt; source.read(&mut buf), Ok(1));
-    assert!(rt; buf.as_slice() == b"cb".as_slice());
-    assert_eq!(rt; source.read(&mut buf), Ok(0));
-}
-
-#[test]
-fn takes_an_interrupted_read_for_a_failed_one(rt: HostRuntime) {
-    let mut source = StdSource::new(InterruptedOnce { is_over: false });
-    let mut buf = [0; 2];
-    assert_eq!(rt; source.read(&mut buf), Err(Failed));
-    assert_eq!(rt; source.read(&mut buf), Ok(1));
-    assert_eq!(rt; buf[0], b'r');
-}
-
-#[test]
-fn writes_to_a_writer(rt: HostRuntime) -> Result<(), Fail> {
-    let mut out = Vec::new(rt.alloc());
-    let mut sink = StdSink::new(&mut out);
-    assert_eq!(rt; write_all(&mut sink, b"abc"), Ok(()));
-    drop(sink);
-    assert!(rt; out.as_slice() == b"abc".as_slice());
+fn reads_from_any_reader_to_its_end(rt: HostRuntime) -> Result<(), Fail> {
+    for (most, fails, want) in [
+        (2, false, [Ok(2), Ok(1), Ok(0), Ok(0)]),
+        (1, false, [Ok(1), Ok(1), Ok(1), Ok(0)]),
+        (2, true, [Ok(2), Err(Failed), Ok(1), Ok(0)]),
+        (1, true, [Ok(1), Err(Failed), Ok(1), Ok(1)]),
+    ] {
+        let mut source = StdSource::new(Reader {
+            left: b"abc",
+            most,
+            calls: 0,
+            fails,
+        });
+        let mut all = Vec::new(rt.alloc());
+        for answer in want {
+            let mut buf = [0; 2];
+            let read = source.read(&mut buf);
+            assert_eq!(rt; read, answer, "{most} a call, and {fails}");
+            if let Ok(n) = read {
+                all.extend_from_slice(&buf[..n])?;
+            }
+        }
+        assert!(rt; all.as_slice() == b"abc".as_slice());
+    }
     Ok(())
 }
 
 #[test]
-fn fails_where_a_writer_takes_nothing(rt: HostRuntime) {
-    let mut room = [0; 2];
-    let mut sink = StdSink::new(room.as_mut_slice());
-    assert_eq!(rt; write_all(&mut sink, b"abc"), Err(Failed));
-    drop(sink);
-    assert!(rt; room.as_slice() == b"ab".as_slice());
-}
-
-#[test]
-fn takes_a_failed_flush_for_a_failed_write(rt: HostRuntime) {
-    let mut sink = StdSink::new(FlushFailsOnce { is_over: false });
-    assert_eq!(rt; sink.write(b"abc"), Err(Failed));
-    assert_eq!(rt; sink.write(b"abc"), Ok(3));
+fn writes_through_any_writer(rt: HostRuntime) -> Result<(), Fail> {
+    for (most, write_fails, flush_fails, want, passed_on) in [
+        (2, false, false, [Ok(2), Ok(2)], b"abab".as_slice()),
+        (1, false, false, [Ok(1), Ok(1)], b"aa".as_slice()),
+        (0, false, false, [Err(Failed), Err(Failed)], b"".as_slice()),
+        (2, true, false, [Err(Failed), Ok(2)], b"ab".as_slice()),
+        (2, false, true, [Err(Failed), Ok(2)], b"abab".as_slice()),
+    ] {
+        let mut writer = Writer {
+            most,
+            write_fails,
+            flush_fails,
+            held: Vec::new(rt.alloc()),
+            passed_on: Vec::new(rt.alloc()),
+        };
+        let mut sink = StdSink::new(&mut writer);
+        for answer in want {
+            assert_eq!(rt;
+                sink.write(b"ab"),
+                answer,
+                "{most} a call, and {write_fails}, {flush_fails}"
+            );
+        }
+        drop(sink);
+        assert!(rt; writer.passed_on.as_slice() == passed_on);
+    }
+    Ok(())
 }
 
 #[test]

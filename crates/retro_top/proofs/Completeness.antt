@@ -1,44 +1,23 @@
--- A command succeeds exactly where its input is of the form that it asks for.
+-- A command succeeds only with the inputs that it asks for, and with those it does.
 use Rattle.std.proofs.Common.{◌≡◌, inl, inr, ℕ, List, [], ◌∷◌, ◌++◌, map, refl, sym, ap, ◌∙◌, subst}
 use Rattle.std.proofs.lemmas.Bool.{both_ways}
-use Rattle.std.proofs.lemmas.Option.{same_Some}
-use Rattle.std.specs.Prelude.{Option, Some, None}
+use Rattle.std.specs.Prelude.{Some, None}
 use Rattle.board_base.specs.Texts.{move_of}
 use Rattle.board_base.specs.declared.moves.Move.{Move}
 use Rattle.query_base.specs.Asked.{Asked}
 use Rattle.query_base.specs.Reach.{Reaches}
-use Rattle.fen_text.specs.Parts.{parted}
-use Rattle.fen_text.specs.Ranks.{rank}
-use Rattle.fen_text.specs.Fen.{fen, placement, ranks}
 use Rattle.game_text.specs.Words.{words, AreTextsOf}
-use Rattle.retro_top.specs.Answers.{AnswersAs, Succeeds, TellsGame}
+use Rattle.retro_top.specs.Answers.{AnswersAs, MustSucceed, Succeeds, TellsGame}
 use Rattle.retro_top.specs.Plays.{AnswersPlay, AnswersGame, AnswersMoves}
-use Rattle.retro_top.specs.Questions.{Asks, IsNoQuestion, first_line, after_first}
+use Rattle.retro_top.specs.Questions.{after_first}
 use Rattle.retro_top.specs.Retractions.{AnswersUnmoves, AsksForUnmoves}
 use Rattle.retro_top.specs.declared.commands.Command.{Command}
-use Rattle.retro_top.specs.declared.commands.Command.TheVariants.{Check, Play, Unmoves}
-use Rattle.retro_top.specs.declared.questions.NoQuestion.{NoQuestion}
-use Rattle.retro_top.specs.declared.questions.NoQuestion.TheVariants.{NoLine, BadFen}
+use Rattle.retro_top.specs.declared.commands.Command.TheVariants.{Check, Play, Unmoves, Solve}
 use Rattle.retro_top.specs.declared.statuses.Status.{Status}
 use Rattle.retro_top.specs.declared.statuses.Status.TheVariants.{Done, Refused, Undecided, Spent, Countered, BadWords, BadInput, ReadFault, WriteFault, Memory, TooLong}
+use Rattle.retro_top.proofs.Asking.{asks-one, asks-some}
+use Rattle.retro_top.proofs.Solving.{done-refutable, refutable-done}
 use Rattle.retro_top.proofs.Headline.{OneAnswer, CertificatesProve, done-proved, proves-done}
-
--- the first line asks one query
-asks-one : (input : List ℕ) (q r : Asked) → Asks input q → Asks input r → q ≡ r
-asks-one input q r a b = ap (λ (x : Asked × Option (ℕ × ℕ)). x.0) (same_Some _ _ (sym a.1 ∙ b.1))
-
--- no line is no FEN
-no-line : fen (first_line []) ≡ None
-unfolding first_line fen parted placement ranks rank
-no-line = refl
-
-never : {A : Type 0} (x : A) → None ≡ Some x → ⊥
-never x e = cc
-
-asks-some : (input : List ℕ) (q : Asked) (why : NoQuestion) → Asks input q → IsNoQuestion input why → ⊥
-asks-some input q NoLine a none =
-    never (q, a.0) (sym no-line ∙ ap (λ (l : List ℕ). fen (first_line l)) (sym none) ∙ a.1)
-asks-some input q (BadFen fault) a none = never (q, a.0) (sym none.1.place.unknown ∙ a.1)
 
 same-moves : (g h : List Move) → map (λ m. Some m) g ≡ map (λ m. Some m) h → g ≡ h
 same-moves [] [] e = refl
@@ -97,11 +76,12 @@ unmoves-done input ending text answers asks = elim answers [
   ]
 ]
 
--- where the input is of the form that the command asks for, the command succeeds
-pub succeeds-done : OneAnswer → (command : Command) (input : List ℕ) (ending : Status) (text : List ℕ) → AnswersAs command input ending text → Succeeds command input → ending ≡ Done
+-- with an input with which the command must succeed it does
+pub succeeds-done : OneAnswer → (command : Command) (input : List ℕ) (ending : Status) (text : List ℕ) → AnswersAs command input ending text → MustSucceed command input → ending ≡ Done
 succeeds-done law Check input ending text answers good = proves-done law input text ending answers good
 succeeds-done law Play input ending text answers good = play-done input ending text answers good
 succeeds-done law Unmoves input ending text answers good = unmoves-done input ending text answers good
+succeeds-done law (Solve depth nodes) input ending text answers good = refutable-done depth nodes input ending text answers good.0 good.1
 
 done-game : (input text : List ℕ) → AnswersPlay input Done text → TellsGame input
 done-game input text answers = elim answers [
@@ -121,8 +101,9 @@ done-unmoves input text answers = elim answers [
   ]
 ]
 
--- where the command succeeds, the input is of that form
+-- where the command succeeds, its input is such a one
 pub done-succeeds : CertificatesProve → (command : Command) (input text : List ℕ) → AnswersAs command input Done text → Succeeds command input
 done-succeeds law Check input text answers = let proved = done-proved law input text answers in (proved.cert, proved.is_text, proved.proves)
 done-succeeds law Play input text answers = done-game input text answers
 done-succeeds law Unmoves input text answers = done-unmoves input text answers
+done-succeeds law (Solve depth nodes) input text answers = done-refutable depth nodes input text answers

@@ -9,7 +9,8 @@ use Rattle.cert_checker.specs.Walk.{unlisted, unsupported}
 use Rattle.cert_checker.specs.Answers.{Answers, bad_text, fault, refused_as}
 use Rattle.cert_checker.specs.declared.refusals.Refused.{Refused}
 use Rattle.cert_checker.specs.declared.refusals.Refused.TheVariants as refused
-use Rattle.retro_top.specs.Checks.{AnswersCheck, CanBeTold, IsToldBy}
+use Rattle.retro_top.specs.Checks.{AnswersCheck}
+use Rattle.retro_top.specs.Told.{CanBeTold, IsToldBy}
 use Rattle.retro_top.specs.declared.statuses.Status.TheVariants as status
 
 pub refused-told : (input : List ℕ) (r : Refused) (text : List ℕ) → IfSome (refused_as r) (Answers (cut input)) → IsToldBy r text → AnswersCheck input status.Refused text

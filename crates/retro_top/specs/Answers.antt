@@ -1,30 +1,38 @@
 -- What the program answers.
-use Rattle.std.specs.Prelude.{ℕ, ◌≤◌, List, length, String, Option, IfSome}
+use Rattle.std.specs.Prelude.{ℕ, ◌≤◌, List, [], length, String, Option, IfSome}
 use Rattle.std.specs.Global.{Global}
 use Rattle.std.specs.Io.KnownBytes.{Appends, Consumes, IsAtEnd}
 use Rattle.retro_ports.specs.Causes.{Rose}
 use Rattle.retro_ports.specs.Ends.{TakesPrefix}
 use Rattle.board_base.specs.declared.moves.Move.{Move}
 use Rattle.query_base.specs.Asked.{Asked}
-use Rattle.query_base.specs.Reach.{Holds, Reaches}
+use Rattle.query_base.specs.Reach.{Contradicts, Holds, Reaches}
+use Rattle.query_base.specs.Targets.{target}
+use Rattle.query_base.specs.declared.claims.Claim.{Claim}
 use Rattle.cert_text.specs.Lines.{cut}
 use Rattle.cert_text.specs.Certificate.{Certificate, IsTextOf}
 use Rattle.game_text.specs.Words.{words, AreTextsOf}
 use Rattle.cert_checker.specs.Proving.{ProvesClaim}
+use Rattle.retro_search.specs.Refutable.{IsRefutable}
+use Rattle.retro_search.specs.Costs.{IsCost}
 use Rattle.retro_top.specs.Commands.{Call}
 use Rattle.retro_top.specs.Checks.{AnswersCheck, accepted_line}
 use Rattle.retro_top.specs.Plays.{AnswersPlay}
 use Rattle.retro_top.specs.Questions.{Asks, after_first}
 use Rattle.retro_top.specs.Retractions.{AnswersUnmoves, AsksForUnmoves}
+use Rattle.retro_top.specs.Statements.{States}
+use Rattle.retro_top.specs.Solves.{AnswersSolve, countered_line}
 use Rattle.retro_top.specs.declared.statuses.Status.{Status}
+use Rattle.retro_top.specs.declared.statuses.Status.TheVariants.{Done, Undecided, Countered}
 use Rattle.retro_top.specs.declared.commands.Command.{Command}
-use Rattle.retro_top.specs.declared.commands.Command.TheVariants.{Check, Play, Unmoves}
+use Rattle.retro_top.specs.declared.commands.Command.TheVariants.{Check, Play, Unmoves, Solve}
 
 -- the status and the text with which a command answers an input
 abbrev pub AnswersAs : Command → List ℕ → Status → List ℕ → Type 0
 AnswersAs Check input status text = AnswersCheck input status text
 AnswersAs Play input status text = AnswersPlay input status text
 AnswersAs Unmoves input status text = AnswersUnmoves input status text
+AnswersAs (Solve depth nodes) input status text = AnswersSolve depth nodes input status text
 
 -- the status and the text with which the words answer an input
 abbrev pub Answers : List (String Global) → List ℕ → Status → List ℕ → Type 0
@@ -67,8 +75,42 @@ Unhindered limit left source_old source_new sink_old sink_new holds =
 abbrev pub TellsGame : List ℕ → Type 0
 TellsGame input = (q : Asked) × (g : List Move) × Asks input q × AreTextsOf (words (after_first input)) g × Reaches g q
 
--- with this input the command succeeds
+-- the input states a claim whose target is refutable at the depth
+abbrev pub StatesRefutable : ℕ → List ℕ → Type 0
+StatesRefutable depth input = (claim : Claim) × (q : Asked) × States input claim q × IsRefutable (target q claim) depth []
+
+-- the input states a claim whose target has a cost of at most so many nodes
+abbrev pub StatesCheap : ℕ → ℕ → List ℕ → Type 0
+StatesCheap depth nodes input =
+    (claim : Claim) × (q : Asked) × States input claim q × ((n : ℕ) × IsCost (target q claim) depth [] n × (n ≤ nodes))
+
+-- only with such an input does the command succeed
 abbrev pub Succeeds : Command → List ℕ → Type 0
 Succeeds Check input = ProvesSome input
 Succeeds Play input = TellsGame input
 Succeeds Unmoves input = AsksForUnmoves input
+Succeeds (Solve depth nodes) input = StatesRefutable depth input
+
+-- with such an input the command succeeds: a search, where the nodes suffice
+abbrev pub MustSucceed : Command → List ℕ → Type 0
+MustSucceed (Solve depth nodes) input = StatesRefutable depth input × StatesCheap depth nodes input
+MustSucceed command input = Succeeds command input
+
+-- What was taken grew by the text of a certificate of the claim of the input's first line about the query of its second, which
+-- proves it. No game contradicts it.
+abbrev pub WritesProof : List ℕ → Option (List ℕ) → Option (List ℕ) → Type 0
+WritesProof input old new =
+    (cert : Certificate) × (text : List ℕ) × States input cert.claim cert.query × IsTextOf text cert × ProvesClaim cert × Appends old new text × Holds cert.claim cert.query
+
+-- What was taken grew by one line, with a legal game that reaches the query of the input's second line and contradicts the claim of
+-- its first.
+abbrev pub WritesGameAgainst : List ℕ → Option (List ℕ) → Option (List ℕ) → Type 0
+WritesGameAgainst input old new =
+    (claim : Claim) × (q : Asked) × (game : List Move) × States input claim q × Contradicts game claim q × Appends old new (countered_line game)
+
+-- the search came to its end, with a certificate, an open line or a game
+abbrev pub IsUnspent : Status → Type 0
+IsUnspent Done = Unit {0}
+IsUnspent Undecided = Unit {0}
+IsUnspent Countered = Unit {0}
+IsUnspent status = ⊥

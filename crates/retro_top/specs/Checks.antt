@@ -1,13 +1,12 @@
 -- What `check` answers.
-use Rattle.std.specs.Prelude.{ℕ, ◌≡◌, IsTrue, List, [], ◌∷◌, ◌++◌, drop, codes, unwrap_or}
+use Rattle.std.specs.Prelude.{ℕ, ◌≡◌, List, [], ◌∷◌, ◌++◌, drop, codes, unwrap_or}
 use Rattle.std.specs.Fmt.{decimal}
-use Rattle.board_base.specs.Texts.{can_capture, can_promote, unmove_text}
+use Rattle.board_base.specs.Texts.{unmove_text}
 use Rattle.cert_text.specs.Lines.{cut, ended, without_end}
 use Rattle.cert_text.specs.Certificate.{Lines}
 use Rattle.cert_checker.specs.Walk.{Fault, unlisted, unsupported}
 use Rattle.cert_checker.specs.Answers.{Answer, Answers, bad_text, fault, accepted}
 use Rattle.cert_checker.specs.declared.refusals.Refused.{Refused}
-use Rattle.cert_checker.specs.declared.refusals.Refused.TheVariants as refused
 use Rattle.cert_checker.specs.declared.refusals.Why.{Why}
 use Rattle.cert_checker.specs.declared.refusals.Why.TheVariants as why
 use Rattle.retro_top.specs.declared.statuses.Status.{Status}
@@ -32,18 +31,6 @@ refusal_line n what = ended (codes "refused line " ++ decimal n ++ 32 ∷ what)
 abbrev pub fault_words : Fault → List ℕ
 fault_words (unlisted u) = codes "unlisted " ++ unmove_text u
 fault_words (unsupported w) = codes "unsupported " ++ why_word w
-
--- the line that tells a refusal, but for want of memory
-abbrev pub IsToldBy : Refused → List ℕ → Type 0
-IsToldBy (refused.BadText n) text = text ≡ refusal_line n (codes "text")
-IsToldBy (refused.Unlisted n u) text = text ≡ refusal_line n (fault_words (unlisted u))
-IsToldBy (refused.Unsupported n w) text = text ≡ refusal_line n (fault_words (unsupported w))
-IsToldBy refused.Memory text = ⊥
-
--- an unmove that a refusal names has a text
-abbrev pub CanBeTold : Refused → Type 0
-CanBeTold (refused.Unlisted n u) = IsTrue (can_promote u.mv.promo) × IsTrue (can_capture u.mv.promo u.captured u.ep)
-CanBeTold _ = Unit {0}
 
 -- the status and the text that tell an answer to these lines
 abbrev pub Tells : Lines → Answer → Status → List ℕ → Type 0

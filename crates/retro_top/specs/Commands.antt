@@ -1,18 +1,32 @@
 -- The words of the command line.
-use Rattle.std.specs.Prelude.{ℕ, ◌≡◌, List, [], ◌∷◌, map, codes, string_bytes, String}
+use Rattle.std.specs.Prelude.{ℕ, ◌≡◌, ◌≤◌, List, [], ◌∷◌, map, codes, string_bytes, String}
 use Rattle.std.specs.Global.{Global}
+use Rattle.std.specs.Fmt.{decimal}
 use Rattle.retro_top.specs.declared.commands.Command.{Command}
-use Rattle.retro_top.specs.declared.commands.Command.TheVariants.{Check, Play, Unmoves}
+use Rattle.retro_top.specs.declared.commands.Command.TheVariants.{Check, Play, Unmoves, Solve}
 
 -- the words, as bytes, by which each command is called
 abbrev pub words_of : Command → List (List ℕ)
 words_of Check = codes "check" ∷ []
 words_of Play = codes "play" ∷ []
 words_of Unmoves = codes "unmoves" ∷ []
+words_of (Solve depth nodes) = codes "solve" ∷ decimal depth ∷ decimal nodes ∷ []
+
+-- a search goes back at most 64 moves, and visits at least one query and at most 500,000
+pub record AreLimits (depth nodes : ℕ) : Type 0 where
+  pub shallow : depth ≤ 64
+  pub some_nodes : 1 ≤ nodes
+  pub few_nodes : nodes ≤ 500000
+
+-- the command's numbers, if it has any, are in their ranges
+abbrev pub IsInRange : Command → Type 0
+IsInRange (Solve depth nodes) = AreLimits depth nodes
+IsInRange command = Unit {0}
 
 -- the words call this command
-abbrev pub Call : List (String Global) → Command → Type 0
-Call words command = map string_bytes words ≡ words_of command
+pub record Call (words : List (String Global)) (command : Command) : Type 0 where
+  pub words_are : map string_bytes words ≡ words_of command
+  pub in_range : IsInRange command
 
 -- the words call some command
 abbrev pub CallSome : List (String Global) → Type 0

@@ -1,24 +1,42 @@
-ghost use Rattle.std.specs.Prelude.{◌≡◌, ◌≤◌, ◌∷◌, ◌++◌, IfOk, IsTrue, None, codes, length};
+ghost use Rattle.std.specs.Prelude.{◌≡◌, ◌≤◌, ◌∷◌, ◌++◌, IfOk, IsTrue, None, codes, drop, length};
 ghost use Rattle.board_base.specs.Texts.{can_capture, can_promote, unmove_text};
+ghost use Rattle.cert_text.specs.ClaimLines.{claim_words, promotes_well};
 ghost use Rattle.cert_text.specs.Lines.{ended};
 ghost use Rattle.fen_text.specs.Spelling.{spelling};
-ghost use Rattle.retro_top.specs.Checks.{AnswersCheck, CanBeTold, IsToldBy, refusal_line, why_word};
+ghost use Rattle.retro_top.specs.Checks.{AnswersCheck, refusal_line, why_word};
+ghost use Rattle.retro_top.specs.Told.{CanBeTold, IsToldBy};
 
 use crate::statuses::Status;
 use arrayvec::ArrayVec;
 use board_base::{Unmove, write_unmove};
-use cert_checker::{Refused, Why, accepted_bar_no_move, check_bytes, unlisted_have_texts};
+use cert_checker::{
+    Refused, Why, accepted_bar_no_move, accepted_have_texts, check_bytes, unlisted_have_texts,
+};
+use cert_text::write_claim;
 use fen_text::write_fen;
-use query_base::Query;
+use query_base::{Claim, Query};
 use std::alloc::{AllocError, Global};
 
-fn write_accepted(alloc: Global, query: &Query) -> Result<Vec<u8>, AllocError>
-    requires { query.now.barred ≡ None }
-    ensures { IfOk result (λ v. v.items ≡ codes "accepted illegal " ++ ended (spelling query.now)) }
+/// What the text of a claim says after `claim `.
+fn words_of_claim(text: &[u8]) -> &[u8]
+    requires { 6 ≤ length text.now }
+    ensures { result.now ≡ drop 6 text.now }
 {
+    &text[6..]
+}
+
+fn write_accepted(alloc: Global, claim: &Claim, query: &Query) -> Result<Vec<u8>, AllocError>
+    requires plain { query.now.barred ≡ None }
+    requires promotion { IsTrue (promotes_well claim.now) }
+    ensures { IfOk result (λ v. v.items ≡ codes "accepted " ++ claim_words claim.now ++ 32 ∷ ended (spelling query.now)) }
+{
+    let mut text: ArrayVec<u8, 128> = ArrayVec::new();
+    write_claim(claim, &mut text);
     let mut fen: ArrayVec<u8, 128> = ArrayVec::new();
     write_fen(query, &mut fen);
-    let mut line = Vec::from_slice(alloc, b"accepted illegal ")?;
+    let mut line = Vec::from_slice(alloc, b"accepted ")?;
+    line.extend_from_slice(words_of_claim(text.as_slice()))?;
+    line.push(b' ')?;
     line.extend_from_slice(fen.as_slice())?;
     line.push(b'\n')?;
     Ok(line)
@@ -73,10 +91,11 @@ pub fn check(alloc: Global, input: &[u8]) -> Result<(Status, Vec<u8>), AllocErro
     ensures { IfOk result (λ a. AnswersCheck input.now a.0 a.1.items) }
 {
     accepted_bar_no_move();
+    accepted_have_texts();
     unlisted_have_texts();
     match check_bytes(alloc, input) {
         Ok(found) => {
-            let accepted = write_accepted(alloc, &found.query)?;
+            let accepted = write_accepted(alloc, &found.claim, &found.query)?;
             Ok((Status::Done, accepted))
         }
         Err(refused) => {

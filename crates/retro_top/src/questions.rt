@@ -1,4 +1,4 @@
-ghost use Rattle.std.specs.Prelude.{◌≡◌, ◌+◌, ◌≤◌, IfOk, IfErr, length};
+ghost use Rattle.std.specs.Prelude.{◌≡◌, ◌+◌, ◌≤◌, IfOk, IfErr, None, length};
 ghost use Rattle.retro_top.specs.Questions.{Asks, IsNoQuestion, after_first, first_line, no_question_line, without_return};
 
 use fen_text::{FenFault, read_fen, split_part};
@@ -33,7 +33,7 @@ fn without_return(line: &[u8]) -> &[u8]
 }
 
 /// The first line of the input, without its end, and what follows it.
-fn split_first_line(input: &[u8]) -> (&[u8], &[u8])
+pub(crate) fn split_first_line(input: &[u8]) -> (&[u8], &[u8])
     ensures line { result.0.now ≡ first_line input.now }
     ensures rest { result.1.now ≡ after_first input.now }
     ensures short { length result.0.now + length result.1.now ≤ length input.now }
@@ -51,6 +51,7 @@ pub fn read_question(input: &[u8]) -> Result<Question<'_>, NoQuestion>
     ensures asked { IfOk result (λ question. Asks input.now question.query) }
     ensures rest { IfOk result (λ question. question.rest.now ≡ after_first input.now) }
     ensures short { IfOk result (λ question. length question.rest.now ≤ length input.now) }
+    ensures plain { IfOk result (λ question. question.query.barred ≡ None) }
     ensures no_question { IfErr result (IsNoQuestion input.now) }
 {
     if input.is_empty() {

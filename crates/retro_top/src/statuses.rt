@@ -1,5 +1,8 @@
 ghost use Rattle.std.specs.Prelude.{◌≡◌};
+ghost use Rattle.std.specs.Process.{exit_status};
 ghost use Rattle.retro_top.specs.Statuses.{code_of};
+
+use std::process::ExitCode;
 
 /// How a run of the program ended.
 #[derive(Clone, Copy, PartialEq, Eq, Debug)]
@@ -34,5 +37,12 @@ impl Status {
         ensures { result ≡ code_of self }
     {
         self as u8
+    }
+
+    /// What the process ends with: this number.
+    pub fn exit_code(self) -> ExitCode
+        ensures { exit_status result ≡ code_of self }
+    {
+        ExitCode::from(self.code())
     }
 }

@@ -5,8 +5,11 @@ use Rattle.retro_top.proofs.Accepted.{accepted-told}
 use Rattle.retro_top.proofs.Refused.{can-be-told, refused-told}
 use Rattle.retro_top.proofs.checks.check.Goals as goal
 
-pub write_accepted-requires : goal.write_accepted-requires
-write_accepted-requires c = c.accepted_bar_no_move.ensures (cut c.args.input.now) c.in-Ok.found.claim c.in-Ok.found.query c.in-Ok.ensures.answer
+pub write_accepted-requires-clause-plain : goal.write_accepted-requires-clause-plain
+write_accepted-requires-clause-plain c = c.accepted_bar_no_move.ensures (cut c.args.input.now) c.in-Ok.found.claim c.in-Ok.found.query c.in-Ok.ensures.answer
+
+pub write_accepted-requires-clause-promotion : goal.write_accepted-requires-clause-promotion
+write_accepted-requires-clause-promotion c = c.accepted_have_texts.ensures (cut c.args.input.now) c.in-Ok.found.claim c.in-Ok.found.query c.in-Ok.ensures.answer
 
 pub write_refused-requires : goal.write_refused-requires
 write_refused-requires c = can-be-told c.unlisted_have_texts.ensures.promotion c.unlisted_have_texts.ensures.capture (cut c.args.input.now) c.in-Err.refused c.in-Err.ensures.answer

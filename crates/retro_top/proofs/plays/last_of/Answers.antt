@@ -1,5 +1,5 @@
 use Rattle.std.proofs.Common.{sym, ◌∙◌}
-use Rattle.retro_top.proofs.LastMoves.{last-get}
+use Rattle.general_lemmas.proofs.Lasts.{last-get}
 use Rattle.retro_top.proofs.plays.last_of.Goals as goal
 
 pub returns : goal.returns

@@ -1,0 +1,17 @@
+use Rattle.std.proofs.Common.{subst, sym}
+use Rattle.std.specs.Prelude.{IsTrue}
+use Rattle.std.specs.List.{All}
+use Rattle.board_base.specs.Texts.{can_promote}
+use Rattle.board_base.specs.declared.moves.Move.{Move}
+use Rattle.retro_top.proofs.OpenTexts.{first_open-spelled, forwards-spelled, spelled}
+use Rattle.retro_top.proofs.solves.answer_claim.Goals as goal
+
+pub write_undecided-requires : goal.write_undecided-requires
+write_undecided-requires c =
+    let said = rw c.in-Undecided.is at c.in-Ok.ensures.undecided in
+    first_open-spelled (spelled c.unmoves_have_texts.ensures.promotion c.unmoves_have_texts.ensures.capture) _ _ _ _ said.open_line.first
+
+pub write_countered-requires : goal.write_countered-requires
+write_countered-requires c =
+    let said = rw c.in-Countered.is at c.in-Ok.ensures.countered in
+    subst (All (λ (m : Move). IsTrue (can_promote m.promo))) (sym said.forwards_is) (forwards-spelled said.line (first_open-spelled (spelled c.unmoves_have_texts.ensures.promotion c.unmoves_have_texts.ensures.capture) _ _ _ _ said.open_line.first))
