@@ -4,6 +4,8 @@
 #[cfg(test)]
 mod certificates;
 #[cfg(test)]
+mod claims;
+#[cfg(test)]
 mod driving;
 #[cfg(test)]
 mod perft;
@@ -13,3 +15,5 @@ mod retractions;
 mod rows;
 #[cfg(test)]
 mod runs;
+#[cfg(test)]
+mod searches;

@@ -3,7 +3,7 @@
 use crate::driving::{Ports, Row, WHOLE, assert_answers, run_on, words_of};
 use crate::rows::{CHECKS, NO_COMMANDS, PLAYS, UNMOVES};
 use retro_ports::{MemSink, MemSource};
-use retro_top::{LIMIT, Status, run};
+use retro_top::{Status, run};
 use std::alloc::{AllocError, Global};
 use std::process::Abort;
 use std::test::Fail;
@@ -85,8 +85,12 @@ fn refuses_other_words(rt: HostRuntime) -> Result<(), Fail> {
 #[test]
 fn reads_no_more_than_the_limit(rt: HostRuntime) -> Result<(), Fail> {
     for (count, want, text) in [
-        (LIMIT, Status::Refused, b"refused line 1 text\n".as_slice()),
-        (LIMIT + 1, Status::TooLong, b"".as_slice()),
+        (
+            67_108_864,
+            Status::Refused,
+            b"refused line 1 text\n".as_slice(),
+        ),
+        (67_108_865, Status::TooLong, b"".as_slice()),
     ] {
         let words = words_of(rt.alloc(), &["check"])?;
         let bytes = vec![in rt.alloc(); b'x'; count]?;

@@ -1,6 +1,6 @@
 //! The texts of certificates: what is read of lines and of whole texts, and which trees have one.
 
-use board_base::{Colour, Memory, Move, Square, Unmove, read_unmove};
+use board_base::{Colour, Kind, Memory, Move, Square, Unmove, read_unmove};
 use cert_text::{
     Body, BodyLine, Cert, CertFault, Kid, Kids, Node, fits_format, read_cert, read_claim, read_line,
 };
@@ -193,6 +193,32 @@ fn fits_depths_to_255(rt: HostRuntime) -> Result<(), Fail> {
             fits_format(&cert) == fits,
             "{steps} steps at depth {depth}"
         );
+    }
+    Ok(())
+}
+
+fn e5d6(promo: Option<Kind>) -> Move {
+    Move {
+        from: Square::known(36),
+        to: Square::known(43),
+        promo,
+    }
+}
+
+/// A claimed capture en passant promotes nothing, and a claimed last move to no king.
+#[test]
+fn fits_claims(rt: HostRuntime) -> Result<(), Fail> {
+    let text = b"retro 1\nclaim illegal\nfen 8/8/8/8/8/8/8/8 w - -\nroot rule kings\n";
+    let mut cert = read(rt.alloc(), text)?;
+    for (promo, last, ep) in [
+        (None, true, true),
+        (Some(Kind::Queen), true, false),
+        (Some(Kind::King), false, false),
+    ] {
+        cert.claim = Claim::Last(e5d6(promo));
+        assert_eq!(rt; fits_format(&cert), last);
+        cert.claim = Claim::Ep(e5d6(promo));
+        assert_eq!(rt; fits_format(&cert), ep);
     }
     Ok(())
 }

@@ -4,6 +4,8 @@
 #[cfg(test)]
 mod certificate_texts;
 #[cfg(test)]
+mod claims;
+#[cfg(test)]
 mod fens;
 #[cfg(test)]
 mod first_faults;
@@ -13,3 +15,5 @@ mod games;
 mod men;
 #[cfg(test)]
 mod queries;
+#[cfg(test)]
+mod written_certificates;

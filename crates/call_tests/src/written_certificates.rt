@@ -1,0 +1,106 @@
+//! Certificates and lines of nodes that are written: the bytes are those that were read.
+
+use arrayvec::ArrayVec;
+use cert_text::{fits_format, read_cert, read_line, write_cert, write_line};
+use std::alloc::Global;
+use std::test::Fail;
+
+/// The text that is written of the certificate that was read of these bytes.
+fn written_again(alloc: Global, bytes: &[u8]) -> Result<Vec<u8>, Fail> {
+    if bytes.len() > 67_108_864 {
+        return Err(Fail::from("too long"));
+    }
+    let cert = read_cert(alloc, bytes)?;
+    if fits_format(&cert) {
+        Ok(write_cert(alloc, &cert)?)
+    } else {
+        Err(Fail::from("no text"))
+    }
+}
+
+/// The certificates that stand as examples.
+const EXAMPLES: [&str; 4] = [
+    "retro 1\nclaim illegal\nfen rnbqkbnr/pppppppp/8/8/8/8/PPPPPPPP/RNBQKBNR w KQkq -\nroot rule kings\n",
+    "retro 1\nclaim illegal\nfen 4k3/8/8/3p4/8/8/P7/4K2R w K d6\nroot expand 1\nd7d5 expand 0\n",
+    "retro 1\nclaim illegal\nfen 4k3/8/8/8/8/P7/PPPPPPPP/4K3 w - -\nroot rule count w\n",
+    "retro 1\nclaim illegal\nfen 8/8/8/8/8/8/8/8 w - -\nroot rule kings\n",
+];
+
+/// A tree with each rule line, with steps back of one and of two, and with labels of each kind.
+const TREE: &str = "root expand 6
+a1a2 expand 4
+d7d8nxr rule kings
+c5d6ep rule ranks
+h2h1q rule check
+b3c4xp rule rights
+e2e4 rule count w
+e7e5 rule count b
+g1f3 expand 1
+g8f6 expand 2
+b1c3 back 1
+b8c6 back 2
+a7b8qxq rule frozen 0000000000004080
+a2a1r expand 5
+f1f2 rule promo w 0000000000000a00
+f8f7 rule promo b fedcba9876543210
+f2f1 rule caps w 0000000000000000 1 0 0 0 0 0 0 1 / 0 -1 0 0 0 0 0 0
+f7f8 rule caps b ffffffffffffffff / 64 -64 10 -9 0 0 0 7
+f2f3 rule caps b 00000000000000ff -12 / 0 0 0 0 0 0 0 0
+";
+
+#[test]
+fn writes_certificates_as_they_were_read(rt: HostRuntime) -> Result<(), Fail> {
+    for text in EXAMPLES {
+        let written = written_again(rt.alloc(), text.as_bytes())?;
+        assert_eq!(rt; written.as_slice(), text.as_bytes());
+    }
+    for claim in [
+        "illegal",
+        "last e2e4",
+        "last a7b8q",
+        "lost K",
+        "lost Q",
+        "lost k",
+        "lost q",
+        "ep g5f6",
+    ] {
+        let text = format!(in rt.alloc();
+            "retro 1\nclaim {claim}\nfen r3k2r/8/8/5pP1/8/8/8/R3K2R w KQkq f6\n{TREE}"
+        )?;
+        let written = written_again(rt.alloc(), text.as_bytes())?;
+        assert_eq!(rt; written.as_slice(), text.as_bytes());
+    }
+    Ok(())
+}
+
+/// The text that is written of the line that was read of these bytes at this depth.
+fn line_again(bytes: &[u8], depth: u8) -> Option<ArrayVec<u8, 128>> {
+    match read_line(bytes, depth) {
+        Some(line) => {
+            let mut out = ArrayVec::new();
+            write_line(&line, &mut out);
+            Some(out)
+        }
+        None => None,
+    }
+}
+
+/// A line of 102 bytes: none is longer.
+const LONGEST: &str =
+    "a7b8qxq rule caps w ffffffffffffffff -64 -64 -64 -64 -64 -64 -64 -64 / -64 -64 -64 -64 -64 -64 -64 -64";
+
+#[test]
+fn writes_lines_as_they_were_read(rt: HostRuntime) -> Result<(), Fail> {
+    assert_eq!(rt; LONGEST.len(), 102);
+    for (text, depth) in [
+        ("root rule kings", 0),
+        ("root expand 999999", 0),
+        ("a1a2 back 255", 255),
+        ("a1a2 expand 0", 255),
+        (LONGEST, 1),
+    ] {
+        let written = line_again(text.as_bytes(), depth).ok_or("no line")?;
+        assert_eq!(rt; written.as_slice(), text.as_bytes());
+    }
+    Ok(())
+}

@@ -1,0 +1,67 @@
+//! The rules on promoted men and on captures by pawns, on written boards.
+
+use board_base::{Colour, Potentials, SquareSet};
+use fen_text::read_four_fields;
+use query_base::RuleLine;
+use static_rules::supports;
+use std::test::Fail;
+
+/// b7 and d7, and b2 and d2: the pawns that shut in a bishop of c8, and of c1.
+const ABOUT_C8: u64 = 0x000a000000000000;
+
+const ABOUT_C1: u64 = 0xa00;
+
+/// Text, side, set, whether the rule on promoted men supports it. White's bishop of c1, or Black's of c8, is away from home while the
+/// pawns about it have never moved.
+#[test]
+fn tells_promoted_men(rt: HostRuntime) -> Result<(), Fail> {
+    let on_f4 = "rnbqkbnr/pppppppp/8/8/5B2/8/PPPPPPPP/RN1QKBNR w KQkq -";
+    let on_e4 = "rnbqkbnr/pppppppp/8/8/4B3/8/PPPPPPPP/RN1QKBNR w KQkq -";
+    let seven = "rnbqkbnr/pppppppp/8/8/5B2/8/PPPP1PPP/RN1QKBNR w KQkq -";
+    let array = "rnbqkbnr/pppppppp/8/8/8/8/PPPPPPPP/RNBQKBNR w KQkq -";
+    let black = "rn1qkbnr/pppppppp/8/5b2/8/8/PPPPPPPP/RNBQKBNR w KQkq -";
+    let rows: [(&str, Colour, u64, bool); 7] = [
+        (on_f4, Colour::White, ABOUT_C1, true),
+        (on_f4, Colour::White, 0, false),
+        (on_f4, Colour::Black, ABOUT_C1, false),
+        (on_e4, Colour::White, ABOUT_C1, true),
+        (seven, Colour::White, ABOUT_C1, false),
+        (array, Colour::White, 0xffff, false),
+        (black, Colour::Black, ABOUT_C8, true),
+    ];
+    for (text, side, bits, answer) in rows {
+        let query = read_four_fields(text.as_bytes()).ok_or("unread")?;
+        let rule = RuleLine::Promo(side, SquareSet::from_bits(bits));
+        assert_eq!(rt; supports(&query, &rule), answer);
+    }
+    Ok(())
+}
+
+/// Text, set, the last u, the first v, whether the rule on White's captures supports it with u = 1 0 0 0 0 0 0 and v = -1 for b.
+#[test]
+fn tells_captures(rt: HostRuntime) -> Result<(), Fail> {
+    let whole = "rnbqkbnr/pppppppp/8/8/8/1P6/1PPPPPPP/RNBQKBNR w KQkq -";
+    let bishop = "rn1qkbnr/pppppppp/8/8/8/1P6/1PPPPPPP/RNBQKBNR w KQkq -";
+    let knight = "r1bqkbnr/pppppppp/8/8/8/1P6/1PPPPPPP/RNBQKBNR w KQkq -";
+    let seven = "rnbqkbnr/pppppppp/8/8/8/8/1PPPPPPP/RNBQKBNR w KQkq -";
+    let rows: [(&str, u64, i8, i8, bool); 9] = [
+        (whole, 0, 1, 0, true),
+        (whole, 0, 2, 0, false),
+        (whole, 0, 0, 0, false),
+        (whole, 0, 1, 1, false),
+        (whole, 0xff00, 1, 0, false),
+        (bishop, ABOUT_C8, 1, 0, true),
+        (bishop, 0, 1, 0, false),
+        (knight, ABOUT_C8, 1, 0, false),
+        (seven, 0, 1, 0, false),
+    ];
+    for (text, bits, last, first, answer) in rows {
+        let query = read_four_fields(text.as_bytes()).ok_or("unread")?;
+        let u = [1, 0, 0, 0, 0, 0, 0, last];
+        let v = [first, -1, 0, 0, 0, 0, 0, 0];
+        let p = Potentials::new(&u, &v).ok_or("in range")?;
+        let rule = RuleLine::Caps(Colour::White, SquareSet::from_bits(bits), p);
+        assert_eq!(rt; supports(&query, &rule), answer);
+    }
+    Ok(())
+}

@@ -1,0 +1,11 @@
+//! Tests of the rules on sets of squares, on promoted men and on captures by pawns, and of the crates that they stand on.
+#![tactic(auto)]
+
+#[cfg(test)]
+mod bounds;
+#[cfg(test)]
+mod cages;
+#[cfg(test)]
+mod pawns;
+#[cfg(test)]
+mod rules_on_sets;

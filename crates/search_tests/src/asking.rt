@@ -1,0 +1,67 @@
+//! How the tests ask.
+
+use cert_text::{Body, Cert, Node, fits_format, read_claim};
+use fen_text::read_four_fields;
+use query_base::{Claim, Query};
+use retro_search::{Found, solve};
+use std::alloc::Global;
+use std::test::Fail;
+
+/// What is answered to a claim line and a FEN of four fields.
+pub(crate) fn ask(
+    alloc: Global,
+    claim: &str,
+    fen: &str,
+    depth: u8,
+    nodes: u32,
+) -> Result<Found, Fail> {
+    let claim = read_claim(claim.as_bytes()).ok_or("a claim")?;
+    let query = read_four_fields(fen.as_bytes()).ok_or("a FEN")?;
+    if query.barred.is_some() || depth > 64 || nodes == 0 || nodes > 500_000 {
+        return Err(Fail::from("out of range"));
+    }
+    Ok(solve(alloc, &query, &claim, depth, nodes)?)
+}
+
+/// The certificate that is answered, which has a text.
+pub(crate) fn certificate(
+    alloc: Global,
+    claim: &str,
+    fen: &str,
+    depth: u8,
+    nodes: u32,
+) -> Result<Cert, Fail> {
+    match ask(alloc, claim, fen, depth, nodes)? {
+        Found::Proved(cert) => {
+            if fits_format(&cert) {
+                Ok(cert)
+            } else {
+                Err(Fail::from("no text"))
+            }
+        }
+        Found::Undecided(_) => Err(Fail::from("undecided")),
+        Found::Countered(_) => Err(Fail::from("countered")),
+        Found::Spent { visited: _ } => Err(Fail::from("spent")),
+    }
+}
+
+/// How many nodes there are at this one and below it.
+pub(crate) fn count_nodes(alloc: Global, root: &Node) -> Result<u32, Fail> {
+    let mut waiting: Vec<&Node> = Vec::new(alloc);
+    waiting.push(root)?;
+    for counted in 0..500_001 {
+        match waiting.pop() {
+            None => return Ok(counted),
+            Some(node) => {
+                if let Body::Expand(kids) = &node.body {
+                    for i in 0..kids.len() {
+                        if let Some(kid) = kids.get(i) {
+                            waiting.push(&kid.node)?;
+                        }
+                    }
+                }
+            }
+        }
+    }
+    Err(Fail::from("too many"))
+}
