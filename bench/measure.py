@@ -2,9 +2,14 @@
 """Times the built program, outside the gate.
 
 measure.py play PROGRAM     `PROGRAM play` on games of 200,000 and 1,000,000 plies, knights going to and fro
+measure.py search PROGRAM   `PROGRAM solve` on examples/, in time and by valgrind in machine instructions, and `PROGRAM check` of what it writes
 measure.py moves            `legal_moves` on four middle-game positions: builds legal_moves.program over a copy of the crates
+measure.py pawns            `least` and `bound` on eight pawns, in machine instructions, by valgrind: builds pawns.program likewise
+measure.py cages            a greatest frozen set and seven regions beside it, in machine instructions: builds cages.program likewise
 """
+import contextlib
 import pathlib
+import re
 import shutil
 import subprocess
 import sys
@@ -14,11 +19,46 @@ import time
 HERE = pathlib.Path(__file__).resolve().parent
 ARRAY = b"rnbqkbnr/pppppppp/8/8/8/8/PPPPPPPP/RNBQKBNR w KQkq -\n"
 
+# Eight pawns at home; one that captured; four on each of two files; all on one file; and three boards on which no step of the method
+# ends early.
+PAWNS = [
+    "a2b2c2d2e2f2g2h2",
+    "b2c2d2e2f2g2h2b3",
+    "a3a4a5a6b3b4b5b6",
+    "d1d2d3d4d5d6d7d8",
+    "h2h3h4f5g6f7h7c8",
+    "h2h3g4g5e6f6c7g7",
+    "a2a5b5a6c6c7d8e8",
+]
+# Middle-game positions with a blocked pawn chain.
+CHAINS = [
+    "r3k2r/pp1bnppp/1qn1p3/2ppP3/3P4/2PB1N2/PP3PPP/RNBQK2R w KQkq -",
+    "r1bq1rk1/pp2npbp/3p1np1/2pPp3/2P1P3/2N2N2/PP2BPPP/R1BQ1RK1 w - -",
+]
+# Claims of examples/, each with the depth that settles it.
+CLAIMS = {"loyd-1859": 1, "loyd-1891": 1, "dawson-1913": 2, "benko-1996": 2, "dawson-chess-magazine-1913": 4, "barred-kings": 9}
+LIMITS = {"least": 20_000, "bound": 2_000}
+
 
 def timed(words, text):
     begun = time.perf_counter()
     done = subprocess.run(words, input=text, stdout=subprocess.PIPE)
     return done.returncode, done.stdout.decode().strip(), time.perf_counter() - begun
+
+
+@contextlib.contextmanager
+def built(name, deps, words=()):
+    """The program of `name`.program, proved and built over a copy of the crates."""
+    with tempfile.TemporaryDirectory() as folder:
+        top = pathlib.Path(folder)
+        for crate in (HERE.parent / "crates").iterdir():
+            shutil.copytree(crate, top / "crates" / crate.name, ignore=shutil.ignore_patterns("out", "must-fail"))
+        bench = top / "crates" / f"bench_{name}"
+        (bench / "src").mkdir(parents=True)
+        shutil.copy(HERE / f"{name}.program", bench / "src" / "main.rt")
+        (top / "crates.txt").write_text((HERE.parent / "crates.txt").read_text() + f"{bench.name}: {deps}\n")
+        subprocess.run(["rt", "run", *words], cwd=bench, check=True, stdout=subprocess.DEVNULL)
+        yield str(bench / "out" / bench.name)
 
 
 def play(program):
@@ -28,26 +68,56 @@ def play(program):
         print(f"{plies} plies: status {status}, {answer}, {seconds:.2f} s, {seconds / plies * 1e6:.2f} microseconds a ply")
 
 
+def search(program):
+    for name, depth in CLAIMS.items():
+        claim = (HERE.parent / "examples" / f"{name}.claim").read_bytes()
+        words = [program, "solve", str(depth), "500000"]
+        done = subprocess.run(words, input=claim, stdout=subprocess.PIPE, check=True)
+        seconds = min(timed(words, claim)[2] for _ in range(5))
+        nodes = done.stdout.count(b"\n") - 3
+        found = instructions(words, claim)
+        checked = instructions([program, "check"], done.stdout)
+        print(f"{name}: {nodes} nodes, {seconds * 1000:.1f} ms; solve {found:,} instructions, check {checked:,}")
+
+
 def moves():
-    with tempfile.TemporaryDirectory() as folder:
-        top = pathlib.Path(folder)
-        for crate in (HERE.parent / "crates").iterdir():
-            shutil.copytree(crate, top / "crates" / crate.name, ignore=shutil.ignore_patterns("out", "must-fail"))
-        bench = top / "crates" / "bench_moves"
-        (bench / "src").mkdir(parents=True)
-        shutil.copy(HERE / "legal_moves.program", bench / "src" / "main.rt")
-        lines = (HERE.parent / "crates.txt").read_text() + "bench_moves: fen_text play_rules query_base board_base\n"
-        (top / "crates.txt").write_text(lines)
-        subprocess.run(["rt", "run"], cwd=bench, check=True, stdout=subprocess.DEVNULL)
-        status, answer, seconds = timed([str(bench / "out" / "bench_moves")], b"")
+    with built("legal_moves", "fen_text play_rules query_base board_base") as program:
+        status, answer, seconds = timed([program], b"")
         print(f"100000 lists: status {status}, {answer} moves, {seconds:.2f} s, {seconds * 10:.2f} microseconds a list")
+
+
+def instructions(words, text=b""):
+    done = subprocess.run(["valgrind", "--tool=callgrind", "--callgrind-out-file=/dev/null", *words], input=text, capture_output=True, check=True)
+    return int(re.search(rb"Collected : (\d+)", done.stderr)[1])
+
+
+def pawns():
+    with built("pawns", "pawn_assign board_base", ["--", "least", PAWNS[0], "1"]) as program:
+        for call, limit in LIMITS.items():
+            for squares in PAWNS:
+                few, many = (instructions([program, call, squares, str(times)]) for times in (100, 1100))
+                each = (many - few) / 1000
+                print(f"{call} {squares}: {each:.0f} instructions, {'under' if each < limit else 'NOT UNDER'} {limit}")
+
+
+def cages():
+    with built("cages", "board_base cage_rules fen_text query_base", ["--", CHAINS[0], "0"]) as program:
+        for fen in CHAINS:
+            none, many = (instructions([program, fen, times]) for times in ("0", "100"))
+            print(f"{(many - none) / 100:.0f} instructions: {fen}")
 
 
 def main():
     if sys.argv[1:2] == ["play"] and len(sys.argv) == 3:
         play(sys.argv[2])
+    elif sys.argv[1:2] == ["search"] and len(sys.argv) == 3:
+        search(sys.argv[2])
     elif sys.argv[1:] == ["moves"]:
         moves()
+    elif sys.argv[1:] == ["pawns"]:
+        pawns()
+    elif sys.argv[1:] == ["cages"]:
+        cages()
     else:
         sys.exit(__doc__)
 
