@@ -11,3 +11,6 @@ pub mod Passing
 pub mod EachCastle
 pub mod CastleSquares
 pub mod Duals
+pub mod Ways
+pub mod Hits
+pub mod Settled

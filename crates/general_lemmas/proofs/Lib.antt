@@ -7,3 +7,4 @@ pub mod Differing
 pub mod SumsAmong
 pub mod Counts
 pub mod Rounds
+pub mod Settling

@@ -1,6 +1,6 @@
 -- The numbers of a range, and a test of each.
 use Rattle.std.proofs.Common.{◌≡◌, ℕ, zero, suc, ◌+◌, ◌-◌, ◌<◌, ◌≤◌, Bool, true, false, cond, ◌&&◌, ◌||◌, inl, inr, subst, List, [], ◌∷◌, ◌++◌, refl, sym, ap, ◌∙◌, arith}
-use Rattle.std.proofs.lemmas.Bool.{and_parts, cases_eq}
+use Rattle.std.proofs.lemmas.Bool.{and_from, and_parts, both_ways, cases_eq, or_cases, or_left, or_right}
 use Rattle.std.proofs.lemmas.List.{append_assoc, append-nil}
 use Rattle.std.proofs.lemmas.List.Elements.{filter-append}
 use Rattle.std.proofs.lemmas.List.FromFn.{get_or-range_with_len, length-range_with_len}
@@ -74,3 +74,32 @@ first_kept false x rest = refl
 pub kept_more : {A : Type 0} (p : A → Bool) (x : A) (xs old new : List A) → new ≡ old ++ cond (p x) (x ∷ []) [] → new ++ filter p xs ≡ old ++ filter p (x ∷ xs)
 kept_more {A} p x xs old new h =
     ap (λ (l : List A). l ++ filter p xs) h ∙ append_assoc old (cond (p x) (x ∷ []) []) (filter p xs) ∙ ap (λ (l : List A). old ++ l) (first_kept (p x) x (filter p xs))
+
+-- what holds of each number of a range is tested so
+pub all-each : (p : ℕ → Bool) (k n : ℕ) → ((i : ℕ) → k ≤ i → i < k + n → p i ≡ true) → list_all p (range_with_len k n) ≡ true
+all-each p k zero each = refl
+all-each p k (suc n) each = and_from _ _ (each k (omega arith) (omega arith)) (all-each p (k + 1) n (λ i low high. each i (omega arith) (omega arith)))
+
+-- a number of the range that passes
+pub any-found : (p : ℕ → Bool) (k n i : ℕ) → k ≤ i → i < k + n → p i ≡ true → list_any p (range_with_len k n) ≡ true
+any-found p k zero i low high h = absurd (omega arith)
+any-found p k (suc n) i low high h = elim (cases_eq k i) [
+  | inl same ↦ or_left _ _ (ap p same ∙ h)
+  | inr other ↦ or_right _ _ (any-found p (k + 1) n i (omega arith) (omega arith) h)
+]
+
+pub record Passes (p : ℕ → Bool) (high : ℕ) : Type 0 where
+  pub number : ℕ
+  pub below : number < high
+  pub passes : p number ≡ true
+
+-- some number of the range passes
+pub any-one : (p : ℕ → Bool) (k n : ℕ) → list_any p (range_with_len k n) ≡ true → Passes p (k + n)
+any-one p k zero h = absurd (both_ways false refl h)
+any-one p k (suc n) h = elim (or_cases _ _ h) [
+  | inl here ↦ record { number = k; below = omega arith; passes = here }
+  | inr later ↦
+      let w = any-one p (k + 1) n later in
+      let below = w.below in
+      record { number = w.number; below = omega arith; passes = w.passes }
+]
