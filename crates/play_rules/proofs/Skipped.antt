@@ -5,7 +5,7 @@ use Rattle.std.proofs.lemmas.Option.{cond_some}
 use Rattle.std.proofs.lemmas.List.Elements.{filter-append}
 use Rattle.std.specs.Prelude.{Option, Some, None}
 use Rattle.std.specs.List.{filter, flat_map, range_with_len}
-use Rattle.board_base.specs.Board.{Places, at, is_of, is_a, is_the, same_kind, same_colour, opponent, file, rank}
+use Rattle.board_base.specs.Board.{Places, at, is_in, is_of, is_a, is_the, same_kind, same_colour, opponent, file, rank}
 use Rattle.board_base.specs.Attacks.{distance, ranks_apart, files_apart, one_ahead, king_distance, kind_attacks, attacks_from}
 use Rattle.board_base.specs.Play.{castling, double_of, double_step, king_home, king_target}
 use Rattle.board_base.specs.Legal.{promotion_fits, is_officer, last_rank, man_moves, pawn_steps, pawn_doubles, pawn_captures, pawn_captures_en_passant, king_castles, castles_as, is_move}
@@ -142,3 +142,9 @@ pub too-far : (p : Position) (man : Man) (s t : ℕ) → at p.board s ≡ Some m
 too-far p man s t here far promo = false_from_ne_true _ (λ legal.
     let l = legality _ _ _ _ _ legal in
     both_ways _ far (near p.board p.turn _ _ (move_of s t promo) man here (ap (is_of p.turn) (sym here) ∙ l.mover) l.manner))
+
+-- nothing is kept of the moves to a square that is not among those that the man may reach
+pub unreached : (p : Position) (board : Places) (man : Man) (s : ℕ) (targets : List Bool) → board ≡ p.board → at p.board s ≡ Some man → ((t : ℕ) → t < 64 → may_reach board man.colour man.kind s t ≡ true → is_in targets t ≡ true) → (t : ℕ) → t < 64 → is_in targets t ≡ false → filter (legal_at p) (moves_between s t) ≡ []
+unreached p board man s targets same here all t small out =
+    let far : may_reach board man.colour man.kind s t ≡ false = false_from_ne_true _ (λ reach. both_ways _ out (all t small reach)) in
+    none-between (legal_at p) s t (too-far p man s t here (ap (λ (b : Places). may_reach b man.colour man.kind s t) (sym same) ∙ far))

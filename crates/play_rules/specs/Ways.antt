@@ -1,41 +1,11 @@
 -- Inner: no public clause cites this file.
 -- Where a man may go, for the list of moves: lines from his square, and steps near it.
-use Rattle.std.specs.Prelude.{ℕ, ◌≡◌, ◌≢◌, ◌+◌, ◌-◌, ◌*◌, ◌<◌, ◌≤◌, Bool, true, false, cond, ◌&&◌, ◌||◌, ◌==◌, nat_lt}
-use Rattle.board_base.specs.Board.{Places, file, rank}
-use Rattle.board_base.specs.Attacks.{files_apart, ranks_apart, one_ahead, on_one_line, on_one_diagonal, kind_attacks}
+use Rattle.std.specs.Prelude.{ℕ, ◌*◌, Bool, false, ◌&&◌, ◌||◌, ◌==◌, nat_lt}
+use Rattle.board_base.specs.Board.{Places, file}
+use Rattle.board_base.specs.Attacks.{files_apart, ranks_apart, one_ahead, kind_attacks}
 use Rattle.board_base.specs.declared.men.Colour.{Colour}
 use Rattle.board_base.specs.declared.men.Kind.{Kind}
 use Rattle.board_base.specs.declared.men.Kind.TheVariants.{Pawn, Knight, Bishop, Rook, Queen, King}
-use Rattle.play_rules.specs.declared.lines.Change.{Change}
-use Rattle.play_rules.specs.declared.lines.Change.TheVariants.{Falls, Stays, Rises}
-use Rattle.play_rules.specs.declared.lines.Direction.{Direction}
-
--- how a rank or a file changes from one number to another
-abbrev pub change : ℕ → ℕ → Change
-change a b = cond (nat_lt a b) Rises (cond (nat_lt b a) Falls Stays)
-
--- a rank or a file k steps on
-abbrev pub changed : Change → ℕ → ℕ → ℕ
-changed Falls a k = a - k
-changed Stays a k = a
-changed Rises a k = a + k
-
--- k steps on is off the board
-abbrev pub IsOff : Change → ℕ → ℕ → Type 0
-IsOff Falls a k = a < k
-IsOff Stays a k = ⊥
-IsOff Rises a k = 8 ≤ a + k
-
--- the square k steps from s in a direction
-abbrev pub along : Direction → ℕ → ℕ → ℕ
-along d s k = 8 * changed d.ranks (rank s) k + changed d.files (file s) k
-
--- t stands on a line through s, in this direction from it
-pub record LiesAlong (d : Direction) (s t : ℕ) : Type 0 where
-  pub ranks : change (rank s) (rank t) ≡ d.ranks
-  pub files : change (file s) (file t) ≡ d.files
-  pub line : (on_one_line s t || on_one_diagonal s t) ≡ true
-  pub apart : s ≢ t
 
 -- a pawn, a knight or a king may go so, whatever stands on the board
 unfoldable pub may_step : Colour → Kind → ℕ → ℕ → Bool

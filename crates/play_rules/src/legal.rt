@@ -8,10 +8,11 @@ ghost use Rattle.board_base.specs.declared.moves.Move.{Move as AMove};
 ghost use Rattle.board_base.specs.declared.men.Kind.TheVariants.{King};
 
 use crate::en_passant::step_over;
+use crate::king_boards::KingBoard;
 use crate::manners::may_go;
 use crate::moving::play;
 use crate::states::State;
-use board_base::{Board, CastleSet, Colour, Kind, Move, in_check, is_a, is_of};
+use board_base::{Board, CastleSet, Colour, Kind, Move, is_a, is_of};
 
 fn is_officer(kind: Kind) -> bool
     ensures { result ≡ is_officer kind }
@@ -50,13 +51,20 @@ fn ends_fit(board: &Board, colour: Colour, m: &Move) -> bool
 }
 
 #[tactic(auto, unfolding(board_base::specs::Legal::legal_on))]
-fn legal_on(board: &Board, colour: Colour, rights: CastleSet, last: &Option<Move>, m: &Move) -> bool
-    ensures { result ≡ legal_on board.now colour (λ x. holds rights x) last.now m.now }
+fn legal_on(
+    king_board: &KingBoard,
+    colour: Colour,
+    rights: CastleSet,
+    last: &Option<Move>,
+    m: &Move,
+) -> bool
+    ensures { result ≡ legal_on king_board.now colour (λ x. holds rights x) last.now m.now }
 {
+    let board = king_board.board();
     ends_fit(board, colour, m)
         && promotion_fits(board, colour, m)
         && may_go(board, colour, rights, last, m)
-        && !in_check(&play(board, m), colour)
+        && !play(king_board, m).in_check(colour)
 }
 
 /// Whether the move is legal in this state (articles 3.1 to 3.9). Of the moves before, the state
@@ -67,7 +75,7 @@ pub fn is_legal(state: &State, m: &Move) -> bool
     ensures in_games { (o : List Bool) (g : List AMove) → IsGame o g → StandsFor state.now o g → result ≡ legal_after o g m.now }
 {
     legal_on(
-        state.board(),
+        state.king_board(),
         state.turn(),
         state.rights(),
         &step_over(state.ep(), state.turn()),

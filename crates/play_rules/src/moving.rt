@@ -4,6 +4,7 @@ ghost use Rattle.board_base.specs.Play.{goes_en_passant, promoted, play};
 ghost use Rattle.board_base.specs.Carry.{carry};
 
 use crate::castlings::castling;
+use crate::king_boards::KingBoard;
 use board_base::{Board, Kind, Man, Move, Square, is_a};
 use castle_history::{home, target};
 
@@ -21,10 +22,10 @@ fn promoted(promo: Option<Kind>, place: Option<Man>) -> Option<Man>
 }
 
 /// The man on one square goes to another.
-fn carry(board: &mut Board, from: Square, to: Square, promo: Option<Kind>)
+fn carry(board: &mut KingBoard, from: Square, to: Square, promo: Option<Kind>)
     ensures { board.new ≡ carry board.old from to promo }
 {
-    let man = promoted(promo, board.at(from));
+    let man = promoted(promo, board.board().at(from));
     board.put(from, None);
     board.put(to, man);
 }
@@ -45,18 +46,18 @@ fn beside(from: Square, to: Square) -> Square
 
 /// The board after a move.
 #[tactic(auto, unfolding(board_base::specs::Play::play))]
-pub fn play(board: &Board, m: &Move) -> Board
+pub fn play(board: &KingBoard, m: &Move) -> KingBoard
     ensures { result ≡ play board.now m.now }
 {
     let mut next = *board;
-    match castling(board, m) {
+    match castling(board.board(), m) {
         Some(castle) => {
             carry(&mut next, m.from, m.to, None);
             carry(&mut next, home(castle).1, target(castle).1, None);
         }
         None => {
             carry(&mut next, m.from, m.to, m.promo);
-            if goes_en_passant(board, m) {
+            if goes_en_passant(board.board(), m) {
                 next.put(beside(m.from, m.to), None);
             }
         }

@@ -4,11 +4,14 @@ ghost use Rattle.board_base.specs.Attacks.{is_open, on_one_diagonal, on_one_line
 ghost use Rattle.play_rules.specs.Reach.{IsWithin};
 ghost use Rattle.play_rules.specs.Ways.{may_reach, may_step};
 
-use crate::lines::{Change, Direction, add_line};
-use board_base::{Board, Kind, Man, Square, files_between, is_ahead, ranks_between};
+use crate::lines::add_line;
+use crate::sets::add;
+use board_base::{
+    Board, Change, Direction, Kind, Man, Square, SquareSet, files_between, is_ahead, ranks_between,
+};
 
 /// Adds the squares on the file and the rank up to the first men.
-fn add_straight(board: &Board, from: Square, targets: &mut [bool; 64])
+fn add_straight(board: &Board, from: Square, targets: &mut SquareSet)
     ensures kept { IsWithin targets.old targets.new }
     ensures added { (t : ℕ) → t < 64 → (not (from == t) && on_one_line from t && is_open board.now from t) ≡ true → is_in targets.new t ≡ true }
 {
@@ -20,7 +23,7 @@ fn add_straight(board: &Board, from: Square, targets: &mut [bool; 64])
 }
 
 /// Adds the squares on the diagonals up to the first men.
-fn add_diagonal(board: &Board, from: Square, targets: &mut [bool; 64])
+fn add_diagonal(board: &Board, from: Square, targets: &mut SquareSet)
     ensures kept { IsWithin targets.old targets.new }
     ensures added { (t : ℕ) → t < 64 → (not (from == t) && on_one_diagonal from t && is_open board.now from t) ≡ true → is_in targets.new t ≡ true }
 {
@@ -50,17 +53,17 @@ fn may_step(man: Man, from: Square, to: Square) -> bool
 }
 
 /// Adds the square if the man may step there.
-fn add_step(man: Man, from: Square, to: Square, targets: &mut [bool; 64])
+fn add_step(man: Man, from: Square, to: Square, targets: &mut SquareSet)
     ensures kept { IsWithin targets.old targets.new }
     ensures added { may_step man.colour man.kind from to ≡ true → is_in targets.new to ≡ true }
 {
     if may_step(man, from, to) {
-        targets[to.index() as usize] = true;
+        add(targets, to);
     }
 }
 
 /// Adds the squares on this rank that the man may step to.
-fn add_rank(man: Man, from: Square, row: u8, targets: &mut [bool; 64])
+fn add_rank(man: Man, from: Square, row: u8, targets: &mut SquareSet)
     requires { row < 8 }
     ensures kept { IsWithin targets.old targets.new }
     ensures added { (t : ℕ) → rank t ≡ row → may_step man.colour man.kind from t ≡ true → is_in targets.new t ≡ true }
@@ -72,7 +75,7 @@ fn add_rank(man: Man, from: Square, row: u8, targets: &mut [bool; 64])
 }
 
 /// Adds the squares that the man may step to. They are at most two ranks and files away.
-fn add_steps(man: Man, from: Square, targets: &mut [bool; 64])
+fn add_steps(man: Man, from: Square, targets: &mut SquareSet)
     ensures kept { IsWithin targets.old targets.new }
     ensures added { (t : ℕ) → t < 64 → may_step man.colour man.kind from t ≡ true → is_in targets.new t ≡ true }
 {
@@ -84,10 +87,10 @@ fn add_steps(man: Man, from: Square, targets: &mut [bool; 64])
 
 /// A set of squares outside which the man on `from` has no legal move.
 #[tactic(auto, unfolding(crate::specs::Ways::may_reach, board_base::specs::Attacks::kind_attacks))]
-pub fn targets_of(board: &Board, man: Man, from: Square) -> [bool; 64]
+pub fn targets_of(board: &Board, man: Man, from: Square) -> SquareSet
     ensures { (t : ℕ) → t < 64 → may_reach board.now man.colour man.kind from t ≡ true → is_in result t ≡ true }
 {
-    let mut targets = [false; 64];
+    let mut targets = SquareSet::from_bits(0);
     match man.kind {
         Kind::Pawn | Kind::Knight | Kind::King => add_steps(man, from, &mut targets),
         Kind::Bishop => add_diagonal(board, from, &mut targets),

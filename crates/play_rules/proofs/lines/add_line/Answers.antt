@@ -1,11 +1,12 @@
-use Rattle.std.proofs.Common.{◌≡◌, ℕ, ◌<◌, length, false, inl, inr, sym, ap, ◌∙◌, arith, rules}
+use Rattle.std.proofs.Common.{◌≡◌, ℕ, ◌<◌, false, inl, inr, sym, ap, ◌∙◌, arith, rules}
 use Rattle.std.proofs.lemmas.Bool.{cases_lt}
 use Rattle.std.specs.Prelude.{is_some}
 use Rattle.board_base.specs.Board.{at, is_empty}
 use Rattle.board_base.specs.Attacks.{king_distance}
-use Rattle.play_rules.specs.Ways.{along}
+use Rattle.board_base.specs.Ways.{along}
 use Rattle.board_base.proofs.KindsOfMen.{full-some}
-use Rattle.play_rules.proofs.Ways.{blocked, distance-high, distance-low, in-more, nearer-more, on-board}
+use Rattle.board_base.proofs.Ways.{blocked, distance-high, distance-low, on-board}
+use Rattle.play_rules.proofs.Ways.{nearer-more}
 use Rattle.play_rules.proofs.lines.add_line.Goals as goal
 
 pub loop-steps-init : goal.loop-steps-init
@@ -19,20 +20,14 @@ returns-in_default-clause-added c = λ t small lies clear. elim (cases_lt (king_
 
 pub returns-then-is_some-clause-added : goal.returns-then-is_some-clause-added
 returns-then-is_some-clause-added c = λ t small lies clear.
-    let size : length c.loop-steps.targets ≡ 64 = search rules in
-    let inside : c.index.result < length c.loop-steps.targets = rw size c.index.ensures.on_board in
-    let here : c.index.result ≡ along c.args.direction c.args.from c.loop-steps.steps = c.index.ensures.number ∙ c.in-Some.ensures.value in
     let full : is_empty (at c.args.board.now (along c.args.direction c.args.from c.loop-steps.steps)) ≡ false =
     ap (λ (n : ℕ). is_empty (at c.args.board.now n)) (sym c.in-Some.ensures.value) ∙ full-some _ (ap is_some (sym c.at.ensures.man) ∙ sym c.is_some.ensures ∙ c.if-is_some.true) in
-    nearer-more c.args.board.now c.args.direction c.args.from c.loop-steps.steps c.index.result c.loop-steps.targets inside here c.loop-steps.invariant.1 t small lies clear
+    nearer-more c.args.board.now c.args.direction c.args.from c.loop-steps.steps c.in-Some.to c.loop-steps.targets _ c.add.ensures.kept c.add.ensures.added c.in-Some.ensures.value c.loop-steps.invariant.1 t small lies clear
     (blocked c.args.board.now c.args.direction c.args.from c.loop-steps.steps t c.loop-steps.auto.steps full lies clear)
 
 pub loop-steps-preserved : goal.loop-steps-preserved
 loop-steps-preserved c =
-    let size : length c.loop-steps.targets ≡ 64 = search rules in
-    let inside : c.index.result < length c.loop-steps.targets = rw size c.index.ensures.on_board in
-    let here : c.index.result ≡ along c.args.direction c.args.from c.loop-steps.steps = c.index.ensures.number ∙ c.in-Some.ensures.value in
-    (λ t had. in-more c.loop-steps.targets c.index.result t inside (c.loop-steps.invariant.0 t had), nearer-more c.args.board.now c.args.direction c.args.from c.loop-steps.steps c.index.result c.loop-steps.targets inside here c.loop-steps.invariant.1)
+    (λ t had. c.add.ensures.kept t (c.loop-steps.invariant.0 t had), nearer-more c.args.board.now c.args.direction c.args.from c.loop-steps.steps c.in-Some.to c.loop-steps.targets _ c.add.ensures.kept c.add.ensures.added c.in-Some.ensures.value c.loop-steps.invariant.1)
 
 pub returns-clause-added : goal.returns-clause-added
 returns-clause-added c = λ t small lies clear.

@@ -2,7 +2,7 @@ use Rattle.std.proofs.Common.{◌≡◌, ℕ, ◌<◌, true}
 use Rattle.board_base.specs.Board.{is_in}
 use Rattle.board_base.specs.Attacks.{is_open, king_distance}
 use Rattle.play_rules.specs.Reach.{IsWithin}
-use Rattle.play_rules.specs.Ways.{LiesAlong}
+use Rattle.board_base.specs.Ways.{LiesAlong}
 use Rattle.play_rules.proofs.lines.add_line.Given as goal
 
 -- the squares nearer than this many steps are in

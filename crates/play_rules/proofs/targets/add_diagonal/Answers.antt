@@ -1,8 +1,8 @@
 use Rattle.std.proofs.Common.{inl, inr, subst, sym}
 use Rattle.std.proofs.lemmas.Bool.{and_parts}
-use Rattle.play_rules.specs.declared.lines.Direction.{Direction}
-use Rattle.play_rules.specs.Ways.{LiesAlong}
-use Rattle.play_rules.proofs.Ways.{diagonal}
+use Rattle.board_base.specs.declared.lines.Direction.{Direction}
+use Rattle.board_base.specs.Ways.{LiesAlong}
+use Rattle.board_base.proofs.Ways.{diagonal}
 use Rattle.play_rules.proofs.targets.add_diagonal.Goals as goal
 
 pub returns-clause-added : goal.returns-clause-added
