@@ -9,6 +9,7 @@ use Rattle.board_base.specs.SquareNumbers.{length-squares_of}
 use Rattle.board_base.specs.declared.men.Colour.{Colour}
 use Rattle.board_base.specs.declared.men.Colour.TheVariants.{White, Black}
 use Rattle.board_base.specs.declared.men.Kind.TheVariants.{Pawn, Knight, Bishop, Rook, Queen, King}
+use Rattle.board_base.proofs.Hits.{away-above, away-below}
 use Rattle.cage_rules.specs.Frozen.{is_behind, is_next}
 use Rattle.cage_rules.specs.Sets.{union}
 use Rattle.cage_rules.specs.Steps.{down, is_across, is_ahead, is_along, is_diagonal_step, is_knight_step, is_line_step, is_step, is_strike, left, near, right, up}
@@ -22,14 +23,6 @@ apart-cases : (a b n : ℕ) → distance a b ≡ n → (a ≡ b + n) ⊎ (b ≡ 
 unfolding distance
 apart-cases a b n e = elim (cases_lt a b) [ inl low ↦ inr (omega arith) | inr high ↦ inl (omega arith) ]
 
-apart-above : (a b n : ℕ) → a ≡ b + n → distance a b ≡ n
-unfolding distance
-apart-above a b n e = omega arith
-
-apart-below : (a b n : ℕ) → b ≡ a + n → distance a b ≡ n
-unfolding distance
-apart-below a b n e = omega arith
-
 -- so many files to the right and to the left
 right-told : (set : List Bool) (n s : ℕ) → n < 8 → s < 64 → is_in (right set n) s ≡ true → Source (is_across n) set s
 unfolding right
@@ -39,7 +32,7 @@ right-told set n s few inside h =
     record {
       square = s - n;
       inside = omega arith;
-      placed = and_from _ _ (eq-eqb (rank s) (rank (s - n)) (omega arith)) (eq-eqb (files_apart s (s - n)) n (apart-above (file s) (file (s - n)) n (omega arith)));
+      placed = and_from _ _ (eq-eqb (rank s) (rank (s - n)) (omega arith)) (eq-eqb (files_apart s (s - n)) n (away-above (file s) (file (s - n)) n (omega arith)));
       member = parts.1;
     }
 
@@ -51,7 +44,7 @@ left-told set n s inside h =
     record {
       square = s + n;
       inside = omega arith;
-      placed = and_from _ _ (eq-eqb (rank s) (rank (s + n)) (omega arith)) (eq-eqb (files_apart s (s + n)) n (apart-below (file s) (file (s + n)) n (omega arith)));
+      placed = and_from _ _ (eq-eqb (rank s) (rank (s + n)) (omega arith)) (eq-eqb (files_apart s (s + n)) n (away-below (file s) (file (s + n)) n (omega arith)));
       member = parts.1;
     }
 
@@ -112,8 +105,8 @@ pub along-near : (set : List Bool) (n : ℕ) → union (up set n) (down set n) �
 along-near set n =
     near-is (is_along n) set (union (up set n) (down set n)) (length-union (up set n) (down set n))
     (λ s inside h. elim (or_cases (is_in (up set n) s) (is_in (down set n) s) (sym (is_in-union (up set n) (down set n) s inside) ∙ h)) [
-      | inl first ↦ let from = up-told set n s inside first in record { square = from.0; inside = from.1; placed = and_from _ _ (eq-eqb (file s) (file from.0) from.3) (eq-eqb (ranks_apart s from.0) n (apart-above (rank s) (rank from.0) n from.4)); member = from.2 }
-      | inr second ↦ let from = down-told set n s inside second in record { square = from.0; inside = from.1; placed = and_from _ _ (eq-eqb (file s) (file from.0) from.3) (eq-eqb (ranks_apart s from.0) n (apart-below (rank s) (rank from.0) n from.4)); member = from.2 }
+      | inl first ↦ let from = up-told set n s inside first in record { square = from.0; inside = from.1; placed = and_from _ _ (eq-eqb (file s) (file from.0) from.3) (eq-eqb (ranks_apart s from.0) n (away-above (rank s) (rank from.0) n from.4)); member = from.2 }
+      | inr second ↦ let from = down-told set n s inside second in record { square = from.0; inside = from.1; placed = and_from _ _ (eq-eqb (file s) (file from.0) from.3) (eq-eqb (ranks_apart s from.0) n (away-below (rank s) (rank from.0) n (sym from.4))); member = from.2 }
     ])
     (λ s inside h.
     let parts = and_parts (file s == file h.square) (ranks_apart s h.square == n) h.placed in

@@ -7,7 +7,7 @@ use Rattle.board_base.specs.declared.men.Colour.{Colour}
 use Rattle.board_base.specs.declared.men.Kind.{Kind}
 use Rattle.board_base.specs.declared.men.Kind.TheVariants.{Pawn, Knight, Bishop, Rook, Queen, King}
 use Rattle.general_lemmas.proofs.Ranges.{all_in_range}
-use Rattle.play_rules.proofs.Ways.{distance-low}
+use Rattle.board_base.proofs.Ways.{distance-low, king_distance-sym}
 use Rattle.cage_rules.specs.Frozen.{is_next, is_entry}
 use Rattle.cage_rules.proofs.Rays.{RayStep, apart-back, diagonal-end, diagonal-step, distance-zero, line-end, line-step, no-steps}
 
@@ -57,10 +57,6 @@ next-apart : (t e : ℕ) → is_next t e ≡ true → e ≢ t
 unfolding king_distance distance
 next-apart t e next same = let one : max (files_apart t e) (ranks_apart t e) ≡ 1 = eqb-true _ 1 next in omega arith
 
-pub is_next-back : (s t : ℕ) → king_distance s t ≡ king_distance t s
-unfolding king_distance distance
-is_next-back s t = omega arith
-
 pub knight-back : (s t : ℕ) → (files_apart s t * ranks_apart s t) ≡ (files_apart t s * ranks_apart t s)
 knight-back s t = ap (λ (n : ℕ). n * ranks_apart s t) (apart-back (file s) (file t)) ∙ ap (λ (n : ℕ). files_apart t s * n) (apart-back (rank s) (rank t))
 
@@ -103,5 +99,5 @@ man-enters board c Queen s t small inside other h =
           record { entry = last_square s t; inside = last.inside; apart = next-apart t _ last.next; vacant = last-vacant board s t small apart parts.1; enters = or_left _ _ last.next }
     ]
 man-enters board c King s t small inside other h =
-    let back : is_next t s ≡ true = ap (λ (n : ℕ). n == 1) (is_next-back t s) ∙ h in
+    let back : is_next t s ≡ true = ap (λ (n : ℕ). n == 1) (king_distance-sym t s) ∙ h in
     record { entry = s; inside = small; apart = next-apart t s back; vacant = inl refl; enters = back }

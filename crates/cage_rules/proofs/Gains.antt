@@ -14,7 +14,8 @@ use Rattle.cage_rules.proofs.Filling.{in-that, is_in-that}
 use Rattle.cage_rules.proofs.Greatest.{still-more}
 use Rattle.cage_rules.proofs.Loose.{Still}
 use Rattle.cage_rules.proofs.Regions.{closed-tells, region-goes, region-home, region-least}
-use Rattle.cage_rules.proofs.Tested.{all_board, any-tells, any-told, at_board, member-inside}
+use Rattle.general_lemmas.proofs.Ranges.{any-found}
+use Rattle.cage_rules.proofs.Tested.{all_board, any-told, at_board, member-inside}
 use Rattle.cage_rules.proofs.Walls.{at-walls, goes-between}
 
 union-left : (a b : List Bool) → length a ≡ 64 → IsWithin a (union a b)
@@ -80,7 +81,7 @@ exposed-less : (inner outer : List Bool) (place : Option Man) (t : ℕ) → IsWi
 unfolding is_exposed
 exposed-less inner outer place t within h =
     let some = any-told (may_strike outer place t) 0 64 h in
-    any-tells (may_strike inner place t) 0 64 some.0 (omega arith) some.1 (strikes-less inner outer place t some.0 within some.2)
+    any-found (may_strike inner place t) 0 64 some.0 (omega arith) some.1 (strikes-less inner outer place t some.0 within some.2)
 
 -- and one that is shielded stays shielded
 pub shielded-more : (inner outer : List Bool) (h : ℕ) → is_officer_home h ≡ true → length inner ≡ 64 → IsWithin inner outer → is_shielded inner h ≡ true → is_shielded outer h ≡ true

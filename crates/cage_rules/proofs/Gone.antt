@@ -27,7 +27,8 @@ use Rattle.cage_rules.proofs.Histories.{game-begins, kept-in}
 use Rattle.cage_rules.proofs.Regions.{length-region}
 use Rattle.cage_rules.proofs.Roamers.{in-region, officer-of}
 use Rattle.cage_rules.proofs.Stays.{Stays}
-use Rattle.cage_rules.proofs.Tested.{any-tells, at_board, member-inside}
+use Rattle.general_lemmas.proofs.Ranges.{any-found}
+use Rattle.cage_rules.proofs.Tested.{at_board, member-inside}
 
 -- a home that is dead
 pub dead-gone : (o : List Bool) (g : List Move) (q : Asked) (set : List Bool) (h : ℕ) → Caged o g q set → is_officer_home h ≡ true → is_in o h ≡ false → is_dead q.board set h ≡ true → IsGone o g h
@@ -67,7 +68,7 @@ shielded-safe o g q set h caged shielded before m (after, e) member struck = fal
       | inl stays ↦ stays
       | inr free ↦
           let strikes : may_strike set (beginner h) m.to m.from ≡ true = and_from _ _ struck (not_from_false _ (or_from _ _ inner free)) in
-          let exposed : is_exposed set (beginner h) m.to ≡ true = any-tells (may_strike set (beginner h) m.to) 0 64 m.from (omega arith) (omega arith) strikes in
+          let exposed : is_exposed set (beginner h) m.to ≡ true = any-found (may_strike set (beginner h) m.to) 0 64 m.from (omega arith) (omega arith) strikes in
           absurd (both_ways _ (not-true _ (at_board (λ t. not (is_in (region set h) t && is_exposed set (beginner h) t)) m.to shielded l.on_board)) (and_from _ _ member exposed))
     ] in
     left-out m (castling (board_after o before) m) (board_after o before) refl pawn ((kept-in o g before after m q set caged e).stay m.from covered))

@@ -7,7 +7,8 @@ use Rattle.cage_rules.specs.Steps.{is_near, near}
 use Rattle.cage_rules.proofs.Rays.{file-of, rank-of}
 use Rattle.cage_rules.proofs.Filling.{is_in-that, length-that}
 use Rattle.cage_rules.proofs.SetAlgebra.{is_in-union, length-union, same-that, same-truth, that-is, union-that}
-use Rattle.cage_rules.proofs.Tested.{any-tells, any-told}
+use Rattle.general_lemmas.proofs.Ranges.{any-found}
+use Rattle.cage_rules.proofs.Tested.{any-told}
 
 -- a square of the set to which s is so placed
 pub record Source (p : ℕ → ℕ → Bool) (set : List Bool) (s : ℕ) : Type 0 where
@@ -27,7 +28,7 @@ pub near-tells : (p : ℕ → ℕ → Bool) (set : List Bool) (s : ℕ) → Sour
 unfolding is_near
 near-tells p set s h =
     let low : h.square < 64 = h.inside in
-    any-tells (λ t. p s t && is_in set t) 0 64 h.square (omega arith) (omega arith) (and_from (p s h.square) (is_in set h.square) h.placed h.member)
+    any-found (λ t. p s t && is_in set t) 0 64 h.square (omega arith) (omega arith) (and_from (p s h.square) (is_in set h.square) h.placed h.member)
 
 pub length-near : (p : ℕ → ℕ → Bool) (set : List Bool) → length (near p set) ≡ 64
 unfolding near

@@ -13,7 +13,8 @@ use Rattle.play_rules.specs.Laws.{is_end}
 use Rattle.play_rules.proofs.Skipped.{same-file}
 use Rattle.cage_rules.specs.Frozen.{is_behind, is_past_home, is_before_promotion, is_entry}
 use Rattle.cage_rules.proofs.Entries.{WayIn}
-use Rattle.cage_rules.proofs.Rays.{toward-same, toward-up, toward-down, apart-back, rank-of, file-of}
+use Rattle.board_base.proofs.Ways.{toward-down, toward-up}
+use Rattle.cage_rules.proofs.Rays.{toward-same, apart-back, rank-of, file-of}
 
 -- a pawn's step to the next rank
 pub record Steps (c : Colour) (s t : ℕ) : Type 0 where

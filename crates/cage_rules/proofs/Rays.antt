@@ -4,19 +4,12 @@ use Rattle.std.proofs.lemmas.Bool.{or_cases, or_left, or_right, cases_lt, cases_
 use Rattle.std.specs.Prelude.{nat_lt}
 use Rattle.board_base.specs.Board.{file, rank}
 use Rattle.board_base.specs.Attacks.{distance, files_apart, ranks_apart, on_one_line, on_one_diagonal, toward, on_the_way, king_distance}
+use Rattle.board_base.proofs.Ways.{toward-down, toward-up}
 use Rattle.cage_rules.specs.Frozen.{is_next}
 
 pub toward-same : (a b k : ℕ) → a ≡ b → toward a b k ≡ b
 unfolding toward
 toward-same a b k e = cond-false (nat_lt a b) (a + k) _ (false_from_ne_true _ (λ h. let l : a < b = ltb-true a b h in omega arith)) ∙ cond-false (nat_lt b a) (a - k) a (false_from_ne_true _ (λ h. let l : b < a = ltb-true b a h in omega arith)) ∙ e
-
-pub toward-up : (a b k : ℕ) → a < b → toward a b k ≡ a + k
-unfolding toward
-toward-up a b k up = cond-true (nat_lt a b) (a + k) _ (lt-ltb a b up)
-
-pub toward-down : (a b k : ℕ) → b < a → toward a b k ≡ a - k
-unfolding toward
-toward-down a b k down = cond-false (nat_lt a b) (a + k) _ (false_from_ne_true _ (λ h. let l : a < b = ltb-true a b h in omega arith)) ∙ cond-true (nat_lt b a) (a - k) a (lt-ltb b a down)
 
 -- the square of a rank and a file has that rank and that file
 pub rank-of : (r f : ℕ) → f < 8 → rank (8 * r + f) ≡ r

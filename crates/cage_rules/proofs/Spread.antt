@@ -21,7 +21,8 @@ use Rattle.cage_rules.specs.Regions.{IsLeastClosed, beginner, is_closed, is_offi
 use Rattle.cage_rules.specs.Sets.{union}
 use Rattle.cage_rules.specs.Steps.{both, is_diagonal_step, is_line_step, is_near, is_spread, is_step, near, outside, spread}
 use Rattle.cage_rules.proofs.Adjacent.{next-step}
-use Rattle.cage_rules.proofs.Entries.{is_next-back, knight-back}
+use Rattle.board_base.proofs.Ways.{diagonal-back, king_distance-sym, line-back}
+use Rattle.cage_rules.proofs.Entries.{knight-back}
 use Rattle.cage_rules.proofs.Filling.{in-that, is_in-that, length-that, none-in-zero}
 use Rattle.cage_rules.proofs.Near.{Source, is_in-near, near-tells, near-told}
 use Rattle.cage_rules.proofs.SetAlgebra.{is_in-both, is_in-outside, is_in-union, length-union, that-is}
@@ -92,18 +93,9 @@ officer-goes c Queen frozen within t u officer ti ui stepped h out member =
     ]
 
 -- a single step is a move
-line-back : (s t : ℕ) → on_one_line s t ≡ true → on_one_line t s ≡ true
-line-back s t h = elim (or_cases (file s == file t) (rank s == rank t) h) [
-  | inl same ↦ or_left (file t == file s) (rank t == rank s) (eq-eqb _ _ (sym (eqb-true _ _ same)))
-  | inr same ↦ or_right (file t == file s) (rank t == rank s) (eq-eqb _ _ (sym (eqb-true _ _ same)))
-]
-
-diagonal-back : (s t : ℕ) → on_one_diagonal s t ≡ true → on_one_diagonal t s ≡ true
-diagonal-back s t h = eq-eqb _ _ (apart-back (file t) (file s) ∙ eqb-true _ _ h ∙ apart-back (rank s) (rank t))
-
 next-open : (board : Places) (s t : ℕ) → is_next s t ≡ true → is_open board t s ≡ true
 next-open board s t next =
-    let one : king_distance t s ≡ 1 = is_next-back t s ∙ eqb-true _ 1 next in
+    let one : king_distance t s ≡ 1 = king_distance-sym t s ∙ eqb-true _ 1 next in
     ap (λ (n : ℕ). list_all (λ k. is_empty (at board (on_the_way t s k))) (range_with_len 1 (n - 1))) one
 
 next-other : (s t : ℕ) → is_next s t ≡ true → not (t == s) ≡ true

@@ -11,7 +11,8 @@ use Rattle.cage_rules.specs.Sets.{union}
 use Rattle.cage_rules.specs.Steps.{are_apart, is_near, is_strike, near, outside}
 use Rattle.cage_rules.proofs.Near.{is_in-near, near-tells, near-told}
 use Rattle.cage_rules.proofs.SetAlgebra.{is_in-outside, is_in-union, same-truth}
-use Rattle.cage_rules.proofs.Tested.{all_board, any-tells, any-told, at_board}
+use Rattle.general_lemmas.proofs.Ranges.{any-found}
+use Rattle.cage_rules.proofs.Tested.{all_board, any-told, at_board}
 
 -- the squares of ranks 1 and 8
 abbrev ends : List Bool
@@ -31,7 +32,7 @@ exposed-is frozen man t =
     (λ h.
     let from = near-told (is_strike (opponent man.colour)) (outside (union ends frozen)) t h in
     let low : from.square < 64 = from.inside in
-    any-tells (may_strike frozen (Some man) t) 0 64 from.square (omega arith) (omega arith) (and_from _ _ from.placed (sym (stands-is frozen from.square from.inside) ∙ from.member)))
+    any-found (may_strike frozen (Some man) t) 0 64 from.square (omega arith) (omega arith) (and_from _ _ from.placed (sym (stands-is frozen from.square from.inside) ∙ from.member)))
     (λ h.
     let some = any-told (may_strike frozen (Some man) t) 0 64 h in
     let parts = and_parts _ _ some.2 in

@@ -4,15 +4,10 @@ use Rattle.std.proofs.lemmas.Bool.{and_from, or_cases, or_left, or_right, both_w
 use Rattle.std.proofs.lemmas.List.{get_or_past}
 use Rattle.std.specs.List.{list_all, list_any, range_with_len}
 use Rattle.board_base.specs.Board.{is_in}
-use Rattle.general_lemmas.proofs.Ranges.{all_in_range}
-
--- what holds of each number of a range is tested so
-all_from : (p : ℕ → Bool) (k n : ℕ) → ((i : ℕ) → k ≤ i → i < k + n → p i ≡ true) → list_all p (range_with_len k n) ≡ true
-all_from p k zero h = refl
-all_from p k (suc n) h = and_from _ _ (h k (omega arith) (omega arith)) (all_from p (k + 1) n (λ i low high. h i (omega arith) (omega arith)))
+use Rattle.general_lemmas.proofs.Ranges.{all-each, all_in_range}
 
 pub all_board : (p : ℕ → Bool) → ((i : ℕ) → i < 64 → p i ≡ true) → list_all p (range_with_len 0 64) ≡ true
-all_board p h = all_from p 0 64 (λ i low high. h i (omega arith))
+all_board p h = all-each p 0 64 (λ i low high. h i (omega arith))
 
 pub at_board : (p : ℕ → Bool) (i : ℕ) → list_all p (range_with_len 0 64) ≡ true → i < 64 → p i ≡ true
 at_board p i h inside = all_in_range p 0 64 i h (omega arith) (omega arith)
@@ -23,13 +18,6 @@ any-told p k zero h = absurd (both_ways false refl h)
 any-told p k (suc n) h = elim (or_cases (p k) (list_any p (range_with_len (k + 1) n)) h) [
   | inl here ↦ (k, omega arith, here)
   | inr later ↦ let rest = any-told p (k + 1) n later in (rest.0, (let low : rest.0 < k + 1 + n = rest.1 in omega arith), rest.2)
-]
-
-pub any-tells : (p : ℕ → Bool) (k n i : ℕ) → k ≤ i → i < k + n → p i ≡ true → list_any p (range_with_len k n) ≡ true
-any-tells p k zero i low high here = absurd (omega arith)
-any-tells p k (suc n) i low high here = elim (cases_eq i k) [
-  | inl same ↦ or_left (p k) (list_any p (range_with_len (k + 1) n)) (ap p (sym same) ∙ here)
-  | inr other ↦ or_right (p k) (list_any p (range_with_len (k + 1) n)) (any-tells p (k + 1) n i (omega arith) (omega arith) here)
 ]
 
 -- a square of a set of 64 truth values is on the board

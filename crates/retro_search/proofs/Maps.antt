@@ -1,4 +1,3 @@
 -- Maps whose keys are queries.
-pub mod Exact
 pub mod Inserted
 pub mod Lookups

@@ -1,8 +1,7 @@
-ghost use Rattle.std.specs.Prelude.{◌≡◌, ◌<◌, ◌↔◌, IfSome, IsSomeAnd, IsTrue, MatchOption, length, reverse};
-ghost use Rattle.query_base.specs.Targets.{Covers};
+ghost use Rattle.std.specs.Prelude.{◌≡◌, ◌<◌, ◌↔◌, IfSome, IsTrue, MatchOption, length, reverse};
+ghost use Rattle.query_base.specs.Ancestors.{CoversAt};
 ghost use Rattle.cert_text.specs.Tree.{back, rule};
 ghost use Rattle.cert_text.specs.Seen.{tree_of};
-ghost use Rattle.cert_checker.specs.Proving.{ancestor};
 ghost use Rattle.retro_search.specs.Refutable.{IsCovered, IsShut};
 ghost use Rattle.retro_search.specs.Eager.{IsEager};
 ghost use Rattle.retro_search.specs.Kept.{IsRefutation};
@@ -14,7 +13,7 @@ use static_rules::close;
 
 /// The ancestor so many steps above covers the query. The parent, one step above, comes last.
 fn is_covered(ancestors: &[Query], steps: u8, query: &Query) -> bool
-    ensures { IsTrue result ↔ IsSomeAnd (ancestor (reverse ancestors.now) steps) (λ a. Covers a query.now) }
+    ensures { IsTrue result ↔ CoversAt query.now (reverse ancestors.now) steps }
 {
     let steps = usize::from(steps);
     if steps == 0 || ancestors.len() < steps {
@@ -26,7 +25,7 @@ fn is_covered(ancestors: &[Query], steps: u8, query: &Query) -> bool
 /// How many steps above the nearest ancestor stands that covers the query; None where none does. The parent comes last.
 fn steps_back(query: &Query, ancestors: &[Query]) -> Option<u8>
     requires { length ancestors.now < 256 }
-    ensures { MatchOption result (IsCovered query.now (reverse ancestors.now) → ⊥) (λ k. IsSomeAnd (ancestor (reverse ancestors.now) k) (λ a. Covers a query.now)) }
+    ensures { MatchOption result (IsCovered query.now (reverse ancestors.now) → ⊥) (λ k. CoversAt query.now (reverse ancestors.now) k) }
 {
     for i in 0..ancestors.len() {
         let steps = (i + 1) as u8;

@@ -24,7 +24,8 @@ use Rattle.cage_rules.specs.Regions.{beginner, is_dead, is_exposed, is_like, is_
 use Rattle.cage_rules.proofs.Beginners.{officer-inside, whole-array}
 use Rattle.cage_rules.proofs.Greatest.{same-told}
 use Rattle.cage_rules.proofs.Regions.{region-home}
-use Rattle.cage_rules.proofs.Tested.{any-tells, at_board}
+use Rattle.general_lemmas.proofs.Ranges.{any-found}
+use Rattle.cage_rules.proofs.Tested.{at_board}
 use Rattle.assignment.specs.Assignments.{IsBounded, IsInjection, assignment_cost, total}
 use Rattle.assignment.proofs.Duality.{weak_duality}
 use Rattle.pawn_assign.specs.PawnCosts.{pawn_costs}
@@ -109,7 +110,7 @@ in-front set h u inside safe strike = elim (cases_Bool (is_in set u)) [
   | inl member ↦ member
   | inr out ↦
       let parts = and_parts (is_struck (beginner h) h u) (not (is_end u)) strike in
-      absurd (both_ways _ safe (any-tells (may_strike set (beginner h) h) 0 64 u (omega arith) (omega arith) (and_from _ _ parts.0 (not_from_false _ (or_from (is_end u) (is_in set u) (not-true _ parts.1) out)))))
+      absurd (both_ways _ safe (any-found (may_strike set (beginner h) h) 0 64 u (omega arith) (omega arith) (and_from _ _ parts.0 (not_from_false _ (or_from (is_end u) (is_in set u) (not-true _ parts.1) out)))))
 ]
 
 front-low : (h : ℕ) → front h < 63

@@ -5,12 +5,12 @@ use Rattle.std.proofs.lemmas.List.FromFn.{length-range_with_len, get_or-map-rang
 use Rattle.std.proofs.lemmas.List.Sums.{sum_by-cons, count_by-le-length}
 use Rattle.std.specs.Prelude.{Option, Some, None}
 use Rattle.std.specs.List.{count_by, range_with_len}
-use Rattle.board_base.specs.Board.{Places, array_of, initial_array, at, is_in, is_a, is_of, is_the, same_kind}
+use Rattle.board_base.specs.Board.{Places, array_of, initial_array, at, is_in, is_a, is_of, is_the}
 use Rattle.board_base.specs.Legal.{is_officer}
 use Rattle.board_base.specs.declared.men.Man.{Man}
 use Rattle.board_base.specs.declared.men.Colour.{Colour}
 use Rattle.board_base.specs.declared.men.Kind.{Kind}
-use Rattle.board_base.specs.declared.men.Kind.TheVariants.{Pawn, Knight, Bishop, Rook, Queen, King}
+use Rattle.board_base.specs.declared.men.Kind.TheVariants.{Knight, Bishop, Rook, Queen}
 use Rattle.board_base.proofs.Without.{at-without}
 use Rattle.board_base.proofs.KindsOfMen.{kind_is}
 use Rattle.general_lemmas.proofs.Counts.{count-end}

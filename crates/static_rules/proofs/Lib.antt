@@ -5,6 +5,5 @@ pub mod Larger
 mod Best
 pub mod Homes
 pub mod Unreached
-pub mod Settling
 pub mod Settled
 pub mod AtHome

@@ -1,7 +1,6 @@
 -- It can be settled whether some rule line supports a query: the greatest sets and the least cost decide.
-use Rattle.std.proofs.Common.{◌≡◌, ℕ, ◌+◌, ◌<◌, ◌≤◌, ◌⊎◌, inl, inr, ◌&&◌, Bool, true, List, length, refl, sym, ap, ◌∙◌, arith}
+use Rattle.std.proofs.Common.{◌≡◌, ℕ, ◌+◌, ◌<◌, ◌≤◌, ◌⊎◌, inl, inr, Bool, true, List, length, refl, sym, ap, ◌∙◌, arith}
 use Rattle.std.specs.Prelude.{IsTrue, ℤ, pos, ◌+ℤ◌, ◌-ℤ◌, ◌<ℤ◌}
-use Rattle.std.proofs.lemmas.Bool.{cases_lt}
 use Rattle.std.proofs.lemmas.Bool.Decides.{Decides-eqb}
 use Rattle.std.proofs.lemmas.Int.{ints}
 use Rattle.board_base.specs.Board.{Places, array_of, at, is_empty, is_in, no_odds, opponent}
@@ -36,13 +35,8 @@ use Rattle.static_rules.specs.SetRules.{CapsSupports, FrozenSupports, HasMore, P
 use Rattle.static_rules.specs.Greatest.{IsGreatestSettled}
 use Rattle.static_rules.specs.Supports.{IsClosed, Supports}
 use Rattle.static_rules.proofs.Larger.{caps-greatest, promo-decided}
-use Rattle.static_rules.proofs.Settling.{Settled, both, by_test, each_castle, each_colour, either, implied, negated, same, test}
-
-below-settled : (a b : ℕ) → Settled (a < b)
-below-settled a b = elim (cases_lt a b) [ inl below ↦ inl below | inr past ↦ inr (λ below. absurd (omega arith)) ]
-
-at-most-settled : (a b : ℕ) → Settled (a ≤ b)
-at-most-settled a b = elim (cases_lt b a) [ inl above ↦ inr (λ most. absurd (omega arith)) | inr most ↦ inl most ]
+use Rattle.general_lemmas.proofs.Settling.{Settled, at_most, below, both, by_test, either, implied, negated, same, test}
+use Rattle.board_base.proofs.Settled.{each_castle, each_colour}
 
 -- The greatest sets
 
@@ -91,7 +85,7 @@ frozen-settled q =
 promo-settled : (q : Asked) (side : Colour) → Settled ((set : List Bool) × PromoSupports no_odds q side set)
 promo-settled q side =
     let g = is-greatest q in
-    let more : Settled (HasMore no_odds q side (greatest q)) = below-settled _ _ in
+    let more : Settled (HasMore no_odds q side (greatest q)) = below _ _ in
     elim more [
       | inl more ↦ inl (greatest q, record { settled = g.settled; more = more })
       | inr few ↦ inr (λ h. few (promo-decided q side (greatest q) g h.0 h.1))
@@ -135,8 +129,8 @@ caps-settled : (q : Asked) (side : Colour) → Settled ((set : List Bool) × (p 
 caps-settled q side =
     let all : ℕ = men_of (opponent side) is_any (array_of no_odds) in
     let cost : ℕ = least_cost 8 (pawn_costs no_odds side q.board) in
-    let few : Settled (length (pawn_squares side q.board) ≤ 8) = at-most-settled (length (pawn_squares side q.board)) 8 in
-    let above : Settled (all < cost + lost q side) = below-settled all (cost + lost q side) in
+    let few : Settled (length (pawn_squares side q.board) ≤ 8) = at_most (length (pawn_squares side q.board)) 8 in
+    let above : Settled (all < cost + lost q side) = below all (cost + lost q side) in
     elim (both _ _ few above) [
       | inl h ↦
           let d = (decides no_odds side q.board (pos all -ℤ pos (lost q side)) h.0).1 (over-least all (lost q side) cost h.1) in

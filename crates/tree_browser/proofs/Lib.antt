@@ -1,3 +1,4 @@
 mod OneTree
 mod Nearest
+mod SomeTree
 mod Written

@@ -1,5 +1,6 @@
 -- Each query has one tree.
-use Rattle.std.proofs.Common.{◌≡◌, ◌⊎◌, inl, inr, ℕ, zero, suc, ◌+◌, ◌<◌, ◌≤◌, List, [], ◌∷◌, ◌++◌, length, refl, ap, sym, ◌∙◌, subst, arith}
+use Rattle.std.proofs.Common.{◌≡◌, inl, inr, ℕ, zero, suc, ◌+◌, ◌≤◌, List, [], ◌∷◌, ◌++◌, length, refl, ap, sym, ◌∙◌, subst, arith}
+use Rattle.std.proofs.lemmas.Bool.{cases_lt}
 use Rattle.board_base.specs.Texts.{unmove_text}
 use Rattle.board_base.specs.declared.unmoves.Unmove.{Unmove}
 use Rattle.query_base.specs.Asked.{Asked}
@@ -9,19 +10,10 @@ use Rattle.tree_browser.specs.Trees.{Each, Expands, GoesBack, IsNote, IsTree, li
 use Rattle.tree_browser.specs.declared.notes.Note.{Note}
 use Rattle.tree_browser.specs.declared.notes.Note.TheVariants.{Closed, Back, Array, End, Expand}
 
-cases_lt : (j k : ℕ) → (j < k) ⊎ ((k < j) ⊎ (j ≡ k))
-cases_lt zero zero = inr (inr refl)
-cases_lt zero (suc k) = inl (omega arith)
-cases_lt (suc j) zero = inr (inl (omega arith))
-cases_lt (suc j) (suc k) = elim (cases_lt j k) [
-  | inl h ↦ inl (omega (arith, h))
-  | inr h ↦ elim h [ inl g ↦ inr (inl (omega (arith, g))) | inr e ↦ inr (inr (ap suc e)) ]
-]
-
 same-steps : (q : Asked) (above : List Asked) (j k : ℕ) → GoesBack q above j → GoesBack q above k → j ≡ k
 same-steps q above j k a b = elim (cases_lt j k) [
   | inl h ↦ absurd (b.nearest j h a.covers)
-  | inr h ↦ elim h [ inl g ↦ absurd (a.nearest k g b.covers) | inr e ↦ e ]
+  | inr h ↦ elim (cases_lt k j) [ inl g ↦ absurd (a.nearest k g b.covers) | inr g ↦ omega (arith, h, g) ]
 ]
 
 pub one-note : (a b : Note) (q : Asked) (above : List Asked) (left : ℕ) → IsNote a q above left → IsNote b q above left → a ≡ b
@@ -75,7 +67,3 @@ one-tree (suc left) q above label m n s t h g =
     let other = subst (λ (k : Note). Expands k (Each R (unmoves q) g.1 g.2) ((g.1 ≡ 0) × (g.2 ≡ []))) (sym same) g.4 in
     let rest = one-rest R (λ u. one-tree left (predecessor q u) (q ∷ above) (unmove_text u)) (unmoves q) h.0 h.1 g.1 h.2 g.2 h.4 other in
     (h.5 ∙ ap suc rest.0 ∙ sym g.5, h.6 ∙ ap (λ (k : Note). line (length above) label k ++ h.2) same ∙ ap (λ (l : List ℕ). line (length above) label g.0 ++ l) rest.1 ∙ sym g.6)
-
-pub some-line : (left : ℕ) (q : Asked) (above : List Asked) (label : List ℕ) (n : ℕ) (t : List ℕ) → IsTree left q above label n t → 1 ≤ n
-some-line zero q above label n t h = let e : n ≡ 1 = h.2 in omega (arith, e)
-some-line (suc left) q above label n t h = let e : n ≡ suc h.1 = h.5 in omega (arith, e)

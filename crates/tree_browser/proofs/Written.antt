@@ -1,9 +1,8 @@
 -- Trees that are written, node by node.
-use Rattle.std.proofs.Common.{◌≡◌, ℕ, zero, suc, ◌+◌, ◌<◌, ◌≤◌, true, false, List, [], ◌∷◌, ◌++◌, length, reverse, refl, ap, sym, ◌∙◌, subst, arith, append_assoc}
+use Rattle.std.proofs.Common.{◌≡◌, ℕ, zero, suc, ◌+◌, ◌<◌, ◌≤◌, true, false, List, [], ◌∷◌, ◌++◌, length, refl, ap, sym, ◌∙◌, subst, arith, append_assoc}
 use Rattle.std.proofs.lemmas.Bool.{both_ways}
 use Rattle.std.proofs.lemmas.List.{append-nil}
 use Rattle.std.proofs.lemmas.List.Elements.{Contains-append_right}
-use Rattle.std.proofs.lemmas.List.{reverse-append}
 use Rattle.std.specs.List.{Contains}
 use Rattle.board_base.specs.Texts.{unmove_text}
 use Rattle.board_base.specs.declared.unmoves.Unmove.{Unmove}
@@ -151,6 +150,3 @@ pub listed-in : (q : Asked) (left : ℕ) (above : List Asked) (us rest : List Un
 listed-in q left above us rest u old page so e =
     let here : Contains us u = subst (λ (l : List Unmove). Contains l u) (sym e) (0, omega arith, refl) in
     subst (λ (l : List Unmove). Contains l u) (sym so.parts) (Contains-append_right so.done us u here)
-
-pub pushed : (old new : List Asked) (q : Asked) → new ≡ old ++ q ∷ [] → reverse new ≡ q ∷ reverse old
-pushed old new q grown = ap reverse grown ∙ reverse-append old (q ∷ [])

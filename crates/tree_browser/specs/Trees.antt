@@ -1,25 +1,16 @@
 -- The tree of retractions of a query, to a depth, as a text.
-use Rattle.std.specs.Prelude.{ℕ, zero, suc, ◌+◌, ◌*◌, ◌≡◌, ◌≤◌, ◌<◌, List, [], ◌∷◌, ◌++◌, length, replicate, codes, IsSomeAnd, Option, None, slice_get}
+use Rattle.std.specs.Prelude.{ℕ, zero, suc, ◌+◌, ◌*◌, ◌≡◌, ◌≤◌, ◌<◌, List, [], ◌∷◌, ◌++◌, length, replicate, codes}
 use Rattle.std.specs.Fmt.{decimal}
 use Rattle.board_base.specs.Texts.{unmove_text}
 use Rattle.board_base.specs.declared.unmoves.Unmove.{Unmove}
 use Rattle.query_base.specs.Asked.{Asked}
 use Rattle.query_base.specs.Reach.{Reaches}
-use Rattle.query_base.specs.Targets.{Covers}
+use Rattle.query_base.specs.Ancestors.{CoversAt}
 use Rattle.static_rules.specs.Supports.{IsClosed}
 use Rattle.unmove_gen.specs.Listed.{unmoves}
 use Rattle.unmove_gen.specs.Predecessor.{predecessor}
 use Rattle.tree_browser.specs.declared.notes.Note.{Note}
 use Rattle.tree_browser.specs.declared.notes.Note.TheVariants.{Closed, Back, Array, End, Expand}
-
--- the ancestor so many steps above, the parent being one step above
-abbrev pub ancestor : List Asked → ℕ → Option Asked
-ancestor ancestors zero = None
-ancestor ancestors (suc k) = slice_get ancestors k
-
--- the ancestor so many steps above covers the query
-abbrev pub CoversAt : Asked → List Asked → ℕ → Type 0
-CoversAt q ancestors k = IsSomeAnd (ancestor ancestors k) (λ a. Covers a q)
 
 -- the nearest ancestor that covers the query stands k steps above
 pub record GoesBack (q : Asked) (ancestors : List Asked) (k : ℕ) : Type 0 where
@@ -72,3 +63,7 @@ IsTree (suc left) q ancestors label n text =
 -- the text of n lines is that of the query's tree to this depth
 abbrev pub IsTreeText : Asked → ℕ → ℕ → List ℕ → Type 0
 IsTreeText q depth n text = IsTree depth q [] (codes "root") n text
+
+-- the query's tree to this depth has a text of more lines than so many
+abbrev pub HasMoreLines : Asked → ℕ → ℕ → Type 0
+HasMoreLines q depth limit = (n : ℕ) × (text : List ℕ) × IsTreeText q depth n text × (limit < n)

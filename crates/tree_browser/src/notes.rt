@@ -1,6 +1,7 @@
 ghost use Rattle.std.specs.Prelude.{◌≡◌, ◌<◌, ◌≤◌, ◌↔◌, IsTrue, MatchOption, length, reverse};
 ghost use Rattle.unmove_gen.specs.Listed.{unmoves};
-ghost use Rattle.tree_browser.specs.Trees.{CoversAt, GoesBack, IsNote, IsUncovered};
+ghost use Rattle.query_base.specs.Ancestors.{CoversAt};
+ghost use Rattle.tree_browser.specs.Trees.{GoesBack, IsNote, IsUncovered};
 ghost use Rattle.tree_browser.specs.Pages.{expands};
 
 use query_base::{Query, covers, is_array};

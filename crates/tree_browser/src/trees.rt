@@ -1,6 +1,6 @@
 ghost use Rattle.std.specs.Prelude.{ℕ, ◌≡◌, ◌+◌, ◌++◌, ◌≤◌, ◌<◌, ◌↔◌, [], IfErr, IfOk, IsTrue, List, MatchResult, OnOk, None, length, reverse, suc};
 ghost use Rattle.board_base.specs.Texts.{can_capture, can_promote, unmove_text};
-ghost use Rattle.tree_browser.specs.Trees.{IsTree, IsTreeText};
+ghost use Rattle.tree_browser.specs.Trees.{HasMoreLines, IsTree, IsTreeText};
 ghost use Rattle.tree_browser.specs.Pages.{AreTrees};
 ghost use Rattle.query_base.specs.Asked.{Asked};
 ghost use Rattle.unmove_gen.specs.Listed.{unmoves};
@@ -101,13 +101,14 @@ fn write_children(
 /// A line for each node, in preorder, with two spaces for each level before it: `root`, or the node's unmove; a space; and the first
 /// that is so of these: `closed`, where some rule line supports the node's query; `back k`, where an ancestor covers it, with the
 /// least such k; `array`, where the game of no moves reaches it; `end`, where the node stands at the last depth; `expand n`, where n
-/// is the number of its unmoves, whose nodes follow in their order. `Spent` comes exactly where the text has more lines.
+/// is the number of its unmoves, whose nodes follow in their order. Each query has exactly one such text: it comes only where it has at
+/// most so many lines, and `Spent` only where it has more.
 pub fn tree_text(alloc: Global, query: &Query, depth: u8, nodes: u32) -> Result<Vec<u8>, TreeFault>
     requires barred { query.now.barred ≡ None }
     requires depth { depth ≤ 64 }
     requires nodes { (1 ≤ nodes) × (nodes ≤ 500_000) }
     ensures text { IfOk result (λ v. (n : ℕ) × IsTreeText query.now depth n v.items × (n ≤ nodes)) }
-    ensures spent { IfErr result (λ fault. fault ≡ TreeFault.Spent → (n : ℕ) (text : List ℕ) → IsTreeText query.now depth n text → nodes < n) }
+    ensures spent { IfErr result (λ fault. fault ≡ TreeFault.Spent → HasMoreLines query.now depth nodes) }
 {
     let mut page = Page {
         text: Vec::new(alloc),
@@ -120,7 +121,8 @@ pub fn tree_text(alloc: Global, query: &Query, depth: u8, nodes: u32) -> Result<
     }
 }
 
-/// The law that each query has at most one text to a depth, of one number of lines.
+/// The law that each query has exactly one tree text at each depth, of one number of lines. This does nothing when it runs.
 pub fn one_text_each()
-    ensures { (q : Asked) (depth m n : ℕ) (s t : List ℕ) → IsTreeText q depth m s → IsTreeText q depth n t → (m ≡ n) × (s ≡ t) }
+    ensures some { (q : Asked) (depth : ℕ) → (n : ℕ) × (text : List ℕ) × IsTreeText q depth n text }
+    ensures one { (q : Asked) (depth m n : ℕ) (s t : List ℕ) → IsTreeText q depth m s → IsTreeText q depth n t → (m ≡ n) × (s ≡ t) }
 {}

@@ -5,6 +5,8 @@ use Rattle.board_base.specs.declared.unmoves.Unmove.{Unmove}
 use Rattle.general_lemmas.proofs.Lists.{contains-cases, contains-first, contains-later, contains-none}
 use Rattle.query_base.specs.Asked.{Asked}
 use Rattle.query_base.specs.Reach.{Reaches}
+use Rattle.query_base.proofs.Exact.{exact, itself}
+use Rattle.query_base.proofs.Settled.{array_settled}
 use Rattle.static_rules.specs.Supports.{IsClosed}
 use Rattle.unmove_gen.specs.Listed.{unmoves}
 use Rattle.unmove_gen.specs.Predecessor.{predecessor}
@@ -12,11 +14,10 @@ use Rattle.retro_search.specs.Refutable.{IsRefutable, IsShut}
 use Rattle.retro_search.specs.Costs.{IsCost, SumsUpTo}
 use Rattle.retro_search.specs.Lone.{AreDifferent, AreExpanded, IsMemoCost, StandsIn, unmoves_in_all}
 use Rattle.retro_search.proofs.Bound.Different.{sum_within}
-use Rattle.retro_search.proofs.Maps.Exact.{exact, itself}
 use Rattle.retro_search.proofs.Maps.Lookups.{eq}
 use Rattle.static_rules.proofs.Settled.{closed_settled}
-use Rattle.static_rules.proofs.Settling.{Settled, by_test}
-use Rattle.retro_search.proofs.Settled.{array_settled, refutable_settled, shut_settled}
+use Rattle.general_lemmas.proofs.Settling.{Settled, by_test}
+use Rattle.retro_search.proofs.Settled.{refutable_settled, shut_settled}
 
 sums_exist : (R : Unmove → ℕ → Type 0) (P : Unmove → Type 0) → ((u : Unmove) → (n : ℕ) × R u n) → ((u : Unmove) → Settled (P u)) → (us : List Unmove) → (n : ℕ) × SumsUpTo R P us n
 sums_exist R P each s [] = (0, refl)

@@ -4,12 +4,13 @@ use Rattle.std.specs.List.{Contains}
 use Rattle.board_base.specs.declared.unmoves.Unmove.{Unmove}
 use Rattle.general_lemmas.proofs.Lists.{contains-cases, contains-first, contains-later, contains-none}
 use Rattle.query_base.specs.Asked.{Asked}
-use Rattle.static_rules.proofs.Settling.{Settled}
+use Rattle.query_base.proofs.Settled.{array_settled}
+use Rattle.general_lemmas.proofs.Settling.{Settled}
 use Rattle.unmove_gen.specs.Listed.{unmoves}
 use Rattle.unmove_gen.specs.Predecessor.{predecessor}
 use Rattle.retro_search.specs.Refutable.{IsRefutable}
 use Rattle.retro_search.specs.Lines.{IsFirstNot, IsFirstOpen}
-use Rattle.retro_search.proofs.Settled.{array_settled, refutable_settled}
+use Rattle.retro_search.proofs.Settled.{refutable_settled}
 
 -- the first of some unmoves of which P doesn't hold
 first_not : (P : Unmove → Type 0) (us : List Unmove) → ((u : Unmove) → Settled (P u)) → (((u : Unmove) → Contains us u → P u) → ⊥) → (u : Unmove) × IsFirstNot P us u

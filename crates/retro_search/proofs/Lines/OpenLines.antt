@@ -1,10 +1,10 @@
 -- First open lines, from their ends.
-use Rattle.std.proofs.Common.{◌≡◌, ℕ, zero, suc, ◌⊎◌, inl, inr, List, [], ◌∷◌, ◌++◌, Bool, reverse, refl, sym, ap, ◌∙◌, subst, arith}
+use Rattle.std.proofs.Common.{◌≡◌, ℕ, zero, suc, ◌⊎◌, inl, inr, List, [], ◌∷◌, ◌++◌, Bool, reverse, refl, sym, ap, subst, arith}
 use Rattle.std.specs.Prelude.{IsTrue, ◌↔◌}
 use Rattle.std.specs.List.{Contains}
-use Rattle.std.proofs.lemmas.List.{reverse-append}
 use Rattle.std.proofs.lemmas.List.Elements.{Contains-append_right}
 use Rattle.board_base.specs.declared.unmoves.Unmove.{Unmove}
+use Rattle.general_lemmas.proofs.Lasts.{pushed}
 use Rattle.general_lemmas.proofs.Lists.{contains-first}
 use Rattle.query_base.specs.Asked.{Asked}
 use Rattle.query_base.specs.Reach.{Reaches}
@@ -42,7 +42,7 @@ leaf_open line depth q ancestors empty marked unshut end =
 -- a query is open whose first predecessor that isn't refutable is open
 pub longer_open : (kid line : OpenLine) (q : Asked) (u : Unmove) (done rest : List Unmove) (depth : ℕ) (ancestors : List Asked) → unmoves q ≡ done ++ u ∷ rest → ((v : Unmove) → Contains done v → IsRefutable (predecessor q v) depth (q ∷ ancestors)) → (Reaches [] q → ⊥) → (IsShut q ancestors → ⊥) → line.back.items ≡ kid.back.items ++ u ∷ [] → line.at_array ≡ kid.at_array → IsOpen kid (predecessor q u) depth (q ∷ ancestors) → IsOpen line q (suc depth) ancestors
 longer_open kid line q u done rest depth ancestors parts all elsewhere unshut grown same o =
-    let back : u ∷ reverse kid.back.items ≡ reverse line.back.items = sym (ap reverse grown ∙ reverse-append kid.back.items (u ∷ [])) in
+    let back : u ∷ reverse kid.back.items ≡ reverse line.back.items = sym (pushed kid.back.items line.back.items u grown) in
     let listed : Contains (unmoves q) u = subst (λ (l : List Unmove). Contains l u) (sym parts) (Contains-append_right done (u ∷ rest) u (contains-first u rest)) in
     let failed : IsRefutable q (suc depth) ancestors → ⊥ = λ h. elim h [ inl shut ↦ unshut shut | inr below ↦ o.unrefuted (below.1 u listed) ] in
     record {

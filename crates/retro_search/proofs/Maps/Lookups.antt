@@ -8,7 +8,7 @@ use Rattle.std.proofs.lemmas.Option.{same_Some}
 use Rattle.general_lemmas.proofs.Lists.{contains-cases, contains-first, contains-later, contains-none}
 use Rattle.query_base.specs.Asked.{Asked}
 use Rattle.query_base.specs.contracts.queries.QueryPartialEq.TheImpl as queries
-use Rattle.retro_search.proofs.Maps.Exact.{exact, itself}
+use Rattle.query_base.proofs.Exact.{exact, itself}
 
 abbrev pub eq : Asked → Asked → Bool
 eq = queries.eq-value.it

@@ -4,10 +4,11 @@ use Rattle.std.specs.Prelude.{IsSomeAnd, None, Option, Some, slice_get}
 use Rattle.board_base.specs.declared.unmoves.Unmove.{Unmove}
 use Rattle.query_base.specs.Asked.{Asked}
 use Rattle.query_base.specs.Targets.{Covers}
+use Rattle.query_base.specs.Ancestors.{ancestor}
 use Rattle.unmove_gen.specs.Listed.{unmoves}
 use Rattle.unmove_gen.specs.Predecessor.{predecessor}
 use Rattle.cert_text.specs.Tree.{Tree, Forest, rule, back, expand, none, more}
-use Rattle.cert_checker.specs.Proving.{Proves, ProvesEach, ancestor}
+use Rattle.cert_checker.specs.Proving.{Proves, ProvesEach}
 
 -- each ancestor of the first stands in the second at the same place
 pub record Extends (a b : List Asked) : Type 0 where

@@ -1,16 +1,16 @@
 -- Refutations, by where they come from and by what they say.
 use Rattle.std.proofs.Common.{◌≡◌, ℕ, suc, ◌+◌, ◌≤◌, List, [], sym, ap, ◌∙◌, subst, take, arith}
-use Rattle.std.specs.Prelude.{IsSomeAnd}
 use Rattle.board_base.specs.declared.unmoves.Unmove.{Unmove}
 use Rattle.query_base.specs.Asked.{Asked}
 use Rattle.query_base.specs.Reach.{Reaches}
 use Rattle.query_base.specs.Targets.{Covers}
+use Rattle.query_base.specs.Ancestors.{CoversAt}
 use Rattle.query_base.specs.declared.rule_lines.RuleLine.{RuleLine}
 use Rattle.static_rules.specs.Supports.{Supports}
 use Rattle.unmove_gen.specs.Listed.{unmoves}
 use Rattle.cert_text.specs.Tree.{Tree, rule, back, expand}
 use Rattle.cert_text.specs.Seen.{tree_of}
-use Rattle.cert_checker.specs.Proving.{Proves, ProvesEach, ancestor}
+use Rattle.cert_checker.specs.Proving.{Proves, ProvesEach}
 use Rattle.retro_search.specs.Refutable.{IsRefutable}
 use Rattle.retro_search.specs.Heights.{height}
 use Rattle.retro_search.specs.Sizes.{nodes_in}
@@ -34,7 +34,7 @@ by_tree r t q depth ancestors e proves high low counted few = record {
 pub refutes_by_rule : (r : Refutation) (reason : RuleLine) (q : Asked) (ancestors : List Asked) → tree_of r.node ≡ rule reason → (r.height ≡ 0) → (r.lines ≡ 1) → Supports q reason → IsRefutation r q 0 ancestors
 refutes_by_rule r reason q ancestors e high counted h = by_tree r (rule reason) q 0 ancestors e h (sym high) (omega arith) (sym counted) (omega arith)
 
-pub refutes_by_ancestor : (r : Refutation) (k : ℕ) (q : Asked) (ancestors : List Asked) → tree_of r.node ≡ back k → (r.lean ≡ k) → (r.height ≡ 0) → (r.lines ≡ 1) → IsSomeAnd (ancestor ancestors k) (λ a. Covers a q) → IsRefutation r q 0 ancestors
+pub refutes_by_ancestor : (r : Refutation) (k : ℕ) (q : Asked) (ancestors : List Asked) → tree_of r.node ≡ back k → (r.lean ≡ k) → (r.height ≡ 0) → (r.lines ≡ 1) → CoversAt q ancestors k → IsRefutation r q 0 ancestors
 refutes_by_ancestor r k q ancestors e lean high counted h =
     let here : Proves (back k) q (take r.lean ancestors) = subst (λ (n : ℕ). Proves (back k) q (take n ancestors)) (sym lean) (ancestor_near k ancestors (λ a. Covers a q) h) in
     by_tree r (back k) q 0 ancestors e here (sym high) (omega arith) (sym counted) (omega arith)

@@ -3,10 +3,10 @@ use Rattle.std.proofs.lemmas.Bool.{both_ways}
 use Rattle.std.proofs.lemmas.List.Elements.{Contains-append_right}
 use Rattle.std.specs.List.{Contains}
 use Rattle.board_base.specs.declared.unmoves.Unmove.{Unmove}
+use Rattle.general_lemmas.proofs.Lasts.{pushed}
 use Rattle.general_lemmas.proofs.Lists.{contains-first}
 use Rattle.query_base.specs.Asked.{Asked}
 use Rattle.query_base.specs.Reach.{Reaches}
-use Rattle.cert_checker.proofs.Walks.{pushed}
 use Rattle.retro_search.specs.Refutable.{IsCovered, IsShut}
 use Rattle.retro_search.specs.Eager.{IsEager}
 use Rattle.retro_search.specs.Good.{IsPaid}

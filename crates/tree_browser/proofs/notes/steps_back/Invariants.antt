@@ -1,5 +1,5 @@
 use Rattle.std.proofs.Common.{ℕ, suc, ◌<◌, reverse}
-use Rattle.tree_browser.specs.Trees.{CoversAt}
+use Rattle.query_base.specs.Ancestors.{CoversAt}
 use Rattle.tree_browser.proofs.notes.steps_back.Given as goal
 
 abbrev pub invariant-loop-i : goal.invariant-loop-i

@@ -1,10 +1,11 @@
 use Rattle.std.proofs.Common.{◌≡◌, ℕ, suc, ◌+◌, ◌-◌, ◌<◌, ◌≤◌, true, List, ◌++◌, length, reverse, ap, sym, ◌∙◌, subst, arith, append_assoc}
 use Rattle.std.proofs.lemmas.List.{length-reverse}
+use Rattle.general_lemmas.proofs.Lasts.{pushed}
 use Rattle.query_base.specs.Asked.{Asked}
 use Rattle.tree_browser.specs.Trees.{IsNote, IsTree, line}
 use Rattle.tree_browser.specs.Pages.{expands}
 use Rattle.tree_browser.specs.Pages.{Writes}
-use Rattle.tree_browser.proofs.Written.{deeper, inner, inner-spent, leaf, listed-in, pushed, so_more, so_spent}
+use Rattle.tree_browser.proofs.Written.{deeper, inner, inner-spent, leaf, listed-in, so_more, so_spent}
 use Rattle.tree_browser.proofs.trees.+writing.Goals as goal
 
 pub write_children-write_unmove-requires-clause-promotion : goal.write_children-write_unmove-requires-clause-promotion
