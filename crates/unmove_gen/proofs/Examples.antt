@@ -1,6 +1,6 @@
 -- Unmoves that are listed and unmoves that aren't, and predecessors, on boards that are written out.
-use Rattle.std.proofs.Common.{◌≡◌, ℕ, Bool, true, false, List, [], ◌∷◌, map, refl}
-use Rattle.std.specs.Prelude.{Option, Some, None, slice_set}
+use Rattle.std.proofs.Common.{◌≡◌, ℕ, true, false, [], ◌∷◌, map, refl}
+use Rattle.std.specs.Prelude.{Some, None, slice_set}
 use Rattle.board_base.specs.Board.{Places, man, no_men}
 use Rattle.board_base.specs.Rights.{Rights}
 use Rattle.board_base.specs.Attacks.{attacks, attacks_from, distance, kind_attacks, king_distance, on_the_way, toward}
@@ -8,7 +8,6 @@ use Rattle.board_base.specs.Play.{play}
 use Rattle.board_base.specs.Legal.{in_check, king_castles, legal_on, man_moves, may_go, pawn_captures, pawn_captures_en_passant, pawn_doubles, pawn_steps, promotion_fits}
 use Rattle.board_base.specs.declared.men.Colour.{Colour}
 use Rattle.board_base.specs.declared.men.Colour.TheVariants.{White, Black}
-use Rattle.board_base.specs.declared.men.Kind.{Kind}
 use Rattle.board_base.specs.declared.men.Kind.TheVariants.{King, Knight, Pawn, Queen, Rook}
 use Rattle.board_base.specs.declared.moves.Move.{Move}
 use Rattle.board_base.specs.declared.unmoves.Unmove.{Unmove}

@@ -16,3 +16,15 @@ pub mod Arrivals
 pub mod Skips
 pub mod Marking
 pub mod Spelled
+pub mod PutBack
+pub mod Opened
+pub mod Between
+pub mod PutCounts
+pub mod PlainListed
+pub mod PlainAnswers
+pub mod Comes
+pub mod OneKing
+pub mod Bits
+pub mod TheTables
+pub mod ReadyAnswers
+pub mod Uncovered

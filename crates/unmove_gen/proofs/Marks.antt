@@ -57,7 +57,7 @@ unfolding pawn_captures_en_passant
 captures board c last m h = let p = and_parts _ _ h in captures-as board c last m (double_of m c) refl p.0 p.1
 
 -- a pawn that goes as in a capture en passant makes one
-goes-captures : (board : Places) (c : Colour) (rights : Castle → Bool) (last : Option Move) (m : Move) → castling board m ≡ None → goes_en_passant board m ≡ true → Manner board c rights last m → pawn_captures_en_passant board c last m ≡ true
+pub goes-captures : (board : Places) (c : Colour) (rights : Castle → Bool) (last : Option Move) (m : Move) → castling board m ≡ None → goes_en_passant board m ≡ true → Manner board c rights last m → pawn_captures_en_passant board c last m ≡ true
 unfolding man_moves pawn_steps pawn_doubles pawn_captures pawn_captures_en_passant king_castles
 goes-captures board c rights last m none t (moves h) = absurd (both_ways (is_a Pawn (at board m.from)) (not-true _ (and_parts _ _ h).0) (and_parts _ _ (and_parts _ _ t).0).0)
 goes-captures board c rights last m none t (steps h) = absurd (both_ways (file m.from == file m.to) (not-true _ (and_parts _ _ (and_parts _ _ t).0).1) (and_parts _ _ (and_parts _ _ h).0).1)

@@ -6,3 +6,5 @@ pub mod Predecessor
 pub mod Ways
 pub mod Numbers
 pub mod Cursors
+pub mod Plain
+pub mod Ready

@@ -4,18 +4,26 @@
 //! Articles are those of the FIDE Laws of Chess, in force from 1 January 2023.
 #![tactic(auto)]
 
+mod answers;
 mod candidates;
 mod conditions;
+mod facts;
 mod laws;
 mod legality;
 mod lists;
+mod plain_moves;
 mod predecessors;
 mod sanity;
+mod skipping;
+mod stops;
 mod taking_back;
+mod targets;
+mod way_tables;
 mod ways;
 
 pub use laws::{
-    few_unmoves, last_moves_are_listed, listed_moves_lead_here, unmoves_ascend, unmoves_have_texts,
+    few_unmoves, last_moves_are_listed, listed_moves_lead_here, targets_are_origins,
+    unmoves_ascend, unmoves_have_texts,
 };
 pub use lists::Unmoves;
 pub use predecessors::{is_unmove, pred};

@@ -1,35 +1,13 @@
-ghost use Rattle.std.specs.Prelude.{◌≡◌, ◌<◌, ◌∷◌, [], IfSome, MatchOption};
+ghost use Rattle.std.specs.Prelude.{◌≡◌, ◌∷◌, [], MatchOption};
 ghost use Rattle.unmove_gen.specs.Listed.{unmoves};
-ghost use Rattle.unmove_gen.specs.Numbers.{AreUnlisted};
-ghost use Rattle.unmove_gen.specs.Cursors.{number_of};
 
 use crate::candidates::Cursor;
-use crate::legality::is_listed;
-use crate::ways::is_way;
-use board_base::{Unmove, is_of};
+use crate::facts::{QueryFacts, facts_of};
+use crate::stops::{Stop, stop_after, stop_from};
+use crate::targets::{origins_by, targets_of};
+use board_base::{SquareSet, Unmove};
 use query_base::Query;
 use std::marker::Model;
-
-/// A later candidate, if none from this one on to there is listed: by their target, where no man of the side that moved stands; by
-/// their origin, which isn't empty; or by their promotion, with which the man on the target can't have moved so.
-fn skipped(query: &Query, here: Cursor) -> Option<Cursor>
-    requires { here.to < 64 }
-    ensures forward { IfSome result (λ there. number_of here < number_of there) }
-    ensures unlisted { IfSome result (λ there. AreUnlisted query.now (number_of here) (number_of there)) }
-{
-    let m = here.mv();
-    let board = &query.board;
-    if !is_of(query.turn.other(), board.at(m.to)) {
-        return Some(here.next_target());
-    }
-    if board.at(m.from).is_some() {
-        return Some(here.next_origin());
-    }
-    if !is_way(board, &m) {
-        return Some(here.next_promotion());
-    }
-    None
-}
 
 /// The unmoves of a query that are left to be given, seen as their list. An unmove is a move that the side not to move may have made
 /// last in a game that reaches the query, with the kind of the man that it captured; it captured en passant only where it is so
@@ -44,19 +22,25 @@ fn skipped(query: &Query, here: Cursor) -> Option<Cursor>
 #[derive(Drop)]
 pub struct Unmoves {
     query: Query,
-    cursor: Cursor,
+    facts: Option<QueryFacts>,
+    targets: SquareSet,
+    stop: Stop,
 }
 
 impl Model for Unmoves {
-    ghost use Rattle.std.specs.Prelude.{List, drop};
+    ghost use Rattle.std.specs.Prelude.{List, drop, IfSome};
     ghost use Rattle.std.specs.List.{filter};
     ghost use Rattle.board_base.specs.declared.unmoves.Unmove.{Unmove as AnUnmove};
     ghost use Rattle.unmove_gen.specs.Listed.{candidates, is_listed};
     ghost use Rattle.unmove_gen.specs.Cursors.{number_of};
+    ghost use Rattle.unmove_gen.specs.Plain.{AreFacts, KnowsAlone};
+    ghost use Rattle.unmove_gen.specs.Ready.{AreReady, AreTargets};
 
     ghost Value = { List AnUnmove };
 
-    ghost view = { λ s. filter (is_listed s.query) (drop (number_of s.cursor) candidates) };
+    ghost view = { λ s. filter (is_listed s.query) (drop (number_of s.stop.cursor) candidates) };
+
+    ghost invariant = { λ s. IfSome s.facts (λ f. AreFacts s.query f) × AreTargets s.query s.targets × IfSome s.facts (λ f. KnowsAlone s.query f.king s.stop.cursor.to s.stop.alone) × AreReady s.query s.stop.cursor s.stop.answers };
 }
 
 impl Unmoves {
@@ -65,9 +49,14 @@ impl Unmoves {
     pub fn new(query: &Query) -> Unmoves
         ensures { result ≡ unmoves query.now }
     {
+        let facts = facts_of(query);
+        let targets = targets_of(query, origins_by(query, &facts));
+        let stop = stop_from(query, &facts, targets, Cursor::first(), 64, false);
         Unmoves {
             query: *query,
-            cursor: Cursor::first(),
+            facts,
+            targets,
+            stop,
         }
     }
 
@@ -75,16 +64,12 @@ impl Unmoves {
     pub fn next(&mut self) -> Option<Unmove>
         ensures { MatchOption result ((self.old ≡ []) × (self.new ≡ [])) (λ u. self.old ≡ u ∷ self.new) }
     {
-        while self.cursor.to < 64 {
-            let here = self.cursor;
-            if let Some(there) = skipped(&self.query, here) {
-                self.cursor = there;
-            } else {
-                let u = here.candidate();
-                self.cursor = here.next();
-                if is_listed(&self.query, &u) {
-                    return Some(u);
-                }
+        while self.stop.cursor.to < 64 {
+            let u = self.stop.cursor.candidate();
+            let is_listed = self.stop.answers[self.stop.cursor.capture as usize];
+            self.stop = stop_after(&self.query, &self.facts, self.targets, &self.stop);
+            if is_listed {
+                return Some(u);
             }
         }
         None
