@@ -8,11 +8,14 @@ use Rattle.board_base.specs.Rights.{Rights, holds, with_castling}
 use Rattle.board_base.specs.declared.castles.Castle.{Castle}
 use Rattle.board_base.specs.declared.moves.Move.{Move}
 use Rattle.query_base.specs.Asked.{Asked}
-use Rattle.query_base.specs.Reach.{Contradicts, EndsWith, Reaches}
+use Rattle.query_base.specs.Reach.{Contradicts, EndsWith, Holds, Reaches}
 use Rattle.query_base.specs.Targets.{target}
 use Rattle.query_base.specs.declared.claims.Claim.{Claim}
 use Rattle.query_base.specs.declared.claims.Claim.TheVariants.{Illegal, Last, Lost, Ep}
 use Rattle.query_base.proofs.EnPassant.{ep-reaches}
+use Rattle.cert_text.specs.Certificate.{Certificate}
+use Rattle.cert_checker.specs.Proving.{ProvesClaim, target_of}
+use Rattle.cert_checker.proofs.Sound.{sound}
 
 -- a game that reaches a query also reaches one that asks for other castlings and bars another move, where it keeps to these
 asked-otherwise : (g : List Move) (q : Asked) (held : Rights) (barred : Option Move) → Reaches g q → ((x : Castle) → IsTrue (holds held x) → IsTrue (unmoved no_odds g x)) → IfSome barred (λ m. EndsWith g m → ⊥) → Reaches g (record q { held = held; barred = barred })
@@ -26,3 +29,7 @@ contradiction-reaches g (Lost x) q h = let r : Reaches g q = h.0 in asked-otherw
   | inr before ↦ r.held c before
 ]) r.barred
 contradiction-reaches g (Ep m) q h = ep-reaches g m q h
+
+-- no game contradicts the claim of a certificate that proves it
+pub proved_holds : (cert : Certificate) → ProvesClaim cert → Holds cert.claim cert.query
+proved_holds cert proves g contradicts = sound cert.root (target_of cert) proves g (contradiction-reaches g cert.claim cert.query contradicts)

@@ -9,3 +9,10 @@ pub mod OneText
 pub mod Unbarred
 pub mod Unlisted
 pub mod Contradicted
+pub mod Opening
+pub mod Taking
+pub mod Settling
+pub mod TreeLines
+pub mod Answering
+pub mod Pieces
+pub mod Feeding

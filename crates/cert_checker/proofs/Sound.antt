@@ -7,13 +7,14 @@ use Rattle.board_base.specs.declared.unmoves.Unmove.{Unmove}
 use Rattle.query_base.specs.Asked.{Asked}
 use Rattle.query_base.specs.Reach.{Reaches}
 use Rattle.query_base.specs.Targets.{Covers}
+use Rattle.query_base.specs.Ancestors.{ancestor}
 use Rattle.query_base.proofs.Covering.{reached}
 use Rattle.static_rules.proofs.Unreached.{unreached}
 use Rattle.unmove_gen.specs.Listed.{unmoves}
 use Rattle.unmove_gen.specs.Predecessor.{predecessor, unmove_after}
 use Rattle.unmove_gen.proofs.Taken.{listed_after, reached_after}
 use Rattle.cert_text.specs.Tree.{Tree, Forest, rule, back, expand, none, more}
-use Rattle.cert_checker.specs.Proving.{ancestor, Proves, ProvesEach}
+use Rattle.cert_checker.specs.Proving.{Proves, ProvesEach}
 use Rattle.general_lemmas.proofs.Lists.{by_last, contains-cases, contains-none}
 
 -- no game of at most n moves reaches the query

@@ -62,3 +62,8 @@ said-plain (Some text) q e = query-plain (starts_with nat_eq text (codes "fen ")
 pub query_unbarred : (lines : Lines) (cert : Certificate) → AreLinesOf lines cert → cert.query.barred ≡ None
 unfolding said
 query_unbarred lines cert text = said-plain (without_end text.fen_line) cert.query text.query
+
+-- the query of a line that is read
+pub said_unbarred : (line : List ℕ) (q : Asked) → said query_of line ≡ Some q → q.barred ≡ None
+unfolding said
+said_unbarred line q e = said-plain (without_end line) q e

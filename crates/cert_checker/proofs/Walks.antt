@@ -1,6 +1,5 @@
 -- Steps of a walk over children.
-use Rattle.std.proofs.Common.{◌≡◌, ℕ, List, [], ◌∷◌, ◌++◌, reverse, refl, sym, ap, ◌∙◌, subst}
-use Rattle.std.proofs.lemmas.List.{reverse-append}
+use Rattle.std.proofs.Common.{◌≡◌, ℕ, List, [], ◌∷◌, refl, sym, subst}
 use Rattle.std.specs.declared.cmp.Ordering.{Ordering}
 use Rattle.std.specs.declared.cmp.Ordering.TheVariants.{Less, Equal, Greater}
 use Rattle.board_base.specs.Texts.{unmove_order}
@@ -53,7 +52,3 @@ fault_of refused.Memory P Q whole is = tt
 pub kid_walk : (t : Tree) (b q : Asked) (u : Unmove) (above below : List Asked) (n : ℕ) (walked : Walked) → b ≡ predecessor q u → below ≡ q ∷ above → Walks t b below n walked → Walks t (predecessor q u) (q ∷ above) n walked
 kid_walk t b q u above below n walked one two walks =
     subst (λ (p : Asked). Walks t p (q ∷ above) n walked) one (subst (λ (ups : List Asked). Walks t b ups n walked) two walks)
-
--- a query put behind others stands before them where the last comes first
-pub pushed : (old new : List Asked) (q : Asked) → new ≡ old ++ q ∷ [] → reverse new ≡ q ∷ reverse old
-pushed old new q grown = ap reverse grown ∙ reverse-append old (q ∷ [])

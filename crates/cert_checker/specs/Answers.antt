@@ -9,6 +9,8 @@ use Rattle.cert_checker.specs.Walk.{Fault, unlisted, unsupported, fault_at, Walk
 use Rattle.cert_checker.specs.declared.refusals.Accepted.{Accepted}
 use Rattle.cert_checker.specs.declared.refusals.Refused.{Refused}
 use Rattle.cert_checker.specs.declared.refusals.Refused.TheVariants as refused
+use Rattle.cert_checker.specs.declared.refusals.Fault.{Fault as AFault}
+use Rattle.cert_checker.specs.declared.refusals.Fault.TheVariants as by
 
 -- the line where the text goes bad; the first fault of the walk, at a line; or a claim about a query
 pub data Answer : Type 0 where
@@ -33,3 +35,10 @@ refused_as refused.Memory = None
 abbrev pub answered : Result Accepted Refused → Option Answer
 answered (Ok a) = Some (accepted a.claim a.query)
 answered (Err f) = refused_as f
+
+-- what a check of bytes that come in pieces answers
+abbrev pub answer_as : Result Accepted AFault → Answer
+answer_as (Ok a) = accepted a.claim a.query
+answer_as (Err (by.BadText n)) = bad_text n
+answer_as (Err (by.Unlisted n u)) = fault n (unlisted u)
+answer_as (Err (by.Unsupported n w)) = fault n (unsupported w)

@@ -1,4 +1,9 @@
 pub mod Proving
 pub mod Walk
 pub mod Answers
+pub mod Frames
+pub mod Stages
+pub mod Remains
 pub mod Walking
+pub mod Framing
+pub mod Staging

@@ -1,19 +1,15 @@
 -- When a tree proves that no game reaches a query.
-use Rattle.std.specs.Prelude.{ℕ, suc, zero, ◌≡◌, List, [], ◌∷◌, slice_get, Option, None, IsSomeAnd}
+use Rattle.std.specs.Prelude.{◌≡◌, List, [], ◌∷◌}
 use Rattle.board_base.specs.declared.unmoves.Unmove.{Unmove}
 use Rattle.query_base.specs.Asked.{Asked}
 use Rattle.query_base.specs.Reach.{Reaches}
-use Rattle.query_base.specs.Targets.{Covers, target}
+use Rattle.query_base.specs.Targets.{target}
+use Rattle.query_base.specs.Ancestors.{CoversAt}
 use Rattle.static_rules.specs.Supports.{Supports}
 use Rattle.unmove_gen.specs.Listed.{unmoves}
 use Rattle.unmove_gen.specs.Predecessor.{predecessor}
 use Rattle.cert_text.specs.Tree.{Tree, Forest, rule, back, expand, none, more}
 use Rattle.cert_text.specs.Certificate.{Certificate}
-
--- the ancestor so many steps above, the parent being one step above
-abbrev pub ancestor : List Asked → ℕ → Option Asked
-ancestor ancestors zero = None
-ancestor ancestors (suc k) = slice_get ancestors k
 
 abbrev mutual
   -- The tree proves that no game reaches the query, below these ancestors, the parent first: a rule line supports the query; an
@@ -21,7 +17,7 @@ abbrev mutual
   -- predecessor.
   pub Proves : Tree → Asked → List Asked → Type 0
   Proves (rule r) q ancestors = Supports q r
-  Proves (back k) q ancestors = IsSomeAnd (ancestor ancestors k) (λ a. Covers a q)
+  Proves (back k) q ancestors = CoversAt q ancestors k
   Proves (expand kids) q ancestors = (Reaches [] q → ⊥) × ProvesEach kids q (unmoves q) ancestors
 
   -- the labels are these unmoves in order, and each child proves the predecessor of the query by its label

@@ -1,18 +1,18 @@
 -- The walk of a tree in preorder, up to its first fault.
-use Rattle.std.specs.Prelude.{ℕ, ◌+◌, ◌≡◌, ◌⊎◌, List, [], ◌∷◌, IsSomeAnd}
+use Rattle.std.specs.Prelude.{ℕ, ◌+◌, ◌≡◌, ◌⊎◌, List, [], ◌∷◌}
 use Rattle.std.specs.declared.cmp.Ordering.{Ordering}
 use Rattle.std.specs.declared.cmp.Ordering.TheVariants.{Less, Equal, Greater}
 use Rattle.board_base.specs.Texts.{unmove_order}
 use Rattle.board_base.specs.declared.unmoves.Unmove.{Unmove}
 use Rattle.query_base.specs.Asked.{Asked}
 use Rattle.query_base.specs.Reach.{Reaches}
-use Rattle.query_base.specs.Targets.{Covers}
+use Rattle.query_base.specs.Ancestors.{CoversAt}
 use Rattle.static_rules.specs.Supports.{Supports}
 use Rattle.unmove_gen.specs.Listed.{unmoves}
 use Rattle.unmove_gen.specs.Predecessor.{predecessor}
 use Rattle.cert_text.specs.Tree.{Tree, Forest, rule, back, expand, none, more}
 use Rattle.cert_text.specs.Certificate.{Certificate}
-use Rattle.cert_checker.specs.Proving.{ancestor, target_of}
+use Rattle.cert_checker.specs.Proving.{target_of}
 use Rattle.cert_checker.specs.declared.refusals.Why.{Why}
 use Rattle.cert_checker.specs.declared.refusals.Why.TheVariants as why
 
@@ -47,7 +47,7 @@ abbrev mutual
   -- what the walk of a tree whose first line is n comes to, at this query and below these ancestors, the parent first
   pub Walks : Tree → Asked → List Asked → ℕ → Walked → Type 0
   Walks (rule r) q ancestors n walked = Unless (Supports q r) why.Rule n walked
-  Walks (back k) q ancestors n walked = Unless (IsSomeAnd (ancestor ancestors k) (λ a. Covers a q)) why.Back n walked
+  Walks (back k) q ancestors n walked = Unless (CoversAt q ancestors k) why.Back n walked
   Walks (expand kids) q ancestors n walked =
       (Reaches [] q × (walked ≡ fault_at n (unsupported why.Array))) ⊎ ((Reaches [] q → ⊥) × WalksEach kids q (unmoves q) ancestors n (n + 1) walked)
 

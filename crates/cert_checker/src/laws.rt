@@ -9,7 +9,10 @@ ghost use Rattle.cert_text.specs.Certificate.{AreLinesOf, Certificate, Lines};
 ghost use Rattle.cert_text.specs.ClaimLines.{promotes_well};
 ghost use Rattle.cert_checker.specs.Proving.{ProvesClaim};
 ghost use Rattle.cert_checker.specs.Walk.{Walked, Walks, WalksTo, next_line, unlisted};
+ghost use Rattle.cert_text.specs.Due.{refused};
 ghost use Rattle.cert_checker.specs.Answers.{Answer, Answers, accepted, fault};
+ghost use Rattle.cert_checker.specs.Frames.{Walking};
+ghost use Rattle.cert_checker.specs.Stages.{BadTextFirst, Rest, heading, nodes};
 
 /// The law that the walk of a certificate that has a text meets no fault exactly where the certificate proves its claim.
 pub fn walk_proves()
@@ -45,4 +48,16 @@ pub fn accepted_bar_no_move()
 /// The law that a claim which an answer accepts has a text.
 pub fn accepted_have_texts()
     ensures { (lines : Lines) (claim : AnyClaim) (q : Asked) → Answers lines (accepted claim q) → IsTrue (promotes_well claim) }
+{}
+
+/// The law that what the stages answer from the first line on is the answer to the lines: bad text goes first, and else the first
+/// fault of the walk, or none.
+pub fn rest_answers()
+    ensures { (lines : Lines) (a : Answer) → Rest heading 1 lines a → Answers lines a }
+{}
+
+/// The law that below the root's line bad text goes first, wherever it stands, and else the walk over the lines that follow, from
+/// its frames or its first fault on, gives the answer.
+pub fn bad_text_goes_first()
+    ensures { (lines : Lines) (claim : AnyClaim) (q : Asked) (walk : Walking) (due : List ℕ) (n : ℕ) (a : Answer) → Rest (nodes claim q walk due) n lines a → BadTextFirst (refused due n lines) claim q walk n lines a }
 {}

@@ -3,14 +3,20 @@
 //! Articles are those of the FIDE Laws of Chess, in force from 1 January 2023.
 #![tactic(auto)]
 
+mod checkers;
 mod checking;
+mod frames;
 mod laws;
 mod refusals;
+mod stages;
+mod streams;
 mod walking;
 
+pub use checkers::Checker;
 pub use checking::check_bytes;
 pub use laws::{
-    accepted_bar_no_move, accepted_have_texts, certificates_prove, one_answer, one_walk,
-    unlisted_have_texts, walk_proves,
+    accepted_bar_no_move, accepted_have_texts, bad_text_goes_first, certificates_prove, one_answer,
+    one_walk, rest_answers, unlisted_have_texts, walk_proves,
 };
-pub use refusals::{Accepted, Refused, Why};
+pub use refusals::{Accepted, Fault, Refused, StreamRefused, Why};
+pub use streams::check_stream;

@@ -37,3 +37,33 @@ pub enum Refused {
     /// Want of memory.
     Memory,
 }
+
+/// Why bytes that came in pieces are no certificate that proves its claim. Lines are counted from 1.
+#[derive(Clone, Copy, PartialEq, Eq, Debug)]
+pub enum Fault {
+    /// The lines before this one begin the text of a certificate. With it they begin none, or the bytes end before it where the
+    /// text must go on.
+    BadText { line: u32 },
+    /// This unmove of a node's query is the label of none of its children. The line is that of the child whose label comes after
+    /// it, or the node's own where no child's does.
+    Unlisted { line: u32, unmove: Unmove },
+    /// The node on this line doesn't prove its query.
+    Unsupported { line: u32, why: Why },
+}
+
+/// Why the bytes of a source are no certificate that proves its claim, or weren't read to their end. Lines are counted from 1.
+#[derive(Clone, Copy, PartialEq, Eq, Debug)]
+pub enum StreamRefused {
+    /// The lines before this one begin the text of a certificate. With it they begin none, or the bytes end before it where the
+    /// text must go on.
+    BadText { line: u32 },
+    /// This unmove of a node's query is the label of none of its children. The line is that of the child whose label comes after
+    /// it, or the node's own where no child's does.
+    Unlisted { line: u32, unmove: Unmove },
+    /// The node on this line doesn't prove its query.
+    Unsupported { line: u32, why: Why },
+    /// There are more than 67,108,864 bytes: one more was read.
+    TooLong,
+    /// A read failed.
+    ReadFault,
+}

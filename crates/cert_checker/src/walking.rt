@@ -5,7 +5,7 @@ ghost use Rattle.query_base.specs.Targets.{Covers};
 ghost use Rattle.unmove_gen.specs.Listed.{unmoves};
 ghost use Rattle.cert_text.specs.Sizes.{size, size_all};
 ghost use Rattle.cert_text.specs.Seen.{tree_of};
-ghost use Rattle.cert_checker.specs.Proving.{ancestor};
+ghost use Rattle.query_base.specs.Ancestors.{ancestor};
 ghost use Rattle.cert_checker.specs.Walk.{Walks, WalksEach};
 ghost use Rattle.cert_checker.specs.Walking.{IsFault, IsLabelFault, IsWalked};
 

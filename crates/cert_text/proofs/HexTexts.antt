@@ -70,6 +70,10 @@ hex_length : (k n : ℕ) (rest : List ℕ) → length (hex_onto k n rest) ≡ k 
 hex_length zero n rest = let e : length rest ≡ 0 + length rest = omega arith in e
 hex_length (suc k) n rest = let more = hex_length k (n / 16) (hex_digit (n % 16) ∷ rest) in omega arith
 
+pub set_length : (set : List Bool) → length (set_text set) ≡ 16
+unfolding set_text
+set_length set = hex_length 16 (number_of set) []
+
 -- sets of 64 truth values are told by their numbers
 
 double-of : (x y : ℕ) (a b : Bool) → cond a 1 0 + 2 * x ≡ cond b 1 0 + 2 * y → (a ≡ b) × (x ≡ y)

@@ -21,6 +21,7 @@ pub mod Spelled
 pub mod OnBoard
 pub mod Frees
 pub mod SpelledLines
+pub mod Short
 pub mod TreeTexts
 pub mod ClaimTexts
 pub mod CertTexts

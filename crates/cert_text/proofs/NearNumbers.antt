@@ -10,7 +10,7 @@ use Rattle.cert_text.specs.Arguments.{files_of, words}
 use Rattle.cert_text.specs.Writable.{are_near, is_near}
 use Rattle.cert_text.proofs.WordTexts.{PawnsSoFar, files_near, pawns_near}
 
-within : (x : ℤ) → is_near x ≡ true → IsWithinLimit x
+pub within : (x : ℤ) → is_near x ≡ true → IsWithinLimit x
 within (pos n) near = let few = leb-true n 64 near in (omega (arith, ints), omega (arith, ints))
 within (negsuc n) near = let few = leb-true (suc n) 64 near in (omega (arith, ints), omega (arith, ints))
 

@@ -40,25 +40,38 @@ body_back depth (Expand n) low fits =
     let parts = and_parts ((n == 0) || nat_lt depth 255) (nat_le n 999999) fits in
     expand_read depth n (grind (arith, nat_tests)) ∙ cond-true ((n == 0) || nat_lt depth 255) (Some (Expand n)) None parts.0
 
+-- the number in a body, if there is one
+abbrev pub number_in : BodyLine → ℕ
+number_in (Rule r) = 0
+number_in (Back k) = k
+number_in (Expand n) = n
+
 -- a text is the one of a body, which the depth admits
 pub record IsTextOfBody (depth : ℕ) (text : List ℕ) (b : BodyLine) : Type 0 where
   pub text_is : text ≡ body_text b
   pub fits : fits_depth depth b ≡ true
+  pub few : number_in b ≤ 999999
 
 after_rule : (depth : ℕ) (text : List ℕ) (o : Option RuleLine) → text ≡ codes "rule " ++ drop 5 text → rule_of (drop 5 text) ≡ o → Only (IsTextOfBody depth text) (option_map (λ r. Rule r) o)
 after_rule depth text None whole e b is = absurd cc
 after_rule depth text (Some r) whole e b is =
     let same : Rule r ≡ b = same_Some _ _ is in
     let name = name_read (drop 5 text) r e in
-    record { text_is = whole ∙ ap (λ (l : List ℕ). codes "rule " ++ l) name.name_is ∙ ap body_text same; fits = ap (fits_depth depth) (sym same) ∙ name.known }
+    record {
+      text_is = whole ∙ ap (λ (l : List ℕ). codes "rule " ++ l) name.name_is ∙ ap body_text same;
+      fits = ap (fits_depth depth) (sym same) ∙ name.known;
+      few = omega (arith, ap number_in same);
+    }
 
 after_back : (depth : ℕ) (text : List ℕ) (o : Option ℕ) → text ≡ codes "back " ++ drop 5 text → number (drop 5 text) ≡ o → Only (IsTextOfBody depth text) (option_and_then (back_at depth) o)
 after_back depth text None whole e b is = absurd cc
 after_back depth text (Some k) whole e b is =
     let at = cond_some (nat_le 1 k && nat_le k depth) (Back k) b is in
+    let number = number_read (drop 5 text) k e in
     record {
-      text_is = whole ∙ ap (λ (l : List ℕ). codes "back " ++ l) (number_read (drop 5 text) k e).text_is ∙ ap body_text at.1;
+      text_is = whole ∙ ap (λ (l : List ℕ). codes "back " ++ l) number.text_is ∙ ap body_text at.1;
       fits = ap (fits_depth depth) (sym at.1) ∙ at.0;
+      few = omega (arith, number.few, ap number_in at.1);
     }
 
 after_expand : (depth : ℕ) (text : List ℕ) (o : Option ℕ) → text ≡ codes "expand " ++ drop 7 text → number (drop 7 text) ≡ o → Only (IsTextOfBody depth text) (option_and_then (expand_at depth) o)
@@ -69,6 +82,7 @@ after_expand depth text (Some n) whole e b is =
     record {
       text_is = whole ∙ ap (λ (l : List ℕ). codes "expand " ++ l) number.text_is ∙ ap body_text at.1;
       fits = ap (fits_depth depth) (sym at.1) ∙ and_from _ _ at.0 (le-leb n 999999 number.few);
+      few = omega (arith, number.few, ap number_in at.1);
     }
 
 -- what is read as a body is its text

@@ -21,7 +21,7 @@ use Rattle.cert_text.proofs.KidLines.{labelled, kid_is}
 use Rattle.cert_text.proofs.Frees.{unmove_free}
 use Rattle.cert_text.proofs.OnBoard.{unmove_on_board}
 use Rattle.cert_text.proofs.Begun.{begun}
-use Rattle.cert_text.proofs.Spelled.{body_back, body_read}
+use Rattle.cert_text.proofs.Spelled.{body_back, body_read, number_in}
 pub use Rattle.cert_text.proofs.Tests.{when}
 
 -- a line with its end taken off
@@ -60,16 +60,17 @@ unfolding root_body
 root_back b fits = said_back root_body (root_text b) b (body_back 0 b (omega arith) fits)
 
 -- a text is the one of a root with this body
-record IsTextOfRoot (text : List ℕ) (b : BodyLine) : Type 0 where
-  text_is : text ≡ root_text b
-  fits : fits_depth 0 b ≡ true
+pub record IsTextOfRoot (text : List ℕ) (b : BodyLine) : Type 0 where
+  pub text_is : text ≡ root_text b
+  pub fits : fits_depth 0 b ≡ true
+  pub few : number_in b ≤ 999999
 
-root_text_read : (text : List ℕ) (b : BodyLine) → root_body text ≡ Some b → IsTextOfRoot text b
+pub root_text_read : (text : List ℕ) (b : BodyLine) → root_body text ≡ Some b → IsTextOfRoot text b
 unfolding root_body
 root_text_read text b e =
     let split = when (starts_with nat_eq text (codes "root ")) (body_at 0 (drop 5 text)) b e in
     let body = body_read 0 (drop 5 text) b split.1 in
-    record { text_is = begun text (codes "root ") split.0 ∙ ap (λ (l : List ℕ). codes "root " ++ l) body.text_is; fits = body.fits }
+    record { text_is = begun text (codes "root ") split.0 ∙ ap (λ (l : List ℕ). codes "root " ++ l) body.text_is; fits = body.fits; few = body.few }
 
 pub record IsLineOfRoot (line : List ℕ) (b : BodyLine) : Type 0 where
   pub line_is : line ≡ ended (root_text b)
@@ -95,6 +96,7 @@ pub record IsTextOfKid (depth : ℕ) (text : List ℕ) (u : Unmove) (b : BodyLin
   pub text_is : text ≡ kid_text u b
   pub label : has_text u ≡ true
   pub fits : fits_depth depth b ≡ true
+  pub few : number_in b ≤ 999999
 
 labelled_some : (u v : Unmove) (o : Option BodyLine) (b : BodyLine) → labelled u o ≡ Some (v, b) → (u ≡ v) × (o ≡ Some b)
 labelled_some u v None b e = absurd cc
@@ -113,6 +115,7 @@ kid_text_read depth text u b e =
       text_is = f.whole ∙ ap (λ (l : List ℕ). l ++ 32 ∷ f.rest) label.spelling ∙ ap (λ (l : List ℕ). unmove_text u ++ 32 ∷ l) body.text_is;
       label = and_from _ _ (and_from _ _ (and_from _ _ (lt-ltb u.mv.from 64 place.from) (lt-ltb u.mv.to 64 place.to)) label.promotion) label.capture;
       fits = body.fits;
+      few = body.few;
     }
 
 pub record IsLineOfKid (depth : ℕ) (line : List ℕ) (u : Unmove) (b : BodyLine) : Type 0 where

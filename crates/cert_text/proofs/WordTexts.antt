@@ -372,13 +372,13 @@ texts_plain (x ∷ xs) near =
 abbrev all_words : Duals → List (List ℕ)
 all_words d = map signed_decimal d.u ++ codes "/" ∷ map signed_decimal d.v
 
-record AreNear (d : Duals) : Type 0 where
-  u_few : nat_le (length d.u) 8 ≡ true
-  v_size : (length d.v == 8) ≡ true
-  u : list_all is_near d.u ≡ true
-  v : list_all is_near d.v ≡ true
+pub record AreNear (d : Duals) : Type 0 where
+  pub u_few : nat_le (length d.u) 8 ≡ true
+  pub v_size : (length d.v == 8) ≡ true
+  pub u : list_all is_near d.u ≡ true
+  pub v : list_all is_near d.v ≡ true
 
-near_parts : (d : Duals) → are_near d ≡ true → AreNear d
+pub near_parts : (d : Duals) → are_near d ≡ true → AreNear d
 near_parts d near =
     let last = and_parts _ (list_all is_near d.v) near in
     let third = and_parts _ (list_all is_near d.u) last.0 in

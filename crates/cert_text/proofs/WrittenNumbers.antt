@@ -32,7 +32,7 @@ joined-before : (w : List ℕ) (vs : List ℤ) → join_with_byte 32 (w ∷ map 
 joined-before w [] = sym (append-nil w)
 joined-before w (v ∷ vs) = ap (λ (l : List ℕ). w ++ 32 ∷ l) (joined-before (signed_decimal v) vs)
 
-joined-both : (us vs : List ℤ) → join_with_byte 32 (map signed_decimal us ++ codes "/" ∷ map signed_decimal vs) ≡ spaced_behind us ++ 47 ∷ spaced_before vs
+pub joined-both : (us vs : List ℤ) → join_with_byte 32 (map signed_decimal us ++ codes "/" ∷ map signed_decimal vs) ≡ spaced_behind us ++ 47 ∷ spaced_before vs
 joined-both [] vs = joined-before (codes "/") vs
 joined-both (u ∷ []) vs =
     ap (λ (l : List ℕ). signed_decimal u ++ 32 ∷ l) (joined-before (codes "/") vs) ∙ sym (append_assoc (signed_decimal u) (32 ∷ []) (47 ∷ spaced_before vs))

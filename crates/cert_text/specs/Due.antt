@@ -1,4 +1,3 @@
--- Inner: no public clause cites this file.
 -- Lines that come one after another, with the numbers of nodes that are still due: first at the greatest depth, last at depth 1.
 use Rattle.std.specs.Prelude.{ℕ, ◌+◌, Bool, true, false, cond, List, [], ◌∷◌, length, Option, Some, None}
 use Rattle.std.proofs.Common.{zero, suc}

@@ -7,9 +7,10 @@ pub mod NodeLines
 pub mod ClaimLines
 pub mod Certificate
 pub mod SeenCert
+pub mod Mute
+pub mod Due
 pub mod TreeCode
 pub mod Falls
-pub mod Due
 pub mod Reading
 pub mod Writable
 pub mod Written

@@ -3,7 +3,7 @@ ghost use Rattle.std.specs.Str.{bytes_eq};
 ghost use Rattle.cert_text.specs.Lines.{cut, said};
 ghost use Rattle.cert_text.specs.Texts.{IsBadAt};
 ghost use Rattle.cert_text.specs.NodeLines.{root_body};
-ghost use Rattle.cert_text.specs.Certificate.{AreLinesOf, query_of};
+ghost use Rattle.cert_text.specs.Certificate.{AreLinesOf, head_line, query_of};
 ghost use Rattle.cert_text.specs.ClaimLines.{claim_of};
 ghost use Rattle.cert_text.specs.Reading.{HasHeader};
 
@@ -24,8 +24,16 @@ fn read_query(text: &[u8]) -> Option<Query>
     }
 }
 
+/// Whether the line, with its end, is the first of a certificate: `retro 1`.
+pub fn is_head_line(line: &[u8]) -> bool
+    ensures { result ≡ bytes_eq line.now head_line }
+{
+    is_text(line, b"retro 1\n")
+}
+
+/// Reads the line of the claim, with its end. None comes exactly where the line is no certificate's second.
 #[tactic(auto, unfolding(crate::specs::Lines::said))]
-fn read_claim_line(line: &[u8]) -> Option<Claim>
+pub fn read_claim_line(line: &[u8]) -> Option<Claim>
     ensures { result ≡ said claim_of line.now }
 {
     match without_end(line) {
@@ -34,8 +42,9 @@ fn read_claim_line(line: &[u8]) -> Option<Claim>
     }
 }
 
+/// Reads the line of the FEN, with its end. None comes exactly where the line is no certificate's third.
 #[tactic(auto, unfolding(crate::specs::Lines::said))]
-fn read_fen_line(line: &[u8]) -> Option<Query>
+pub fn read_fen_line(line: &[u8]) -> Option<Query>
     ensures { result ≡ said query_of line.now }
 {
     match without_end(line) {
@@ -44,8 +53,9 @@ fn read_fen_line(line: &[u8]) -> Option<Query>
     }
 }
 
+/// Reads the line of the root, with its end. None comes exactly where the line is no certificate's fourth.
 #[tactic(auto, unfolding(crate::specs::Lines::said))]
-fn read_root_line(line: &[u8]) -> Option<BodyLine>
+pub fn read_root_line(line: &[u8]) -> Option<BodyLine>
     ensures { result ≡ said root_body line.now }
 {
     match without_end(line) {

@@ -1,7 +1,8 @@
-ghost use Rattle.std.specs.Prelude.{ℕ, ◌≡◌, IsTrue, List, Some};
+ghost use Rattle.std.specs.Prelude.{ℕ, ◌≡◌, ◌≢◌, ◌<◌, IsTrue, List, Some, length};
 ghost use Rattle.query_base.specs.declared.claims.Claim.{Claim as AnyClaim};
 ghost use Rattle.cert_text.specs.ClaimLines.{claim_of, claim_text, promotes_well};
-ghost use Rattle.cert_text.specs.Lines.{cut};
+ghost use Rattle.cert_text.specs.Lines.{cut, ended};
+ghost use Rattle.cert_text.specs.Mute.{IsMute};
 ghost use Rattle.cert_text.specs.NodeLines.{node_line, line_text};
 ghost use Rattle.cert_text.specs.declared.node_lines.NodeLine.{NodeLine as AnyLine};
 ghost use Rattle.cert_text.specs.Texts.{IsBadAt};
@@ -28,4 +29,10 @@ pub fn one_text_each()
 pub fn one_fault_each()
     ensures text { (bytes : List ℕ) (n : ℕ) (cert : AnyCertificate) → IsBadAt AreLinesOf (cut bytes) n → IsTextOf bytes cert → ⊥ }
     ensures line { (bytes : List ℕ) (m n : ℕ) → IsBadAt AreLinesOf (cut bytes) m → IsBadAt AreLinesOf (cut bytes) n → m ≡ n }
+{}
+
+/// No line of a certificate has more than 128 bytes, and each has its end. This does nothing when it runs.
+pub fn no_long_lines()
+    ensures long { (line : List ℕ) → 128 < length line → IsMute line }
+    ensures unended { (line : List ℕ) → ((text : List ℕ) → line ≢ ended text) → IsMute line }
 {}

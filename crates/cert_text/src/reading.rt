@@ -17,8 +17,10 @@ use crate::nodes::{Body, Kid, Kids, Node};
 use board_base::Unmove;
 use std::alloc::Global;
 
+/// Reads the line of a node below the root, with its end: the unmove that leads to it, and its body. The depth of the root is 0.
+/// None comes exactly where the line is no child's at this depth.
 #[tactic(auto, unfolding(crate::specs::Lines::said))]
-fn read_kid_line(depth: u8, line: &[u8]) -> Option<(Unmove, BodyLine)>
+pub fn read_kid_line(depth: u8, line: &[u8]) -> Option<(Unmove, BodyLine)>
     ensures { result ≡ said (kid_body depth) line.now }
 {
     match without_end(line) {

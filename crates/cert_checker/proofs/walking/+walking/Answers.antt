@@ -8,9 +8,10 @@ use Rattle.cert_text.specs.Seen.{tree_of}
 use Rattle.cert_text.proofs.Forests.{kid_smaller, rest-end}
 use Rattle.cert_checker.specs.Walk.{fault_at, next_line, Walks}
 use Rattle.cert_checker.specs.Walking.{IsLabelFault}
+use Rattle.general_lemmas.proofs.Lasts.{pushed}
 use Rattle.general_lemmas.proofs.Lists.{contains-first, contains-later}
 use Rattle.cert_checker.proofs.Children.{rest-next}
-use Rattle.cert_checker.proofs.Walks.{by_label, label_fault, at_end, fault_of, kid_walk, pushed}
+use Rattle.cert_checker.proofs.Walks.{by_label, label_fault, at_end, fault_of, kid_walk}
 use Rattle.cert_checker.proofs.walking.+walking.Goals as goal
 
 pub check_kids-returns-in-Err-check_label-clause-walk : goal.check_kids-returns-in-Err-check_label-clause-walk

@@ -1,0 +1,140 @@
+-- Lines that are gathered byte by byte.
+use Rattle.std.proofs.Common.{◌≡◌, ◌≢◌, ℕ, zero, suc, ◌+◌, ◌<◌, ◌≤◌, ◌==◌, Bool, true, false, cond, List, [], ◌∷◌, ◌++◌, length, get_or, map, refl, sym, ap, ◌∙◌, subst, arith, append_assoc, length-append}
+use Rattle.std.proofs.lemmas.Bool.{ne_eqb, cond-false}
+use Rattle.std.proofs.lemmas.Slice.Eq.{bytes_eq-Decides}
+use Rattle.std.specs.Prelude.{Option, None}
+use Rattle.std.specs.List.{onto_first}
+use Rattle.std.specs.Option.{option_map}
+use Rattle.std.specs.Str.{bytes_eq}
+use Rattle.board_base.specs.declared.unmoves.Unmove.{Unmove}
+use Rattle.query_base.specs.Asked.{Asked}
+use Rattle.query_base.specs.declared.claims.Claim.{Claim}
+use Rattle.cert_text.specs.Lines.{cut, ended}
+use Rattle.cert_text.specs.Mute.{IsMute}
+use Rattle.cert_text.specs.Certificate.{Lines, head_line}
+use Rattle.cert_text.specs.Due.{put_due, step}
+use Rattle.cert_text.specs.declared.node_lines.BodyLine.{BodyLine}
+use Rattle.cert_text.proofs.Cuts.{cut-whole}
+use Rattle.cert_checker.specs.Answers.{Answer, Answers, bad_text}
+use Rattle.cert_checker.specs.Framing.{due_of, walking}
+use Rattle.cert_checker.specs.Stages.{bad, claiming, claimed, placed, Rooted, Stepped, NextStage, Rest, answer_at}
+use Rattle.cert_checker.specs.Staging.{IsPart, NoEnd, stage_of, stop_at}
+use Rattle.cert_checker.specs.declared.frames.Frame.{Frame}
+use Rattle.cert_checker.specs.declared.stages.Step.{Step}
+use Rattle.cert_checker.specs.declared.stages.Step.TheVariants as at
+use Rattle.cert_checker.proofs.Answering.{rest_bad}
+
+pub no_end_both : (g h : List ℕ) → NoEnd g → NoEnd h → NoEnd (g ++ h)
+no_end_both [] h none plain = plain
+no_end_both (b ∷ g) h none plain = (none.0, no_end_both g h none.1 plain)
+
+-- a line ends
+cut_end : (g others : List ℕ) → NoEnd g → cut (g ++ 10 ∷ others) ≡ (g ++ 10 ∷ []) ∷ cut others
+cut_end [] others none = refl
+cut_end (b ∷ g) others none = cond-false (b == 10) _ _ (ne_eqb b 10 none.0) ∙ ap (onto_first b) (cut_end g others none.1)
+
+-- what is gathered, and a part that ends the line
+pub ended_line : (g part others : List ℕ) → NoEnd g → IsPart true part → cut (g ++ (part ++ others)) ≡ (g ++ part) ∷ cut others
+ended_line g part others none (front, plain, whole) =
+    ap (λ (l : List ℕ). cut (g ++ (l ++ others))) whole ∙ ap (λ (l : List ℕ). cut (g ++ l)) (append_assoc front (10 ∷ []) others) ∙ ap cut (sym (append_assoc g front (10 ∷ others)))
+    ∙ cut_end (g ++ front) others (no_end_both g front none plain) ∙ ap (λ (l : List ℕ). l ∷ cut others) (append_assoc g front (10 ∷ []) ∙ ap (λ (l : List ℕ). g ++ l) (sym whole))
+
+onto_long : (b : ℕ) (lines : List (List ℕ)) → (line : List ℕ) × (others : List (List ℕ)) × (onto_first b lines ≡ line ∷ others) × (1 ≤ length line)
+onto_long b [] = (b ∷ [], [], refl, omega arith)
+onto_long b (l ∷ lines) = (b ∷ l, lines, refl, omega arith)
+
+-- bytes of which none ends a line begin the first line
+cut_long : (b : ℕ) (g others : List ℕ) → NoEnd (b ∷ g) → (line : List ℕ) × (lines : List (List ℕ)) × (cut ((b ∷ g) ++ others) ≡ line ∷ lines) × (length (b ∷ g) ≤ length line)
+cut_long b [] others none =
+    let o = onto_long b (cut others) in
+    (o.0, o.1, cond-false (b == 10) _ _ (ne_eqb b 10 none.0) ∙ o.2, o.3)
+cut_long b (c ∷ g) others none =
+    let o = cut_long c g others none.1 in
+    (b ∷ o.0, o.1, cond-false (b == 10) _ _ (ne_eqb b 10 none.0) ∙ ap (onto_first b) o.2, let h = o.3 in omega arith)
+
+cut_longer : (g others : List ℕ) → NoEnd g → 128 < length g → (line : List ℕ) × (lines : List (List ℕ)) × (cut (g ++ others) ≡ line ∷ lines) × (128 < length line)
+cut_longer [] others none long = absurd (omega arith)
+cut_longer (b ∷ g) others none long = let o = cut_long b g others none in (o.0, o.1, o.2, omega (arith, o.3))
+
+-- what is gathered, and a part with which it is longer than a line may be
+over : (g part others : List ℕ) (ends : Bool) → NoEnd g → IsPart ends part → 128 < length g + length part → (line : List ℕ) × (lines : List (List ℕ)) × (cut (g ++ (part ++ others)) ≡ line ∷ lines) × (128 < length line)
+over g part others true none is long = (g ++ part, cut others, ended_line g part others none is, omega (arith, length-append g part))
+over g part others false none plain long =
+    let o = cut_longer (g ++ part) others (no_end_both g part none plain) (omega (arith, length-append g part)) in
+    (o.0, o.1, ap cut (sym (append_assoc g part others)) ∙ o.2, o.3)
+
+no_end_at : (g : List ℕ) → NoEnd g → (k : ℕ) → k < length g → get_or g k 0 ≢ 10
+no_end_at [] none k below = absurd (omega arith)
+no_end_at (b ∷ g) none zero below = none.0
+no_end_at (b ∷ g) none (suc k) below = no_end_at g none.1 k (omega arith)
+
+unended : (g text : List ℕ) → NoEnd g → g ≡ ended text → ⊥
+unended [] [] none e = cc
+unended [] (c ∷ text) none e = cc
+unended (b ∷ g) [] none e = none.0 cc
+unended (b ∷ g) (c ∷ text) none e =
+    let same : g ≡ text ++ 10 ∷ [] = cc in
+    unended g text none.1 same
+
+mute_head : (b : Bool) (n : ℕ) (line : List ℕ) → bytes_eq line head_line ≡ b → line ≢ head_line → bad n ≡ cond b claiming (bad n)
+mute_head true n line e other = absurd (other ((bytes_eq-Decides line head_line).0 e))
+mute_head false n line e other = refl
+
+mute_step : (due : List ℕ) (line : List ℕ) → IsMute line → step due line ≡ None
+mute_step [] line mute = refl
+mute_step (zero ∷ due) line mute = mute_step due line mute
+mute_step (suc c ∷ due) line mute = ap (option_map (λ (kid : Unmove × BodyLine). put_due kid.1 (c ∷ due))) (mute.kid (suc (length due)))
+
+-- a line that says nothing is bad text
+mute_stage : (s : Step) (frames : List Frame) (n : ℕ) (line : List ℕ) → IsMute line → NextStage (stage_of s frames) n line (stage_of (stop_at s n) frames)
+mute_stage at.Heading frames n line mute = mute_head (bytes_eq line head_line) n line refl mute.head
+mute_stage at.Claiming frames n line mute = ap (λ (o : Option Claim). claimed o n) (sym mute.claim)
+mute_stage (at.Placing claim) frames n line mute = ap (λ (o : Option Asked). placed o claim n) (sym mute.query)
+mute_stage (at.Rooting claim q) frames n line mute = subst (λ (o : Option BodyLine). Rooted o claim q n (bad n)) (sym mute.root) refl
+mute_stage (at.Nodes claim q found) frames n line mute = subst (λ (o : Option (List ℕ)). Stepped o claim q (walking found frames) n line (bad n)) (sym (mute_step (map due_of frames) line mute)) refl
+mute_stage (at.Bad k) frames n line mute = refl
+
+bad_rest : (lines : Lines) (k n : ℕ) (a : Answer) → a ≡ bad_text k → Rest (bad k) n lines a
+bad_rest [] k n a e = e
+bad_rest (line ∷ lines) k n a e = (bad k, refl, bad_rest lines k (n + 1) a e)
+
+bad_moved : (lines others : Lines) (k m n : ℕ) (a : Answer) → Rest (bad k) m lines a → Rest (bad k) n others a
+bad_moved lines others k m n a rest = bad_rest others k n a (rest_bad lines k m a rest)
+
+stopped_moved : (s : Step) (frames : List Frame) (k m n : ℕ) (lines others : Lines) (a : Answer) → Rest (stage_of (stop_at s k) frames) m lines a → Rest (stage_of (stop_at s k) frames) n others a
+stopped_moved at.Heading frames k m n lines others a rest = bad_moved lines others k m n a rest
+stopped_moved at.Claiming frames k m n lines others a rest = bad_moved lines others k m n a rest
+stopped_moved (at.Placing claim) frames k m n lines others a rest = bad_moved lines others k m n a rest
+stopped_moved (at.Rooting claim q) frames k m n lines others a rest = bad_moved lines others k m n a rest
+stopped_moved (at.Nodes claim q found) frames k m n lines others a rest = bad_moved lines others k m n a rest
+stopped_moved (at.Bad j) frames k m n lines others a rest = bad_moved lines others j m n a rest
+
+-- the gathered line is too long
+pub rest_long : ((line : List ℕ) → 128 < length line → IsMute line) → (s t : Step) (frames : List Frame) (n : ℕ) (g part after others : List ℕ) (ends : Bool) (a : Answer) → NoEnd g → IsPart ends part → 128 < length g + length part → t ≡ stop_at s n → Rest (stage_of t frames) n (cut (after ++ others)) a → Rest (stage_of s frames) n (cut (g ++ (part ++ others))) a
+rest_long mutes s t frames n g part after others ends a none is long stop rest =
+    let o = over g part others ends none is long in
+    let stopped = subst (λ (u : Step). Rest (stage_of u frames) n (cut (after ++ others)) a) stop rest in
+    subst (λ (lines : Lines). Rest (stage_of s frames) n lines a) (sym o.2)
+    (stage_of (stop_at s n) frames, mute_stage s frames n o.0 (mutes o.0 o.3), stopped_moved s frames n n (n + 1) (cut (after ++ others)) o.1 a stopped)
+
+stopped_end : (s : Step) (frames : List Frame) (k m n : ℕ) → answer_at (stage_of (stop_at s k) frames) m ≡ answer_at (stage_of (stop_at s k) frames) n
+stopped_end at.Heading frames k m n = refl
+stopped_end at.Claiming frames k m n = refl
+stopped_end (at.Placing claim) frames k m n = refl
+stopped_end (at.Rooting claim q) frames k m n = refl
+stopped_end (at.Nodes claim q found) frames k m n = refl
+stopped_end (at.Bad j) frames k m n = refl
+
+-- the bytes end in a line
+pub rest_unended : ((line : List ℕ) → ((text : List ℕ) → line ≢ ended text) → IsMute line) → (s t : Step) (frames : List Frame) (n : ℕ) (g : List ℕ) (a : Answer) → NoEnd g → (g ≡ [] → ⊥) → t ≡ stop_at s n → a ≡ answer_at (stage_of t frames) n → Rest (stage_of s frames) n (cut g) a
+rest_unended mutes s t frames n g a none some stop e =
+    subst (λ (lines : Lines). Rest (stage_of s frames) n lines a) (sym (cut-whole g some (no_end_at g none))) (
+      stage_of (stop_at s n) frames,
+      mute_stage s frames n g (mutes g (λ text. unended g text none)),
+      e ∙ ap (λ (u : Step). answer_at (stage_of u frames) n) stop ∙ stopped_end s frames n n (n + 1),
+    )
+
+-- bytes that were fed, for any way to say what is still answered
+pub fed_more : (bytes piece : List ℕ) (Before After : List ℕ → Answer → Type 0) → ((others : List ℕ) (a : Answer) → After others a → Before (piece ++ others) a) → ((others : List ℕ) (a : Answer) → Before others a → Answers (cut (bytes ++ others)) a) → (others : List ℕ) (a : Answer) → After others a → Answers (cut ((bytes ++ piece) ++ others)) a
+fed_more bytes piece Before After same stands others a rest =
+    subst (λ (l : List ℕ). Answers (cut l) a) (sym (append_assoc bytes piece others)) (stands (piece ++ others) a (same others a rest))

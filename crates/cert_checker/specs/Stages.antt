@@ -1,0 +1,72 @@
+-- How far a check of lines that come one after another has come, and what it still answers.
+use Rattle.std.specs.Prelude.{ℕ, ◌+◌, ◌≡◌, cond, List, [], ◌∷◌, Option, Some, None}
+use Rattle.std.specs.Str.{bytes_eq}
+use Rattle.query_base.specs.Asked.{Asked}
+use Rattle.query_base.specs.Targets.{target}
+use Rattle.query_base.specs.declared.claims.Claim.{Claim}
+use Rattle.cert_text.specs.Lines.{said}
+use Rattle.cert_text.specs.NodeLines.{root_body}
+use Rattle.cert_text.specs.Certificate.{Lines, head_line, query_of}
+use Rattle.cert_text.specs.ClaimLines.{claim_of}
+use Rattle.cert_text.specs.Due.{put_due, step, is_done}
+use Rattle.cert_text.specs.declared.node_lines.BodyLine.{BodyLine}
+use Rattle.cert_checker.specs.Answers.{Answer, bad_text, fault, accepted}
+use Rattle.cert_checker.specs.Frames.{Walking, going, stopped, go_on, ended, OnBody, OnLine, WalksOn}
+
+-- Bad text was met, or the line that comes next is the first, the claim's, the FEN's, the root's or a later one. In the last case
+-- there are a walk and the numbers of children due.
+pub data Stage : Type 0 where
+  heading : Stage
+  claiming : Stage
+  placing : Claim → Stage
+  rooting : Claim → Asked → Stage
+  nodes : Claim → Asked → Walking → List ℕ → Stage
+  bad : ℕ → Stage
+
+abbrev pub claimed : Option Claim → ℕ → Stage
+claimed None n = bad n
+claimed (Some claim) n = placing claim
+
+abbrev pub placed : Option Asked → Claim → ℕ → Stage
+placed None claim n = bad n
+placed (Some q) claim n = rooting claim q
+
+abbrev pub Rooted : Option BodyLine → Claim → Asked → ℕ → Stage → Type 0
+Rooted None claim q n next = next ≡ bad n
+Rooted (Some body) claim q n next =
+    (walk : Walking) × OnBody body (target q claim) [] n walk × (next ≡ nodes claim q walk (put_due body []))
+
+abbrev pub Stepped : Option (List ℕ) → Claim → Asked → Walking → ℕ → List ℕ → Stage → Type 0
+Stepped None claim q walk n line next = next ≡ bad n
+Stepped (Some due) claim q walk n line next = (after : Walking) × OnLine walk n line after × (next ≡ nodes claim q after due)
+
+-- the stage after line n
+abbrev pub NextStage : Stage → ℕ → List ℕ → Stage → Type 0
+NextStage heading n line next = next ≡ cond (bytes_eq line head_line) claiming (bad n)
+NextStage claiming n line next = next ≡ claimed (said claim_of line) n
+NextStage (placing claim) n line next = next ≡ placed (said query_of line) claim n
+NextStage (rooting claim q) n line next = Rooted (said root_body line) claim q n next
+NextStage (nodes claim q walk due) n line next = Stepped (step due line) claim q walk n line next
+NextStage (bad k) n line next = next ≡ bad k
+
+-- what the end of a walk answers
+abbrev pub answer_by : Claim → Asked → Walking → Answer
+answer_by claim q (going frames) = accepted claim q
+answer_by claim q (stopped n f) = fault n f
+
+-- the answer where the lines end before line n
+abbrev pub answer_at : Stage → ℕ → Answer
+answer_at (nodes claim q walk due) n = cond (is_done due) (answer_by claim q (go_on walk ended)) (bad_text n)
+answer_at (bad k) n = bad_text k
+answer_at _ n = bad_text n
+
+-- what is answered from a stage on with these lines, the first of which has number n
+abbrev pub Rest : Stage → ℕ → Lines → Answer → Type 0
+Rest stage n [] answer = answer ≡ answer_at stage n
+Rest stage n (line ∷ lines) answer = (next : Stage) × NextStage stage n line next × Rest next (n + 1) lines answer
+
+-- Below the root's line, and before these lines: the number of the first that isn't due, or that is due and missing, is answered as
+-- bad text; where there is none, what the walk comes to over all of them.
+abbrev pub BadTextFirst : Option ℕ → Claim → Asked → Walking → ℕ → Lines → Answer → Type 0
+BadTextFirst (Some k) claim q walk n lines answer = answer ≡ bad_text k
+BadTextFirst None claim q walk n lines answer = (last : Walking) × WalksOn walk n lines last × (answer ≡ answer_by claim q last)

@@ -1,0 +1,46 @@
+-- Inner: no public clause cites this file.
+-- The stages as the functions have them.
+use Rattle.std.specs.Prelude.{ℕ, ◌≡◌, ◌≢◌, Bool, true, false, List, [], ◌∷◌, ◌++◌, map, Option, Some, None}
+use Rattle.query_base.specs.Asked.{Asked}
+use Rattle.query_base.specs.declared.claims.Claim.{Claim}
+use Rattle.cert_checker.specs.Stages.{Stage, heading, claiming, placing, rooting, nodes, bad}
+use Rattle.cert_checker.specs.Framing.{IsOpen, IsStack, due_of, walking}
+use Rattle.cert_checker.specs.declared.frames.Frame.{Frame}
+use Rattle.cert_checker.specs.declared.frames.Found.{Found}
+use Rattle.cert_checker.specs.declared.stages.Step.{Step}
+use Rattle.cert_checker.specs.declared.stages.Step.TheVariants as at
+
+-- the stage after a line of a node, from what a function answers
+abbrev pub taken : Option (Option Found) → Claim → Asked → List Frame → ℕ → Stage
+taken None claim q frames n = bad n
+taken (Some f) claim q frames n = nodes claim q (walking f frames) (map due_of frames)
+
+-- the stage of a step and its frames
+abbrev pub stage_of : Step → List Frame → Stage
+stage_of at.Heading frames = heading
+stage_of at.Claiming frames = claiming
+stage_of (at.Placing claim) frames = placing claim
+stage_of (at.Rooting claim q) frames = rooting claim q
+stage_of (at.Nodes claim q found) frames = nodes claim q (walking found frames) (map due_of frames)
+stage_of (at.Bad n) frames = bad n
+
+-- the frames of a step, or its query, are as the next line needs them
+abbrev pub IsReady : Step → List Frame → Type 0
+IsReady (at.Rooting claim q) frames = q.barred ≡ None
+IsReady (at.Nodes claim q found) frames = IsStack frames × IsOpen frames
+IsReady _ frames = Unit {0}
+
+-- the step where the next line says nothing
+abbrev pub stop_at : Step → ℕ → Step
+stop_at (at.Bad k) n = at.Bad k
+stop_at _ n = at.Bad n
+
+-- no byte ends a line
+abbrev pub NoEnd : List ℕ → Type 0
+NoEnd [] = Unit {0}
+NoEnd (b ∷ bytes) = (b ≢ 10) × NoEnd bytes
+
+-- the bytes are of one line: they end it, or no byte does
+abbrev pub IsPart : Bool → List ℕ → Type 0
+IsPart true bytes = (front : List ℕ) × NoEnd front × (bytes ≡ front ++ 10 ∷ [])
+IsPart false bytes = NoEnd bytes

@@ -1,0 +1,299 @@
+ghost use Rattle.std.specs.Prelude.{◌≡◌, ◌+◌, ◌-◌, ◌<◌, ◌≤◌, ◌∷◌, ◌↔◌, List, IfSome, IfNone, IsSomeAnd, IsTrue, MatchOption, None, Some, drop, map, reverse, slice_get, suc};
+ghost use Rattle.std.specs.List.{Contains};
+ghost use Rattle.arrayvec.specs.ArrayVec.{array_vec_len};
+ghost use Rattle.query_base.specs.Asked.{Asked};
+ghost use Rattle.query_base.specs.Targets.{Covers};
+ghost use Rattle.query_base.specs.declared.claims.Claim.{Claim as AnyClaim};
+ghost use Rattle.unmove_gen.specs.Listed.{unmoves};
+ghost use Rattle.cert_text.specs.Reading.{HasRoom};
+ghost use Rattle.cert_text.specs.Due.{put_due, step};
+ghost use Rattle.query_base.specs.Ancestors.{ancestor};
+ghost use Rattle.cert_checker.specs.Frames.{OnBody, OnFirst, OnKid, ended, go_on, query_of_frame};
+ghost use Rattle.cert_checker.specs.Framing.{IsListed, IsOpen, IsStack, due_of, end_unmoves_of, popped, walking, with_body};
+ghost use Rattle.cert_checker.specs.Stages.{Stepped};
+ghost use Rattle.cert_checker.specs.Staging.{taken};
+ghost use Rattle.cert_checker.specs.declared.frames.Frame.{Frame as AnyFrame};
+
+use crate::refusals::Why;
+use arrayvec::ArrayVec;
+use board_base::{Board, CastleSet, Colour, Unmove, cmp_unmove};
+use cert_text::{BodyLine, read_kid_line};
+use query_base::{Query, covers, is_array};
+use static_rules::supports;
+use std::cmp::Ordering;
+use unmove_gen::{Unmoves, pred};
+
+/// A node some of whose children may be due.
+#[derive(Drop)]
+pub struct Frame {
+    /// The node's query.
+    pub(crate) query: Query,
+    /// Its unmoves that no child had.
+    pub(crate) left: Unmoves,
+    /// How many of its children are due.
+    pub(crate) due: u32,
+    /// The number of its line.
+    pub(crate) line: u32,
+}
+
+impl Default for Frame {
+    /// What stands in the unused places of an array of frames.
+    fn default() -> Frame {
+        let query = Query {
+            board: Board::empty(),
+            turn: Colour::White,
+            held: CastleSet::none(),
+            only: None,
+            barred: None,
+        };
+        Frame {
+            query,
+            left: Unmoves::new(&query),
+            due: 0,
+            line: 0,
+        }
+    }
+}
+
+/// The first fault of a walk.
+#[derive(Clone, Copy, PartialEq, Eq, Debug)]
+pub enum Found {
+    /// This unmove of a node's query is the label of none of its children.
+    Unlisted { line: u32, unmove: Unmove },
+    /// The node on this line doesn't prove its query.
+    Unsupported { line: u32, why: Why },
+}
+
+/// The first unmove that is left, which then is left no more.
+fn take_first(left: &mut Unmoves) -> Option<Unmove>
+    ensures first { result ≡ slice_get left.old 0 }
+    ensures others { left.new ≡ drop 1 left.old }
+{
+    left.next()
+}
+
+/// The fault of a frame that has no child due, unless there was one before.
+fn left_over(frame: Frame, found: Option<Found>) -> Option<Found>
+    ensures { (frames : List AnyFrame) → go_on (walking found frames) (end_unmoves_of frame) ≡ walking result frames }
+{
+    let mut left = frame.left;
+    match found {
+        Some(fault) => Some(fault),
+        None => match left.next() {
+            Some(unmove) => Some(Found::Unlisted {
+                line: frame.line,
+                unmove,
+            }),
+            None => None,
+        },
+    }
+}
+
+/// The ancestor so many steps above covers the query. The parent, one step above, comes last.
+fn is_covered(frames: &[Frame], steps: u8, query: &Query) -> bool
+    ensures { IsTrue result ↔ IsSomeAnd (ancestor (map query_of_frame (reverse frames.now)) steps) (λ a. Covers a query.now) }
+{
+    let steps = usize::from(steps);
+    if steps == 0 || frames.len() < steps {
+        return false;
+    }
+    covers(&frames[frames.len() - steps].query, query)
+}
+
+/// The fault of a node with this body and query below these frames.
+pub(crate) fn body_fault(
+    body: &BodyLine,
+    query: &Query,
+    frames: &[Frame],
+    line: u32,
+) -> Option<Found>
+    ensures { OnBody body.now query.now (reverse frames.now) line (walking result (with_body body.now query.now (reverse frames.now) line)) }
+{
+    match body {
+        BodyLine::Rule(rule) => {
+            if supports(query, rule) {
+                None
+            } else {
+                Some(Found::Unsupported {
+                    line,
+                    why: Why::Rule,
+                })
+            }
+        }
+        BodyLine::Back(steps) => {
+            if is_covered(frames, *steps, query) {
+                None
+            } else {
+                Some(Found::Unsupported {
+                    line,
+                    why: Why::Back,
+                })
+            }
+        }
+        BodyLine::Expand(_) => {
+            if is_array(query) {
+                Some(Found::Unsupported {
+                    line,
+                    why: Why::Array,
+                })
+            } else {
+                None
+            }
+        }
+    }
+}
+
+/// Puts the frame of a node with this body and query on this line onto the others.
+pub(crate) fn push_body(
+    frames: &mut ArrayVec<Frame, 256>,
+    body: &BodyLine,
+    query: &Query,
+    line: u32,
+)
+    requires { array_vec_len frames.old < 256 }
+    ensures { reverse frames.new.items ≡ with_body body.now query.now (reverse frames.old.items) line }
+{
+    if let BodyLine::Expand(due) = body {
+        frames.push(Frame {
+            query: *query,
+            left: Unmoves::new(query),
+            due: *due,
+            line,
+        });
+    }
+}
+
+/// The fault of a child with this label and body, where this is the first unmove that no child had; and the child's query, which
+/// where there is a fault may be another.
+fn look_at(
+    first: Option<Unmove>,
+    label: &Unmove,
+    body: &BodyLine,
+    query: &Query,
+    frames: &[Frame],
+    line: u32,
+) -> (Option<Found>, Query)
+    requires { IfSome first (λ u. Contains (unmoves query.now) u) }
+    ensures { OnFirst first query.now (reverse frames.now) line label.now body.now (walking result.0 (with_body body.now result.1 (reverse frames.now) line)) }
+{
+    let stray = Found::Unsupported {
+        line,
+        why: Why::Stray,
+    };
+    match first {
+        None => (Some(stray), *query),
+        Some(unmove) => match cmp_unmove(label, &unmove) {
+            Ordering::Less => (Some(stray), *query),
+            Ordering::Greater => (Some(Found::Unlisted { line, unmove }), *query),
+            Ordering::Equal => {
+                let before = pred(query, &unmove);
+                (body_fault(body, &before, frames, line), before)
+            }
+        },
+    }
+}
+
+/// Counts a child's line off, and puts the frame of the child onto the others where it has children. The walk has met a fault.
+fn count_kid(top: Frame, frames: &mut ArrayVec<Frame, 256>, body: &BodyLine, line: u32)
+    requires due { 0 < top.due }
+    requires room { array_vec_len frames.old < 255 }
+    requires listed { IsListed top }
+    ensures due { map due_of (reverse frames.new.items) ≡ put_due body.now ((top.due - 1) ∷ map due_of (reverse frames.old.items)) }
+    ensures stack { HasRoom (suc (array_vec_len frames.old)) body.now → IsStack (reverse frames.old.items) → IsStack (reverse frames.new.items) }
+{
+    let query = top.query;
+    frames.push(Frame {
+        query,
+        left: top.left,
+        due: top.due - 1,
+        line: top.line,
+    });
+    push_body(frames, body, &query, line);
+}
+
+/// Walks a child's line. Its parent's frame was taken off the others.
+fn walk_kid(
+    top: Frame,
+    frames: &mut ArrayVec<Frame, 256>,
+    line: u32,
+    label: &Unmove,
+    body: &BodyLine,
+) -> Option<Found>
+    requires due { 0 < top.due }
+    requires room { array_vec_len frames.old < 255 }
+    requires listed { IsListed top }
+    ensures walk { OnKid top (reverse frames.old.items) line label.now body.now (walking result (reverse frames.new.items)) }
+    ensures due { map due_of (reverse frames.new.items) ≡ put_due body.now ((top.due - 1) ∷ map due_of (reverse frames.old.items)) }
+    ensures stack { HasRoom (suc (array_vec_len frames.old)) body.now → IsStack (reverse frames.old.items) → IsStack (reverse frames.new.items) }
+{
+    let Frame {
+        query,
+        mut left,
+        due,
+        line: own,
+    } = top;
+    let first = take_first(&mut left);
+    frames.push(Frame {
+        query,
+        left,
+        due: due - 1,
+        line: own,
+    });
+    let (found, before) = look_at(first, label, body, &query, frames.as_slice(), line);
+    push_body(frames, body, &before, line);
+    found
+}
+
+/// Takes the line of a node below the root. None comes where it goes bad; else the first fault of the walk, if there was one.
+pub(crate) fn take_line(
+    frames: &mut ArrayVec<Frame, 256>,
+    found: Option<Found>,
+    number: u32,
+    line: &[u8],
+) -> Option<Option<Found>>
+    requires stack { IsStack (reverse frames.old.items) }
+    requires open { IsOpen (reverse frames.old.items) }
+    ensures stage { (claim : AnyClaim) (q : Asked) → Stepped (step (map due_of (reverse frames.old.items)) line.now) claim q (walking found (reverse frames.old.items)) number line.now
+        (taken result claim q (reverse frames.new.items) number) }
+    ensures stack { IfSome result (λ f. IsStack (reverse frames.new.items)) }
+{
+    let Some(top) = frames.pop() else {
+        return None;
+    };
+    let depth = (frames.len() + 1) as u8;
+    match read_kid_line(depth, line) {
+        None => None,
+        Some((label, body)) => match found {
+            Some(fault) => {
+                count_kid(top, frames, &body, number);
+                Some(Some(fault))
+            }
+            None => Some(walk_kid(top, frames, number, &label, &body)),
+        },
+    }
+}
+
+/// The innermost frame, if there is one, has a child due.
+fn is_open(frames: &[Frame]) -> bool
+    ensures { IsTrue result ↔ IsOpen (reverse frames.now) }
+{
+    frames.is_empty() || frames[frames.len() - 1].due > 0
+}
+
+/// Takes off the frames that have no child due, up to the first that has one. None of their unmoves may be left.
+pub(crate) fn settle(frames: &mut ArrayVec<Frame, 256>, found: Option<Found>) -> Option<Found>
+    requires { IsStack (reverse frames.old.items) }
+    ensures walk { walking result (reverse frames.new.items) ≡ go_on (walking found (reverse frames.old.items)) ended }
+    ensures due { map due_of (reverse frames.new.items) ≡ popped (map due_of (reverse frames.old.items)) }
+    ensures stack { IsStack (reverse frames.new.items) }
+    ensures open { IsOpen (reverse frames.new.items) }
+{
+    let mut first = found;
+    'closed: while !is_open(frames.as_slice()) {
+        let Some(frame) = frames.pop() else {
+            return first;
+        };
+        first = left_over(frame, first);
+    }
+    first
+}

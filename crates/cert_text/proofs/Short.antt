@@ -1,0 +1,145 @@
+-- How long the lines of a certificate are.
+use Rattle.std.proofs.Common.{◌≡◌, ◌≢◌, ℕ, ◌+◌, ◌*◌, ◌<◌, ◌≤◌, Bool, true, false, List, [], ◌∷◌, length, drop, nat_eq, Option, Some, None, refl, ap, arith, length-append}
+use Rattle.std.specs.Prelude.{codes, ℤ}
+use Rattle.std.specs.Fmt.{signed_decimal}
+use Rattle.std.specs.List.{list_all, starts_with}
+use Rattle.std.proofs.lemmas.Bool.{and_parts, eqb-true, leb-true}
+use Rattle.std.proofs.lemmas.Fmt.{length-decimal-le}
+use Rattle.board_base.specs.Potentials.{Duals}
+use Rattle.board_base.specs.Texts.{capture_text, move_text, promo_text, unmove_text}
+use Rattle.board_base.specs.declared.men.Kind.{Kind}
+use Rattle.board_base.specs.declared.moves.Move.{Move}
+use Rattle.board_base.specs.declared.unmoves.Unmove.{Unmove}
+use Rattle.query_base.specs.Asked.{Asked}
+use Rattle.query_base.specs.declared.claims.Claim.{Claim}
+use Rattle.query_base.specs.declared.claims.Claim.TheVariants.{Illegal, Last, Lost, Ep}
+use Rattle.query_base.specs.declared.rule_lines.RuleLine.{RuleLine}
+use Rattle.query_base.specs.declared.rule_lines.RuleLine.TheVariants.{Kings, Ranks, Check, Rights, Count, Frozen, Caps, Promo}
+use Rattle.fen_text.specs.Fen.{fen_of_four}
+use Rattle.fen_text.proofs.OneText.{four_short}
+use Rattle.cert_text.specs.Arguments.{potentials_text, set_text}
+use Rattle.cert_text.specs.Certificate.{query_of}
+use Rattle.cert_text.specs.ClaimLines.{claim_of, claim_text}
+use Rattle.cert_text.specs.Lines.{ended, said}
+use Rattle.cert_text.specs.Mute.{IsMute}
+use Rattle.cert_text.specs.NodeLines.{body_text, kid_body, root_body, rule_name}
+use Rattle.cert_text.specs.Writable.{are_near, fits_depth, is_near, is_rule, is_whole}
+use Rattle.cert_text.specs.declared.node_lines.BodyLine.{BodyLine}
+use Rattle.cert_text.specs.declared.node_lines.BodyLine.TheVariants.{Rule, Back, Expand}
+use Rattle.cert_text.proofs.Begun.{begun}
+use Rattle.cert_text.proofs.ClaimTexts.{text_read}
+use Rattle.cert_text.proofs.HexTexts.{set_length}
+use Rattle.cert_text.proofs.NearNumbers.{within}
+use Rattle.cert_text.proofs.Spelled.{number_in}
+use Rattle.cert_text.proofs.SpelledLines.{kid_text_read, root_text_read, said_read, when}
+use Rattle.cert_text.proofs.WordTexts.{near_parts}
+use Rattle.cert_text.proofs.WrittenNumbers.{joined-both, signed_short, spaced_before, spaced_behind}
+
+-- at most three bytes for each number, and a space
+
+behind_short : (xs : List ℤ) → list_all is_near xs ≡ true → length (spaced_behind xs) ≤ 4 * length xs
+behind_short [] near = omega arith
+behind_short (x ∷ xs) near =
+    let parts = and_parts (is_near x) (list_all is_near xs) near in
+    omega (arith, signed_short x (within x parts.0), behind_short xs parts.1, length-append (signed_decimal x) (32 ∷ spaced_behind xs))
+
+before_short : (xs : List ℤ) → list_all is_near xs ≡ true → length (spaced_before xs) ≤ 4 * length xs
+before_short [] near = omega arith
+before_short (x ∷ xs) near =
+    let parts = and_parts (is_near x) (list_all is_near xs) near in
+    omega (arith, signed_short x (within x parts.0), before_short xs parts.1, length-append (signed_decimal x) (spaced_before xs))
+
+potentials_short : (d : Duals) → are_near d ≡ true → length (potentials_text d) ≤ 65
+unfolding potentials_text
+potentials_short d near =
+    let n = near_parts d near in
+    omega (arith, ap length (joined-both d.u d.v), leb-true (length d.u) 8 n.u_few, eqb-true (length d.v) 8 n.v_size, behind_short d.u n.u, before_short d.v n.v, length-append (spaced_behind d.u) (47 ∷ spaced_before d.v))
+
+name_short : (r : RuleLine) → is_rule r ≡ true → length (rule_name r) ≤ 89
+name_short Kings known = omega arith
+name_short Ranks known = omega arith
+name_short Check known = omega arith
+name_short Rights known = omega arith
+name_short (Count side) known = omega arith
+name_short (Frozen set) known = omega (arith, set_length set)
+name_short (Caps side set p) known =
+    let parts = and_parts (is_whole set) (are_near p) known in
+    omega (arith, set_length set, potentials_short p parts.1, length-append (set_text set) (32 ∷ potentials_text p))
+name_short (Promo side set) known = omega (arith, set_length set)
+
+body_short : (depth : ℕ) (b : BodyLine) → fits_depth depth b ≡ true → number_in b ≤ 999999 → length (body_text b) ≤ 94
+body_short depth (Rule r) fits few = omega (arith, name_short r fits)
+body_short depth (Back k) fits few = omega (arith, length-decimal-le 6 k (omega arith) (omega arith) (omega arith))
+body_short depth (Expand n) fits few = omega (arith, length-decimal-le 6 n (omega arith) (omega arith) (omega arith))
+
+promo_short : (p : Option Kind) → length (promo_text p) ≤ 1
+promo_short None = omega arith
+promo_short (Some k) = omega arith
+
+capture_short : (captured : Option Kind) (ep : Bool) → length (capture_text captured ep) ≤ 2
+capture_short captured true = omega arith
+capture_short None false = omega arith
+capture_short (Some k) false = omega arith
+
+move_short : (m : Move) → length (move_text m) ≤ 5
+move_short m = omega (arith, promo_short m.promo)
+
+unmove_short : (u : Unmove) → length (unmove_text u) ≤ 7
+unmove_short u = omega (arith, length-append (move_text u.mv) (capture_text u.captured u.ep), capture_short u.captured u.ep, move_short u.mv)
+
+claim_short : (claim : Claim) → length (claim_text claim) ≤ 16
+claim_short Illegal = omega arith
+claim_short (Last m) = omega (arith, move_short m)
+claim_short (Lost x) = omega arith
+claim_short (Ep m) = omega (arith, move_short m)
+
+-- no text of a grammar has more than 102 bytes
+
+query_text_short : (text : List ℕ) (q : Asked) → query_of text ≡ Some q → length text ≤ 85
+unfolding query_of
+query_text_short text q e =
+    let parts = when (starts_with nat_eq text (codes "fen ")) (fen_of_four (drop 4 text)) q e in
+    omega (arith, four_short (drop 4 text) q parts.1, ap length (begun text (codes "fen ") parts.0), length-append (codes "fen ") (drop 4 text))
+
+claim_text_short : (text : List ℕ) (claim : Claim) → claim_of text ≡ Some claim → length text ≤ 16
+claim_text_short text claim e = omega (arith, ap length (text_read text claim e).text_is, claim_short claim)
+
+root_text_short : (text : List ℕ) (b : BodyLine) → root_body text ≡ Some b → length text ≤ 99
+root_text_short text b e =
+    let read = root_text_read text b e in
+    omega (arith, ap length read.text_is, body_short 0 b read.fits read.few)
+
+kid_text_short : (depth : ℕ) (text : List ℕ) (u : Unmove) (b : BodyLine) → kid_body depth text ≡ Some (u, b) → length text ≤ 102
+kid_text_short depth text u b e =
+    let read = kid_text_read depth text u b e in
+    omega (arith, ap length read.text_is, length-append (unmove_text u) (32 ∷ body_text b), unmove_short u, body_short depth b read.fits read.few)
+
+-- the line of a grammar's short texts is short
+line_short : {A : Type 0} (grammar : List ℕ → Option A) (most : ℕ) (line : List ℕ) (x : A) → ((text : List ℕ) → grammar text ≡ Some x → length text ≤ most) → said grammar line ≡ Some x → length line ≤ most + 1
+line_short grammar most line x short e =
+    let s = said_read grammar line x e in
+    omega (arith, short s.text s.stands, ap length s.line_is, length-append s.text (10 ∷ []))
+
+-- a line that can't say anything says nothing
+nothing_said : {A : Type 0} (grammar : List ℕ → Option A) (line : List ℕ) → ((x : A) → said grammar line ≡ Some x → ⊥) → said grammar line ≡ None
+nothing_said grammar line never = elim (said grammar line) as (λ o. said grammar line ≡ o → o ≡ None) [ None ↦ λ e. refl | Some x ↦ λ e. absurd (never x e) ] refl
+
+-- a line of more than 128 bytes
+pub long_mute : (line : List ℕ) → 128 < length line → IsMute line
+long_mute line long = record {
+  head = λ e. let size = ap length e in omega arith;
+  claim = nothing_said claim_of line (λ x e. let short = line_short claim_of 16 line x (λ text. claim_text_short text x) e in omega arith);
+  query = nothing_said query_of line (λ x e. let short = line_short query_of 85 line x (λ text. query_text_short text x) e in omega arith);
+  root = nothing_said root_body line (λ x e. let short = line_short root_body 99 line x (λ text. root_text_short text x) e in omega arith);
+  kid = λ depth. nothing_said (kid_body depth) line (λ x e. let short = line_short (kid_body depth) 102 line x (λ text. kid_text_short depth text x.0 x.1) e in omega arith);
+}
+
+-- a line with no end
+pub unended_mute : (line : List ℕ) → ((text : List ℕ) → line ≢ ended text) → IsMute line
+unended_mute line other = record {
+  head = other (codes "retro 1");
+  claim = nothing_said claim_of line (λ x e. let s = said_read claim_of line x e in other s.text s.line_is);
+  query = nothing_said query_of line (λ x e. let s = said_read query_of line x e in other s.text s.line_is);
+  root = nothing_said root_body line (λ x e. let s = said_read root_body line x e in other s.text s.line_is);
+  kid = λ depth. nothing_said (kid_body depth) line (λ x e. let s = said_read (kid_body depth) line x e in other s.text s.line_is);
+}
