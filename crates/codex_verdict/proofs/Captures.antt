@@ -1,10 +1,10 @@
 -- The candidates are in order, and each capture en passant that a board admits is one of them.
-use Rattle.std.proofs.Common.{◌≡◌, ℕ, ◌+◌, ◌-◌, ◌*◌, ◌/◌, ◌%◌, ◌<◌, ◌≤◌, ◌==◌, inl, inr, Bool, true, false, cond, ◌&&◌, List, [], ◌∷◌, ◌++◌, refl, sym, ap, ◌∙◌, subst, arith}
-use Rattle.std.proofs.lemmas.Bool.{and_parts, cases_lt, cases_eq, cond-true, cond_both, eqb-true, lt-ltb}
+use Rattle.std.proofs.Common.{◌≡◌, ℕ, ◌+◌, ◌-◌, ◌/◌, ◌%◌, ◌<◌, ◌==◌, inl, inr, Bool, true, false, cond, ◌&&◌, List, [], ◌∷◌, refl, sym, ap, subst, arith}
+use Rattle.std.proofs.lemmas.Bool.{and_parts, cases_lt, cond-true, cond_both, eqb-true, lt-ltb}
 use Rattle.std.proofs.lemmas.List.Elements.{All-nil, All-cons, Contains-append_left, Contains-append_right}
 use Rattle.std.proofs.lemmas.List.Kept.{AllPairs-cons, AllPairs-filter}
-use Rattle.std.specs.Prelude.{Option, Some, None, is_none, nat_lt}
-use Rattle.std.specs.List.{All, AllPairs, Contains, filter, flat_map, list_all, range_with_len}
+use Rattle.std.specs.Prelude.{Option, None, is_none, nat_lt}
+use Rattle.std.specs.List.{All, Contains, filter, list_all}
 use Rattle.std.specs.declared.cmp.Ordering.{Ordering}
 use Rattle.std.specs.declared.cmp.Ordering.TheVariants.{Less, Equal, Greater}
 use Rattle.board_base.specs.Attacks.{distance, files_apart, one_ahead}
@@ -116,3 +116,8 @@ on-file Black m is =
 pub is-candidate : (board : Places) (side : Colour) (m : Move) → ep_fits board side m ≡ true → Contains (captures_of side) m
 unfolding ep_fits captures_of
 is-candidate board side m fits = contains-flat (captures_from side) m (m.from % 8) 0 8 (omega arith) (omega arith) (on-file side m (answered board side m fits))
+
+-- and promotes no pawn
+pub capture-plain : (board : Places) (side : Colour) (m : Move) → ep_fits board side m ≡ true → m.promo ≡ None
+unfolding ep_fits
+capture-plain board side m fits = (answered board side m fits).plain

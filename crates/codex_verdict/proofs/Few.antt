@@ -1,5 +1,5 @@
 -- How many rights there are after each file: one for the pawn on the a-file, and two for each other, but one for that on the h-file.
-use Rattle.std.proofs.Common.{◌≡◌, ℕ, zero, suc, ◌+◌, ◌*◌, ◌<◌, ◌≤◌, cond, nat_lt, arith, sym, ap, ◌∙◌, inl, inr}
+use Rattle.std.proofs.Common.{◌≡◌, ℕ, ◌+◌, ◌*◌, ◌<◌, ◌≤◌, cond, nat_lt, arith, inl, inr}
 use Rattle.std.proofs.lemmas.Bool.{cases_lt, cond-true, cond-false, lt-ltb, le-ltb}
 
 one : (a b : ℕ) → a < b → ◌≡◌ {A = ℕ} (cond (nat_lt a b) 1 0) 1

@@ -1,15 +1,10 @@
 -- Inner: no public clause cites this file.
 -- The moves that may be captures en passant by a side, seen from their squares, in order.
-use Rattle.std.specs.Prelude.{ℕ, ◌+◌, ◌-◌, ◌==◌, cond, nat_lt, Bool, List, [], ◌∷◌, ◌++◌, None}
-use Rattle.std.specs.List.{filter, flat_map, range_with_len}
-use Rattle.board_base.specs.Board.{Places}
+use Rattle.std.specs.Prelude.{ℕ, ◌+◌, ◌-◌, cond, nat_lt, List, [], ◌∷◌, ◌++◌, None}
+use Rattle.std.specs.List.{flat_map, range_with_len}
 use Rattle.board_base.specs.declared.men.Colour.{Colour}
 use Rattle.board_base.specs.declared.men.Colour.TheVariants.{White, Black}
 use Rattle.board_base.specs.declared.moves.Move.{Move}
-use Rattle.castle_history.specs.Homes.{are_at_home}
-use Rattle.ep_history.specs.Fits.{ep_fits}
-use Rattle.codex_verdict.specs.declared.kinds.Right.{Right}
-use Rattle.codex_verdict.specs.declared.kinds.Right.TheVariants.{Castling, EnPassant}
 
 -- the first square of the rank from which a side captures en passant, and of the rank to which it does
 abbrev pub first_origin : Colour → ℕ

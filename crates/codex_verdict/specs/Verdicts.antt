@@ -1,5 +1,5 @@
 -- What the two conventions say of a right.
-use Rattle.std.specs.Prelude.{ℕ, ◌≡◌, Bool, cond, List, [], ◌∷◌, ◌++◌, codes, IsSome}
+use Rattle.std.specs.Prelude.{ℕ, Bool, cond, List, [], ◌∷◌, ◌++◌, codes, IsSome}
 use Rattle.std.specs.Fmt.{decimal}
 use Rattle.board_base.specs.Texts.{move_text}
 use Rattle.cert_text.specs.ClaimLines.{castle_letter}

@@ -44,11 +44,15 @@ impl Termination for Ended {
     }
 }
 
-/// How each command is called.
-const USAGE: &str = "usage: retractor check < CERTIFICATE
-       retractor play < GAME
-       retractor unmoves < FEN
-       retractor solve DEPTH NODES < CLAIM-AND-FEN";
+/// How each command is called, what it reads, and what it answers.
+const USAGE: &str = "usage:
+  retractor check < CERTIFICATE                whether the certificate proves its claim
+  retractor play < FEN-AND-MOVES               whether the moves are a legal game that reaches the position
+  retractor unmoves < FEN                      each move that may have been the last, and the position before it
+  retractor solve DEPTH NODES < CLAIM-AND-FEN  a certificate of the claim, or a game against it
+  retractor verdict DEPTH NODES < FEN          what the conventions say of castling and en passant
+  retractor tree DEPTH NODES < FEN             the moves that may lead to the position, as a tree
+  retractor sample START GAMES PLIES           what is counted of games that are made from a number";
 
 /// What a user is told where no answer, or a part of one, was written.
 fn help(status: Status) -> Option<&'static str> {

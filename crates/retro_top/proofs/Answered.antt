@@ -8,11 +8,15 @@ use Rattle.cert_checker.specs.Answers.{Answer, accepted, bad_text, fault}
 use Rattle.retro_top.specs.Answers.{AnswersAs}
 use Rattle.retro_top.specs.Checks.{Tells}
 use Rattle.retro_top.specs.Plays.{AnswersGame, AnswersMoves}
-use Rattle.retro_top.specs.Questions.{after_first}
+use Rattle.codex_verdict.specs.declared.kinds.Right.{Right}
+use Rattle.retro_top.specs.Questions.{AnswersAlone, after_first}
 use Rattle.retro_top.specs.Solves.{AnswersClaim}
+use Rattle.retro_top.specs.Retractions.{ListsUnmoves}
 use Rattle.retro_top.specs.Statuses.{IsAnswer}
+use Rattle.retro_top.specs.Trees.{AnswersTreeOf}
+use Rattle.retro_top.specs.Verdicts.{AnswersPosition, AnswersRights}
 use Rattle.retro_top.specs.declared.commands.Command.{Command}
-use Rattle.retro_top.specs.declared.commands.Command.TheVariants.{Check, Play, Unmoves, Solve}
+use Rattle.retro_top.specs.declared.commands.Command.TheVariants.{Check, Play, Unmoves, Solve, Verdict, Tree, Sample}
 use Rattle.retro_top.specs.declared.statuses.Status.{Status}
 use Rattle.retro_top.specs.declared.statuses.Status.TheVariants.{Done, Refused, Undecided, Spent, Countered, BadInput}
 
@@ -42,6 +46,22 @@ claim-answered depth nodes claim q Spent text answers = tt
 claim-answered depth nodes claim q Countered text answers = tt
 claim-answered depth nodes claim q _ text answers = absurd answers
 
+rights-answered : (depth nodes : ℕ) (q : Asked) (rights : List Right) (ending : Status) (text : List ℕ) → AnswersRights depth nodes q rights ending text → IsAnswer ending
+rights-answered depth nodes q rights Done text answers = tt
+rights-answered depth nodes q rights Spent text answers = tt
+rights-answered depth nodes q rights _ text answers = absurd answers
+
+tree-answered : (depth nodes : ℕ) (q : Asked) (ending : Status) (text : List ℕ) → AnswersTreeOf depth nodes q ending text → IsAnswer ending
+tree-answered depth nodes q Done text answers = tt
+tree-answered depth nodes q Spent text answers = tt
+tree-answered depth nodes q _ text answers = absurd answers
+
+alone-answered : (Said : Asked → Status → List ℕ → Type 0) → ((q : Asked) (ending : Status) (text : List ℕ) → Said q ending text → IsAnswer ending) → (input : List ℕ) (ending : Status) (text : List ℕ) → AnswersAlone Said input ending text → IsAnswer ending
+alone-answered Said law input ending text answers = elim answers [
+  | inl asked ↦ law asked.0 ending text asked.2
+  | inr none ↦ as-answer BadInput ending none.2 tt
+]
+
 -- a command's own answer has the status of an answer
 pub answered : (command : Command) (input : List ℕ) (ending : Status) (text : List ℕ) → AnswersAs command input ending text → IsAnswer ending
 answered Check input ending text answers = told-answered _ answers.0 ending text answers.2
@@ -49,11 +69,12 @@ answered Play input ending text answers = elim answers [
   | inl asked ↦ game-answered asked.0 (after_first input) ending text asked.2
   | inr none ↦ as-answer BadInput ending none.2 tt
 ]
-answered Unmoves input ending text answers = elim answers [
-  | inl listed ↦ as-answer Done ending listed.3 tt
-  | inr other ↦ elim other [ inl longer ↦ as-answer BadInput ending longer.3 tt | inr none ↦ as-answer BadInput ending none.2 tt ]
-]
+answered Unmoves input ending text answers = alone-answered ListsUnmoves (λ q other lines said. as-answer Done other said.0 tt) input ending text answers
 answered (Solve depth nodes) input ending text answers = elim answers [
   | inl said ↦ claim-answered depth nodes said.0 said.1 ending text said.3
   | inr none ↦ as-answer BadInput ending none.2 tt
 ]
+answered (Verdict depth nodes) input ending text answers =
+    alone-answered (AnswersPosition depth nodes) (λ q other lines said. rights-answered depth nodes q said.0 other lines said.2) input ending text answers
+answered (Tree depth nodes) input ending text answers = alone-answered (AnswersTreeOf depth nodes) (tree-answered depth nodes) input ending text answers
+answered (Sample start games plies) input ending text answers = as-answer Done ending answers.done tt

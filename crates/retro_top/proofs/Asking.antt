@@ -1,5 +1,5 @@
 -- What an input's lines ask and state is one thing, or nothing.
-use Rattle.std.proofs.Common.{◌≡◌, ℕ, List, [], refl, sym, ap, ◌∙◌, subst}
+use Rattle.std.proofs.Common.{◌≡◌, inl, inr, ℕ, List, [], refl, sym, ap, ◌∙◌, subst}
 use Rattle.std.proofs.lemmas.Option.{same_Some}
 use Rattle.std.specs.Prelude.{Option, Some, None}
 use Rattle.query_base.specs.Asked.{Asked}
@@ -7,12 +7,16 @@ use Rattle.query_base.specs.declared.claims.Claim.{Claim}
 use Rattle.fen_text.specs.Parts.{parted}
 use Rattle.fen_text.specs.Ranks.{rank}
 use Rattle.fen_text.specs.Fen.{fen, placement, ranks}
-use Rattle.retro_top.specs.Questions.{Asks, IsNoQuestion, first_line, after_first}
+use Rattle.retro_top.specs.Questions.{AnswersAlone, Asks, AsksAlone, IsNoLoneQuestion, IsNoQuestion, first_line, after_first}
 use Rattle.retro_top.specs.Statements.{IsNoStatement, States}
 use Rattle.retro_top.specs.declared.questions.NoQuestion.{NoQuestion}
 use Rattle.retro_top.specs.declared.questions.NoQuestion.TheVariants.{NoLine, BadFen}
+use Rattle.retro_top.specs.declared.questions.NoLoneQuestion.{NoLoneQuestion}
+use Rattle.retro_top.specs.declared.questions.NoLoneQuestion.TheVariants.{NoFirst, SecondLine}
 use Rattle.retro_top.specs.declared.statements.NoStatement.{NoStatement}
 use Rattle.retro_top.specs.declared.statements.NoStatement.TheVariants.{NoClaim, NoQuery, ThirdLine}
+use Rattle.retro_top.specs.declared.statuses.Status.{Status}
+use Rattle.retro_top.specs.declared.statuses.Status.TheVariants.{Done}
 
 -- the first line asks one query
 pub asks-one : (input : List ℕ) (q r : Asked) → Asks input q → Asks input r → q ≡ r
@@ -40,3 +44,22 @@ pub states-some : (input : List ℕ) (claim : Claim) (q : Asked) (why : NoStatem
 states-some input claim q NoClaim states none = never claim (sym none ∙ states.first)
 states-some input claim q (NoQuery why) states none = asks-some (after_first input) q why states.second none.2
 states-some input claim q ThirdLine states none = none.4 states.no_third
+
+-- an input that is one line for one query
+pub alone-some : (input : List ℕ) (q : Asked) (why : NoLoneQuestion) → AsksAlone input q → IsNoLoneQuestion input why → ⊥
+alone-some input q (NoFirst why) alone none = asks-some input q why alone.first none
+alone-some input q SecondLine alone none = none.2 alone.no_second
+
+-- what is said of the query of such an input, and what holds of that query
+pub said-alone : (Said : Asked → Status → List ℕ → Type 0) (P : Asked → Type 0) (input : List ℕ) (q : Asked) (ending : Status) (text : List ℕ) → AnswersAlone Said input ending text → AsksAlone input q → P q → (r : Asked) × P r × Said r ending text
+said-alone Said P input q ending text answers alone here = elim answers [
+  | inl asked ↦ (asked.0, subst P (asks-one input q asked.0 alone.first asked.1.first) here, asked.2)
+  | inr none ↦ absurd (alone-some input q none.0 alone none.1)
+]
+
+-- where the answer is done, the input is such a one
+pub done-alone : (Said : Asked → Status → List ℕ → Type 0) (input text : List ℕ) → AnswersAlone Said input Done text → (q : Asked) × AsksAlone input q × Said q Done text
+done-alone Said input text answers = elim answers [
+  | inl asked ↦ asked
+  | inr none ↦ let e = none.2 in cc
+]

@@ -1,22 +1,26 @@
 -- A command succeeds only with the inputs that it asks for, and with those it does.
 use Rattle.std.proofs.Common.{◌≡◌, inl, inr, ℕ, List, [], ◌∷◌, ◌++◌, map, refl, sym, ap, ◌∙◌, subst}
 use Rattle.std.proofs.lemmas.Bool.{both_ways}
-use Rattle.std.specs.Prelude.{Some, None}
+use Rattle.std.specs.Prelude.{Option, Some, None, IfSome}
 use Rattle.board_base.specs.Texts.{move_of}
 use Rattle.board_base.specs.declared.moves.Move.{Move}
 use Rattle.query_base.specs.Asked.{Asked}
 use Rattle.query_base.specs.Reach.{Reaches}
 use Rattle.game_text.specs.Words.{words, AreTextsOf}
-use Rattle.retro_top.specs.Answers.{AnswersAs, MustSucceed, Succeeds, TellsGame}
+use Rattle.retro_top.specs.Answers.{AnswersAs, IsUnspent, MustSucceed, ReadsBy, Succeeds, Suffices, TellsGame}
 use Rattle.retro_top.specs.Plays.{AnswersPlay, AnswersGame, AnswersMoves}
 use Rattle.retro_top.specs.Questions.{after_first}
-use Rattle.retro_top.specs.Retractions.{AnswersUnmoves, AsksForUnmoves}
+use Rattle.retro_top.specs.Retractions.{ListsUnmoves}
+use Rattle.retro_top.specs.Trees.{AnswersTreeOf}
+use Rattle.retro_top.specs.Verdicts.{AnswersPosition}
 use Rattle.retro_top.specs.declared.commands.Command.{Command}
-use Rattle.retro_top.specs.declared.commands.Command.TheVariants.{Check, Play, Unmoves, Solve}
+use Rattle.retro_top.specs.declared.commands.Command.TheVariants.{Check, Play, Unmoves, Solve, Verdict, Tree, Sample}
 use Rattle.retro_top.specs.declared.statuses.Status.{Status}
 use Rattle.retro_top.specs.declared.statuses.Status.TheVariants.{Done, Refused, Undecided, Spent, Countered, BadWords, BadInput, ReadFault, WriteFault, Memory, TooLong}
-use Rattle.retro_top.proofs.Asking.{asks-one, asks-some}
-use Rattle.retro_top.proofs.Solving.{done-refutable, refutable-done}
+use Rattle.retro_top.proofs.Input.{of_left}
+use Rattle.retro_top.proofs.Asking.{asks-one, asks-some, done-alone, said-alone}
+use Rattle.retro_top.proofs.Searching.{OneTextEach, cheap-done, few-done}
+use Rattle.retro_top.proofs.Solving.{cheap-unspent, done-refutable, refutable-done}
 use Rattle.retro_top.proofs.Headline.{OneAnswer, CertificatesProve, done-proved, proves-done}
 
 same-moves : (g h : List Move) → map (λ m. Some m) g ≡ map (λ m. Some m) h → g ≡ h
@@ -67,21 +71,22 @@ play-done input ending text answers game = elim answers [
   | inr none ↦ absurd (asks-some input game.0 none.0 game.2 none.1)
 ]
 
-unmoves-done : (input : List ℕ) (ending : Status) (text : List ℕ) → AnswersUnmoves input ending text → AsksForUnmoves input → ending ≡ Done
-unmoves-done input ending text answers asks = elim answers [
-  | inl listed ↦ listed.3
-  | inr other ↦ elim other [
-    | inl longer ↦ absurd (longer.2 asks.2)
-    | inr none ↦ absurd (asks-some input asks.0 none.0 asks.1 none.1)
-  ]
-]
-
 -- with an input with which the command must succeed it does
-pub succeeds-done : OneAnswer → (command : Command) (input : List ℕ) (ending : Status) (text : List ℕ) → AnswersAs command input ending text → MustSucceed command input → ending ≡ Done
-succeeds-done law Check input ending text answers good = proves-done law input text ending answers good
-succeeds-done law Play input ending text answers good = play-done input ending text answers good
-succeeds-done law Unmoves input ending text answers good = unmoves-done input ending text answers good
-succeeds-done law (Solve depth nodes) input ending text answers good = refutable-done depth nodes input ending text answers good.0 good.1
+pub succeeds-done : OneAnswer → OneTextEach → (command : Command) (input : List ℕ) (ending : Status) (text : List ℕ) → AnswersAs command input ending text → MustSucceed command input → ending ≡ Done
+succeeds-done law one Check input ending text answers good = proves-done law input text ending answers good
+succeeds-done law one Play input ending text answers good = play-done input ending text answers good
+succeeds-done law one Unmoves input ending text answers good = let said = said-alone ListsUnmoves (λ q. Unit {0}) input good.0 ending text answers good.1 tt in said.2.0
+succeeds-done law one (Solve depth nodes) input ending text answers good = refutable-done depth nodes input ending text answers good.0 good.1
+succeeds-done law one (Verdict depth nodes) input ending text answers good = cheap-done depth nodes input ending text answers good
+succeeds-done law one (Tree depth nodes) input ending text answers good = few-done one depth nodes input ending text answers good
+succeeds-done law one (Sample start games plies) input ending text answers good = answers.done
+
+-- where the nodes suffice, no search is spent
+pub suffices-unspent : OneTextEach → (command : Command) (input : List ℕ) (ending : Status) (text : List ℕ) → AnswersAs command input ending text → Suffices command input → IsUnspent ending
+suffices-unspent one (Solve depth nodes) input ending text answers enough = cheap-unspent depth nodes input ending text answers enough
+suffices-unspent one (Verdict depth nodes) input ending text answers enough = subst IsUnspent (sym (cheap-done depth nodes input ending text answers enough)) tt
+suffices-unspent one (Tree depth nodes) input ending text answers enough = subst IsUnspent (sym (few-done one depth nodes input ending text answers enough)) tt
+suffices-unspent one _ input ending text answers enough = absurd enough
 
 done-game : (input text : List ℕ) → AnswersPlay input Done text → TellsGame input
 done-game input text answers = elim answers [
@@ -92,18 +97,21 @@ done-game input text answers = elim answers [
   | inr none ↦ let e = none.2 in cc
 ]
 
-done-unmoves : (input text : List ℕ) → AnswersUnmoves input Done text → AsksForUnmoves input
-done-unmoves input text answers = elim answers [
-  | inl listed ↦ (listed.0, listed.1, listed.2)
-  | inr other ↦ elim other [
-    | inl longer ↦ let e = longer.3 in cc
-    | inr none ↦ let e = none.2 in cc
-  ]
-]
-
 -- where the command succeeds, its input is such a one
 pub done-succeeds : CertificatesProve → (command : Command) (input text : List ℕ) → AnswersAs command input Done text → Succeeds command input
 done-succeeds law Check input text answers = let proved = done-proved law input text answers in (proved.cert, proved.is_text, proved.proves)
 done-succeeds law Play input text answers = done-game input text answers
-done-succeeds law Unmoves input text answers = done-unmoves input text answers
+done-succeeds law Unmoves input text answers = let alone = done-alone ListsUnmoves input text answers in (alone.0, alone.1)
 done-succeeds law (Solve depth nodes) input text answers = done-refutable depth nodes input text answers
+done-succeeds law (Verdict depth nodes) input text answers = let alone = done-alone (AnswersPosition depth nodes) input text answers in (alone.0, alone.1)
+done-succeeds law (Tree depth nodes) input text answers = let alone = done-alone (AnswersTreeOf depth nodes) input text answers in (alone.0, alone.2.0, text, alone.1, alone.2.1, alone.2.2)
+done-succeeds law (Sample start games plies) input text answers = tt
+
+whatever : (left : Option (List ℕ)) → IfSome left (λ input. Unit {0})
+whatever None = tt
+whatever (Some input) = tt
+
+-- of all that was left; `sample` asks nothing of it
+pub succeeds_left : (command : Command) (left new : Option (List ℕ)) (input : List ℕ) → ReadsBy command 67108864 left new (λ bytes. bytes ≡ input) → Succeeds command input → IfSome left (Succeeds command)
+succeeds_left (Sample start games plies) left new input read good = whatever left
+succeeds_left command left new input read good = of_left command left new input (Succeeds command) tt read good

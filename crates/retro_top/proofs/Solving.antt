@@ -1,5 +1,5 @@
 -- Which status `solve` answers, and what it says.
-use Rattle.std.proofs.Common.{◌≡◌, inl, inr, ℕ, ◌≤◌, List, [], refl, sym, subst, arith}
+use Rattle.std.proofs.Common.{◌≡◌, inl, inr, ℕ, List, [], refl, sym, subst, arith}
 use Rattle.board_base.specs.declared.moves.Move.{Move}
 use Rattle.query_base.specs.Asked.{Asked}
 use Rattle.query_base.specs.Reach.{Contradicts, Holds}
@@ -8,17 +8,12 @@ use Rattle.query_base.specs.declared.claims.Claim.{Claim}
 use Rattle.cert_text.specs.Certificate.{Certificate, IsTextOf}
 use Rattle.cert_checker.specs.Proving.{ProvesClaim}
 use Rattle.retro_search.specs.Refutable.{IsRefutable}
-use Rattle.retro_search.specs.Costs.{IsCost}
 use Rattle.retro_top.specs.Answers.{IsUnspent, StatesCheap, StatesRefutable}
-use Rattle.retro_top.specs.Solves.{AnswersClaim, AnswersSolve, countered_line}
+use Rattle.retro_top.specs.Solves.{AnswersClaim, AnswersSolve, IsCheap, countered_line}
 use Rattle.retro_top.specs.Statements.{States}
 use Rattle.retro_top.specs.declared.statuses.Status.{Status}
 use Rattle.retro_top.specs.declared.statuses.Status.TheVariants.{Done, Undecided, Spent, Countered}
 use Rattle.retro_top.proofs.Asking.{stated, states-some}
-
--- the target has a cost of at most so many nodes
-abbrev IsCheap : ℕ → ℕ → Claim → Asked → Type 0
-IsCheap depth nodes claim q = (n : ℕ) × IsCost (target q claim) depth [] n × (n ≤ nodes)
 
 claim-unspent : (depth nodes : ℕ) (claim : Claim) (q : Asked) (ending : Status) (text : List ℕ) → AnswersClaim depth nodes claim q ending text → IsCheap depth nodes claim q → IsUnspent ending
 claim-unspent depth nodes claim q Done text answers cheap = tt

@@ -1,7 +1,7 @@
 -- What the program answers.
-use Rattle.std.specs.Prelude.{ℕ, ◌≤◌, List, [], length, String, Option, IfSome}
+use Rattle.std.specs.Prelude.{ℕ, ◌≡◌, ◌≤◌, Bool, IsTrue, List, [], length, String, Option, IfSome}
 use Rattle.std.specs.Global.{Global}
-use Rattle.std.specs.Io.KnownBytes.{Appends, Consumes, IsAtEnd}
+use Rattle.std.specs.Io.KnownBytes.{Appends, Consumes, IsAtEnd, Keeps}
 use Rattle.retro_ports.specs.Causes.{Rose}
 use Rattle.retro_ports.specs.Ends.{TakesPrefix}
 use Rattle.board_base.specs.declared.moves.Move.{Move}
@@ -14,18 +14,22 @@ use Rattle.cert_text.specs.Certificate.{Certificate, IsTextOf}
 use Rattle.game_text.specs.Words.{words, AreTextsOf}
 use Rattle.cert_checker.specs.Proving.{ProvesClaim}
 use Rattle.retro_search.specs.Refutable.{IsRefutable}
-use Rattle.retro_search.specs.Costs.{IsCost}
+use Rattle.codex_verdict.specs.Rights.{AreRights, claim_of}
+use Rattle.codex_verdict.specs.declared.kinds.Right.{Right}
 use Rattle.retro_top.specs.Commands.{Call}
 use Rattle.retro_top.specs.Checks.{AnswersCheck, accepted_line}
 use Rattle.retro_top.specs.Plays.{AnswersPlay}
-use Rattle.retro_top.specs.Questions.{Asks, after_first}
-use Rattle.retro_top.specs.Retractions.{AnswersUnmoves, AsksForUnmoves}
+use Rattle.retro_top.specs.Questions.{Asks, AsksAlone, AsksForOne, after_first}
+use Rattle.retro_top.specs.Retractions.{AnswersUnmoves}
+use Rattle.retro_top.specs.Samples.{AnswersSample}
 use Rattle.retro_top.specs.Statements.{States}
-use Rattle.retro_top.specs.Solves.{AnswersSolve, countered_line}
+use Rattle.retro_top.specs.Solves.{AnswersSolve, IsCheap, countered_line}
+use Rattle.retro_top.specs.Trees.{AnswersTree, AsksForFewLines}
+use Rattle.retro_top.specs.Verdicts.{AnswersVerdict, AsksForCheap, Each, verdicts_text}
 use Rattle.retro_top.specs.declared.statuses.Status.{Status}
-use Rattle.retro_top.specs.declared.statuses.Status.TheVariants.{Done, Undecided, Countered}
+use Rattle.retro_top.specs.declared.statuses.Status.TheVariants.{Done, Undecided, Countered, Memory}
 use Rattle.retro_top.specs.declared.commands.Command.{Command}
-use Rattle.retro_top.specs.declared.commands.Command.TheVariants.{Check, Play, Unmoves, Solve}
+use Rattle.retro_top.specs.declared.commands.Command.TheVariants.{Check, Play, Unmoves, Solve, Verdict, Tree, Sample}
 
 -- the status and the text with which a command answers an input
 abbrev pub AnswersAs : Command → List ℕ → Status → List ℕ → Type 0
@@ -33,6 +37,9 @@ AnswersAs Check input status text = AnswersCheck input status text
 AnswersAs Play input status text = AnswersPlay input status text
 AnswersAs Unmoves input status text = AnswersUnmoves input status text
 AnswersAs (Solve depth nodes) input status text = AnswersSolve depth nodes input status text
+AnswersAs (Verdict depth nodes) input status text = AnswersVerdict depth nodes input status text
+AnswersAs (Tree depth nodes) input status text = AnswersTree depth nodes input status text
+AnswersAs (Sample start games plies) input status text = AnswersSample start games plies status text
 
 -- the status and the text with which the words answer an input
 abbrev pub Answers : List (String Global) → List ℕ → Status → List ℕ → Type 0
@@ -51,6 +58,15 @@ WritesPart words input old new = (status : Status) × (text : List ℕ) × Answe
 abbrev pub ReadsAll : ℕ → Option (List ℕ) → Option (List ℕ) → (List ℕ → Type 0) → Type 0
 ReadsAll limit old new holds = (input : List ℕ) × Consumes old new input × IsAtEnd new × (length input ≤ limit) × holds input
 
+-- The command reads all of an input of at most so many bytes, and this holds of it. `sample` reads nothing, and it holds of no bytes.
+abbrev pub ReadsBy : Command → ℕ → Option (List ℕ) → Option (List ℕ) → (List ℕ → Type 0) → Type 0
+ReadsBy (Sample start games plies) limit old new holds = Keeps old new × holds []
+ReadsBy command limit old new holds = ReadsAll limit old new holds
+
+-- the words call a command, and this holds of what it reads
+abbrev pub ReadsFor : List (String Global) → ℕ → Option (List ℕ) → Option (List ℕ) → (List ℕ → Type 0) → Type 0
+ReadsFor words limit old new holds = (command : Command) × Call words command × ReadsBy command limit old new holds
+
 -- What was taken grew by one line, with the claim and the position that the input carries. The input is the text of a certificate
 -- that proves the claim, and no game contradicts it.
 abbrev pub Accepts : List ℕ → Option (List ℕ) → Option (List ℕ) → Type 0
@@ -66,10 +82,16 @@ abbrev pub ProvesNothing : List ℕ → Type 0
 ProvesNothing input = ProvesSome input → ⊥
 
 -- Where the source tells its bytes, they are no more than the limit, and its count of faults and the sink's didn't rise: this
--- holds of the bytes then.
-abbrev pub Unhindered : ℕ → Option (List ℕ) → ℕ → ℕ → ℕ → ℕ → (List ℕ → Type 0) → Type 0
-Unhindered limit left source_old source_new sink_old sink_new holds =
+-- holds of the bytes then. `sample` reads nothing: whatever the source does, it holds of no bytes.
+abbrev pub Unhindered : Command → ℕ → Option (List ℕ) → ℕ → ℕ → ℕ → ℕ → (List ℕ → Type 0) → Type 0
+Unhindered (Sample start games plies) limit left source_old source_new sink_old sink_new holds = (Rose sink_old sink_new → ⊥) → holds []
+Unhindered command limit left source_old source_new sink_old sink_new holds =
     (Rose source_old source_new → ⊥) → (Rose sink_old sink_new → ⊥) → IfSome left (λ input. length input ≤ limit → holds input)
+
+-- memory isn't wanting, where the command takes any
+abbrev pub HasMemory : Command → Status → Type 0
+HasMemory Check status = Unit {0}
+HasMemory command status = status ≡ Memory → ⊥
 
 -- the input's words after its first line are the moves of a legal game, which reaches the query of that line
 abbrev pub TellsGame : List ℕ → Type 0
@@ -82,18 +104,22 @@ StatesRefutable depth input = (claim : Claim) × (q : Asked) × States input cla
 -- the input states a claim whose target has a cost of at most so many nodes
 abbrev pub StatesCheap : ℕ → ℕ → List ℕ → Type 0
 StatesCheap depth nodes input =
-    (claim : Claim) × (q : Asked) × States input claim q × ((n : ℕ) × IsCost (target q claim) depth [] n × (n ≤ nodes))
+    (claim : Claim) × (q : Asked) × States input claim q × IsCheap depth nodes claim q
 
 -- only with such an input does the command succeed
 abbrev pub Succeeds : Command → List ℕ → Type 0
 Succeeds Check input = ProvesSome input
 Succeeds Play input = TellsGame input
-Succeeds Unmoves input = AsksForUnmoves input
+Succeeds Unmoves input = AsksForOne input
 Succeeds (Solve depth nodes) input = StatesRefutable depth input
+Succeeds (Verdict depth nodes) input = AsksForOne input
+Succeeds (Tree depth nodes) input = AsksForFewLines depth nodes input
+Succeeds (Sample start games plies) input = Unit {0}
 
 -- with such an input the command succeeds: a search, where the nodes suffice
 abbrev pub MustSucceed : Command → List ℕ → Type 0
 MustSucceed (Solve depth nodes) input = StatesRefutable depth input × StatesCheap depth nodes input
+MustSucceed (Verdict depth nodes) input = AsksForCheap depth nodes input
 MustSucceed command input = Succeeds command input
 
 -- What was taken grew by the text of a certificate of the claim of the input's first line about the query of its second, which
@@ -108,7 +134,25 @@ abbrev pub WritesGameAgainst : List ℕ → Option (List ℕ) → Option (List �
 WritesGameAgainst input old new =
     (claim : Claim) × (q : Asked) × (game : List Move) × States input claim q × Contradicts game claim q × Appends old new (countered_line game)
 
--- the search came to its end, with a certificate, an open line or a game
+-- No game contradicts the claim of a right that is settled: that a castling is lost which isn't permitted, or that a capture en
+-- passant is legal which is permitted.
+abbrev pub Decides : Asked → Right → Bool → Type 0
+Decides q right settled = IsTrue settled → Holds (claim_of right) q
+
+-- What was taken grew by a line for each of the rights that the position seems to give. Each says whether the right is settled, and
+-- what is settled holds.
+abbrev pub WritesVerdicts : ℕ → List ℕ → Option (List ℕ) → Option (List ℕ) → Type 0
+WritesVerdicts depth input old new =
+    (q : Asked) × (rights : List Right) × (settled : List Bool) × AsksAlone input q × AreRights q.board q.turn rights × Appends old new (verdicts_text depth rights settled) × Each (Decides q) rights settled
+
+-- the nodes suffice for what the command searches with this input
+abbrev pub Suffices : Command → List ℕ → Type 0
+Suffices (Solve depth nodes) input = StatesCheap depth nodes input
+Suffices (Verdict depth nodes) input = AsksForCheap depth nodes input
+Suffices (Tree depth nodes) input = AsksForFewLines depth nodes input
+Suffices command input = ⊥
+
+-- the search came to its end: with a certificate, verdicts or a tree, with an open line, or with a game
 abbrev pub IsUnspent : Status → Type 0
 IsUnspent Done = Unit {0}
 IsUnspent Undecided = Unit {0}

@@ -6,7 +6,6 @@ use Rattle.cert_text.specs.Lines.{cut, ended, without_end}
 use Rattle.cert_text.specs.Certificate.{Lines}
 use Rattle.cert_checker.specs.Walk.{Fault, unlisted, unsupported}
 use Rattle.cert_checker.specs.Answers.{Answer, Answers, bad_text, fault, accepted}
-use Rattle.cert_checker.specs.declared.refusals.Refused.{Refused}
 use Rattle.cert_checker.specs.declared.refusals.Why.{Why}
 use Rattle.cert_checker.specs.declared.refusals.Why.TheVariants as why
 use Rattle.retro_top.specs.declared.statuses.Status.{Status}

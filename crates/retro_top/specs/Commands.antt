@@ -1,9 +1,9 @@
 -- The words of the command line.
-use Rattle.std.specs.Prelude.{ℕ, ◌≡◌, ◌≤◌, List, [], ◌∷◌, map, codes, string_bytes, String}
+use Rattle.std.specs.Prelude.{ℕ, ◌≡◌, ◌≤◌, ◌<◌, ◌^◌, List, [], ◌∷◌, map, codes, string_bytes, String}
 use Rattle.std.specs.Global.{Global}
 use Rattle.std.specs.Fmt.{decimal}
 use Rattle.retro_top.specs.declared.commands.Command.{Command}
-use Rattle.retro_top.specs.declared.commands.Command.TheVariants.{Check, Play, Unmoves, Solve}
+use Rattle.retro_top.specs.declared.commands.Command.TheVariants.{Check, Play, Unmoves, Solve, Verdict, Tree, Sample}
 
 -- the words, as bytes, by which each command is called
 abbrev pub words_of : Command → List (List ℕ)
@@ -11,6 +11,9 @@ words_of Check = codes "check" ∷ []
 words_of Play = codes "play" ∷ []
 words_of Unmoves = codes "unmoves" ∷ []
 words_of (Solve depth nodes) = codes "solve" ∷ decimal depth ∷ decimal nodes ∷ []
+words_of (Verdict depth nodes) = codes "verdict" ∷ decimal depth ∷ decimal nodes ∷ []
+words_of (Tree depth nodes) = codes "tree" ∷ decimal depth ∷ decimal nodes ∷ []
+words_of (Sample start games plies) = codes "sample" ∷ decimal start ∷ decimal games ∷ decimal plies ∷ []
 
 -- a search goes back at most 64 moves, and visits at least one query and at most 500,000
 pub record AreLimits (depth nodes : ℕ) : Type 0 where
@@ -18,9 +21,20 @@ pub record AreLimits (depth nodes : ℕ) : Type 0 where
   pub some_nodes : 1 ≤ nodes
   pub few_nodes : nodes ≤ 500000
 
+-- a sample starts from a number of 64 bits, and has from 1 to 1,000 games of at most so many moves, from 1 to 200
+pub record AreSampleNumbers (start games plies : ℕ) : Type 0 where
+  pub start_fits : start < 2 ^ 64
+  pub some_games : 1 ≤ games
+  pub few_games : games ≤ 1000
+  pub some_plies : 1 ≤ plies
+  pub few_plies : plies ≤ 200
+
 -- the command's numbers, if it has any, are in their ranges
 abbrev pub IsInRange : Command → Type 0
 IsInRange (Solve depth nodes) = AreLimits depth nodes
+IsInRange (Verdict depth nodes) = AreLimits depth nodes
+IsInRange (Tree depth nodes) = AreLimits depth nodes
+IsInRange (Sample start games plies) = AreSampleNumbers start games plies
 IsInRange command = Unit {0}
 
 -- the words call this command
@@ -31,3 +45,12 @@ pub record Call (words : List (String Global)) (command : Command) : Type 0 wher
 -- the words call some command
 abbrev pub CallSome : List (String Global) → Type 0
 CallSome words = (command : Command) × Call words command
+
+-- the command reads its input: each but `sample` does
+abbrev pub Reads : Command → Type 0
+Reads (Sample start games plies) = ⊥
+Reads command = Unit {0}
+
+-- the words call a command that reads its input
+abbrev pub CallReader : List (String Global) → Type 0
+CallReader words = (command : Command) × Call words command × Reads command

@@ -1,5 +1,5 @@
 -- What `unmoves` answers.
-use Rattle.std.specs.Prelude.{ℕ, ◌≡◌, ◌≢◌, ◌⊎◌, List, [], ◌∷◌, ◌++◌, length, codes}
+use Rattle.std.specs.Prelude.{ℕ, ◌≡◌, List, ◌∷◌, ◌++◌, length, codes}
 use Rattle.std.specs.List.{flat_map}
 use Rattle.std.specs.Fmt.{decimal}
 use Rattle.board_base.specs.Texts.{unmove_text}
@@ -9,10 +9,9 @@ use Rattle.fen_text.specs.Spelling.{spelling}
 use Rattle.unmove_gen.specs.Listed.{unmoves}
 use Rattle.unmove_gen.specs.Predecessor.{predecessor}
 use Rattle.cert_text.specs.Lines.{ended}
-use Rattle.retro_top.specs.Questions.{Asks, IsNoQuestion, after_first, no_question_line}
-use Rattle.retro_top.specs.declared.questions.NoQuestion.{NoQuestion}
+use Rattle.retro_top.specs.Questions.{AnswersAlone}
 use Rattle.retro_top.specs.declared.statuses.Status.{Status}
-use Rattle.retro_top.specs.declared.statuses.Status.TheVariants.{Done, BadInput}
+use Rattle.retro_top.specs.declared.statuses.Status.TheVariants.{Done}
 
 -- an unmove's text, and the FEN of its predecessor
 abbrev pub unmove_line : Asked → Unmove → List ℕ
@@ -25,17 +24,10 @@ unmoves_lines q us = flat_map (unmove_line q) us
 abbrev pub unmoves_text : Asked → List ℕ
 unmoves_text q = unmoves_lines q (unmoves q) ++ ended (codes "total " ++ decimal (length (unmoves q)))
 
--- the input is one line, which asks for a query
-abbrev pub AsksForUnmoves : List ℕ → Type 0
-AsksForUnmoves input = (q : Asked) × Asks input q × (after_first input ≡ [])
-
--- the line that says that the input has a second line
-abbrev pub second_line : List ℕ
-second_line = ended (codes "bad line 2")
+-- what is said of a query: its unmoves
+abbrev pub ListsUnmoves : Asked → Status → List ℕ → Type 0
+ListsUnmoves q status text = (status ≡ Done) × (text ≡ unmoves_text q)
 
 -- the status and the text with which `unmoves` answers these bytes, which are to be one line
 abbrev pub AnswersUnmoves : List ℕ → Status → List ℕ → Type 0
-AnswersUnmoves input status text =
-    ((q : Asked) × Asks input q × (after_first input ≡ []) × (status ≡ Done) × (text ≡ unmoves_text q))
-    ⊎ (((q : Asked) × Asks input q × (after_first input ≢ []) × (status ≡ BadInput) × (text ≡ second_line))
-    ⊎ ((why : NoQuestion) × IsNoQuestion input why × (status ≡ BadInput) × (text ≡ no_question_line why)))
+AnswersUnmoves input status text = AnswersAlone ListsUnmoves input status text

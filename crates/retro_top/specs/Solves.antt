@@ -1,5 +1,5 @@
 -- What `solve` answers.
-use Rattle.std.specs.Prelude.{ℕ, ◌≡◌, ◌<◌, ◌⊎◌, List, [], ◌∷◌, ◌++◌, codes}
+use Rattle.std.specs.Prelude.{ℕ, ◌≡◌, ◌<◌, ◌≤◌, ◌⊎◌, List, [], ◌∷◌, ◌++◌, codes}
 use Rattle.std.specs.List.{flat_map}
 use Rattle.board_base.specs.Texts.{move_text, unmove_text}
 use Rattle.board_base.specs.declared.moves.Move.{Move}
@@ -37,6 +37,14 @@ countered_line game = ended (codes "countered" ++ move_words game)
 abbrev pub spent_line : ℕ → List ℕ
 spent_line nodes = number_line (codes "spent ") nodes
 
+-- the claim's target has a cost of at most so many nodes
+abbrev pub IsCheap : ℕ → ℕ → Claim → Asked → Type 0
+IsCheap depth nodes claim q = (n : ℕ) × IsCost (target q claim) depth [] n × (n ≤ nodes)
+
+-- the claim's target has a cost above the nodes
+abbrev pub IsDear : ℕ → ℕ → Claim → Asked → Type 0
+IsDear depth nodes claim q = (n : ℕ) → IsCost (target q claim) depth [] n → nodes < n
+
 -- The claim's target is refutable at the depth. The text is that of a certificate of the claim about the query, which proves it and
 -- has at most 500,000 nodes.
 pub record TellsProof (depth : ℕ) (claim : Claim) (q : Asked) (text : List ℕ) : Type 0 where
@@ -60,7 +68,7 @@ pub record TellsGameAgainst (depth : ℕ) (claim : Claim) (q : Asked) (text : Li
 -- The cost of the claim's target is above the nodes. Where the target is refutable, no query of its tree leans on another above it,
 -- and its cost isn't large, its memo cost is above them too.
 pub record TellsSpent (depth nodes : ℕ) (claim : Claim) (q : Asked) (text : List ℕ) : Type 0 where
-  pub dear : (n : ℕ) → IsCost (target q claim) depth [] n → nodes < n
+  pub dear : IsDear depth nodes claim q
   pub lone : (n k : ℕ) → IsLoneSearch (target q claim) depth n → IsMemoCost (target q claim) depth k → nodes < k
   pub text_is : text ≡ spent_line nodes
 

@@ -1,6 +1,6 @@
-ghost use Rattle.std.specs.Prelude.{◌≡◌, ◌↔◌, IsTrue, MatchOption, string_bytes};
-ghost use Rattle.retro_top.specs.Commands.{Call, CallSome};
-ghost use Rattle.retro_top.specs.Numbers.{SayLimits, SaySomeLimits};
+ghost use Rattle.std.specs.Prelude.{◌≡◌, ◌↔◌, ◌∷◌, [], IsTrue, MatchOption, string_bytes};
+ghost use Rattle.retro_top.specs.Commands.{Call, CallSome, Reads};
+ghost use Rattle.retro_top.specs.Numbers.{SayLimits, SaySample, SaySomeLimits, SaySomeSample, Spells, SpellSome};
 
 use crate::numbers::read_number;
 
@@ -9,6 +9,12 @@ const MOST_DEPTH: u64 = 64;
 
 /// The most queries that a search visits.
 const MOST_NODES: u64 = 500_000;
+
+/// The most games of a sample.
+const MOST_GAMES: u64 = 1_000;
+
+/// The most moves of a game of a sample.
+const MOST_PLIES: u64 = 200;
 
 /// What the words of the command line can ask for.
 #[derive(Clone, Copy, PartialEq, Eq, Debug)]
@@ -26,6 +32,44 @@ pub enum Command {
         /// How many queries are visited at most, from 1 to 500,000.
         nodes: u32,
     },
+    /// What the conventions of chess problems say of each right that a position seems to give.
+    Verdict {
+        /// How many moves are taken back at most, from 0 to 64.
+        depth: u8,
+        /// How many queries are visited at most for each right, from 1 to 500,000.
+        nodes: u32,
+    },
+    /// The retractions of a position as a tree.
+    Tree {
+        /// How many moves are taken back at most, from 0 to 64.
+        depth: u8,
+        /// How many lines the tree has at most, from 1 to 500,000.
+        nodes: u32,
+    },
+    /// What is counted of games that are made from a number.
+    Sample {
+        /// The number from which the moves are drawn.
+        start: u64,
+        /// How many games there are, from 1 to 1,000.
+        games: u32,
+        /// How many moves each game has at most, from 1 to 200.
+        plies: u32,
+    },
+}
+
+/// The command reads its input: each but `sample` does.
+pub(crate) fn reads(command: Command) -> bool
+    ensures { IsTrue result ↔ Reads command }
+{
+    match command {
+        Command::Check
+        | Command::Play
+        | Command::Unmoves
+        | Command::Solve { .. }
+        | Command::Verdict { .. }
+        | Command::Tree { .. } => true,
+        Command::Sample { .. } => false,
+    }
 }
 
 fn is_word(word: &String, text: &[u8]) -> bool
@@ -47,31 +91,78 @@ fn read_limits(depth: &String, nodes: &String) -> Option<(u8, u32)>
     }
 }
 
+/// The start, the games and the plies of a sample, as three words say them.
+fn read_sample(start: &String, games: &String, plies: &String) -> Option<(u64, u32, u32)>
+    ensures { MatchOption result (SaySomeSample (string_bytes start.now) (string_bytes games.now) (string_bytes plies.now) → ⊥) (λ numbers. SaySample (string_bytes start.now) (string_bytes games.now) (string_bytes plies.now) numbers.0 numbers.1 numbers.2) }
+{
+    match (
+        read_number(start, 0, u64::MAX),
+        read_number(games, 1, MOST_GAMES),
+        read_number(plies, 1, MOST_PLIES),
+    ) {
+        (Some(start), Some(games), Some(plies)) => Some((start, games as u32, plies as u32)),
+        _ => None,
+    }
+}
+
+/// The command that one word calls.
+fn read_one(word: &String) -> Option<Command>
+    ensures { MatchOption result (SpellSome (string_bytes word.now ∷ []) → ⊥) (Spells (string_bytes word.now ∷ [])) }
+{
+    if is_word(word, b"check") {
+        Some(Command::Check)
+    } else if is_word(word, b"play") {
+        Some(Command::Play)
+    } else if is_word(word, b"unmoves") {
+        Some(Command::Unmoves)
+    } else {
+        None
+    }
+}
+
+/// The command that a word with a depth and nodes calls.
+fn read_three(word: &String, depth: &String, nodes: &String) -> Option<Command>
+    ensures { MatchOption result (SpellSome (string_bytes word.now ∷ string_bytes depth.now ∷ string_bytes nodes.now ∷ []) → ⊥) (Spells (string_bytes word.now ∷ string_bytes depth.now ∷ string_bytes nodes.now ∷ [])) }
+{
+    let Some((depth, nodes)) = read_limits(depth, nodes) else {
+        return None;
+    };
+    if is_word(word, b"solve") {
+        Some(Command::Solve { depth, nodes })
+    } else if is_word(word, b"verdict") {
+        Some(Command::Verdict { depth, nodes })
+    } else if is_word(word, b"tree") {
+        Some(Command::Tree { depth, nodes })
+    } else {
+        None
+    }
+}
+
+/// The command that a word with a start, games and plies calls.
+fn read_four(word: &String, start: &String, games: &String, plies: &String) -> Option<Command>
+    ensures { MatchOption result (SpellSome (string_bytes word.now ∷ string_bytes start.now ∷ string_bytes games.now ∷ string_bytes plies.now ∷ []) → ⊥) (Spells (string_bytes word.now ∷ string_bytes start.now ∷ string_bytes games.now ∷ string_bytes plies.now ∷ [])) }
+{
+    if !is_word(word, b"sample") {
+        return None;
+    }
+    match read_sample(start, games, plies) {
+        Some((start, games, plies)) => Some(Command::Sample {
+            start,
+            games,
+            plies,
+        }),
+        None => None,
+    }
+}
+
 /// The command that the words call.
 pub fn read_words(words: &[String]) -> Option<Command>
     ensures { MatchOption result (CallSome words.now → ⊥) (Call words.now) }
 {
     match words {
-        [word] => {
-            if is_word(word, b"check") {
-                Some(Command::Check)
-            } else if is_word(word, b"play") {
-                Some(Command::Play)
-            } else if is_word(word, b"unmoves") {
-                Some(Command::Unmoves)
-            } else {
-                None
-            }
-        }
-        [word, depth, nodes] => {
-            if !is_word(word, b"solve") {
-                return None;
-            }
-            match read_limits(depth, nodes) {
-                Some((depth, nodes)) => Some(Command::Solve { depth, nodes }),
-                None => None,
-            }
-        }
+        [word] => read_one(word),
+        [word, depth, nodes] => read_three(word, depth, nodes),
+        [word, start, games, plies] => read_four(word, start, games, plies),
         _ => None,
     }
 }

@@ -1,5 +1,5 @@
 ghost use Rattle.std.specs.Prelude.{◌≡◌, ◌+◌, ◌≤◌, IfOk, IfErr, None, length};
-ghost use Rattle.retro_top.specs.Questions.{Asks, IsNoQuestion, after_first, first_line, no_question_line, without_return};
+ghost use Rattle.retro_top.specs.Questions.{Asks, AsksAlone, IsNoLoneQuestion, IsNoQuestion, after_first, first_line, no_lone_question_line, no_question_line, without_return};
 
 use fen_text::{FenFault, read_fen, split_part};
 use query_base::Query;
@@ -12,6 +12,15 @@ pub enum NoQuestion {
     NoLine,
     /// Its first line isn't FEN.
     BadFen(FenFault),
+}
+
+/// Why an input isn't one line that asks for a query.
+#[derive(Clone, Copy, PartialEq, Eq, Debug)]
+pub enum NoLoneQuestion {
+    /// Its first line asks for no query.
+    NoFirst(NoQuestion),
+    /// It has a second line.
+    SecondLine,
 }
 
 /// The query of an input's first line, and what follows that line.
@@ -79,5 +88,34 @@ pub fn write_no_question(alloc: Global, why: NoQuestion) -> Result<Vec<u8>, Allo
     match why {
         NoQuestion::NoLine => Vec::from_slice(alloc, b"bad line 1\n"),
         NoQuestion::BadFen(fault) => write_fen_fault(alloc, fault),
+    }
+}
+
+/// The query of an input that is one line, a FEN of four or six fields.
+pub fn read_lone_question(input: &[u8]) -> Result<Query, NoLoneQuestion>
+    requires { length input.now ≤ 67_108_864 }
+    ensures asked { IfOk result (AsksAlone input.now) }
+    ensures plain { IfOk result (λ query. query.barred ≡ None) }
+    ensures no_question { IfErr result (IsNoLoneQuestion input.now) }
+{
+    match read_question(input) {
+        Ok(question) => {
+            if question.rest.is_empty() {
+                Ok(question.query)
+            } else {
+                Err(NoLoneQuestion::SecondLine)
+            }
+        }
+        Err(why) => Err(NoLoneQuestion::NoFirst(why)),
+    }
+}
+
+/// The line that says why the input isn't one line that asks for a query.
+pub fn write_no_lone_question(alloc: Global, why: NoLoneQuestion) -> Result<Vec<u8>, AllocError>
+    ensures { IfOk result (λ v. v.items ≡ no_lone_question_line why) }
+{
+    match why {
+        NoLoneQuestion::NoFirst(why) => write_no_question(alloc, why),
+        NoLoneQuestion::SecondLine => Vec::from_slice(alloc, b"bad line 2\n"),
     }
 }

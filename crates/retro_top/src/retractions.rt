@@ -4,7 +4,7 @@ ghost use Rattle.board_base.specs.Texts.{can_capture, can_promote};
 ghost use Rattle.unmove_gen.specs.Listed.{unmoves};
 ghost use Rattle.retro_top.specs.Retractions.{AnswersUnmoves, unmove_line, unmoves_text};
 
-use crate::questions::{read_question, write_no_question};
+use crate::questions::{read_lone_question, write_no_lone_question};
 use crate::statuses::Status;
 use arrayvec::ArrayVec;
 use board_base::{Unmove, write_unmove};
@@ -54,18 +54,13 @@ pub fn list_unmoves(alloc: Global, input: &[u8]) -> Result<(Status, Vec<u8>), Al
     requires { length input.now ≤ 67_108_864 }
     ensures { IfOk result (λ a. AnswersUnmoves input.now a.0 a.1.items) }
 {
-    match read_question(input) {
-        Ok(question) => {
-            if question.rest.is_empty() {
-                let lines = write_unmoves(alloc, &question.query)?;
-                Ok((Status::Done, lines))
-            } else {
-                let second_line = Vec::from_slice(alloc, b"bad line 2\n")?;
-                Ok((Status::BadInput, second_line))
-            }
+    match read_lone_question(input) {
+        Ok(query) => {
+            let lines = write_unmoves(alloc, &query)?;
+            Ok((Status::Done, lines))
         }
         Err(why) => {
-            let no_question = write_no_question(alloc, why)?;
+            let no_question = write_no_lone_question(alloc, why)?;
             Ok((Status::BadInput, no_question))
         }
     }

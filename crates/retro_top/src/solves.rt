@@ -63,10 +63,11 @@ fn write_countered(alloc: Global, game: &MoveList) -> Result<Vec<u8>, AllocError
     Ok(text)
 }
 
-fn write_spent(alloc: Global, visited: u32) -> Result<Vec<u8>, AllocError>
-    ensures { IfOk result (λ v. v.items ≡ spent_line visited) }
+/// The line that says that so many nodes were spent.
+pub(crate) fn write_spent(alloc: Global, nodes: u32) -> Result<Vec<u8>, AllocError>
+    ensures { IfOk result (λ v. v.items ≡ spent_line nodes) }
 {
-    Ok(format!(in alloc; "spent {visited}\n")?.into_bytes())
+    Ok(format!(in alloc; "spent {nodes}\n")?.into_bytes())
 }
 
 /// What is said of the claim about the query.

@@ -13,7 +13,7 @@ pub enum Status {
     Refused,
     /// The search found neither a proof nor a game against the claim.
     Undecided,
-    /// The search visited as many queries as it was allowed to.
+    /// The search visited as many queries as it was allowed to, or the tree has more lines.
     Spent,
     /// The search found a game against the claim.
     Countered,

@@ -1,15 +1,10 @@
-use Rattle.std.proofs.Common.{◌≡◌, ◌+◌, ◌<◌, ◌≤◌, List, ◌++◌, length, refl, sym, ap, ◌∙◌, subst, arith, cond, nat_lt, rules}
-use Rattle.std.proofs.lemmas.Bool.Decides.{nat_tests}
-use Rattle.board_base.specs.Board.{Places}
-use Rattle.board_base.specs.declared.men.Colour.{Colour}
+use Rattle.std.proofs.Common.{◌≡◌, ◌++◌, length, subst, arith}
 use Rattle.ep_history.specs.Fits.{ep_fits}
 use Rattle.castle_history.specs.Homes.{are_at_home}
 use Rattle.query_base.specs.Asked.{Asked}
-use Rattle.codex_verdict.specs.Rights.{AreRights, castlings}
-use Rattle.codex_verdict.specs.Candidates.{captures_from, captures_of}
-use Rattle.codex_verdict.specs.declared.kinds.Right.{Right}
+use Rattle.codex_verdict.specs.Rights.{castlings}
+use Rattle.codex_verdict.specs.Candidates.{captures_from}
 use Rattle.codex_verdict.specs.declared.kinds.Right.TheVariants.{Castling, EnPassant}
-use Rattle.codex_verdict.proofs.Captures.{is-candidate, kept-ascend}
 use Rattle.codex_verdict.proofs.Gathered.{made, left-step}
 use Rattle.codex_verdict.proofs.Few.{few-more, room}
 use Rattle.codex_verdict.proofs.AllRights.{rights-are}

@@ -1,0 +1,14 @@
+-- What `check` answers of all bytes that were left, and what it tells.
+use Rattle.std.proofs.Common.{ℕ, List}
+use Rattle.std.specs.Prelude.{Option}
+use Rattle.cert_text.specs.Lines.{cut}
+use Rattle.cert_text.specs.Certificate.{Lines}
+use Rattle.cert_checker.specs.Answers.{Answer, Answers}
+use Rattle.cert_checker.specs.Remains.{AnswersAll}
+use Rattle.retro_top.specs.Answers.{ReadsAll}
+use Rattle.retro_top.specs.Checks.{AnswersCheck, Tells}
+use Rattle.retro_top.specs.declared.statuses.Status.{Status}
+
+pub told : (limit : ℕ) (old new : Option (List ℕ)) (answer : Answer) (ending : Status) (text : List ℕ) → AnswersAll limit old new answer → ((lines : Lines) → Answers lines answer → Tells lines answer ending text) → ReadsAll limit old new (λ input. AnswersCheck input ending text)
+told limit old new answer ending text all tells =
+    (all.bytes, all.read, all.ended, all.fits, (answer, all.answers, tells (cut all.bytes) all.answers))

@@ -1,0 +1,80 @@
+//! The lines that `check` writes, made with no memory.
+
+ghost use Rattle.std.specs.Prelude.{◌≡◌, ◌≤◌, ◌+◌, ◌∷◌, ◌++◌, IsTrue, None, codes, drop, length};
+ghost use Rattle.arrayvec.specs.ArrayVec.{array_vec_len};
+ghost use Rattle.board_base.specs.Texts.{can_capture, can_promote, unmove_text};
+ghost use Rattle.cert_text.specs.ClaimLines.{claim_words, promotes_well};
+ghost use Rattle.cert_text.specs.Lines.{ended};
+ghost use Rattle.fen_text.specs.Spelling.{spelling};
+ghost use Rattle.retro_top.specs.Checks.{refusal_line};
+
+use arrayvec::ArrayVec;
+use board_base::{Unmove, write_unmove};
+use cert_text::write_claim;
+use fen_text::write_fen;
+use itoa::Buffer;
+use query_base::{Claim, Query};
+
+fn put(line: &mut ArrayVec<u8, 128>, text: &[u8])
+    requires { array_vec_len line.old + length text.now ≤ 128 }
+    ensures items { line.new.items ≡ line.old.items ++ text.now }
+    ensures len { array_vec_len line.new ≡ array_vec_len line.old + length text.now }
+{
+    let _ = line.try_extend_from_slice(text);
+}
+
+/// What the text of a claim says after `claim `.
+fn words_of_claim(text: &[u8]) -> &[u8]
+    requires { 6 ≤ length text.now }
+    ensures { result.now ≡ drop 6 text.now }
+{
+    &text[6..]
+}
+
+/// The line that tells that a claim about a query is accepted.
+pub(crate) fn accepted(claim: &Claim, query: &Query) -> ArrayVec<u8, 128>
+    requires plain { query.now.barred ≡ None }
+    requires promotion { IsTrue (promotes_well claim.now) }
+    ensures { result.items ≡ codes "accepted " ++ claim_words claim.now ++ 32 ∷ ended (spelling query.now) }
+{
+    let mut text: ArrayVec<u8, 128> = ArrayVec::new();
+    write_claim(claim, &mut text);
+    let mut fen: ArrayVec<u8, 128> = ArrayVec::new();
+    write_fen(query, &mut fen);
+    let mut line: ArrayVec<u8, 128> = ArrayVec::new();
+    put(&mut line, b"accepted ");
+    put(&mut line, words_of_claim(text.as_slice()));
+    line.push(b' ');
+    put(&mut line, fen.as_slice());
+    line.push(b'\n');
+    line
+}
+
+/// The line that tells what is wrong with the line of this number.
+pub(crate) fn refusal(number: u32, what: &[u8]) -> ArrayVec<u8, 128>
+    requires { length what.now ≤ 40 }
+    ensures { result.items ≡ refusal_line number what.now }
+{
+    let mut line: ArrayVec<u8, 128> = ArrayVec::new();
+    let mut digits = Buffer::new();
+    put(&mut line, b"refused line ");
+    put(&mut line, digits.format(number).as_bytes());
+    line.push(b' ');
+    put(&mut line, what);
+    line.push(b'\n');
+    line
+}
+
+/// The line that tells that the unmove is the label of no child.
+pub(crate) fn unlisted(number: u32, u: &Unmove) -> ArrayVec<u8, 128>
+    requires promotion { IsTrue (can_promote u.now.mv.promo) }
+    requires capture { IsTrue (can_capture u.now.mv.promo u.now.captured u.now.ep) }
+    ensures { result.items ≡ refusal_line number (codes "unlisted " ++ unmove_text u.now) }
+{
+    let mut name: ArrayVec<u8, 8> = ArrayVec::new();
+    write_unmove(u, &mut name);
+    let mut what: ArrayVec<u8, 128> = ArrayVec::new();
+    put(&mut what, b"unlisted ");
+    put(&mut what, name.as_slice());
+    refusal(number, what.as_slice())
+}
