@@ -10,6 +10,8 @@ mod driving;
 #[cfg(test)]
 mod perft;
 #[cfg(test)]
+mod positions;
+#[cfg(test)]
 mod retractions;
 #[cfg(test)]
 mod rows;

@@ -16,4 +16,6 @@ mod men;
 #[cfg(test)]
 mod queries;
 #[cfg(test)]
+mod streams;
+#[cfg(test)]
 mod written_certificates;

@@ -6,6 +6,8 @@ mod bounds;
 #[cfg(test)]
 mod cages;
 #[cfg(test)]
+mod origins;
+#[cfg(test)]
 mod pawns;
 #[cfg(test)]
 mod rules_on_sets;

@@ -1,0 +1,117 @@
+//! What a check of bytes in pieces, and of a source's, answers.
+
+use crate::first_faults::{ARRAY, DOUBLE_STEP, checked, rows};
+use cert_checker::{Accepted, Checker, Fault, Refused, StreamRefused, check_stream};
+use retro_ports::MemSource;
+use std::alloc::{AllocError, Global};
+use std::test::Fail;
+
+/// The answer to a text whose bytes come at most so many at a time. The read of this number fails, if one is given.
+fn streamed(
+    alloc: Global,
+    text: &[u8],
+    piece: usize,
+    failing: Option<u32>,
+) -> Result<Result<Accepted, StreamRefused>, AllocError> {
+    let mut fails = Vec::new(alloc);
+    if let Some(number) = failing {
+        fails.push(number)?;
+    }
+    let mut source = MemSource::new(Vec::from_slice(alloc, text)?, fails, piece.max(1));
+    Ok(check_stream(&mut source))
+}
+
+/// Feeds a piece, if it doesn't go past the most bytes.
+fn feed(checker: &mut Checker, piece: &[u8]) {
+    if piece.len() <= 67_108_864 - checker.fed() as usize {
+        checker.feed(piece);
+    }
+}
+
+/// The answer to a text that is fed in two pieces, with empty ones before, between and after them.
+fn in_two(text: &[u8], first: usize) -> Result<Accepted, Fault> {
+    let (front, back) = text.split_at(first.min(text.len()));
+    let mut checker = Checker::new();
+    for piece in [b"".as_slice(), front, b"", back, b""] {
+        feed(&mut checker, piece);
+    }
+    checker.finish()
+}
+
+/// The answer to three pieces, of which the middle one is so many blanks, at most 129.
+fn with_blanks(before: &[u8], blanks: usize, behind: &[u8]) -> Result<Accepted, Fault> {
+    let line = [b' '; 129];
+    let mut checker = Checker::new();
+    feed(&mut checker, before);
+    feed(&mut checker, &line[..blanks.min(129)]);
+    feed(&mut checker, behind);
+    checker.finish()
+}
+
+/// What `check_bytes` answers in the place of a refusal of a stream that was read to its end.
+fn as_refused(refused: StreamRefused) -> Option<Refused> {
+    match refused {
+        StreamRefused::BadText { line } => Some(Refused::BadText { line }),
+        StreamRefused::Unlisted { line, unmove } => Some(Refused::Unlisted { line, unmove }),
+        StreamRefused::Unsupported { line, why } => Some(Refused::Unsupported { line, why }),
+        StreamRefused::TooLong | StreamRefused::ReadFault => None,
+    }
+}
+
+#[test]
+fn answers_alike_in_pieces_and_whole(rt: HostRuntime) -> Result<(), Fail> {
+    for (text, _) in rows() {
+        let whole = checked(rt.alloc(), text);
+        for piece in [1, 7, 4096] {
+            match streamed(rt.alloc(), text, piece, None)? {
+                Ok(accepted) => assert!(rt; whole == Ok(accepted)),
+                Err(refused) => assert!(rt; whole.err() == as_refused(refused)),
+            }
+        }
+    }
+    Ok(())
+}
+
+#[test]
+fn answers_alike_at_each_cut(rt: HostRuntime) {
+    let whole = in_two(DOUBLE_STEP, 0);
+    assert!(rt; whole.is_ok());
+    for first in 0..DOUBLE_STEP.len() {
+        assert!(rt; in_two(DOUBLE_STEP, first) == whole);
+    }
+}
+
+#[test]
+fn takes_no_long_line_for_two(rt: HostRuntime) {
+    // Behind 127, 128 or 129 blanks stands what would be the line of the claim alone.
+    for blanks in [127, 128, 129] {
+        let rest = b"claim illegal\nfen 4k3/8/8/8/8/8/8/4K3 w - -\nroot rule kings\n";
+        assert!(rt; with_blanks(b"retro 1\n", blanks, rest) == Err(Fault::BadText { line: 2 }));
+    }
+    // Lines of 127, 128 and 129 bytes with their ends.
+    for blanks in [126, 127, 128] {
+        assert!(rt; with_blanks(b"", blanks, b"\nretro 1\n") == Err(Fault::BadText { line: 1 }));
+    }
+}
+
+#[test]
+fn wants_the_last_line_to_end(rt: HostRuntime) {
+    let mut checker = Checker::new();
+    feed(
+        &mut checker,
+        b"retro 1\nclaim illegal\nfen 4k3/8/8/8/8/8/8/4K3 w - -\nroot expand 0",
+    );
+    assert!(rt; checker.finish() == Err(Fault::BadText { line: 4 }));
+    assert_eq!(rt; checker.fed(), 65);
+}
+
+#[test]
+fn tells_a_failed_read_after_a_fault(rt: HostRuntime) -> Result<(), Fail> {
+    // The fault stands on line 4, which ends in the third read of forty bytes. The fourth read fails.
+    let whole = checked(rt.alloc(), ARRAY);
+    match streamed(rt.alloc(), ARRAY, 40, Some(3))? {
+        Ok(accepted) => assert!(rt; whole == Ok(accepted)),
+        Err(refused) => assert!(rt; refused == StreamRefused::ReadFault),
+    }
+    Ok(())
+}
