@@ -3,8 +3,11 @@
 
 measure.py play PROGRAM     `PROGRAM play` on games of 200,000 and 1,000,000 plies, knights going to and fro
 measure.py search PROGRAM   `PROGRAM solve` on examples/, in time and by valgrind in machine instructions, and `PROGRAM check` of what it writes
+measure.py visits PROGRAM   how many positions `PROGRAM solve` visits there, and how many it would visit if it kept no refutations
+measure.py stream PROGRAM   `PROGRAM check` on certificates of stray labels: machine instructions a byte, time and memory on 64 MiB
 measure.py moves            `legal_moves` on four middle-game positions: builds legal_moves.program over a copy of the crates
 measure.py pawns            `least` and `bound` on eight pawns, in machine instructions, by valgrind: builds pawns.program likewise
+measure.py unmoves          lists of retractions of eight positions, in machine instructions: builds unmoves.program likewise
 measure.py cages            a greatest frozen set and seven regions beside it, in machine instructions: builds cages.program likewise
 """
 import contextlib
@@ -35,8 +38,24 @@ CHAINS = [
     "r3k2r/pp1bnppp/1qn1p3/2ppP3/3P4/2PB1N2/PP3PPP/RNBQK2R w KQkq -",
     "r1bq1rk1/pp2npbp/3p1np1/2pPp3/2P1P3/2N2N2/PP2BPPP/R1BQ1RK1 w - -",
 ]
+# The position of examples/barred-kings.claim, two later ones of its certificate, and middle-game positions.
+RETRACTED = [
+    "r3k2r/1p1p1p1p/p1p1p1p1/8/8/P1P1P1P1/1P1P1P1P/R3K2R b KQkq -",
+    "r3k2r/1p1p1p1p/p1p1p1p1/8/8/2P1P1P1/PP1P1P1P/R3K2R w KQkq -",
+    "r3k2r/1p1p1p1p/p1p1p1p1/8/8/6P1/PPPPPP1P/R3K2R b KQkq -",
+    "r3k2r/p1ppqpb1/bn2pnp1/3PN3/1p2P3/2N2Q1p/PPPBBPPP/R3K2R w KQkq -",
+    "r4rk1/1pp1qppp/p1np1n2/2b1p1B1/2B1P1b1/P1NP1N2/1PP1QPPP/R4RK1 w - -",
+    "r1bqkb1r/pp3ppp/2n1pn2/2pp4/3P1B2/2PBPN2/PP1N1PPP/R2QK2R b KQkq -",
+    "r2q1rk1/pp2bppp/2npbn2/4p3/4P3/1NN1BP2/PPPQ2PP/2KR1B1R w - -",
+    "2r2rk1/1b3ppp/p2qpn2/1p6/3P4/1BN1Q3/PP3PPP/3R1RK1 b - -",
+]
 # Claims of examples/, each with the depth that settles it.
 CLAIMS = {"loyd-1859": 1, "loyd-1891": 1, "dawson-1913": 2, "benko-1996": 2, "dawson-chess-magazine-1913": 4, "barred-kings": 9}
+MOST_NODES = 500_000
+# A certificate whose first child is a stray label already: from there on only the text is checked.
+STRAYS = b"retro 1\nclaim illegal\nfen 4k3/8/8/8/8/8/8/4K3 w - -\n"
+STRAY = b"a1a2 back 1\n"
+MOST_CHILDREN = 999_999
 LIMITS = {"least": 20_000, "bound": 2_000}
 
 
@@ -80,6 +99,27 @@ def search(program):
         print(f"{name}: {nodes} nodes, {seconds * 1000:.1f} ms; solve {found:,} instructions, check {checked:,}")
 
 
+def visited(program, depth, claim):
+    """The least number of nodes with which the search isn't spent."""
+    low, high = 1, MOST_NODES
+    while low < high:
+        middle = (low + high) // 2
+        if timed([program, "solve", str(depth), str(middle)], claim)[0] == 3:
+            low = middle + 1
+        else:
+            high = middle
+    return low
+
+
+def visits(program):
+    for name, depth in [*CLAIMS.items(), ("barred-kings", 11)]:
+        claim = (HERE.parent / "examples" / f"{name}.claim").read_bytes()
+        certificate = timed([program, "solve", str(depth), str(MOST_NODES)], claim)[1]
+        # A search that keeps nothing visits each node of the certificate.
+        plain = len(certificate.split("\n")) - 3
+        print(f"{name} to depth {depth}: {visited(program, depth, claim)} visits, {plain} without the memo")
+
+
 def moves():
     with built("legal_moves", "fen_text play_rules query_base board_base") as program:
         status, answer, seconds = timed([program], b"")
@@ -89,6 +129,25 @@ def moves():
 def instructions(words, text=b""):
     done = subprocess.run(["valgrind", "--tool=callgrind", "--callgrind-out-file=/dev/null", *words], input=text, capture_output=True, check=True)
     return int(re.search(rb"Collected : (\d+)", done.stderr)[1])
+
+
+def strays(lines):
+    """A certificate of so many nodes with stray labels, below as few others as may be."""
+    whole, rest = divmod(lines, MOST_CHILDREN)
+    nodes = [MOST_CHILDREN] * whole + [rest] * (rest > 0)
+    return STRAYS + b"root expand %d\n" % len(nodes) + b"".join(b"a1a2 expand %d\n" % n + STRAY * n for n in nodes)
+
+
+def stream(program):
+    few, many = strays(20_000), strays(120_000)
+    counts = [instructions([program, "check"], text) for text in (few, many)]
+    print(f"{(counts[1] - counts[0]) / (len(many) - len(few)):.1f} instructions a byte")
+    text = strays((64 * 1024 * 1024 - 200) // len(STRAY))
+    seconds = min(timed([program, "check"], text)[2] for _ in range(5))
+    print(f"{len(text)} bytes: {seconds:.2f} s, {len(text) / seconds / 1e6:.0f} MB/s")
+    done = subprocess.run(["/usr/bin/time", "-v", program, "check"], input=text, capture_output=True)
+    resident = re.search(rb"Maximum resident set size \(kbytes\): (\d+)", done.stderr)[1]
+    print(f"{done.stdout.decode().strip()}: {int(resident)} KiB resident")
 
 
 def pawns():
@@ -107,15 +166,28 @@ def cages():
             print(f"{(many - none) / 100:.0f} instructions: {fen}")
 
 
+def unmoves():
+    with built("unmoves", "board_base fen_text query_base unmove_gen", ["--", RETRACTED[0], "0"]) as program:
+        for fen in RETRACTED:
+            none, many = (instructions([program, fen, times]) for times in ("0", "100"))
+            print(f"{(many - none) / 100:.0f} instructions, {timed([program, fen, '1'], b'')[1].split()[0]} retractions: {fen}")
+
+
 def main():
     if sys.argv[1:2] == ["play"] and len(sys.argv) == 3:
         play(sys.argv[2])
     elif sys.argv[1:2] == ["search"] and len(sys.argv) == 3:
         search(sys.argv[2])
+    elif sys.argv[1:2] == ["visits"] and len(sys.argv) == 3:
+        visits(sys.argv[2])
+    elif sys.argv[1:2] == ["stream"] and len(sys.argv) == 3:
+        stream(sys.argv[2])
     elif sys.argv[1:] == ["moves"]:
         moves()
     elif sys.argv[1:] == ["pawns"]:
         pawns()
+    elif sys.argv[1:] == ["unmoves"]:
+        unmoves()
     elif sys.argv[1:] == ["cages"]:
         cages()
     else:

@@ -66,7 +66,7 @@ def defined(text):
     for item in items(text):
         if item.startswith("module "):
             around = item
-        if re.match(r"use |unfolding |infix|module |(abbrev )?mutual$", item):
+        if re.match(r"(pub )?use |unfolding |infix|module |(abbrev )?mutual$", item):
             continue
         head = re.match(r"(?:pub )?(record|data) (\S+)|(?:abbrev |unfoldable )?(?:pub )?(\S+) : ", item)
         if head:

@@ -1,0 +1,347 @@
+#!/usr/bin/env python3
+"""Runs the built program on many mutated inputs, outside the gate, and tells where it breaks docs/COMMANDS.md.
+
+fuzz.py PROGRAM [--cases N] [--jobs N] [--seed N] [--found FOLDER]
+fuzz.py PROGRAM --again FOLDER     runs the cases again that were found and kept there
+
+What is looked for: a death by a signal; a run over ten seconds; a status that the command hasn't, or that bad words, failing reads and
+writes, or too long an input don't allow; something written at a status that writes nothing; an answer that hasn't the form of its
+status; a certificate of `solve` that `check` doesn't accept; a game of `solve` that `play` doesn't call legal; a verdict that `solve`
+doesn't bear out; and two runs that differ. Each finding goes into a file of FOLDER, with the words, the input and what was wrong.
+The same seed gives the same cases, with any number of jobs. The exit status is 1 where something was found.
+"""
+import argparse
+import json
+import multiprocessing
+import os
+import pathlib
+import random
+import re
+import subprocess
+import sys
+import time
+
+from fuzz_cases import LIMIT, Case, Maker, mutated
+
+SECONDS = 10
+CHUNK = 250
+STATUSES = {"check": (0, 1), "play": (0, 1, 6), "unmoves": (0, 6), "solve": (0, 2, 3, 4, 6), "verdict": (0, 3, 6), "tree": (0, 3, 6), "sample": (0,)}
+RANGES = {"solve": [(0, 64), (1, 500_000)], "sample": [(0, 2**64 - 1), (1, 1000), (1, 200)]}
+RANGES["verdict"] = RANGES["tree"] = RANGES["solve"]
+LAST_LINE = {"play": 1, "unmoves": 2, "solve": 3, "verdict": 2, "tree": 2}
+
+MOVE = r"[a-h][1-8][a-h][1-8][nbrq]?"
+UNMOVE = rf"(?:{MOVE}(?:x[pnbrq])?|[a-h][1-8][a-h][1-8]ep)"
+FEN = r"[1-8PNBRQKpnbrqk]{1,8}(?:/[1-8PNBRQKpnbrqk]{1,8}){7} [wb] (?:-|K?Q?k?q?) (?:-|[a-h][36])"
+CLAIM = rf"(?:illegal|last {MOVE}|lost [KQkq]|ep [a-h][1-8][a-h][1-8])"
+NODE = r"(?:rule [^\n]+|back [1-9]\d*|expand \d+)"
+FORMS = {
+    ("check", 0): rf"accepted {CLAIM} {FEN}\n",
+    ("check", 1): rf"refused line [1-9]\d* (?:text|unlisted {UNMOVE}|unsupported (?:rule|back|array|stray))\n",
+    ("play", 0): r"legal\n",
+    ("play", 1): r"refused (?:(?:word|ply) [1-9]\d*|end)\n",
+    ("unmoves", 0): rf"(?:{UNMOVE} {FEN}\n)*total \d+\n",
+    ("solve", 0): rf"retro 1\nclaim {CLAIM}\nfen {FEN}\nroot {NODE}\n(?:{UNMOVE} {NODE}\n)*",
+    ("solve", 2): rf"undecided(?: {UNMOVE})*\n",
+    ("solve", 4): rf"countered(?: {MOVE})*\n",
+    ("verdict", 0): rf"no rights\n|(?:[KQkq] (?:not permitted|undisproved to \d+)\n|{MOVE} (?:permitted|unproved to \d+)\n)+",
+    ("tree", 0): rf"root [^\n]+\n(?:(?:  )+{UNMOVE} [^\n]+\n)*",
+    ("sample", 0): r"games [1-9]\d* plies \d+ unmoves \d+ missing 0\n",
+}
+FORMS = {key: re.compile(form) for key, form in FORMS.items()}
+SPENT = re.compile(r"spent \d+\n")
+BAD = re.compile(r"bad line ([1-3])\n|bad fen field [1-9]\d* byte \d+\n")
+NOTE = re.compile(r"closed|array|end|(?:back|expand) \d+")
+
+
+def command_of(words):
+    """The command that the words call, None where they call none."""
+    if not words:
+        return None
+    name = words[0].decode("ascii", "replace")
+    numbers, ranges = words[1:], RANGES.get(name, [])
+    if name not in STATUSES or len(numbers) != len(ranges):
+        return None
+    fits = all(re.fullmatch(rb"0|[1-9][0-9]{0,30}", word) and low <= int(word) <= high for word, (low, high) in zip(numbers, ranges))
+    return name if fits else None
+
+
+class Program:
+    """The program under test, and how often it was run."""
+
+    def __init__(self, path):
+        self.path, self.runs = path, 0
+
+    def run(self, case):
+        """The status, standard output and standard error; the status is None where the time is over."""
+        self.runs += 1
+        given = {"input": case.input, "stdout": subprocess.PIPE}
+        opened = self.failing(case.fails)
+        if case.fails == "read":
+            given = {"stdin": opened, "stdout": subprocess.PIPE}
+        elif case.fails:
+            given["stdout"] = opened
+        try:
+            done = subprocess.run([self.path, *case.words], stderr=subprocess.PIPE, timeout=SECONDS, **given)
+            return done.returncode, done.stdout or b"", done.stderr
+        except subprocess.TimeoutExpired:
+            return None, b"", b""
+        finally:
+            if opened is not None:
+                os.close(opened)
+
+    @staticmethod
+    def failing(fails):
+        """A folder, whose reads fail; a full device or a pipe without a reader, whose writes do; None where nothing is to fail."""
+        if fails == "read":
+            return os.open("/", os.O_RDONLY)
+        if fails == "write":
+            return os.open("/dev/full", os.O_WRONLY)
+        if fails == "pipe":
+            reader, writer = os.pipe()
+            os.close(reader)
+            return writer
+        return None
+
+    def answers(self, words, text):
+        return self.run(Case([word.encode() for word in words], text))
+
+
+def due(case, command):
+    """The statuses that the case can end with."""
+    if command is None:
+        return (5,)
+    if command != "sample" and case.fails == "read":
+        return (7,)
+    if command != "sample" and len(case.input) > LIMIT:
+        return (10,)
+    return (8,) if case.fails in ("write", "pipe") else STATUSES[command]
+
+
+def misbehaves(case, command, status, out, said):
+    """What is wrong with how the run ended, whatever it wrote."""
+    if status is None:
+        return f"no end within {SECONDS} seconds"
+    if status < 0:
+        return f"died by signal {-status}"
+    if status not in due(case, command):
+        return f"status {status}, not one of {due(case, command)}"
+    if status in (5, 7, 9, 10) and out:
+        return f"status {status} with an answer"
+    if status not in (5, 7, 8, 9, 10) and said:
+        return "something on standard error beside an answer"
+    return None
+
+
+def misformed(case, command, status, out):
+    """What is wrong with the form of the answer."""
+    if status in (5, 7, 8, 9, 10):
+        return None
+    try:
+        text = out.decode("ascii")
+    except UnicodeDecodeError:
+        return "an answer that isn't ASCII"
+    if status == 6:
+        found = BAD.fullmatch(text)
+        fits = found and (not found[1] or int(found[1]) <= LAST_LINE[command])
+    elif status == 3:
+        fits = SPENT.fullmatch(text) and text == f"spent {case.words[2].decode()}\n"
+    else:
+        fits = FORMS[command, status].fullmatch(text)
+    if not fits:
+        return "an answer of another form"
+    check = NUMBERS.get((command, status))
+    return check(case, text) if check else None
+
+
+def wrong_accepted(case, text):
+    lines = case.input.decode("ascii").split("\n")
+    return None if text == f"accepted {lines[1][6:]} {lines[2][4:]}\n" else "another claim or position than the certificate's"
+
+
+def wrong_total(case, text):
+    lines = text.split("\n")
+    return None if lines[-2] == f"total {len(lines) - 2}" else "a wrong total"
+
+
+def wrong_length(case, text):
+    return None if len(text.split()) - 1 == int(case.words[1]) else "an open line that isn't as long as the depth"
+
+
+def wrong_depth(case, text):
+    depths = re.findall(r" to (\d+)\n", text)
+    return None if all(depth == case.words[1].decode() for depth in depths) else "another depth than was asked for"
+
+
+def wrong_tree(case, text):
+    """Whether the lines are a tree: each `expand n` has n children, and `end` stands at the last level."""
+    lines, deepest = text.split("\n")[:-1], int(case.words[1])
+    if len(lines) > int(case.words[2]):
+        return "more lines than were allowed"
+    # How many children each open level still wants.
+    wanted = [1]
+    for line in lines:
+        level = (len(line) - len(line.lstrip(" "))) // 2
+        note = line.strip().split(" ", 1)[1]
+        while wanted and wanted[-1] == 0:
+            wanted.pop()
+        if not NOTE.fullmatch(note) or level != len(wanted) - 1 or (note == "end") > (level == deepest):
+            return "a line that doesn't fit the tree"
+        wanted[-1] -= 1
+        if note.startswith("expand"):
+            if level == deepest:
+                return "a node below the last level"
+            wanted.append(int(note.split(" ")[1]))
+        if note.startswith("back") and not 1 <= int(note.split(" ")[1]) <= level:
+            return "a step back above the root"
+    return "a node with too few children" if any(wanted) else None
+
+
+def wrong_summary(case, text):
+    games, plies = (int(text.split(" ")[at]) for at in (1, 3))
+    return None if games == int(case.words[2]) and plies <= games * int(case.words[3]) else "wrong counts"
+
+
+NUMBERS = {
+    ("check", 0): wrong_accepted,
+    ("unmoves", 0): wrong_total,
+    ("solve", 2): wrong_length,
+    ("verdict", 0): wrong_depth,
+    ("tree", 0): wrong_tree,
+    ("sample", 0): wrong_summary,
+}
+
+
+def unproved(program, case, out, rng):
+    """What is wrong with a certificate of `solve`. One that is mutated may be refused, in the form of a refusal."""
+    claim, fen = (line.rstrip("\r") for line in case.input.decode().split("\n")[:2])
+    lines = out.decode().split("\n")
+    if lines[1] != claim or lines[2] != "fen " + " ".join(fen.split(" ")[:4]):
+        return "a certificate of another claim or position"
+    if program.answers(["check"], out)[0] != 0:
+        return "a certificate that isn't accepted"
+    other = Case([b"check"], mutated(rng, out))
+    status, answer, said = program.run(other)
+    wrong = misbehaves(other, "check", status, answer, said) or misformed(other, "check", status, answer)
+    return wrong and f"{wrong}, in a mutated certificate: {other.input.decode('latin-1')!r}"
+
+
+def uncountered(program, case, out):
+    """What is wrong with a game of `solve`: it reaches the position, with the right that is said to be lost, or by another last move."""
+    claim, fen = (line.rstrip("\r") for line in case.input.decode().split("\n")[:2])
+    moves = out.decode().split()[1:]
+    kind, _, what = claim.partition(" ")[2].partition(" ")
+    fields = fen.split(" ")
+    if kind == "lost":
+        fields[2] = "".join(letter for letter in "KQkq" if letter in fields[2] + what)
+    if kind == "last" and moves[-1:] == [what]:
+        return "a game that ends with the claimed move"
+    status, answer, _ = program.answers(["play"], f"{' '.join(fields)}\n{' '.join(moves)}\n".encode())
+    return None if (status, answer) == (0, b"legal\n") else "a game that isn't legal or doesn't reach the target"
+
+
+def unborne(program, case, out, rng):
+    """What is wrong with one line of `verdict`, by `solve`."""
+    line = rng.choice(out.decode().split("\n")[:-1])
+    if line == "no rights":
+        return None
+    right, words = line.split(" ", 1)
+    claim = f"claim lost {right}" if len(right) == 1 else f"claim ep {right}"
+    status = program.answers(["solve", *(word.decode() for word in case.words[1:])], claim.encode() + b"\n" + case.input)[0]
+    fits = status == 0 if words.endswith("permitted") else status in (2, 4)
+    return None if fits else f"the line {line!r}, where solve ends with status {status}"
+
+
+def wrong(program, case, rng):
+    """What is wrong with a run of the case, with the run; None where nothing is."""
+    command = command_of(case.words)
+    ended = program.run(case)
+    status, out, _ = ended
+    found = misbehaves(case, command, *ended) or misformed(case, command, status, out)
+    if not found and not case.fails:
+        if (command, status) == ("solve", 0):
+            found = unproved(program, case, out, rng)
+        elif (command, status) == ("solve", 4):
+            found = uncountered(program, case, out)
+        elif (command, status) == ("verdict", 0):
+            found = unborne(program, case, out, rng)
+    if not found and rng.randrange(100) == 0 and program.run(case) != ended:
+        found = "a second run that differs"
+    return found, ended
+
+
+def keep(folder, seed, number, case, found, ended):
+    """Writes a file for the finding. An input over a megabyte is left out, since seed and number give it again."""
+    text = lambda value: value.decode("latin-1")
+    said = {
+        "wrong": found,
+        "seed": seed,
+        "number": number,
+        "words": [text(word) for word in case.words],
+        "fails": case.fails,
+        "input": text(case.input) if len(case.input) <= 1_000_000 else None,
+        "status": ended[0],
+        "stdout": text(ended[1][:10_000]),
+        "stderr": text(ended[2][:10_000]),
+    }
+    folder.mkdir(parents=True, exist_ok=True)
+    (folder / f"{seed}-{number}.json").write_text(json.dumps(said, indent=1) + "\n")
+
+
+def work(task):
+    """Tries some cases, and tells how many, how many runs it took and what was found."""
+    path, folder, seed, numbers = task
+    program, maker, findings = Program(path), Maker(), []
+    for number in numbers:
+        case = maker.case(seed, number)
+        found, ended = wrong(program, case, random.Random(f"{seed} {number} tried"))
+        if found:
+            keep(pathlib.Path(folder), seed, number, case, found, ended)
+            findings.append(f"{seed}-{number}: {found}")
+    return len(numbers), program.runs, findings
+
+
+def again(program, folder):
+    """Runs the kept cases of a folder, and tells how many are still wrong."""
+    left = 0
+    for path in sorted(folder.glob("*.json")):
+        said = json.loads(path.read_text())
+        seed, number = said["seed"], said["number"]
+        case = Maker().case(seed, number)
+        if said["input"] is not None:
+            case = Case([word.encode("latin-1") for word in said["words"]], said["input"].encode("latin-1"), said["fails"])
+        found, _ = wrong(Program(program), case, random.Random(f"{seed} {number} tried"))
+        left += found is not None
+        print(f"{path.name}: {found or 'as it should be'}")
+    return left
+
+
+def main():
+    parser = argparse.ArgumentParser(description=__doc__, formatter_class=argparse.RawDescriptionHelpFormatter)
+    parser.add_argument("program")
+    parser.add_argument("--cases", type=int, default=10_000)
+    parser.add_argument("--jobs", type=int, default=os.cpu_count())
+    parser.add_argument("--seed", type=int, default=1)
+    parser.add_argument("--found", default="fuzz-found")
+    parser.add_argument("--again", type=pathlib.Path)
+    args = parser.parse_args()
+    program = str(pathlib.Path(args.program).resolve())
+    if args.again:
+        sys.exit(1 if again(program, args.again) else 0)
+
+    begun = time.perf_counter()
+    tasks = [(program, args.found, args.seed, range(at, min(at + CHUNK, args.cases))) for at in range(0, args.cases, CHUNK)]
+    cases = runs = found = 0
+    with multiprocessing.Pool(args.jobs) as pool:
+        for number, (some, more, findings) in enumerate(pool.imap_unordered(work, tasks), 1):
+            cases, runs, found = cases + some, runs + more, found + len(findings)
+            print(*findings, sep="\n", end="\n" if findings else "", flush=True)
+            if number % 100 == 0:
+                print(f"{cases} cases, {cases / (time.perf_counter() - begun):.0f} a second, {found} found", file=sys.stderr)
+    seconds = time.perf_counter() - begun
+    print(f"{cases} cases in {runs} runs, {seconds:.1f} seconds, {cases / seconds:.0f} cases a second, {found} found")
+    sys.exit(1 if found else 0)
+
+
+if __name__ == "__main__":
+    main()

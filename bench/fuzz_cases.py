@@ -1,0 +1,234 @@
+"""The cases of fuzz.py: words and inputs, made by mutation of good ones. A case depends on its seed and its number alone."""
+import pathlib
+import random
+from dataclasses import dataclass
+
+EXAMPLES = pathlib.Path(__file__).resolve().parent.parent / "examples"
+LIMIT = 67_108_864
+
+FENS = [
+    "rnbqkbnr/pppppppp/8/8/8/8/PPPPPPPP/RNBQKBNR w KQkq -",
+    "rnbqkbnr/pppppppp/8/8/4P3/8/PPPP1PPP/RNBQKBNR b KQkq e3 0 1",
+    "rnbqkbnr/ppp1pppp/8/3pP3/8/8/PPPP1PPP/RNBQKBNR w KQkq d6",
+    "r1bqkbnr/pppp1ppp/2n5/4p3/4P3/5N2/PPPP1PPP/RNBQKB1R w KQkq - 2 3",
+    "rnbqk2r/ppppppbp/5np1/8/8/5NP1/PPPPPPBP/RNBQ1RK1 b kq - 3 4",
+    "8/8/8/8/8/8/8/8 w - -",
+    "4k3/8/8/8/8/8/8/4K3 w - -",
+    "4k3/8/8/3p4/8/8/P7/4K2R w K d6",
+    "4k3/8/8/8/8/8/P7/4K2R b - -",
+    "4k3/8/3P4/8/8/8/8/4K2R b K -",
+    "N3k3/8/8/8/8/8/8/4K2R b K -",
+    "5rk1/5ppp/8/8/8/8/8/4K3 w - -",
+    "4k3/2N3N1/8/8/8/8/8/4K3 b - -",
+    "4k3/8/8/8/8/8/6P1/4K2B w - -",
+    "4k3/4R3/8/8/8/8/8/4K3 w - -",
+    "4k3/8/8/8/8/P7/PPPPPPPP/4K3 w - -",
+    "k7/pp6/8/8/8/8/6PP/6KB w - -",
+    "rnbqkbnr/pppppppp/8/8/8/1P6/1PPPPPPP/RNBQKBNR w KQkq -",
+    "rn1qkbnr/pppppppp/8/8/8/1P6/1PPPPPPP/RNBQKBNR w KQkq -",
+    "rnbqkbnr/pppppppp/8/8/5B2/8/PPPPPPPP/RN1QKBNR w KQkq -",
+    "kN6/pp6/2P1P3/2KpP3/8/8/8/8 w - -",
+    "r3k2r/8/8/3PpP2/8/8/8/R3K2R w - -",
+    "4k3/8/8/K2pP2r/8/8/8/8 w - -",
+    "4k3/8/8/8/3pP3/8/8/4K3 b - -",
+    "QQQQQQQQ/QQQQQQQQ/QQQQQQQQ/QQQQQQQQ/qqqqqqqq/qqqqqqqq/qqqqqqqq/qqqqqqqq w - -",
+    "r3k2r/pp1bnppp/1qn1p3/2ppP3/3P4/2PB1N2/PP3PPP/RNBQK2R w KQkq -",
+]
+# Each with the position that it reaches.
+GAMES = [
+    ("rnbqkbnr/pppppppp/8/8/8/8/PPPPPPPP/RNBQKBNR w KQkq -", ""),
+    ("r1bqkbnr/pppp1ppp/2n5/4p3/4P3/5N2/PPPP1PPP/RNBQKB1R w KQkq - 2 3", "e2e4 e7e5 g1f3 b8c6"),
+    ("rnbqkbnr/ppp1pppp/8/3pP3/8/8/PPPP1PPP/RNBQKBNR w KQkq -", "e2e4 d7d6 e4e5 d6d5"),
+    ("rnbqkbnr/1pp1pppp/p7/3pP3/8/8/PPPP1PPP/RNBQKBNR w KQkq d6", "e2e4 a7a6 e4e5 d7d5"),
+    ("rnbq1rk1/ppp1bppp/3p1n2/8/8/5N2/PPPPBPPP/RNBQ1RK1 b - -", "e2e4 g8f6 e4e5 d7d5 e5d6 e7d6 f1e2 f8e7 g1f3 e8g8 e1g1"),
+    ("Q2qkbnr/2pppppp/2n5/8/8/8/1PPPPPPP/RNBQKBNR b KQk -", "a2a4 b7b5 a4b5 a7a6 b5a6 c8b7 a6b7 b8c6 b7a8q"),
+    ("rnb1kbnr/pppp1ppp/8/4p3/6Pq/5P2/PPPPP2P/RNBQKBNR w KQkq -", "f2f3 e7e5 g2g4 d8h4"),
+]
+CERTIFICATES = [
+    ("illegal", FENS[18], ["root rule caps w 000a000000000000 1 0 0 0 0 0 0 1 / 0 -1 0 0 0 0 0 0"]),
+    ("illegal", FENS[19], ["root rule promo w 0000000000000a00"]),
+    ("illegal", FENS[13], ["root rule frozen 0000000000004080"]),
+    ("illegal", FENS[14], ["root rule check"]),
+    ("lost Q", FENS[8], ["root rule rights"]),
+    ("last d7d5", "kN6/pp6/2P1P3/2KpP3/8/8/8/8 w - -", ["root expand 0"]),
+    ("illegal", "4k3/8/8/8/8/8/8/P3K3 w - -", ["root rule ranks"]),
+    ("illegal", FENS[5], ["root expand 1"] + ["a1a2 expand 1"] * 254 + ["a1a2 expand 0"]),
+]
+BODIES = [b"rule kings", b"rule ranks", b"rule check", b"rule rights", b"rule count w", b"rule count b", b"rule frozen 0000000000004080",
+          b"rule promo b 0000000000000000", b"rule caps w 0000000000000000 / 0 0 0 0 0 0 0 0", b"back 1", b"back 2", b"expand 0", b"expand 1"]
+TOKENS = [b"0", b"1", b"2", b"00", b"01", b"-0", b"+1", b"-1", b"8", b"64", b"65", b"-64", b"-65", b"255", b"256", b"999999", b"1000000", b"500000",
+          b"500001", b"4294967296", b"18446744073709551615", b"18446744073709551616", b"", b"-", b"/", b"w", b"b", b"K", b"KQkq", b"QK", b"e3", b"d6",
+          b"e2e4", b"e7e8q", b"d7d8nxr", b"c5d6ep", b"e9e5", b"e1g1", b"retro", b"claim", b"fen", b"root", b"rule", b"back", b"expand", b"illegal",
+          b"last", b"lost", b"ep", b"000000000000000", b"000000000000000A", b"ffffffffffffffff"]
+BYTES = b" \n\r\t-/+0123456789abcdefghKQkqPNBRpnbrwx\x00\x7f\x80\xff"
+MEN = "PNBRQKpnbrqk"
+
+
+@dataclass
+class Case:
+    words: list
+    input: bytes
+    # What is made to fail: "read", "write", "pipe", where nobody reads the answer, or nothing.
+    fails: str = ""
+
+
+def placed(men):
+    """The placement field of 64 men, from a1 on, None for an empty square."""
+    ranks = []
+    for rank in range(7, -1, -1):
+        text, empty = "", 0
+        for man in men[8 * rank : 8 * rank + 8]:
+            if man is None:
+                empty += 1
+                continue
+            text += (str(empty) if empty else "") + man
+            empty = 0
+        ranks.append(text + (str(empty) if empty else ""))
+    return "/".join(ranks)
+
+
+def men_of(placement):
+    men = []
+    for rank in reversed(placement.split("/")):
+        for letter in rank:
+            men += [None] * int(letter) if letter.isdigit() else [letter]
+    return men
+
+
+def square(rng):
+    return rng.choice("abcdefgh") + rng.choice("12345678")
+
+
+def move(rng):
+    return square(rng) + square(rng) + rng.choice(["", "", "", "", "", "n", "b", "r", "q"])
+
+
+class Maker:
+    """Makes cases from the examples and the tables above."""
+
+    def __init__(self):
+        read = lambda kind: [path.read_bytes() for path in sorted(EXAMPLES.glob(f"*.{kind}"))]
+        claims = [text.decode().split("\n") for text in read("claim")]
+        self.claims = [(claim, fen) for claim, fen, *_ in claims]
+        self.fens = FENS + [fen for _, fen in self.claims]
+        header = "retro 1\nclaim {}\nfen {}\n{}\n"
+        self.certs = read("cert") + [header.format(claim, fen, "\n".join(nodes)).encode() for claim, fen, nodes in CERTIFICATES]
+        self.games = [tuple(text.decode().split("\n", 1)) for text in read("game")] + GAMES
+
+    def fen(self, rng):
+        """A FEN of the grammar: a good one, in most cases with some men moved, taken away or added."""
+        placement, turn, rights, double, *counts = rng.choice(self.fens).split(" ")
+        if rng.random() < 0.7:
+            men = men_of(placement)
+            for _ in range(rng.choice([1, 1, 1, 2, 3, 30])):
+                a, b = rng.randrange(64), rng.randrange(64)
+                kind = rng.randrange(3)
+                if kind == 0:
+                    men[a], men[b] = men[b], men[a]
+                else:
+                    men[a] = None if kind == 1 else rng.choice(MEN)
+            placement = placed(men)
+        if rng.random() < 0.2:
+            turn = rng.choice("wb")
+            double = "-"
+        if rng.random() < 0.3:
+            rights = "".join(letter for letter in "KQkq" if rng.random() < 0.4) or "-"
+        if rng.random() < 0.15:
+            double = rng.choice("abcdefgh") + ("6" if turn == "w" else "3")
+        return " ".join([placement, turn, rights, double, *counts])
+
+    def claim(self, rng):
+        kind = rng.randrange(6)
+        if kind == 0:
+            return f"claim last {move(rng)}"
+        if kind == 1:
+            return "claim lost " + rng.choice("KQkq")
+        if kind == 2:
+            file, rank = rng.randrange(8), rng.choice("45")
+            beside = "abcdefgh"[max(0, min(7, file + rng.choice([-1, 1])))]
+            return f"claim ep {'abcdefgh'[file]}{rank}{beside}{'6' if rank == '5' else '3'}"
+        return "claim illegal"
+
+    def statement(self, rng):
+        claim, fen = rng.choice(self.claims)
+        if rng.random() < 0.8:
+            claim = self.claim(rng)
+        if rng.random() < 0.8:
+            fen = self.fen(rng)
+        return f"{claim}\n{fen}\n".encode()
+
+    def game(self, rng):
+        fen, text = rng.choice(self.games)
+        moves = text.split()
+        for _ in range(rng.choice([0, 0, 0, 1, 4]) if moves else 0):
+            moves[rng.randrange(len(moves))] = move(rng)
+        if rng.random() < 0.2:
+            moves = moves[: rng.randrange(len(moves) + 1)]
+        if rng.random() < 0.2:
+            fen = self.fen(rng)
+        return f"{fen}\n{rng.choice([' ', chr(10)]).join(moves)}\n".encode()
+
+    def certificate(self, rng):
+        lines = rng.choice(self.certs).split(b"\n")
+        if rng.random() < 0.5:
+            at = rng.randrange(3, len(lines) - 1)
+            label = lines[at].split(b" ")[0] if rng.random() < 0.8 else move(rng).encode()
+            lines[at] = label + b" " + rng.choice(BODIES)
+        if rng.random() < 0.2:
+            lines[2] = b"fen " + " ".join(self.fen(rng).split(" ")[:4]).encode()
+        return b"\n".join(lines)
+
+    def case(self, seed, number):
+        rng = random.Random(f"{seed} {number}")
+        if rng.randrange(20_000) == 0:
+            return Case([rng.choice([b"check", b"play", b"unmoves"])], b"x" * (LIMIT + rng.choice([0, 1, 2])))
+        command = rng.choice([b"check", b"check", b"check", b"play", b"play", b"unmoves", b"solve", b"solve", b"solve", b"verdict", b"tree", b"sample"])
+        words = [command]
+        if command in (b"solve", b"verdict", b"tree"):
+            words += [b"%d" % rng.choice([0, 1, 1, 2, 2, 3, 4, 9, 64]), b"%d" % rng.choice([1, 2, 5, 10, 30, 100, 100])]
+        if command == b"sample":
+            words += [b"%d" % rng.choice([0, 1, rng.randrange(2**64), 2**64 - 1]), b"%d" % rng.randint(1, 3), b"%d" % rng.randint(1, 6)]
+        makers = {b"check": self.certificate, b"play": self.game, b"solve": self.statement}
+        text = makers.get(command, lambda rng: self.fen(rng).encode() + b"\n")(rng)
+        for _ in range(rng.choice([0, 0, 0, 0, 0, 1, 1, 2, 5])):
+            text = mutated(rng, text)
+        if rng.random() < 0.08:
+            words = changed_words(rng, words)
+        return Case(words, text, rng.choices(["", "read", "write", "pipe"], [96, 2, 1, 1])[0])
+
+
+def mutated(rng, text):
+    """The text with a byte, a word or a line changed."""
+    kind = rng.randrange(8)
+    if kind < 4 or not text:
+        at = rng.randrange(len(text) + 1)
+        byte = bytes([rng.choice(BYTES)])
+        return [text[:at] + text[at + 1 :], text[:at] + byte + text[at:], text[:at] + byte + text[at + 1 :], text[:at]][kind % 4]
+    if kind < 6:
+        words = text.split(b" ")
+        words[rng.randrange(len(words))] = rng.choice(TOKENS)
+        return b" ".join(words)
+    lines = text.split(b"\n")
+    at, other = rng.randrange(len(lines)), rng.randrange(len(lines))
+    if kind == 6:
+        lines[at], lines[other] = lines[other], lines[at]
+    else:
+        lines[at] = rng.choice([lines[at] + b"\r", lines[at] + b"\n" + lines[other], b""])
+    return b"\n".join(lines)
+
+
+def changed_words(rng, words):
+    """Words of which one is changed, taken away or added; none has a zero byte."""
+    words = list(words)
+    at = rng.randrange(len(words))
+    token = rng.choice(TOKENS + [b"check", b"solve", b"tree", b"Check", b"check ", b"1 ", b"\xff", b"1.0", b"0x1", b"--help", b"-h"])
+    kind = rng.randrange(4)
+    if kind == 0:
+        del words[at]
+    elif kind == 1:
+        words.insert(at, token)
+    elif kind == 2:
+        words[at] = token
+    else:
+        words[at] = words[at] + rng.choice([b"0", b" ", b"\n", b"\xc3", b"s"])
+    return words
