@@ -142,7 +142,7 @@ const KNIGHTS: &[u8] = b"root expand 4
 ";
 
 /// Words, and how the line begins that answers them; no move is missing.
-const SAMPLES: [(&[&str], &[u8]); 4] = [
+const SAMPLES: [(&[&str], &[u8]); 5] = [
     // The first move is b2b4, a double step.
     (&["sample", "0", "1", "1"], b"games 1 plies 1 unmoves 1 "),
     // It is c2c3. The last move may have been the pawn's, one of three by knights, and one of three by the queen.
@@ -155,6 +155,7 @@ const SAMPLES: [(&[&str], &[u8]); 4] = [
         &["sample", "1", "1000", "1"],
         b"games 1000 plies 1000 unmoves ",
     ),
+    (&["sample", "7", "1", "200"], b"games 1 plies "),
 ];
 
 /// Words that call no such command.
