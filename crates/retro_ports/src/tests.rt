@@ -1,5 +1,6 @@
 use crate::{
-    Failed, MemSink, MemSource, ReadAllFault, Sink, Source, StdSink, StdSource, read_all, write_all,
+    Failed, MemSink, MemSource, QuietSink, QuietSource, ReadAllFault, Sink, Source, StdSink,
+    StdSource, read_all, write_all,
 };
 use std::io;
 use std::io::{ErrorKind, Read, Write};
@@ -153,5 +154,26 @@ fn writes_all_within_the_room(rt: HostRuntime) -> Result<(), Fail> {
         assert_eq!(rt; sink.taken().len(), taken, "in {room}");
         assert!(rt; b"abcde".as_slice().starts_with(sink.taken()), "in {room}");
     }
+    Ok(())
+}
+
+#[test]
+fn reads_with_no_fault(rt: HostRuntime) -> Result<(), Fail> {
+    let mut source = QuietSource::new(Vec::from_slice(rt.alloc(), b"abc")?);
+    let mut buf = [0; 2];
+    assert_eq!(rt; source.read(&mut buf), Ok(2));
+    assert!(rt; buf.as_slice() == b"ab".as_slice());
+    assert_eq!(rt; source.read(&mut buf), Ok(1));
+    assert_eq!(rt; buf[0], b'c');
+    assert_eq!(rt; source.read(&mut buf), Ok(0));
+    Ok(())
+}
+
+#[test]
+fn takes_any_piece_whole(rt: HostRuntime) -> Result<(), Fail> {
+    let mut sink = QuietSink::new();
+    assert_eq!(rt; sink.write(b"a"), Ok(1));
+    assert_eq!(rt; sink.write(b"abcde"), Ok(5));
+    assert!(rt; write_all(&mut sink, b"").is_ok());
     Ok(())
 }
