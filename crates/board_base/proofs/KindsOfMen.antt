@@ -2,7 +2,7 @@
 use Rattle.std.proofs.Common.{◌≡◌, true, false, refl, ap, sym, ◌∙◌}
 use Rattle.std.proofs.lemmas.Bool.{both_ways, false_from_ne_true}
 use Rattle.std.specs.Prelude.{Option, Some, None, is_some}
-use Rattle.board_base.specs.Board.{is_a, is_empty, opponent, same_colour, same_kind}
+use Rattle.board_base.specs.Board.{is_a, is_empty, is_of, opponent, same_colour, same_kind}
 use Rattle.board_base.specs.Legal.{is_officer}
 use Rattle.board_base.specs.declared.men.Man.{Man}
 use Rattle.board_base.specs.declared.men.Colour.{Colour}
@@ -57,3 +57,11 @@ no_officer i k none officer = false_from_ne_true _ (λ same. both_ways _ none (a
 pub full-some : (place : Option Man) → is_some place ≡ true → is_empty place ≡ false
 full-some None h = cc
 full-some (Some m) h = refl
+
+pub none-empty : (place : Option Man) → is_some place ≡ false → is_empty place ≡ true
+none-empty None h = refl
+none-empty (Some m) h = cc
+
+pub full-of : (c : Colour) (place : Option Man) → is_of c place ≡ true → is_empty place ≡ false
+full-of c None h = cc
+full-of c (Some m) h = refl

@@ -1,5 +1,6 @@
 mod Examples
 pub mod Without
+pub mod LeftOut
 pub mod TextLemmas
 pub mod BitSets
 pub mod OneText

@@ -199,7 +199,7 @@ pub toward-down : (a b k : ℕ) → b < a → toward a b k ≡ a - k
 unfolding toward
 toward-down a b k down = cond-false _ (a + k) _ (not-less a b (omega arith)) ∙ cond-true _ (a - k) a (lt-ltb _ _ down)
 
-toward-same : (a b k : ℕ) → a ≡ b → toward a b k ≡ a
+pub toward-same : (a b k : ℕ) → a ≡ b → toward a b k ≡ a
 unfolding toward
 toward-same a b k e = cond-false _ (a + k) _ (not-less a b (omega arith)) ∙ cond-false _ (a - k) a (not-less b a (omega arith))
 

@@ -1,4 +1,4 @@
-ghost use Rattle.std.specs.Prelude.{◌≡◌, length, slice_set, true};
+ghost use Rattle.std.specs.Prelude.{◌≡◌, ◌<◌, ◌≤◌, ℕ, false, length, slice_set, true};
 ghost use Rattle.board_base.specs.Board.{is_in};
 ghost use Rattle.board_base.specs.Squares.{squares_of, number_of};
 
@@ -6,7 +6,7 @@ use crate::squares::Square;
 use std::marker::Model;
 
 /// A set of squares, seen as its 64 truth values: the one at `s` says whether square `s` is in the set.
-#[derive(Clone, Copy, PartialEq, Eq, Debug)]
+#[derive(Clone, Copy, PartialEq, Eq, Hash, Debug)]
 pub struct SquareSet {
     bits: u64,
 }
@@ -58,6 +58,34 @@ impl SquareSet {
     {
         SquareSet {
             bits: self.bits | 1 << s.index(),
+        }
+    }
+
+    /// The set without this square.
+    pub fn without(self, s: Square) -> SquareSet
+        ensures { result ≡ slice_set self s false }
+    {
+        SquareSet {
+            bits: self.bits & !(1 << s.index()),
+        }
+    }
+
+    /// The first square of the set from this one on, or 64.
+    pub fn next_from(self, start: u8) -> u8
+        requires { start ≤ 64 }
+        ensures high { start ≤ result }
+        ensures low { result ≤ 64 }
+        ensures none { (s : ℕ) → start ≤ s → s < result → is_in self s ≡ false }
+        ensures found { result < 64 → is_in self result ≡ true }
+    {
+        if start > 63 {
+            return 64;
+        }
+        let rest = self.bits >> start;
+        if rest == 0 {
+            64
+        } else {
+            start + rest.trailing_zeros() as u8
         }
     }
 }

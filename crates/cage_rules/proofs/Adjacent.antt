@@ -16,7 +16,8 @@ use Rattle.cage_rules.specs.Steps.{down, is_across, is_ahead, is_along, is_diago
 use Rattle.cage_rules.proofs.Rays.{apart-back}
 use Rattle.cage_rules.proofs.Filling.{is_in-that, length-that, none-in-zero}
 use Rattle.cage_rules.proofs.Near.{Source, near-corner, near-either, near-is, near-more, near-same, on_file, on_rank, placed}
-use Rattle.cage_rules.proofs.SetAlgebra.{is_in-union, length-union, same-truth}
+use Rattle.cage_rules.proofs.SetAlgebra.{is_in-union, length-union}
+use Rattle.general_lemmas.proofs.Truth.{same_truth}
 
 -- numbers n apart: the first is above the second, or below
 apart-cases : (a b n : ℕ) → distance a b ≡ n → (a ≡ b + n) ⊎ (b ≡ a + n)
@@ -140,7 +141,7 @@ down-near set =
 line-numbers : (f r f' r' : ℕ) → (((r == r') && (distance f f' == 1)) || ((f == f') && (distance r r' == 1))) ≡ ((max (distance f f') (distance r r') == 1) && ((f == f') || (r == r')))
 unfolding distance
 line-numbers f r f' r' =
-    same-truth _ _
+    same_truth _ _
     (λ h. elim (or_cases ((r == r') && (distance f f' == 1)) ((f == f') && (distance r r' == 1)) h) [
       | inl across ↦
           let parts = and_parts (r == r') (distance f f' == 1) across in
@@ -168,7 +169,7 @@ line-near set = near-either (is_across 1) (is_along 1) set ∙ near-same (λ s t
 -- one step along a diagonal
 diagonal-numbers : (a b : ℕ) → ((b == 1) && (a == 1)) ≡ ((max a b == 1) && (a == b))
 diagonal-numbers a b =
-    same-truth _ _
+    same_truth _ _
     (λ h. let parts = and_parts (b == 1) (a == 1) h in let eb : b ≡ 1 = eqb-true b 1 parts.0 in let ea : a ≡ 1 = eqb-true a 1 parts.1 in and_from _ _ (eq-eqb (max a b) 1 (omega arith)) (eq-eqb a b (omega arith)))
     (λ h. let parts = and_parts (max a b == 1) (a == b) h in let em : max a b ≡ 1 = eqb-true _ 1 parts.0 in let same : a ≡ b = eqb-true a b parts.1 in and_from _ _ (eq-eqb b 1 (omega arith)) (eq-eqb a 1 (omega arith)))
 
@@ -180,7 +181,7 @@ diagonal-near set = near-corner (λ a b. distance a b == 1) (λ a b. distance a 
 next-numbers : (f r f' r' : ℕ) → (((max (distance f f') (distance r r') == 1) && ((f == f') || (r == r'))) || ((max (distance f f') (distance r r') == 1) && (distance f f' == distance r r'))) ≡ (max (distance f f') (distance r r') == 1)
 unfolding distance
 next-numbers f r f' r' =
-    same-truth _ _
+    same_truth _ _
     (λ h. elim (or_cases ((max (distance f f') (distance r r') == 1) && ((f == f') || (r == r'))) ((max (distance f f') (distance r r') == 1) && (distance f f' == distance r r')) h) [
       | inl line ↦ (and_parts _ _ line).0
       | inr diagonal ↦ (and_parts _ _ diagonal).0
@@ -238,7 +239,7 @@ rise-form Black s t = refl
 beside-numbers : (s t : ℕ) → ((s == t) || ((rank s == rank t) && (files_apart s t == 1))) ≡ ((rank s == rank t) && nat_lt (files_apart s t) 2)
 unfolding distance
 beside-numbers s t =
-    same-truth _ _
+    same_truth _ _
     (λ h. elim (or_cases (s == t) ((rank s == rank t) && (files_apart s t == 1)) h) [
       | inl same ↦ let e : s ≡ t = eqb-true s t same in and_from _ _ (eq-eqb (rank s) (rank t) (ap rank e)) (lt-ltb (files_apart s t) 2 (let f : file s ≡ file t = ap file e in omega arith))
       | inr beside ↦

@@ -1,20 +1,15 @@
 -- The whole array.
 use Rattle.std.proofs.Common.{◌≡◌, ℕ, ◌<◌, zero, suc, inl, inr, Bool, true, false, cond, ◌||◌, arith, List, length, refl, ap, sym, ◌∙◌, ◌==◌, ◌&&◌, not}
 use Rattle.std.specs.Prelude.{Option, None, replicate}
-use Rattle.board_base.specs.Board.{Places, array_of, at, file, initial_array, is_in, is_a, no_men, no_odds}
+use Rattle.board_base.specs.Board.{Places, array_of, at, file, initial_array, is_in, is_a, no_men}
 use Rattle.board_base.specs.declared.men.Man.{Man}
-use Rattle.board_base.proofs.Without.{at-without, in-none}
+use Rattle.board_base.proofs.Without.{at-without}
 use Rattle.std.proofs.lemmas.Bool.{agree_below_at, and_left, both_ways, cases_lt, false_from_ne_true}
 use Rattle.std.proofs.lemmas.List.{get_or_past, length-replicate}
 use Rattle.board_base.specs.declared.men.Kind.TheVariants.{Knight, Bishop, Rook, Queen}
 use Rattle.play_rules.specs.Laws.{is_end}
 use Rattle.cage_rules.specs.Regions.{beginner, is_officer_home}
 use Rattle.cage_rules.proofs.Filling.{Filled, filled-start}
-
--- nobody is left out of it
-pub whole-array : (s : ℕ) → at (array_of no_odds) s ≡ at initial_array s
-unfolding array_of
-whole-array s = at-without no_odds initial_array s ∙ ap (λ (b : Bool). cond b None (at initial_array s)) (in-none 64 s)
 
 -- a man who isn't left out begins where he begins in the whole array
 pub array-there : (o : List Bool) (s : ℕ) → is_in o s ≡ false → at (array_of o) s ≡ at initial_array s

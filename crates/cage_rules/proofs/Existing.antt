@@ -1,7 +1,7 @@
 -- Within each set there is a greatest frozen set, and it can be told whether a set is as in the array.
-use Rattle.std.proofs.Common.{◌≡◌, ℕ, zero, suc, ◌<◌, ◌≤◌, ◌⊎◌, inl, inr, true, false, List, length, refl, sym, ap, ◌∙◌, arith}
+use Rattle.std.proofs.Common.{◌≡◌, ℕ, zero, suc, ◌≤◌, ◌⊎◌, inl, inr, true, false, List, length, refl, sym, ap, ◌∙◌, arith}
 use Rattle.std.proofs.lemmas.Bool.{both_ways}
-use Rattle.std.specs.Prelude.{Bool, IsTrue}
+use Rattle.std.specs.Prelude.{Bool}
 use Rattle.board_base.specs.Board.{Places, array_of, is_in, no_odds}
 use Rattle.query_base.specs.Asked.{Asked}
 use Rattle.play_rules.specs.Reach.{IsWithin}

@@ -6,7 +6,8 @@ use Rattle.cage_rules.specs.Sets.{union}
 use Rattle.cage_rules.specs.Steps.{is_near, near}
 use Rattle.cage_rules.proofs.Rays.{file-of, rank-of}
 use Rattle.cage_rules.proofs.Filling.{is_in-that, length-that}
-use Rattle.cage_rules.proofs.SetAlgebra.{is_in-union, length-union, same-that, same-truth, that-is, union-that}
+use Rattle.cage_rules.proofs.SetAlgebra.{is_in-union, length-union, same-that, that-is, union-that}
+use Rattle.general_lemmas.proofs.Truth.{same_truth}
 use Rattle.general_lemmas.proofs.Ranges.{any-found}
 use Rattle.cage_rules.proofs.Tested.{any-told}
 
@@ -42,7 +43,7 @@ is_in-near p set s inside = is_in-that (is_near p set) s inside
 pub near-is : (p : ℕ → ℕ → Bool) (set found : List Bool) → length found ≡ 64 → ((s : ℕ) → s < 64 → is_in found s ≡ true → Source p set s) → ((s : ℕ) → s < 64 → Source p set s → is_in found s ≡ true) → found ≡ near p set
 unfolding near
 near-is p set found size told tells =
-    that-is (is_near p set) found size (λ s inside. same-truth (is_in found s) (is_near p set s) (λ h. near-tells p set s (told s inside h)) (λ h. tells s inside (near-told p set s h)))
+    that-is (is_near p set) found size (λ s inside. same_truth (is_in found s) (is_near p set s) (λ h. near-tells p set s (told s inside h)) (λ h. tells s inside (near-told p set s h)))
 
 replaced : (p r : ℕ → ℕ → Bool) (set : List Bool) (s : ℕ) → s < 64 → ((s t : ℕ) → s < 64 → t < 64 → p s t ≡ r s t) → Source p set s → Source r set s
 replaced p r set s inside same h = record { square = h.square; inside = h.inside; placed = sym (same s h.square inside h.inside) ∙ h.placed; member = h.member }
@@ -60,7 +61,7 @@ unfolding near
 near-either p r set =
     union-that (is_near p set) (is_near r set)
     ∙ same-that (λ s. is_near p set s || is_near r set s) (is_near (λ s t. p s t || r s t) set) (λ s inside.
-    same-truth (is_near p set s || is_near r set s) (is_near (λ s t. p s t || r s t) set s)
+    same_truth (is_near p set s || is_near r set s) (is_near (λ s t. p s t || r s t) set s)
     (λ h. elim (or_cases (is_near p set s) (is_near r set s) h) [
       | inl first ↦ let from = near-told p set s first in near-tells (λ s t. p s t || r s t) set s (record { square = from.square; inside = from.inside; placed = or_left (p s from.square) (r s from.square) from.placed; member = from.member })
       | inr second ↦ let from = near-told r set s second in near-tells (λ s t. p s t || r s t) set s (record { square = from.square; inside = from.inside; placed = or_right (p s from.square) (r s from.square) from.placed; member = from.member })

@@ -13,8 +13,8 @@ use Rattle.play_rules.specs.Laws.{is_end}
 use Rattle.play_rules.proofs.Skipped.{same-file}
 use Rattle.cage_rules.specs.Frozen.{is_behind, is_past_home, is_before_promotion, is_entry}
 use Rattle.cage_rules.proofs.Entries.{WayIn}
-use Rattle.board_base.proofs.Ways.{toward-down, toward-up}
-use Rattle.cage_rules.proofs.Rays.{toward-same, apart-back, rank-of, file-of}
+use Rattle.board_base.proofs.Ways.{toward-down, toward-same, toward-up}
+use Rattle.cage_rules.proofs.Rays.{apart-back, rank-of, file-of}
 
 -- a pawn's step to the next rank
 pub record Steps (c : Colour) (s t : ℕ) : Type 0 where
@@ -103,7 +103,7 @@ double-enters board c s t inside home same two clear =
     let r : ℕ = toward (rank s) (rank t) 1 in
     let f : ℕ = toward (file s) (file t) 1 in
     let e : ℕ = 8 * r + f in
-    let stays : f ≡ file t = toward-same (file s) (file t) 1 same in
+    let stays : f ≡ file t = toward-same (file s) (file t) 1 same ∙ same in
     let small : f < 8 = omega arith in
     let cross : Crossed c t e = crossed-from c s t e inside home same two (rank-of r f small) (file-of r f small ∙ stays) in
     let steps : king_distance s t ≡ 2 = two-steps s t same two in

@@ -1,15 +1,10 @@
 -- The squares on the way along a line or a diagonal, step by step.
-use Rattle.std.proofs.Common.{◌≡◌, ℕ, ◌+◌, ◌-◌, ◌*◌, ◌<◌, ◌≤◌, max, inl, inr, Bool, true, refl, ap, sym, ◌∙◌, arith}
-use Rattle.std.proofs.lemmas.Bool.{or_cases, or_left, or_right, cases_lt, cases_order, eqb-true, eq-eqb, lt-ltb, ltb-true, cond-true, cond-false, false_from_ne_true}
-use Rattle.std.specs.Prelude.{nat_lt}
+use Rattle.std.proofs.Common.{◌≡◌, ℕ, ◌+◌, ◌*◌, ◌<◌, ◌≤◌, max, inl, inr, Bool, true, refl, ap, sym, ◌∙◌, arith}
+use Rattle.std.proofs.lemmas.Bool.{or_cases, or_left, or_right, cases_lt, cases_order, eqb-true, eq-eqb}
 use Rattle.board_base.specs.Board.{file, rank}
 use Rattle.board_base.specs.Attacks.{distance, files_apart, ranks_apart, on_one_line, on_one_diagonal, toward, on_the_way, king_distance}
-use Rattle.board_base.proofs.Ways.{toward-down, toward-up}
+use Rattle.board_base.proofs.Ways.{toward-down, toward-same, toward-up}
 use Rattle.cage_rules.specs.Frozen.{is_next}
-
-pub toward-same : (a b k : ℕ) → a ≡ b → toward a b k ≡ b
-unfolding toward
-toward-same a b k e = cond-false (nat_lt a b) (a + k) _ (false_from_ne_true _ (λ h. let l : a < b = ltb-true a b h in omega arith)) ∙ cond-false (nat_lt b a) (a - k) a (false_from_ne_true _ (λ h. let l : b < a = ltb-true b a h in omega arith)) ∙ e
 
 -- the square of a rank and a file has that rank and that file
 pub rank-of : (r f : ℕ) → f < 8 → rank (8 * r + f) ≡ r
@@ -54,7 +49,7 @@ far-files' s t n e none = max-zero' (files_apart s t) (ranks_apart s t) n none e
 toward-none : (a b : ℕ) → toward a b 0 ≡ a
 unfolding toward
 toward-none a b = elim (cases_order a b) [
-  | inl same ↦ toward-same a b 0 same ∙ sym same
+  | inl same ↦ toward-same a b 0 same
   | inr (inl up) ↦ toward-up a b 0 up ∙ omega arith
   | inr (inr down) ↦ toward-down a b 0 down ∙ omega arith
 ]
@@ -81,7 +76,7 @@ step a b n i sa sb far more = elim (cases_lt a b) [
 toward-far : (a b n : ℕ) → distance a b ≡ n → toward a b n ≡ b
 unfolding distance
 toward-far a b n far = elim (cases_order a b) [
-  | inl same ↦ toward-same a b n same
+  | inl same ↦ toward-same a b n same ∙ same
   | inr (inl up) ↦ toward-up a b n up ∙ omega arith
   | inr (inr down) ↦ toward-down a b n down ∙ omega arith
 ]
@@ -134,8 +129,8 @@ line-step s t i small inside line more =
           let by_rank : Step (rank s) (rank t) i = step (rank s) (rank t) n i (omega arith) (omega arith) ranks more in
           let rs : r < 8 = by_rank.small in
           let rs' : r' < 8 = by_rank.small_then in
-          let ef : f ≡ file t = toward-same (file s) (file t) i same in
-          let ef' : f' ≡ file t = toward-same (file s) (file t) (i + 1) same in
+          let ef : f ≡ file t = toward-same (file s) (file t) i same ∙ same in
+          let ef' : f' ≡ file t = toward-same (file s) (file t) (i + 1) same ∙ same in
           let fs : f < 8 = omega arith in
           let fs' : f' < 8 = omega arith in
           let ra : ranks_apart (8 * r' + f') (8 * r + f) ≡ 1 = ap (distance (rank (8 * r' + f'))) (rank-of r f fs) ∙ ap (λ (x : ℕ). distance x r) (rank-of r' f' fs') ∙ by_rank.apart in
@@ -153,8 +148,8 @@ line-step s t i small inside line more =
           let by_file : Step (file s) (file t) i = step (file s) (file t) n i (omega arith) (omega arith) files more in
           let fs : f < 8 = by_file.small in
           let fs' : f' < 8 = by_file.small_then in
-          let er : r ≡ rank t = toward-same (rank s) (rank t) i same in
-          let er' : r' ≡ rank t = toward-same (rank s) (rank t) (i + 1) same in
+          let er : r ≡ rank t = toward-same (rank s) (rank t) i same ∙ same in
+          let er' : r' ≡ rank t = toward-same (rank s) (rank t) (i + 1) same ∙ same in
           let rs : r < 8 = omega arith in
           let rs' : r' < 8 = omega arith in
           let fa : files_apart (8 * r' + f') (8 * r + f) ≡ 1 = ap (distance (file (8 * r' + f'))) (file-of r f fs) ∙ ap (λ (x : ℕ). distance x f) (file-of r' f' fs') ∙ by_file.apart in
@@ -183,8 +178,8 @@ pub line-end : (s t : ℕ) → on_one_line s t ≡ true → on_the_way s t (king
 line-end s t line = elim (or_cases _ _ line) [
   | inl column ↦
       let same : file s ≡ file t = eqb-true _ _ column in
-      there s t (toward-far (rank s) (rank t) (king_distance s t) (far-ranks s t (king_distance s t) refl (distance-zero _ _ same))) (toward-same (file s) (file t) (king_distance s t) same)
+      there s t (toward-far (rank s) (rank t) (king_distance s t) (far-ranks s t (king_distance s t) refl (distance-zero _ _ same))) (toward-same (file s) (file t) (king_distance s t) same ∙ same)
   | inr row ↦
       let same : rank s ≡ rank t = eqb-true _ _ row in
-      there s t (toward-same (rank s) (rank t) (king_distance s t) same) (toward-far (file s) (file t) (king_distance s t) (far-files' s t (king_distance s t) refl (distance-zero _ _ same)))
+      there s t (toward-same (rank s) (rank t) (king_distance s t) same ∙ same) (toward-far (file s) (file t) (king_distance s t) (far-files' s t (king_distance s t) refl (distance-zero _ _ same)))
 ]

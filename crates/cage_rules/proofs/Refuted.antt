@@ -14,10 +14,10 @@ use Rattle.board_base.specs.declared.moves.Move.{Move}
 use Rattle.board_base.proofs.Without.{at-without}
 use Rattle.assignment.specs.Assignments.{IsBounded, total}
 use Rattle.pawn_assign.specs.PawnCosts.{pawn_costs}
-use Rattle.men_account.specs.Account.{counts_of, excess_of, is_any}
+use Rattle.men_account.specs.Account.{counts_of, excess_of, is_any, allowance_of}
 use Rattle.men_account.specs.Labels.{label_at, labels_after}
 use Rattle.men_account.specs.Captures.{captured_by_pawns, IsTakenIn}
-use Rattle.men_account.specs.Homes.{is_officer_of, AreGoneOtherwise, allowance_of, men_of}
+use Rattle.men_account.specs.Homes.{is_officer_of, AreGoneOtherwise, men_of}
 use Rattle.men_account.proofs.Homes.{promotions-most}
 use Rattle.men_account.proofs.Moments.{captured-moments}
 use Rattle.men_account.proofs.Paired.{bound-missing}

@@ -1,10 +1,11 @@
 -- Sets of squares by tests of their squares, and by the bits of numbers.
 use Rattle.std.proofs.Common.{◌≡◌, ℕ, zero, suc, ◌-◌, ◌^◌, ◌<◌, ◌==◌, ◌⊎◌, inl, inr, min, max, Bool, true, false, ◌&&◌, ◌||◌, not, List, [], ◌∷◌, length, refl, ap, sym, ◌∙◌, arith, bit_or, bit_and}
-use Rattle.std.proofs.lemmas.Bool.{and_parts, and_from, eqb-true, eq-eqb, both_ways, false_from_ne_true, not-true, not_from_false}
+use Rattle.std.proofs.lemmas.Bool.{and_parts, and_from, eqb-true, eq-eqb, not-true, not_from_false}
 use Rattle.std.proofs.lemmas.List.{ext_get_or}
 use Rattle.std.proofs.lemmas.Nat.Bits.{bit_at_and, bit_at_or, bit_at_not, bit_at-lt}
 use Rattle.std.specs.List.{list_all, range_with_len}
 use Rattle.std.specs.Int.{bit_at, bit_not, w64}
+use Rattle.general_lemmas.proofs.Truth.{same_truth}
 use Rattle.board_base.specs.Board.{is_in}
 use Rattle.board_base.specs.Squares.{number_of, squares_of}
 use Rattle.board_base.specs.SquareNumbers.{is_in-squares_of, length-squares_of, number_of-squares_of}
@@ -14,11 +15,6 @@ use Rattle.cage_rules.specs.Steps.{are_apart, both, outside}
 use Rattle.cage_rules.proofs.Filling.{is_in-that, length-that, none-in-zero}
 use Rattle.cage_rules.proofs.Tested.{all_board, at_board}
 
--- two tests that pass together are one truth value
-pub same-truth : (a b : Bool) → (a ≡ true → b ≡ true) → (b ≡ true → a ≡ true) → a ≡ b
-same-truth true b there back = sym (there refl)
-same-truth false b there back = sym (false_from_ne_true b (λ h. both_ways false refl (back h)))
-
 -- a set is told by what is said of each square of the board
 pub that-is : (p : ℕ → Bool) (set : List Bool) → length set ≡ 64 → ((s : ℕ) → s < 64 → is_in set s ≡ p s) → set ≡ squares_that p
 that-is p set size each = ext_get_or false set (squares_that p) (size ∙ sym (length-that p)) (λ s low. let inside : s < 64 = omega arith in each s inside ∙ sym (is_in-that p s inside))
@@ -27,7 +23,7 @@ pub same-that : (p r : ℕ → Bool) → ((s : ℕ) → s < 64 → p s ≡ r s) 
 same-that p r same = that-is r (squares_that p) (length-that p) (λ s inside. is_in-that p s inside ∙ same s inside)
 
 pub same-set : (a b : List Bool) → length a ≡ 64 → length b ≡ 64 → IsWithin a b → IsWithin b a → a ≡ b
-same-set a b sa sb there back = ext_get_or false a b (sa ∙ sym sb) (λ s low. same-truth (is_in a s) (is_in b s) (there s) (back s))
+same-set a b sa sb there back = ext_get_or false a b (sa ∙ sym sb) (λ s low. same_truth (is_in a s) (is_in b s) (there s) (back s))
 
 -- what is in both, in either, and outside
 pub is_in-both : (a b : List Bool) (s : ℕ) → s < 64 → is_in (both a b) s ≡ (is_in a s && is_in b s)
@@ -104,7 +100,7 @@ outside-bits a fits =
 -- the number of a set is 0 where no square is in it, and only there
 pub none-bits : (set : List Bool) (n : ℕ) → n ≡ number_of set → squares_of n ≡ set → (n == 0) ≡ list_all (λ s. not (is_in set s)) (range_with_len 0 64)
 none-bits set n number squares =
-    same-truth (n == 0) (list_all (λ s. not (is_in set s)) (range_with_len 0 64))
+    same_truth (n == 0) (list_all (λ s. not (is_in set s)) (range_with_len 0 64))
     (λ zero_is. all_board (λ s. not (is_in set s)) (λ s inside. not_from_false _ (ap (λ (l : List Bool). is_in l s) (sym squares ∙ ap squares_of (eqb-true n 0 zero_is)) ∙ none-in-zero s)))
     (λ none.
     let size : length set ≡ 64 = ap length (sym squares) ∙ length-squares_of n in
@@ -115,7 +111,7 @@ pub apart-bits : (a b : List Bool) (n : ℕ) → n ≡ number_of (both a b) → 
 unfolding are_apart
 apart-bits a b n number squares =
     none-bits (both a b) n number squares
-    ∙ same-truth _ _
+    ∙ same_truth _ _
     (λ none. all_board (λ s. not (is_in a s && is_in b s)) (λ s inside. ap not (sym (is_in-both a b s inside)) ∙ at_board (λ s. not (is_in (both a b) s)) s none inside))
     (λ none. all_board (λ s. not (is_in (both a b) s)) (λ s inside. ap not (is_in-both a b s inside) ∙ at_board (λ s. not (is_in a s && is_in b s)) s none inside))
 

@@ -1,6 +1,6 @@
 -- A set that no single step of a piece leaves is left by none of its moves, and what such steps add is within each set that he doesn't leave.
 use Rattle.std.proofs.Common.{◌≡◌, ℕ, zero, suc, ◌+◌, ◌-◌, ◌<◌, ◌≤◌, ◌==◌, ◌⊎◌, inl, inr, Bool, true, false, ◌&&◌, ◌||◌, not, List, length, set, refl, ap, sym, ◌∙◌, subst, arith}
-use Rattle.std.proofs.lemmas.Bool.{and_parts, and_from, or_cases, or_left, or_right, cases_eq, eqb-true, eq-eqb, ne_eqb, not-true, not_from_false, both_ways}
+use Rattle.std.proofs.lemmas.Bool.{and_parts, and_from, or_cases, or_left, or_right, cases_eq, eqb-true, ne_eqb, not-true, not_from_false, both_ways}
 use Rattle.std.proofs.lemmas.List.{get_or-set_same, get_or-set_other, length-set}
 use Rattle.std.specs.Prelude.{Option, Some}
 use Rattle.std.specs.List.{list_all, range_with_len}
@@ -26,7 +26,7 @@ use Rattle.cage_rules.proofs.Entries.{knight-back}
 use Rattle.cage_rules.proofs.Filling.{in-that, is_in-that, length-that, none-in-zero}
 use Rattle.cage_rules.proofs.Near.{Source, is_in-near, near-tells, near-told}
 use Rattle.cage_rules.proofs.SetAlgebra.{is_in-both, is_in-outside, is_in-union, length-union, that-is}
-use Rattle.cage_rules.proofs.Rays.{apart-back, diagonal-end, diagonal-step, line-end, line-step, no-steps}
+use Rattle.cage_rules.proofs.Rays.{diagonal-end, diagonal-step, line-end, line-step, no-steps}
 use Rattle.cage_rules.proofs.Regions.{closed-told, closed-tells}
 use Rattle.cage_rules.proofs.Tested.{member-inside}
 use Rattle.cage_rules.proofs.Walls.{at-walls}

@@ -10,7 +10,8 @@ use Rattle.cage_rules.specs.Regions.{beginner, is_exposed, is_shielded, may_stri
 use Rattle.cage_rules.specs.Sets.{union}
 use Rattle.cage_rules.specs.Steps.{are_apart, is_near, is_strike, near, outside}
 use Rattle.cage_rules.proofs.Near.{is_in-near, near-tells, near-told}
-use Rattle.cage_rules.proofs.SetAlgebra.{is_in-outside, is_in-union, same-truth}
+use Rattle.cage_rules.proofs.SetAlgebra.{is_in-outside, is_in-union}
+use Rattle.general_lemmas.proofs.Truth.{same_truth}
 use Rattle.general_lemmas.proofs.Ranges.{any-found}
 use Rattle.cage_rules.proofs.Tested.{all_board, any-told, at_board}
 
@@ -28,7 +29,7 @@ stands-is frozen u inside = is_in-outside (union ends frozen) u inside ∙ ap no
 exposed-is : (frozen : List Bool) (man : Man) (t : ℕ) → is_near (is_strike (opponent man.colour)) (outside (union ends frozen)) t ≡ is_exposed frozen (Some man) t
 unfolding is_exposed
 exposed-is frozen man t =
-    same-truth _ _
+    same_truth _ _
     (λ h.
     let from = near-told (is_strike (opponent man.colour)) (outside (union ends frozen)) t h in
     let low : from.square < 64 = from.inside in
@@ -44,6 +45,6 @@ shielded-made frozen h man first =
     let struck : List Bool = near (is_strike (opponent man.colour)) (outside (union ends frozen)) in
     let here : (t : ℕ) → t < 64 → is_in struck t ≡ is_exposed frozen (beginner h) t =
     λ t inside. is_in-near (is_strike (opponent man.colour)) (outside (union ends frozen)) t inside ∙ exposed-is frozen man t ∙ ap (λ (p : Option Man). is_exposed frozen p t) (sym first) in
-    same-truth _ _
+    same_truth _ _
     (λ apart. all_board (λ t. not (is_in (region frozen h) t && is_exposed frozen (beginner h) t)) (λ t inside. ap (λ (x : Bool). not (is_in (region frozen h) t && x)) (sym (here t inside)) ∙ at_board (λ t. not (is_in (region frozen h) t && is_in struck t)) t apart inside))
     (λ shielded. all_board (λ t. not (is_in (region frozen h) t && is_in struck t)) (λ t inside. ap (λ (x : Bool). not (is_in (region frozen h) t && x)) (here t inside) ∙ at_board (λ t. not (is_in (region frozen h) t && is_exposed frozen (beginner h) t)) t shielded inside))

@@ -5,8 +5,8 @@ use Rattle.board_base.specs.declared.men.Colour.{Colour}
 use Rattle.board_base.specs.declared.men.Kind.TheVariants.{Pawn}
 use Rattle.assignment.specs.Assignments.{IsBounded, total}
 use Rattle.pawn_assign.specs.PawnCosts.{pawn_costs}
-use Rattle.men_account.specs.Account.{counts_of, excess_of, is_any, men}
-use Rattle.men_account.specs.Homes.{allowance_of, men_of}
+use Rattle.men_account.specs.Account.{counts_of, excess_of, is_any, men, allowance_of}
+use Rattle.men_account.specs.Homes.{men_of}
 use Rattle.query_base.specs.Asked.{Asked}
 use Rattle.cage_rules.specs.Regions.{is_dead, is_officer_home, is_shielded}
 

@@ -6,7 +6,7 @@ ghost use Rattle.play_rules.specs.Reach.{IsWithin};
 
 use crate::frozen::{has_whole_board, settled};
 use crate::sets::{both, is_same, is_whole, with_if};
-use board_base::{Board, Man, Square, SquareSet};
+use board_base::{Board, Man, Odds, Square, SquareSet, array_of};
 use query_base::Query;
 
 fn is_same_place(a: Option<Man>, b: Option<Man>) -> bool
@@ -31,15 +31,15 @@ fn squares_alike(board: &Board, first: &Board) -> SquareSet
     alike
 }
 
-/// Whether each square of the set holds what the array has there (article 2.3).
-pub fn as_array(board: &Board, set: SquareSet) -> bool
-    ensures { IsTrue result ↔ IsAsArray no_odds board.now set }
+/// Whether each square of the set holds what the array at these odds has there (article 2.3): nobody where his home is among them.
+pub fn as_array(board: &Board, set: SquareSet, odds: Odds) -> bool
+    ensures { IsTrue result ↔ IsAsArray odds board.now set }
 {
     is_whole(set);
-    is_same(both(set, squares_alike(board, &Board::array())), set)
+    is_same(both(set, squares_alike(board, &array_of(odds))), set)
 }
 
-/// The greatest frozen set that is as in the array: it is frozen, holds what the array has there, and contains every set of which
+/// The greatest frozen set that is as in the array without odds: it is frozen, holds what the array has there, and contains every set of which
 /// both are true.
 pub fn greatest_as_array(query: &Query) -> SquareSet
     ensures frozen { IsFrozen query.now result }

@@ -21,6 +21,7 @@ abbrev pub open_words : Right → List ℕ
 open_words (Castling x) = codes " undisproved to "
 open_words (EnPassant m) = codes " unproved to "
 
+-- what is said of a right: that its claim is proved, or to which depth it is open
 abbrev pub verdict : Right → Bool → ℕ → List ℕ
 verdict right refuted depth = cond refuted (proved_words right) (open_words right ++ decimal depth)
 

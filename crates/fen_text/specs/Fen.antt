@@ -50,14 +50,17 @@ is_given given n = slice_index_or given n false
 abbrev pub rights_of : List Bool → Rights
 rights_of given = record { white_short = is_given given 0; white_long = is_given given 1; black_short = is_given given 2; black_long = is_given given 3 }
 
+-- the text has no byte
 abbrev pub is_nothing : List ℕ → Bool
 is_nothing [] = true
 is_nothing (b ∷ text) = false
 
+-- the text is a dash
 abbrev pub is_dash : List ℕ → Bool
 is_dash [] = false
 is_dash (b ∷ text) = (b == 45) && is_nothing text
 
+-- no castling is held
 abbrev pub no_rights : Rights
 no_rights = record { white_short = false; white_long = false; black_short = false; black_long = false }
 
@@ -88,6 +91,7 @@ en_passant c (b ∷ []) = cond (b == 45) (Some None) None
 en_passant c (f ∷ r ∷ []) = cond (nat_le 97 f && nat_le f 104 && (r == en_passant_digit c)) (Some (Some (double_on c (f - 97)))) None
 en_passant c (f ∷ r ∷ b ∷ text) = None
 
+-- a decimal digit
 abbrev pub is_digit : ℕ → Bool
 is_digit b = nat_le 48 b && nat_le b 57
 
@@ -111,12 +115,15 @@ asked b t r e = record { board = b; turn = t; held = r; only = e; barred = None 
 unfoldable pub from_numbers : Asked → List ℕ → Option Position
 from_numbers q text = parted 32 number (λ h. None) (λ h last. option_map (λ f. (q, Some (h, f))) (number last)) text
 
+-- behind the rights: the en passant field, and the numbers behind it, if there are any
 unfoldable pub from_en_passant : Places → Colour → Rights → List ℕ → Option Position
 from_en_passant b t r text = parted 32 (en_passant t) (λ e. Some (asked b t r e, None)) (λ e. from_numbers (asked b t r e)) text
 
+-- behind the side to move: the rights, and what follows them
 unfoldable pub from_rights : Places → Colour → List ℕ → Option Position
 from_rights b t text = parted 32 rights (λ r. None) (from_en_passant b t) text
 
+-- behind the placement: the side to move, and what follows it
 unfoldable pub from_turn : Places → List ℕ → Option Position
 from_turn b text = parted 32 turn (λ t. None) (from_rights b) text
 

@@ -4,6 +4,7 @@ use Rattle.std.specs.List.{count_by}
 use Rattle.fen_text.specs.Faults.{IsFault}
 use Rattle.fen_text.specs.declared.faults.FenFault.{FenFault}
 
+-- how many spaces a text has
 abbrev pub spaces : List ℕ → ℕ
 spaces text = count_by (λ b. b == 32) text
 

@@ -10,6 +10,7 @@ use Rattle.board_base.specs.declared.moves.Move.{Move}
 use Rattle.query_base.specs.Asked.{Asked}
 use Rattle.fen_text.specs.Fen.{en_passant_digit}
 
+-- the letter of a man: a capital for White
 abbrev pub symbol : Colour → Kind → ℕ
 symbol White Pawn = 80
 symbol White Knight = 78
@@ -44,6 +45,7 @@ unfoldable pub ranks_text : ℕ → Places → List ℕ
 ranks_text zero board = rank_text 0 (rank_of 0 board)
 ranks_text (suc n) board = rank_text 0 (rank_of (suc n) board) ++ 47 ∷ ranks_text n board
 
+-- the letter of the side to move
 abbrev pub turn_letter : Colour → ℕ
 turn_letter White = 119
 turn_letter Black = 98
@@ -53,12 +55,15 @@ abbrev pub letter_if : Bool → ℕ → List ℕ
 letter_if false letter = []
 letter_if true letter = letter ∷ []
 
+-- the letters of the castlings that are held, or a dash
 abbrev pub rights_text : Rights → List ℕ
 rights_text r = cond (r.white_short || r.white_long || r.black_short || r.black_long) (letter_if r.white_short 75 ++ letter_if r.white_long 81 ++ letter_if r.black_short 107 ++ letter_if r.black_long 113) (45 ∷ [])
 
+-- a dash, or the square that the double step passed over
 abbrev pub en_passant_text : Colour → Option Move → List ℕ
 en_passant_text c None = 45 ∷ []
 en_passant_text c (Some m) = (97 + file m.to) ∷ en_passant_digit c ∷ []
 
+-- the four fields of a query, with a space between two
 unfoldable pub spelling : Asked → List ℕ
 spelling q = ranks_text 7 q.board ++ 32 ∷ turn_letter q.turn ∷ 32 ∷ (rights_text q.held ++ 32 ∷ en_passant_text q.turn q.only)

@@ -4,7 +4,7 @@ ghost use Rattle.board_base.specs.Game.{IsGame};
 ghost use Rattle.play_rules.specs.States.{StandsFor};
 ghost use Rattle.game_text.specs.Replay.{FirstIllegal};
 
-use board_base::Move;
+use board_base::{Move, Odds};
 use play_rules::{State, step};
 
 /// The list of moves isn't a game.
@@ -21,7 +21,17 @@ pub fn replay(moves: &[Move]) -> Result<State, IllegalAt>
     requires { length moves.now < 2 ^ 32 }
     ensures { MatchResult result (λ s. IsGame no_odds moves.now × StandsFor s no_odds moves.now) (λ e. FirstIllegal no_odds moves.now e.ply) }
 {
-    let mut state = State::start();
+    replay_from(Odds::none(), moves)
+}
+
+/// The state after these moves, played at these odds: from the array without the men that are left
+/// out. `IllegalAt` comes exactly where one of them isn't legal after those before it, and names the
+/// first. There is room for fewer than 2^32 plies. Takes no memory.
+pub fn replay_from(odds: Odds, moves: &[Move]) -> Result<State, IllegalAt>
+    requires { length moves.now < 2 ^ 32 }
+    ensures { MatchResult result (λ s. IsGame odds moves.now × StandsFor s odds moves.now) (λ e. FirstIllegal odds moves.now e.ply) }
+{
+    let mut state = State::start_of(odds);
     for (i, m) in moves.iter().enumerate() {
         match step(&state, m) {
             Ok(next) => state = next,

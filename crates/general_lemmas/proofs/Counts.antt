@@ -1,6 +1,5 @@
 -- How many numbers of a list pass a test.
-use Rattle.std.proofs.Common.{◌≡◌, ℕ, zero, suc, ◌+◌, ◌≤◌, Bool, true, false, cond, List, [], ◌∷◌, refl, ap, arith}
-use Rattle.std.proofs.lemmas.Bool.{both_ways}
+use Rattle.std.proofs.Common.{◌≡◌, ℕ, zero, suc, ◌+◌, ◌≤◌, Bool, true, false, cond, List, [], ◌∷◌, ap, arith}
 use Rattle.std.proofs.lemmas.List.Sums.{sum_by-cons}
 use Rattle.std.specs.List.{count_by, range_with_len}
 
@@ -12,20 +11,8 @@ pub one_if-most : (b : Bool) → one_if b ≤ 1
 one_if-most true = omega arith
 one_if-most false = omega arith
 
-pub one_if-le : (a b : Bool) → (a ≡ true → b ≡ true) → one_if a ≤ one_if b
-one_if-le false b h = omega arith
-one_if-le true true h = omega arith
-one_if-le true false h = absurd (both_ways false refl (h refl))
-
 pub count-cons : (p : ℕ → Bool) (k : ℕ) (ks : List ℕ) → count_by p (k ∷ ks) ≡ one_if (p k) + count_by p ks
 count-cons p k ks = sum_by-cons (λ x. cond (p x) 1 0) k ks
-
--- what passes one test passes another
-pub count-le : (p q : ℕ → Bool) → ((s : ℕ) → p s ≡ true → q s ≡ true) → (ks : List ℕ) → count_by p ks ≤ count_by q ks
-count-le p q more [] = omega arith
-count-le p q more (k ∷ ks) =
-    let here : one_if (p k) ≤ one_if (q k) = one_if-le (p k) (q k) (more k) in
-    omega (arith, count-cons p k ks, count-cons q k ks, here, count-le p q more ks)
 
 -- a test on one number more
 pub count-end : (p : ℕ → Bool) (n k : ℕ) → count_by p (range_with_len k (suc n)) ≡ count_by p (range_with_len k n) + one_if (p (k + n))

@@ -25,7 +25,8 @@ use Rattle.men_account.specs.Account.{is_light}
 diagonal : (f r f' r' : ℕ) → (f - f') + (f' - f) ≡ (r - r') + (r' - r) → (f + r) % 2 ≡ (f' + r') % 2
 diagonal f r f' r' h = omega arith
 
-bishop-steps : (board : Places) (place : Option Man) (s t : ℕ) → is_a Bishop place ≡ true → elim place as (λ _. Bool) [ None ↦ false | Some m ↦ kind_attacks board m.colour m.kind s t ] ≡ true → is_light s ≡ is_light t
+-- a bishop's step keeps the colour of his square
+pub bishop-steps : (board : Places) (place : Option Man) (s t : ℕ) → is_a Bishop place ≡ true → elim place as (λ _. Bool) [ None ↦ false | Some m ↦ kind_attacks board m.colour m.kind s t ] ≡ true → is_light s ≡ is_light t
 unfolding kind_attacks distance
 bishop-steps board None s t k h = cc
 bishop-steps board (Some m) s t k h =

@@ -14,10 +14,10 @@ use Rattle.board_base.specs.Game.{IsGame, board_after}
 use Rattle.board_base.specs.declared.men.Colour.TheVariants.{White, Black}
 use Rattle.board_base.specs.declared.men.Kind.TheVariants.{Pawn, Bishop, Knight}
 use Rattle.board_base.specs.declared.moves.Move.{Move}
-use Rattle.men_account.specs.Account.{men, is_any, counts_of, excess_of}
+use Rattle.men_account.specs.Account.{men, is_any, counts_of, excess_of, allowance_of}
 use Rattle.men_account.specs.Labels.{labels_after, first_labels, relabelled}
 use Rattle.men_account.specs.Captures.{captured_by_pawns, all_files_left}
-use Rattle.men_account.specs.Homes.{allowance_of, men_of}
+use Rattle.men_account.specs.Homes.{men_of}
 use Rattle.assignment.specs.Assignments.{IsBounded, assignment_cost, total}
 use Rattle.assignment.specs.Tables.{cost_at}
 use Rattle.pawn_assign.specs.PawnCosts.{pawn_cost, pawn_costs, pawn_squares}

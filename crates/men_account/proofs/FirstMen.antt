@@ -4,8 +4,8 @@ use Rattle.board_base.specs.Board.{array_of, initial_array, no_odds}
 use Rattle.board_base.specs.declared.men.Colour.{Colour}
 use Rattle.board_base.specs.declared.men.Colour.TheVariants.{White, Black}
 use Rattle.board_base.specs.declared.men.Kind.TheVariants.{Pawn}
-use Rattle.men_account.specs.Account.{men, is_any, full_allowance}
-use Rattle.men_account.specs.Homes.{allowance_of, men_of}
+use Rattle.men_account.specs.Account.{men, is_any, full_allowance, allowance_of}
+use Rattle.men_account.specs.Homes.{men_of}
 
 -- with all homes counted a side has the full allowance, eight pawns, and sixteen men
 pub full : (c : Colour) → allowance_of c is_any (array_of no_odds) ≡ full_allowance

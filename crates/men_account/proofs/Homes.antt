@@ -13,10 +13,10 @@ use Rattle.board_base.specs.declared.men.Kind.TheVariants.{Pawn, Knight, Bishop,
 use Rattle.board_base.specs.declared.men.Man.{Man}
 use Rattle.board_base.specs.declared.moves.Move.{Move}
 use Rattle.board_base.proofs.KindsOfMen.{kind_is, colour_is}
-use Rattle.men_account.specs.Account.{men, is_light, is_dark, is_any, counts_of, excess_of}
+use Rattle.men_account.specs.Account.{men, is_light, is_dark, is_any, counts_of, excess_of, allowance_of}
 use Rattle.men_account.specs.Labels.{Labels, label_at, labels_after, LabelsEachMan, AreApart, HoldsOfEach, HasColourOf, IsPromotedFrom}
 use Rattle.men_account.specs.Captures.{KeepsColour}
-use Rattle.men_account.specs.Homes.{is_officer_of, HasOfficersFrom, allowance_of}
+use Rattle.men_account.specs.Homes.{is_officer_of, HasOfficersFrom}
 use Rattle.general_lemmas.proofs.Counts.{one_if}
 use Rattle.general_lemmas.proofs.SumsAmong.{value_at, sum-through, sum-both}
 use Rattle.men_account.proofs.Labelled.{labels-apart, labels-colours, labels-promotions, labels-each_man}

@@ -15,10 +15,10 @@ use Rattle.general_lemmas.proofs.Ranges.{all_in_range}
 use Rattle.play_rules.proofs.Kings.{within, length-after}
 use Rattle.assignment.specs.Assignments.{IsBounded, total}
 use Rattle.pawn_assign.specs.PawnCosts.{pawn_costs}
-use Rattle.men_account.specs.Account.{men, is_any, counts_of, excess_of}
+use Rattle.men_account.specs.Account.{men, is_any, counts_of, excess_of, allowance_of}
 use Rattle.men_account.specs.Labels.{label_at, labels_after}
 use Rattle.men_account.specs.Captures.{taken_on, captured_by_pawns, IsTakenIn}
-use Rattle.men_account.specs.Homes.{is_officer_of, AreGoneOtherwise, allowance_of, men_of}
+use Rattle.men_account.specs.Homes.{is_officer_of, AreGoneOtherwise, men_of}
 use Rattle.men_account.specs.HomeRegions.{StandInRegions, is_alike, is_deserted, IsOutOfReach, StayInRegions, is_lost}
 use Rattle.men_account.proofs.Labelled.{labels-each_man}
 use Rattle.men_account.proofs.Captured.{man-there}

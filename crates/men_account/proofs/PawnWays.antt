@@ -10,9 +10,9 @@ use Rattle.board_base.specs.Legal.{pawn_rank, is_move, man_moves, pawn_steps, pa
 use Rattle.board_base.specs.declared.men.Colour.{Colour}
 use Rattle.board_base.specs.declared.men.Colour.TheVariants.{White, Black}
 use Rattle.board_base.specs.declared.men.Kind.TheVariants.{Pawn}
-use Rattle.board_base.specs.declared.men.Man.{Man}
 use Rattle.board_base.specs.declared.moves.Move.{Move}
 use Rattle.board_base.specs.declared.castles.Castle.{Castle}
+use Rattle.board_base.proofs.KindsOfMen.{full-of}
 use Rattle.play_rules.proofs.Legality.{Manner, moves, steps, doubles, takes, passes, castles}
 use Rattle.play_rules.proofs.Kings.{double-en_passant_victim, empty-not}
 use Rattle.play_rules.proofs.Doubles.{castles-no-pawn}
@@ -62,10 +62,6 @@ victim-pawn board c rights last m t (castles h) = absurd (castles-no-pawn board 
 pub victim-enemy : (board : Places) (c : Colour) (rights : Castle → Bool) (last : Option Move) (m : Move) → goes_en_passant board m ≡ true → Manner board c rights last m → is_of (opponent c) (at board (en_passant_victim m)) ≡ true
 victim-enemy board c rights last m t manner = (and_parts (is_of (opponent c) (at board (en_passant_victim m))) (is_a Pawn (at board (en_passant_victim m))) (victim-pawn board c rights last m t manner)).0
 
-pub empty-of : (c : Colour) (place : Option Man) → is_of c place ≡ true → is_empty place ≡ false
-empty-of c None h = cc
-empty-of c (Some m) h = refl
-
 pub pawn-way : (board : Places) (c : Colour) (rights : Castle → Bool) (last : Option Move) (m : Move) → is_a Pawn (at board m.from) ≡ true → m.to < 64 → Manner board c rights last m → PawnWay board c m
 unfolding man_moves pawn_steps pawn_doubles pawn_captures pawn_captures_en_passant king_castles
 pawn-way board c rights last m pawn small (moves h) = absurd (both_ways _ (not-true _ (and_parts _ _ h).0) pawn)
@@ -78,7 +74,7 @@ pawn-way board c rights last m pawn small (doubles h) =
     straight (eqb-true _ _ p2.1) (double-forward c m.from m.to small (eqb-true _ _ (and_parts _ _ p2.0).1) (eqb-true _ 2 p4.1)) (and_parts _ _ h).1
 pawn-way board c rights last m pawn small (takes h) =
     let p = and_parts _ _ (and_parts _ _ h).0 in
-    let plain : goes_en_passant board m ≡ false = and_right _ _ (empty-of (opponent c) (at board m.to) (and_parts _ _ h).1) in
+    let plain : goes_en_passant board m ≡ false = and_right _ _ (full-of (opponent c) (at board m.to) (and_parts _ _ h).1) in
     aslant (eqb-true _ 1 p.1) (and_parts _ _ p.0).1 (subst (λ (s : ℕ). is_of (opponent c) (at board s) ≡ true) (sym (cond-false _ (en_passant_victim m) m.to plain)) (and_parts _ _ h).1)
 pawn-way board c rights last m pawn small (passes h) =
     let from = victim-from board c last m _ refl (and_parts _ _ h).1 in

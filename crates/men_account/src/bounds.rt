@@ -6,10 +6,10 @@ ghost use Rattle.board_base.specs.Game.{IsGame, board_after};
 ghost use Rattle.board_base.specs.declared.men.Kind.TheVariants.{Pawn};
 ghost use Rattle.assignment.specs.Assignments.{IsBounded, total};
 ghost use Rattle.pawn_assign.specs.PawnCosts.{pawn_costs};
-ghost use Rattle.men_account.specs.Account.{counts_of, excess_of, is_any, men};
+ghost use Rattle.men_account.specs.Account.{counts_of, excess_of, is_any, men, allowance_of};
 ghost use Rattle.men_account.specs.Captures.{captured_by_pawns};
 ghost use Rattle.men_account.specs.HomeRegions.{IsOutOfReach, StandInRegions, StayInRegions, is_deserted, is_lost};
-ghost use Rattle.men_account.specs.Homes.{AreGoneOtherwise, HasOfficersFrom, allowance_of, men_of};
+ghost use Rattle.men_account.specs.Homes.{AreGoneOtherwise, HasOfficersFrom, men_of};
 ghost use Rattle.men_account.specs.Labels.{labels_after};
 
 /// The law of promotions, in every game from the array without any of its men (article 3.7). Where each label on the board that is the

@@ -8,11 +8,11 @@ ghost use Rattle.men_account.specs.Captures.{KeepsColour};
 ghost use Rattle.men_account.specs.Labels.{AreApart, HasColourOf, HoldsOfEach, IsHimself, IsPromotedFrom, LabelsEachMan, labels_after, relabelled};
 
 /// The law that in every game, from the array without any of its men, a side's pawns and its men that must have been promoted, seen
-/// from the full array, are no more than eight (articles 2.2 and 3.7). Seen so, those above one queen, two rooks, two knights and a
-/// bishop on squares of each colour must have been promoted, wherever they stand. Where `account_ok` is false, no game leads to the
-/// board.
+/// from what it began with, are no more than the pawns with which it began (articles 2.2 and 3.7). Seen so, its queens, rooks, knights
+/// and bishops on squares of each colour above those with which it began must have been promoted, wherever they stand. Where
+/// `account_ok` is false, no game at these odds leads to the board.
 pub fn accounts_hold()
-    ensures { (o : List Bool) (g : List Move) → IsGame o g → (c : AColour) → IsTrue (accounts_for (board_after o g) c) }
+    ensures { (o : List Bool) (g : List Move) → IsGame o g → (c : AColour) → IsTrue (accounts_for o (board_after o g) c) }
 {}
 
 /// The laws of labelled men, in every game from the array without any of its men. Each man carries the square on which he began

@@ -1,5 +1,5 @@
 ghost use Rattle.std.specs.Prelude.{◌≡◌, ◌-◌, ◌≤◌, ◌<◌};
-ghost use Rattle.men_account.specs.Account.{accounts_for, counts_of, excess_of, is_light};
+ghost use Rattle.men_account.specs.Account.{counts_of, excess_of, is_light};
 ghost use Rattle.men_account.specs.Tallies.{AreBelow, with_man, with_place};
 
 use crate::tallies::{Allowance, Counts};
@@ -83,12 +83,4 @@ pub fn excess(c: &Counts, a: &Allowance) -> u16
         + surplus(c.knights, a.knights)
         + surplus(c.light_bishops, a.light_bishops)
         + surplus(c.dark_bishops, a.dark_bishops)
-}
-
-/// Whether a side's pawns and its men that must have been promoted, seen from the full array, are at most the eight pawns of the array
-/// (articles 2.2 and 3.7).
-pub fn account_ok(board: &Board, side: Colour) -> bool
-    ensures { result ≡ accounts_for board.now side }
-{
-    excess(&counts(board, side), &Allowance::full()) <= 8
 }

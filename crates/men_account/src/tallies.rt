@@ -1,5 +1,7 @@
 ghost use Rattle.std.specs.Prelude.{◌≡◌};
-ghost use Rattle.men_account.specs.Account.{full_allowance};
+ghost use Rattle.board_base.specs.Board.{array_of, no_odds};
+ghost use Rattle.board_base.specs.declared.men.Colour.{Colour as AColour};
+ghost use Rattle.men_account.specs.Account.{allowance_of, full_allowance, is_any};
 ghost use Rattle.men_account.specs.Tallies.{no_men_counted};
 
 /// How many men a side has of each kind (article 2.2), the bishops told apart by the colour of the square that they stand on.
@@ -36,6 +38,7 @@ impl Counts {
 /// How many men of each kind a side may have without a promotion.
 #[derive(Clone, Copy, PartialEq, Eq, Debug)]
 pub struct Allowance {
+    pub pawns: u8,
     pub knights: u8,
     /// The bishops on light squares.
     pub light_bishops: u8,
@@ -46,12 +49,14 @@ pub struct Allowance {
 }
 
 impl Allowance {
-    /// What a side begins with (articles 2.2 and 2.3): two knights, a bishop on a light square and one on a dark square, two rooks and a
-    /// queen.
+    /// What a side begins with without odds (articles 2.2 and 2.3): eight pawns, two knights, a bishop on a light square and one on a
+    /// dark square, two rooks and a queen.
     pub fn full() -> Allowance
-        ensures { result ≡ full_allowance }
+        ensures numbers { result ≡ full_allowance }
+        ensures homes { (c : AColour) → result ≡ allowance_of c is_any (array_of no_odds) }
     {
         Allowance {
+            pawns: 8,
             knights: 2,
             light_bishops: 1,
             dark_bishops: 1,

@@ -1,5 +1,5 @@
 -- What one pawn costs.
-use Rattle.std.proofs.Common.{◌≡◌, ℕ, ◌||◌, List, Bool, true, false, cond, not, refl, ap, ◌∙◌}
+use Rattle.std.proofs.Common.{◌≡◌, ℕ, ◌||◌, List, Bool, true, false, cond, not, ap, ◌∙◌}
 use Rattle.board_base.specs.Attacks.{distance}
 use Rattle.board_base.specs.Board.{file, is_in}
 use Rattle.board_base.specs.declared.men.Colour.{Colour}
@@ -10,13 +10,3 @@ unfolding pawn_cost
 pawn_cost-come o c s f home come =
     ap (λ (b : Bool). cond (b || not (can_come c s f)) 64 (distance (file s) f)) home
     ∙ ap (λ (b : Bool). cond (not b) 64 (distance (file s) f)) come
-
-far : (b : Bool) (n : ℕ) → cond (b || true) 64 n ≡ 64
-far true n = refl
-far false n = refl
-
-pub pawn_cost-none : (o : List Bool) (c : Colour) (s f : ℕ) → can_come c s f ≡ false → pawn_cost o c s f ≡ 64
-unfolding pawn_cost
-pawn_cost-none o c s f none =
-    ap (λ (b : Bool). cond (is_in o (pawn_home c f) || not b) 64 (distance (file s) f)) none
-    ∙ far (is_in o (pawn_home c f)) (distance (file s) f)

@@ -12,6 +12,5 @@ pub mod Skipped
 pub mod Order
 pub mod NoPawns
 pub mod Left
-pub mod Bits
 pub mod KingSets
 pub mod Passed

@@ -5,7 +5,7 @@ ghost use Rattle.board_base.specs.Legal.{in_check};
 ghost use Rattle.board_base.specs.declared.men.Kind.TheVariants.{King};
 ghost use Rattle.play_rules.specs.KingSets.{kings_on};
 
-use crate::sets::{marked, next_in};
+use crate::sets::marked;
 use board_base::{Board, Colour, Kind, Man, Square, SquareSet, is_a, is_the};
 use std::marker::Model;
 
@@ -59,12 +59,12 @@ fn is_one_attacked(board: &Board, kings: SquareSet, side: Colour) -> bool
     requires { kings_on board.now ≡ kings }
     ensures { result ≡ in_check board.now side }
 {
-    let mut s = next_in(kings, 0);
+    let mut s = kings.next_from(0);
     while s < 64 {
         if is_king_attacked(board, side, Square::known(s)) {
             return true;
         }
-        s = next_in(kings, s + 1);
+        s = kings.next_from(s + 1);
     }
     false
 }

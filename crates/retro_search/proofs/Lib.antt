@@ -1,4 +1,3 @@
-pub mod Covered
 pub mod Trees
 pub mod Lines
 pub mod Maps

@@ -6,7 +6,8 @@ use Rattle.query_base.specs.Asked.{Asked}
 use Rattle.static_rules.specs.Supports.{IsClosed}
 use Rattle.unmove_gen.specs.Listed.{unmoves}
 use Rattle.unmove_gen.specs.Predecessor.{predecessor}
-use Rattle.retro_search.specs.Refutable.{IsCovered, IsRefutable}
+use Rattle.query_base.specs.Ancestors.{IsCovered}
+use Rattle.retro_search.specs.Refutable.{IsRefutable}
 use Rattle.retro_search.specs.Costs.{IsCost}
 
 -- p stands in the tree of the query: it is the query; or, where no rule line supports the query and the depth isn't 0, it stands in

@@ -1,17 +1,13 @@
 -- Queries that are refuted by taking moves back, to a depth.
 use Rattle.std.specs.Prelude.{ℕ, zero, suc, ◌⊎◌, List, [], ◌∷◌}
-use Rattle.std.specs.List.{Any, Contains}
+use Rattle.std.specs.List.{Contains}
 use Rattle.board_base.specs.declared.unmoves.Unmove.{Unmove}
 use Rattle.query_base.specs.Asked.{Asked}
 use Rattle.query_base.specs.Reach.{Reaches}
-use Rattle.query_base.specs.Targets.{Covers}
+use Rattle.query_base.specs.Ancestors.{IsCovered}
 use Rattle.static_rules.specs.Supports.{IsClosed}
 use Rattle.unmove_gen.specs.Listed.{unmoves}
 use Rattle.unmove_gen.specs.Predecessor.{predecessor}
-
--- one of the ancestors asks no more than the query
-abbrev pub IsCovered : Asked → List Asked → Type 0
-IsCovered q ancestors = Any (λ a. Covers a q) ancestors
 
 -- nothing has to be taken back: some rule line supports the query, or an ancestor covers it
 abbrev pub IsShut : Asked → List Asked → Type 0

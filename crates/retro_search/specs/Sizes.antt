@@ -9,6 +9,7 @@ abbrev mutual
   nodes_in (back k) = 1
   nodes_in (expand kids) = suc (nodes_in_all kids)
 
+  -- how many nodes these trees have together
   pub nodes_in_all : Forest → ℕ
   nodes_in_all none = 0
   nodes_in_all (more label tree rest) = nodes_in tree + nodes_in_all rest

@@ -1,40 +1,15 @@
-ghost use Rattle.std.specs.Prelude.{◌≡◌, ◌<◌, ◌↔◌, IfSome, IsTrue, MatchOption, length, reverse};
-ghost use Rattle.query_base.specs.Ancestors.{CoversAt};
+ghost use Rattle.std.specs.Prelude.{◌≡◌, ◌<◌, IfSome, MatchOption, length, reverse};
+ghost use Rattle.query_base.specs.Ancestors.{IsCovered};
 ghost use Rattle.cert_text.specs.Tree.{back, rule};
 ghost use Rattle.cert_text.specs.Seen.{tree_of};
-ghost use Rattle.retro_search.specs.Refutable.{IsCovered, IsShut};
+ghost use Rattle.retro_search.specs.Refutable.{IsShut};
 ghost use Rattle.retro_search.specs.Eager.{IsEager};
 ghost use Rattle.retro_search.specs.Kept.{IsRefutation};
 
 use crate::refutations::Refutation;
 use cert_text::{Body, Node};
-use query_base::{Query, RuleLine, covers};
+use query_base::{Query, RuleLine, steps_back};
 use static_rules::close;
-
-/// The ancestor so many steps above covers the query. The parent, one step above, comes last.
-fn is_covered(ancestors: &[Query], steps: u8, query: &Query) -> bool
-    ensures { IsTrue result ↔ CoversAt query.now (reverse ancestors.now) steps }
-{
-    let steps = usize::from(steps);
-    if steps == 0 || ancestors.len() < steps {
-        return false;
-    }
-    covers(&ancestors[ancestors.len() - steps], query)
-}
-
-/// How many steps above the nearest ancestor stands that covers the query; None where none does. The parent comes last.
-fn steps_back(query: &Query, ancestors: &[Query]) -> Option<u8>
-    requires { length ancestors.now < 256 }
-    ensures { MatchOption result (IsCovered query.now (reverse ancestors.now) → ⊥) (λ k. CoversAt query.now (reverse ancestors.now) k) }
-{
-    for i in 0..ancestors.len() {
-        let steps = (i + 1) as u8;
-        if is_covered(ancestors, steps, query) {
-            return Some(steps);
-        }
-    }
-    None
-}
 
 /// The refutation by a rule line that supports the query.
 fn by_rule(reason: RuleLine) -> Refutation

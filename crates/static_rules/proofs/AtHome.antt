@@ -14,14 +14,15 @@ use Rattle.board_base.specs.declared.men.Kind.TheVariants.{Knight, Bishop, Rook,
 use Rattle.board_base.specs.declared.men.Man.{Man}
 use Rattle.board_base.proofs.KindsOfMen.{same_colour-self, same_kind-self}
 use Rattle.play_rules.specs.Laws.{is_end}
-use Rattle.men_account.specs.Account.{counts_of, excess_of, is_any, is_dark, is_light, men}
-use Rattle.men_account.specs.Homes.{allowance_of, men_of}
+use Rattle.men_account.specs.Account.{counts_of, excess_of, is_any, is_dark, is_light, men, allowance_of}
+use Rattle.men_account.specs.Homes.{men_of}
 use Rattle.men_account.specs.declared.tallies.Allowance.{Allowance}
 use Rattle.men_account.specs.declared.tallies.Counts.{Counts}
 use Rattle.query_base.specs.Asked.{Asked}
-use Rattle.cage_rules.specs.Refuted.{is_spent}
+use Rattle.cage_rules.specs.Refuted.{HasTooMany, is_spent}
 use Rattle.cage_rules.specs.Regions.{beginner, is_dead, is_exposed, is_like, is_officer_home, is_shielded, is_struck, may_strike, region}
-use Rattle.cage_rules.proofs.Beginners.{officer-inside, whole-array}
+use Rattle.board_base.proofs.LeftOut.{whole-array}
+use Rattle.cage_rules.proofs.Beginners.{officer-inside}
 use Rattle.cage_rules.proofs.Greatest.{same-told}
 use Rattle.cage_rules.proofs.Regions.{region-home}
 use Rattle.general_lemmas.proofs.Ranges.{any-found}
@@ -30,7 +31,7 @@ use Rattle.assignment.specs.Assignments.{IsBounded, IsInjection, assignment_cost
 use Rattle.assignment.proofs.Duality.{weak_duality}
 use Rattle.pawn_assign.specs.PawnCosts.{pawn_costs}
 use Rattle.static_rules.specs.Left.{left_with}
-use Rattle.static_rules.specs.SetRules.{HasMore, IsAbove}
+use Rattle.static_rules.specs.SetRules.{IsAbove}
 use Rattle.static_rules.specs.Stayed.{IsStayedAllowance, front, has_stayed, is_guarded, may_be_spent, may_spend}
 use Rattle.static_rules.proofs.Larger.{excess-more, less-count}
 use Rattle.static_rules.proofs.Left.{at-left, home-of}
@@ -76,7 +77,7 @@ stayed-less board set c k among officer =
     and_from _ _ kept.1 (and_from _ _ parts.1 (not_from_false _ (alive-at-home board set s (home-of no_odds c k s officer kept.1) kept.0))))
 
 -- no more than those who don't stand there have been promoted
-pub few-more : (q : Asked) (side : Colour) (a : Allowance) → IsStayedAllowance side q.board a → excess_of (counts_of side q.board) a ≤ 8 → (set : List Bool) → HasMore no_odds q side set → ⊥
+pub few-more : (q : Asked) (side : Colour) (a : Allowance) → IsStayedAllowance side q.board a → excess_of (counts_of side q.board) a ≤ 8 → (set : List Bool) → HasTooMany no_odds q set side → ⊥
 few-more q side a (knights, light, dark, rooks, queens) few set more =
     let living : Allowance = allowance_of side (λ h. not (is_dead q.board set h)) (array_of no_odds) in
     let least = excess-more (counts_of side q.board) living a (omega (arith, knights, stayed-less q.board set side Knight is_any refl)) (omega (arith, light, stayed-less q.board set side Bishop is_light refl)) (omega (arith, dark, stayed-less q.board set side Bishop is_dark refl)) (omega (arith, rooks, stayed-less q.board set side Rook is_any refl)) (omega (arith, queens, stayed-less q.board set side Queen is_any refl)) in
@@ -162,12 +163,12 @@ too-few cost on_board spent all sum whole none few least above = absurd (omega (
 -- where no home may be spent, the pawns need no more captures than there are men gone
 pub few-needed : (q : Asked) (side : Colour) (set : List Bool) (table : List (List ℕ)) (files : List ℕ) (cost on_board : ℕ) → may_spend (opponent side) q.board set ≡ false → table ≡ pawn_costs no_odds side q.board → IsInjection 8 (length table) files → cost ≡ assignment_cost table files → on_board ≡ men_of (opponent side) is_any q.board → cost + on_board ≤ 16 → (u v : List ℤ) → IsAbove no_odds q side set u v → ⊥
 few-needed q side set table files cost on_board none same injection costs counted few u v h =
-    let least = weak_duality 8 table u v files (subst (λ (t : List (List ℕ)). IsBounded 8 t u v) (sym same) h.bounded) injection in
-    too-few (assignment_cost table files) (men_of (opponent side) is_any q.board) (men_of (opponent side) (is_spent q.board set) (array_of no_odds)) (men_of (opponent side) is_any (array_of no_odds)) (total u +ℤ total v) (sixteen (opponent side)) (none-spent (opponent side) q.board set none) (omega arith) least h.above
+    let least = weak_duality 8 table u v files (subst (λ (t : List (List ℕ)). IsBounded 8 t u v) (sym same) h.needs.bounded) injection in
+    too-few (assignment_cost table files) (men_of (opponent side) is_any q.board) (men_of (opponent side) (is_spent q.board set) (array_of no_odds)) (men_of (opponent side) is_any (array_of no_odds)) (total u +ℤ total v) (sixteen (opponent side)) (none-spent (opponent side) q.board set none) (omega arith) least h.needs.above
 
 -- The same, as the tests have it.
 
-pub few-from : (q : Asked) (side : Colour) (board : Places) (counted : Counts) (a : Allowance) (n : ℕ) → board ≡ q.board → counted ≡ counts_of side board → IsStayedAllowance side board a → n ≡ excess_of counted a → n ≤ 8 → (set : List Bool) → HasMore no_odds q side set → ⊥
+pub few-from : (q : Asked) (side : Colour) (board : Places) (counted : Counts) (a : Allowance) (n : ℕ) → board ≡ q.board → counted ≡ counts_of side board → IsStayedAllowance side board a → n ≡ excess_of counted a → n ≤ 8 → (set : List Bool) → HasTooMany no_odds q set side → ⊥
 few-from q side board counted a n here counts stayed is few =
     few-more q side a (subst (λ (b : Places). IsStayedAllowance side b a) here stayed) (subst (λ (m : ℕ). m ≤ 8) (is ∙ ap (λ (k : Counts). excess_of k a) (counts ∙ ap (counts_of side) here)) few)
 

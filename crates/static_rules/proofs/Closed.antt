@@ -21,7 +21,7 @@ pub promo-closed : (o : List Bool) (q : Asked) (side : Colour) (set : List Bool)
 promo-closed o q side set h = promo-refuted o q set side h.settled.frozen h.more
 
 pub caps-closed : (o : List Bool) (q : Asked) (side : Colour) (set : List Bool) (u v : List ℤ) → CapsSupports o q side set u v → (g : List Move) → LeadsTo o g q → ⊥
-caps-closed o q side set u v h = caps-refuted o q set side u v h.settled.frozen (record { bounded = h.above.bounded; above = h.above.above })
+caps-closed o q side set u v h = caps-refuted o q set side u v h.settled.frozen h.above.needs
 
 pub promo-unreached : (q : Asked) (side : Colour) (set : List Bool) → PromoSupports no_odds q side set → (g : List Move) → Reaches g q → ⊥
 promo-unreached q side set h g reaches = promo-closed no_odds q side set h g (reaches-leads g q reaches)

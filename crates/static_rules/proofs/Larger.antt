@@ -11,19 +11,19 @@ use Rattle.board_base.specs.Potentials.{ArePotentials, Duals, duals}
 use Rattle.board_base.specs.declared.men.Colour.{Colour}
 use Rattle.board_base.specs.declared.men.Kind.{Kind}
 use Rattle.board_base.specs.declared.men.Kind.TheVariants.{Knight, Bishop, Rook, Queen}
-use Rattle.men_account.specs.Account.{counts_of, excess_of, is_any, is_dark, is_light, men}
-use Rattle.men_account.specs.Homes.{allowance_of, men_of}
+use Rattle.men_account.specs.Account.{counts_of, excess_of, is_any, is_dark, is_light, men, allowance_of}
+use Rattle.men_account.specs.Homes.{men_of}
 use Rattle.men_account.specs.declared.tallies.Counts.{Counts}
 use Rattle.men_account.specs.declared.tallies.Allowance.{Allowance}
 use Rattle.play_rules.specs.Reach.{IsWithin}
 use Rattle.query_base.specs.Asked.{Asked}
 use Rattle.cage_rules.specs.Frozen.{IsAsArray, IsFrozen}
-use Rattle.cage_rules.specs.Refuted.{is_spent}
+use Rattle.cage_rules.specs.Refuted.{HasTooMany, is_spent}
 use Rattle.cage_rules.specs.Regions.{is_dead, is_officer_home, is_shielded}
 use Rattle.cage_rules.proofs.Gains.{dead-more, shielded-more}
 use Rattle.assignment.specs.Assignments.{total}
 use Rattle.pawn_assign.specs.PawnCosts.{pawn_squares}
-use Rattle.static_rules.specs.SetRules.{CapsSupports, FrozenSupports, HasMore, IsAbove, IsSettled, PromoSupports}
+use Rattle.static_rules.specs.SetRules.{CapsSupports, FrozenSupports, IsAbove, IsSettled, PromoSupports}
 use Rattle.static_rules.specs.Greatest.{AreBest, IsGreatestSettled}
 use Rattle.static_rules.proofs.Left.{home-of}
 
@@ -69,7 +69,7 @@ excess-more n a b knights light dark rooks queens =
 still-more : (a b c : ℕ) → a < b → b ≤ c → a < c
 still-more a b c h k = omega arith
 
-more-gains : (o : List Bool) (q : Asked) (side : Colour) (inner outer : List Bool) → length inner ≡ 64 → IsWithin inner outer → HasMore o q side inner → HasMore o q side outer
+more-gains : (o : List Bool) (q : Asked) (side : Colour) (inner outer : List Bool) → length inner ≡ 64 → IsWithin inner outer → HasTooMany o q inner side → HasTooMany o q outer side
 more-gains o q side inner outer size within more =
     still-more _ _ _ more (excess-more (counts_of side q.board) (allowance_of side (λ h. not (is_dead q.board inner h)) (array_of o)) (allowance_of side (λ h. not (is_dead q.board outer h)) (array_of o)) (living-less o q.board inner outer side Knight is_any (λ i. true) size within) (living-less o q.board inner outer side Bishop is_light (λ i. true) size within) (living-less o q.board inner outer side Bishop is_dark (λ i. true) size within) (living-less o q.board inner outer side Rook is_any (λ i. true) size within) (living-less o q.board inner outer side Queen is_any (λ i. true) size within))
 
@@ -93,8 +93,10 @@ above-gains : (o : List Bool) (q : Asked) (side : Colour) (inner outer : List Bo
 above-gains o q side inner outer u v size within h = record {
   pawns = h.pawns;
   eight = h.eight;
-  bounded = h.bounded;
-  above = above-more (men_of (opponent side) is_any (array_of o)) (men_of (opponent side) is_any q.board) (men_of (opponent side) (is_spent q.board inner) (array_of o)) (men_of (opponent side) (is_spent q.board outer) (array_of o)) (total u +ℤ total v) (total u +ℤ total v) h.above (spent-more o q.board inner outer (opponent side) size within) (no-less (total u +ℤ total v));
+  needs = record {
+    bounded = h.needs.bounded;
+    above = above-more (men_of (opponent side) is_any (array_of o)) (men_of (opponent side) is_any q.board) (men_of (opponent side) (is_spent q.board inner) (array_of o)) (men_of (opponent side) (is_spent q.board outer) (array_of o)) (total u +ℤ total v) (total u +ℤ total v) h.needs.above (spent-more o q.board inner outer (opponent side) size within) (no-less (total u +ℤ total v));
+  };
 }
 
 above-best : (q : Asked) (side : Colour) (set : List Bool) (u v bu bv : List ℤ) → AreBest side q.board bu bv → IsAbove no_odds q side set u v → IsAbove no_odds q side set bu bv
@@ -105,8 +107,10 @@ above-best q side set u v bu bv b h =
     record {
       pawns = best.0.1;
       eight = (let same = best.0.1 in omega arith);
-      bounded = best.0.0;
-      above = above-more (men_of (opponent side) is_any (array_of no_odds)) (men_of (opponent side) is_any q.board) spent spent (total u +ℤ total v) (total bu +ℤ total bv) h.above (omega arith) (best.1 u v h.bounded);
+      needs = record {
+        bounded = best.0.0;
+        above = above-more (men_of (opponent side) is_any (array_of no_odds)) (men_of (opponent side) is_any q.board) spent spent (total u +ℤ total v) (total bu +ℤ total bv) h.needs.above (omega arith) (best.1 u v h.needs.bounded);
+      };
     }
 
 -- The rules gain where the set grows and the sum of the potentials does.
@@ -125,7 +129,7 @@ best-gains q side set u v bu bv best numbers h = record { settled = h.settled; n
 pub frozen-decided : (q : Asked) (greatest : List Bool) → ((set : List Bool) → IsFrozen q set → IsWithin set greatest) → IsAsArray no_odds q.board greatest → (set : List Bool) → FrozenSupports no_odds q set → ⊥
 frozen-decided q greatest contains same set h = h.changed (λ s member. same s (contains set h.frozen s member))
 
-pub promo-decided : (q : Asked) (side : Colour) (greatest : List Bool) → IsGreatestSettled q greatest → (set : List Bool) → PromoSupports no_odds q side set → HasMore no_odds q side greatest
+pub promo-decided : (q : Asked) (side : Colour) (greatest : List Bool) → IsGreatestSettled q greatest → (set : List Bool) → PromoSupports no_odds q side set → HasTooMany no_odds q greatest side
 promo-decided q side greatest g set h = more-gains no_odds q side set greatest h.settled.whole (g.greatest set h.settled.frozen h.settled.as_array) h.more
 
 -- what a set and potentials tell of the greatest set

@@ -10,12 +10,12 @@ use Rattle.board_base.specs.Legal.{is_officer}
 use Rattle.board_base.specs.declared.men.Man.{Man}
 use Rattle.board_base.specs.declared.men.Colour.{Colour}
 use Rattle.board_base.specs.declared.men.Kind.{Kind}
-use Rattle.board_base.specs.declared.men.Kind.TheVariants.{Knight, Bishop, Rook, Queen}
+use Rattle.board_base.specs.declared.men.Kind.TheVariants.{Pawn, Knight, Bishop, Rook, Queen}
 use Rattle.board_base.proofs.Without.{at-without}
 use Rattle.board_base.proofs.KindsOfMen.{kind_is}
 use Rattle.general_lemmas.proofs.Counts.{count-end}
-use Rattle.men_account.specs.Account.{men, is_any, is_light, is_dark, counts_of}
-use Rattle.men_account.specs.Homes.{allowance_of, men_of}
+use Rattle.men_account.specs.Account.{men, is_any, is_light, is_dark, counts_of, allowance_of}
+use Rattle.men_account.specs.Homes.{men_of}
 use Rattle.men_account.specs.declared.tallies.Counts.{Counts}
 use Rattle.men_account.specs.declared.tallies.Allowance.{Allowance}
 use Rattle.cage_rules.proofs.Refuted.{officer-kind}
@@ -72,15 +72,15 @@ living-men o board set c k among officer =
     ∙ ap (λ (b : Bool). b && among s) (is_the-kept c k (may_live board set s) (at (array_of o) s))
     ∙ kept-officer (is_officer_home s) (is_dead board set s) (among s) (is_the c k (at (array_of o) s)) (home-of o c k s officer))
 
-abbrev allowance_as : ℕ → ℕ → ℕ → ℕ → ℕ → Allowance
-allowance_as n l d r q = record { knights = n; light_bishops = l; dark_bishops = d; rooks = r; queens = q }
+abbrev allowance_as : ℕ → ℕ → ℕ → ℕ → ℕ → ℕ → Allowance
+allowance_as p n l d r q = record { pawns = p; knights = n; light_bishops = l; dark_bishops = d; rooks = r; queens = q }
 
-same_allowance : (n n' l l' d d' r r' q q' : ℕ) → n ≡ n' → l ≡ l' → d ≡ d' → r ≡ r' → q ≡ q' → allowance_as n l d r q ≡ allowance_as n' l' d' r' q'
-same_allowance n n' l l' d d' r r' q q' e1 e2 e3 e4 e5 = cc
+same_allowance : (p p' n n' l l' d d' r r' q q' : ℕ) → p ≡ p' → n ≡ n' → l ≡ l' → d ≡ d' → r ≡ r' → q ≡ q' → allowance_as p n l d r q ≡ allowance_as p' n' l' d' r' q'
+same_allowance p p' n n' l l' d d' r r' q q' e0 e1 e2 e3 e4 e5 = cc
 
-pub living-allowance : (o : List Bool) (board : Places) (set : List Bool) (c : Colour) (n : Counts) → n ≡ counts_of c (left_with (may_live board set) (array_of o)) → allowance_as n.knights n.light_bishops n.dark_bishops n.rooks n.queens ≡ allowance_of c (λ h. not (is_dead board set h)) (array_of o)
-living-allowance o board set c n e =
-    same_allowance _ _ _ _ _ _ _ _ _ _ (ap (λ (x : Counts). x.knights) e ∙ living-men o board set c Knight is_any refl) (ap (λ (x : Counts). x.light_bishops) e ∙ living-men o board set c Bishop is_light refl) (ap (λ (x : Counts). x.dark_bishops) e ∙ living-men o board set c Bishop is_dark refl) (ap (λ (x : Counts). x.rooks) e ∙ living-men o board set c Rook is_any refl) (ap (λ (x : Counts). x.queens) e ∙ living-men o board set c Queen is_any refl)
+pub living-allowance : (o : List Bool) (board : Places) (set : List Bool) (c : Colour) (p : ℕ) (n : Counts) → p ≡ men c Pawn is_any (array_of o) → n ≡ counts_of c (left_with (may_live board set) (array_of o)) → allowance_as p n.knights n.light_bishops n.dark_bishops n.rooks n.queens ≡ allowance_of c (λ h. not (is_dead board set h)) (array_of o)
+living-allowance o board set c p n pawns e =
+    same_allowance _ _ _ _ _ _ _ _ _ _ _ _ pawns (ap (λ (x : Counts). x.knights) e ∙ living-men o board set c Knight is_any refl) (ap (λ (x : Counts). x.light_bishops) e ∙ living-men o board set c Bishop is_light refl) (ap (λ (x : Counts). x.dark_bishops) e ∙ living-men o board set c Bishop is_dark refl) (ap (λ (x : Counts). x.rooks) e ∙ living-men o board set c Rook is_any refl) (ap (λ (x : Counts). x.queens) e ∙ living-men o board set c Queen is_any refl)
 
 kept-of : (c : Colour) (b : Bool) (place : Option Man) → (is_of c (cond b place None) && true) ≡ (is_of c place && b)
 kept-of c true place = refl

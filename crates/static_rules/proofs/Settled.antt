@@ -21,7 +21,7 @@ use Rattle.query_base.specs.Asked.{Asked}
 use Rattle.query_base.specs.declared.rule_lines.RuleLine.{RuleLine}
 use Rattle.query_base.specs.declared.rule_lines.RuleLine.TheVariants.{Kings, Ranks, Check, Rights, Count, Frozen, Caps, Promo}
 use Rattle.cage_rules.specs.Frozen.{IsAsArray, IsFrozen}
-use Rattle.cage_rules.specs.Refuted.{is_spent}
+use Rattle.cage_rules.specs.Refuted.{HasTooMany, is_spent}
 use Rattle.cage_rules.specs.Sets.{squares_that}
 use Rattle.cage_rules.specs.Tests.{same_place, squares_alike}
 use Rattle.cage_rules.proofs.Existing.{alike-or-not, greatest-within}
@@ -31,7 +31,7 @@ use Rattle.cage_rules.proofs.Tested.{member-inside}
 use Rattle.assignment.specs.Assignments.{IsBounded, least_cost, total}
 use Rattle.pawn_assign.specs.PawnCosts.{pawn_costs, pawn_squares}
 use Rattle.pawn_assign.proofs.EachPawn.{decides, rows}
-use Rattle.static_rules.specs.SetRules.{CapsSupports, FrozenSupports, HasMore, PromoSupports}
+use Rattle.static_rules.specs.SetRules.{CapsSupports, FrozenSupports, PromoSupports}
 use Rattle.static_rules.specs.Greatest.{IsGreatestSettled}
 use Rattle.static_rules.specs.Supports.{IsClosed, Supports}
 use Rattle.static_rules.proofs.Larger.{caps-greatest, promo-decided}
@@ -85,7 +85,7 @@ frozen-settled q =
 promo-settled : (q : Asked) (side : Colour) → Settled ((set : List Bool) × PromoSupports no_odds q side set)
 promo-settled q side =
     let g = is-greatest q in
-    let more : Settled (HasMore no_odds q side (greatest q)) = below _ _ in
+    let more : Settled (HasTooMany no_odds q (greatest q) side) = below _ _ in
     elim more [
       | inl more ↦ inl (greatest q, record { settled = g.settled; more = more })
       | inr few ↦ inr (λ h. few (promo-decided q side (greatest q) g h.0 h.1))
@@ -116,14 +116,13 @@ caps-found q side d numbers bounded few above = record {
   above = record {
     pawns = sym (bounded.rows ∙ rows no_odds side q.board);
     eight = omega (arith, bounded.rows, rows no_odds side q.board);
-    bounded = bounded;
-    above = over _ _ (total d.u +ℤ total d.v) above;
+    needs = record { bounded = bounded; above = over _ _ (total d.u +ℤ total d.v) above };
   };
 }
 
 caps-least : (q : Asked) (side : Colour) (set : List Bool) (u v : List ℤ) → CapsSupports no_odds q side set u v → (pos (men_of (opponent side) is_any (array_of no_odds)) -ℤ pos (lost q side)) <ℤ (total u +ℤ total v)
 unfolding lost
-caps-least q side set u v h = over-back _ _ (total u +ℤ total v) (caps-greatest q side (greatest q) (is-greatest q) set u v h).above
+caps-least q side set u v h = over-back _ _ (total u +ℤ total v) (caps-greatest q side (greatest q) (is-greatest q) set u v h).needs.above
 
 caps-settled : (q : Asked) (side : Colour) → Settled ((set : List Bool) × (p : Duals) × CapsSupports no_odds q side set p.u p.v)
 caps-settled q side =
@@ -137,7 +136,7 @@ caps-settled q side =
           inl (greatest q, d.0, caps-found q side d.0 d.1 d.2 h.0 d.3)
       | inr less ↦ inr (λ (set, p, h).
           let eight : length (pawn_squares side q.board) ≤ 8 = omega (arith, h.above.pawns, h.above.eight) in
-          less (eight, over-least-back all (lost q side) cost ((decides no_odds side q.board (pos all -ℤ pos (lost q side)) eight).0 (p, h.numbers, h.above.bounded, caps-least q side set p.u p.v h))))
+          less (eight, over-least-back all (lost q side) cost ((decides no_odds side q.board (pos all -ℤ pos (lost q side)) eight).0 (p, h.numbers, h.above.needs.bounded, caps-least q side set p.u p.v h))))
     ]
 
 -- The rules without sets
@@ -156,7 +155,7 @@ supports-settled q Ranks simple =
 supports-settled q Check simple = test (in_check q.board (opponent q.turn))
 supports-settled q Rights simple =
     negated (HaveHomes q.board q.held) (each_castle (λ x. IsTrue (holds q.held x) → IsTrue (are_at_home q.board x)) (λ x. implied (IsTrue (holds q.held x)) (IsTrue (are_at_home q.board x)) (test (holds q.held x)) (test (are_at_home q.board x))))
-supports-settled q (Count side) simple = negated (IsTrue (accounts_for q.board side)) (test (accounts_for q.board side))
+supports-settled q (Count side) simple = negated (IsTrue (accounts_for no_odds q.board side)) (test (accounts_for no_odds q.board side))
 supports-settled q (Frozen set) simple = absurd simple
 supports-settled q (Caps side set p) simple = absurd simple
 supports-settled q (Promo side set) simple = absurd simple

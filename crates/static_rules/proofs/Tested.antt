@@ -6,17 +6,17 @@ use Rattle.std.specs.Prelude.{not, nat_lt, ℤ, pos, ◌+ℤ◌, ◌<ℤ◌}
 use Rattle.board_base.specs.Board.{Places, array_of, no_odds, opponent}
 use Rattle.board_base.specs.declared.men.Colour.{Colour}
 use Rattle.board_base.specs.declared.men.Kind.TheVariants.{Pawn}
-use Rattle.men_account.specs.Account.{men, is_any, counts_of, excess_of}
-use Rattle.men_account.specs.Homes.{men_of, allowance_of}
+use Rattle.men_account.specs.Account.{men, is_any, counts_of, excess_of, allowance_of}
+use Rattle.men_account.specs.Homes.{men_of}
 use Rattle.men_account.proofs.FirstMen.{eight, sixteen}
 use Rattle.men_account.specs.declared.tallies.Counts.{Counts}
 use Rattle.men_account.specs.declared.tallies.Allowance.{Allowance}
 use Rattle.query_base.specs.Asked.{Asked}
-use Rattle.cage_rules.specs.Refuted.{is_spent}
+use Rattle.cage_rules.specs.Refuted.{HasTooMany, is_spent}
 use Rattle.cage_rules.specs.Regions.{is_dead}
 use Rattle.assignment.specs.Assignments.{IsBounded, total}
 use Rattle.pawn_assign.specs.PawnCosts.{pawn_costs, pawn_row, pawn_squares}
-use Rattle.static_rules.specs.SetRules.{HasMore, IsAbove}
+use Rattle.static_rules.specs.SetRules.{IsAbove}
 
 pub more-told : (c : Colour) (n m : ℕ) → n ≡ m → (nat_lt 8 n ≡ true → men c Pawn is_any (array_of no_odds) < m) × (men c Pawn is_any (array_of no_odds) < m → nat_lt 8 n ≡ true)
 more-told c n m e =
@@ -31,10 +31,12 @@ above-told q c set u v table sum b few bound over =
       λ yes. record {
         pawns = sym size;
         eight = (let most = few.0 in omega arith);
-        bounded = bounded;
-        above = subst (λ (n : ℕ). pos n <ℤ ((total u +ℤ total v) +ℤ pos rest)) (sym (sixteen (opponent c))) (subst (λ (x : ℤ). pos 16 <ℤ (x +ℤ pos rest)) bound.1 (over.0 yes));
+        needs = record {
+          bounded = bounded;
+          above = subst (λ (n : ℕ). pos n <ℤ ((total u +ℤ total v) +ℤ pos rest)) (sym (sixteen (opponent c))) (subst (λ (x : ℤ). pos 16 <ℤ (x +ℤ pos rest)) bound.1 (over.0 yes));
+        };
       },
-      λ above. over.1 (subst (λ (x : ℤ). pos 16 <ℤ (x +ℤ pos rest)) (sym bound.1) (subst (λ (n : ℕ). pos n <ℤ ((total u +ℤ total v) +ℤ pos rest)) (sixteen (opponent c)) above.above)),
+      λ above. over.1 (subst (λ (x : ℤ). pos 16 <ℤ (x +ℤ pos rest)) (sym bound.1) (subst (λ (n : ℕ). pos n <ℤ ((total u +ℤ total v) +ℤ pos rest)) (sixteen (opponent c)) above.needs.above)),
     )
 
 abbrev Over : Bool → List Bool → ℤ → Colour → Places → Type 0
@@ -46,7 +48,7 @@ above-from q c set u v table sum b board enemy given eb ee eg few bound over =
     above-told q c set u v table sum b (subst (λ (x : Places). (length (pawn_squares c x) ≤ 8) × (table ≡ pawn_costs no_odds c x)) eb few) bound
     (subst (λ (x : ℤ). Over b set x (opponent c) q.board) eg (subst (λ (y : Colour). Over b set given y q.board) ee (subst (λ (z : Places). Over b set given enemy z) eb over)))
 
-pub more-from : (q : Asked) (c : Colour) (set : List Bool) (n : ℕ) (counted : Counts) (allowed : Allowance) (board : Places) → board ≡ q.board → n ≡ excess_of counted allowed → counted ≡ counts_of c board → allowed ≡ allowance_of c (λ h. not (is_dead board set h)) (array_of no_odds) → (nat_lt 8 n ≡ true → HasMore no_odds q c set) × (HasMore no_odds q c set → nat_lt 8 n ≡ true)
+pub more-from : (q : Asked) (c : Colour) (set : List Bool) (n : ℕ) (counted : Counts) (allowed : Allowance) (board : Places) → board ≡ q.board → n ≡ excess_of counted allowed → counted ≡ counts_of c board → allowed ≡ allowance_of c (λ h. not (is_dead board set h)) (array_of no_odds) → (nat_lt 8 n ≡ true → HasTooMany no_odds q set c) × (HasTooMany no_odds q set c → nat_lt 8 n ≡ true)
 more-from q c set n counted allowed board eb en ec ea =
     more-told c n (excess_of (counts_of c q.board) (allowance_of c (λ h. not (is_dead q.board set h)) (array_of no_odds)))
     (en ∙ ap (λ (x : Counts). excess_of x allowed) ec ∙ ap (excess_of (counts_of c board)) ea ∙ ap (λ (b : Places). excess_of (counts_of c b) (allowance_of c (λ h. not (is_dead b set h)) (array_of no_odds))) eb)

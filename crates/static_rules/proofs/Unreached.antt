@@ -34,7 +34,7 @@ unreached q Check attacked g r =
 unreached q Rights broken g r =
     broken (λ x held. subst (λ (b : Places). are_at_home b x ≡ true) r.board (rights_have_homes no_odds g x r.game (r.held x held)))
 unreached q (Count side) broken g r =
-    broken (subst (λ (b : Places). accounts_for b side ≡ true) r.board (accounts_hold no_odds g r.game side))
+    broken (subst (λ (b : Places). accounts_for no_odds b side ≡ true) r.board (accounts_hold no_odds g r.game side))
 unreached q (Frozen set) h g r = frozen-unreached q set h g r
 unreached q (Caps side set p) h g r = caps-unreached q side set p.u p.v h g r
 unreached q (Promo side set) h g r = promo-unreached q side set h g r

@@ -9,7 +9,7 @@ ghost use Rattle.static_rules.specs.Supports.{IsClosed, Supports};
 use crate::rules::supports;
 use crate::set_rules::{best_potentials, has_more, is_above, is_whole};
 use crate::stayed::{has_few, needs_few};
-use board_base::{Colour, SquareSet};
+use board_base::{Colour, Odds, SquareSet};
 use cage_rules::{as_array, greatest_frozen};
 use query_base::{Query, RuleLine};
 
@@ -97,7 +97,7 @@ fn set_line(query: &Query) -> Option<RuleLine>
 {
     let set = greatest_frozen(query);
     is_whole(set);
-    if as_array(&query.board, set) {
+    if as_array(&query.board, set, Odds::none()) {
         settled_line(query, set)
     } else {
         Some(RuleLine::Frozen(set))

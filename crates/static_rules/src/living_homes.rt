@@ -1,14 +1,14 @@
 ghost use Rattle.std.specs.Prelude.{◌≡◌, ◌+◌, ◌<◌, ◌≤◌, cond, not, None};
 ghost use Rattle.board_base.specs.Board.{array_of, at, is_of, no_odds};
-ghost use Rattle.men_account.specs.Account.{is_any};
-ghost use Rattle.men_account.specs.Homes.{allowance_of, men_of};
+ghost use Rattle.men_account.specs.Account.{is_any, allowance_of};
+ghost use Rattle.men_account.specs.Homes.{men_of};
 ghost use Rattle.cage_rules.specs.Refuted.{is_spent};
 ghost use Rattle.cage_rules.specs.Regions.{beginner, is_dead, is_officer_home};
 ghost use Rattle.static_rules.specs.Left.{left_with, may_live};
 
-use board_base::{Board, Colour, Kind, Man, Square, SquareSet, is_a, is_of};
+use board_base::{Board, Colour, Kind, Man, Odds, Square, SquareSet, is_a, is_of};
 use cage_rules::{is_dead, is_shielded};
-use men_account::{Allowance, counts};
+use men_account::{Allowance, allowance, counts};
 
 /// The man who begins on this square (article 2.3).
 #[tactic(auto, unfolding(cage_rules::specs::Regions::beginner))]
@@ -85,12 +85,13 @@ fn spent(board: &Board, set: SquareSet) -> Board
     left
 }
 
-/// The officers with which a side begins on homes that aren't dead.
+/// The pawns with which a side begins, and the officers with which it begins on homes that aren't dead.
 pub(crate) fn living_allowance(board: &Board, set: SquareSet, side: Colour) -> Allowance
     ensures { result ≡ allowance_of side (λ h. not (is_dead board.now set h)) (array_of no_odds) }
 {
     let n = counts(&living(board, set), side);
     Allowance {
+        pawns: allowance(side, Odds::none()).pawns,
         knights: n.knights,
         light_bishops: n.light_bishops,
         dark_bishops: n.dark_bishops,

@@ -4,6 +4,7 @@ ghost use Rattle.query_base.specs.Reach.{Reaches};
 ghost use Rattle.static_rules.specs.Supports.{Supports};
 
 use crate::set_rules::{caps_supports, frozen_supports, promo_supports};
+use board_base::Odds;
 use castle_history::held_fits;
 use men_account::account_ok;
 use play_rules::{has_no_pawn_on_ends, has_one_king_each, in_check};
@@ -17,7 +18,7 @@ fn breaks_law(query: &Query, rule: &RuleLine) -> bool
         RuleLine::Ranks => !has_no_pawn_on_ends(&query.board),
         RuleLine::Check => in_check(&query.board, query.turn.other()),
         RuleLine::Rights => !held_fits(&query.board, query.held),
-        RuleLine::Count(side) => !account_ok(&query.board, *side),
+        RuleLine::Count(side) => !account_ok(&query.board, *side, Odds::none()),
         RuleLine::Frozen(set) => frozen_supports(query, *set),
         RuleLine::Caps(side, set, p) => caps_supports(query, *side, *set, p),
         RuleLine::Promo(side, set) => promo_supports(query, *side, *set),

@@ -4,13 +4,13 @@ ghost use Rattle.board_base.specs.Potentials.{ArePotentials};
 ghost use Rattle.board_base.specs.declared.moves.Move.{Move};
 ghost use Rattle.men_account.specs.Account.{is_any};
 ghost use Rattle.men_account.specs.Homes.{men_of};
-ghost use Rattle.cage_rules.specs.Refuted.{is_spent};
+ghost use Rattle.cage_rules.specs.Refuted.{HasTooMany, is_spent};
 ghost use Rattle.query_base.specs.Reach.{Reaches};
-ghost use Rattle.static_rules.specs.SetRules.{CapsSupports, FrozenSupports, HasMore, IsAbove, IsSettled, PromoSupports};
+ghost use Rattle.static_rules.specs.SetRules.{CapsSupports, FrozenSupports, IsAbove, IsSettled, PromoSupports};
 ghost use Rattle.static_rules.specs.Greatest.{AreBest};
 
 use crate::living_homes::{living_allowance, men_of, spent_of};
-use board_base::{Board, Colour, Potentials, Square, SquareSet};
+use board_base::{Board, Colour, Odds, Potentials, Square, SquareSet};
 use cage_rules::{as_array, is_frozen};
 use men_account::{counts, excess};
 use pawn_assign::{bound, costs, least};
@@ -34,7 +34,7 @@ fn is_changed(query: &Query, set: SquareSet) -> bool
     ensures { IsTrue result ↔ FrozenSupports no_odds query.now set }
 {
     is_whole(set);
-    is_frozen(query, set) && !as_array(&query.board, set)
+    is_frozen(query, set) && !as_array(&query.board, set, Odds::none())
 }
 
 /// Whether the rule on frozen sets supports the query. Where it does, no game of any length reaches the query.
@@ -49,13 +49,13 @@ fn is_settled(query: &Query, set: SquareSet) -> bool
     ensures { IsTrue result ↔ IsSettled no_odds query.now set }
 {
     is_whole(set);
-    is_frozen(query, set) && as_array(&query.board, set)
+    is_frozen(query, set) && as_array(&query.board, set, Odds::none())
 }
 
 /// Whether the side's pawns, and its officers of each kind above its homes of the kind that aren't dead, are more than the eight pawns
 /// with which it began.
 pub(crate) fn has_more(query: &Query, side: Colour, set: SquareSet) -> bool
-    ensures { IsTrue result ↔ HasMore no_odds query.now side set }
+    ensures { IsTrue result ↔ HasTooMany no_odds query.now set side }
 {
     excess(
         &counts(&query.board, side),
@@ -91,7 +91,7 @@ fn is_over(board: &Board, side: Colour, set: SquareSet, sum: i32) -> bool
 pub(crate) fn is_above(query: &Query, side: Colour, set: SquareSet, p: &Potentials) -> bool
     ensures { IsTrue result ↔ IsAbove no_odds query.now side set p.now.u p.now.v }
 {
-    match costs(&query.board, side) {
+    match costs(&query.board, side, Odds::none()) {
         Some(costs) => match bound(&costs, p) {
             Some(sum) => is_over(&query.board, side.other(), set, sum),
             None => false,
@@ -105,7 +105,7 @@ pub(crate) fn best_potentials(board: &Board, side: Colour) -> Potentials
     ensures best { AreBest side board.now result.u result.v }
     ensures known { ArePotentials result }
 {
-    match costs(board, side) {
+    match costs(board, side, Odds::none()) {
         Some(costs) => {
             let p = least(&costs).potentials;
             are_potentials(&p);

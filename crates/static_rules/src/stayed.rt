@@ -3,12 +3,13 @@ ghost use Rattle.board_base.specs.Board.{array_of, at, is_of, no_odds};
 ghost use Rattle.men_account.specs.Account.{counts_of};
 ghost use Rattle.cage_rules.specs.Tests.{same_place};
 ghost use Rattle.static_rules.specs.Left.{left_with};
-ghost use Rattle.static_rules.specs.SetRules.{HasMore, IsAbove, IsSettled};
+ghost use Rattle.cage_rules.specs.Refuted.{HasTooMany};
+ghost use Rattle.static_rules.specs.SetRules.{IsAbove, IsSettled};
 ghost use Rattle.static_rules.specs.Stayed.{IsStayedAllowance, front, has_stayed, is_guarded, may_be_spent, may_spend};
 
 use crate::living_homes::{is_officer_home, men_of};
-use board_base::{Board, Colour, Man, Square, SquareSet, is_of};
-use men_account::{Allowance, Counts, counts, excess};
+use board_base::{Board, Colour, Man, Odds, Square, SquareSet, is_of};
+use men_account::{Allowance, Counts, allowance, counts, excess};
 use pawn_assign::{costs, least};
 use query_base::Query;
 
@@ -57,6 +58,7 @@ fn stayed_allowance(board: &Board, side: Colour) -> Allowance
 {
     let n = counts(&stayed(board), side);
     Allowance {
+        pawns: allowance(side, Odds::none()).pawns,
         knights: n.knights,
         light_bishops: n.light_bishops,
         dark_bishops: n.dark_bishops,
@@ -68,7 +70,7 @@ fn stayed_allowance(board: &Board, side: Colour) -> Allowance
 /// Whether the side's pawns, and its officers of each kind above those who stand where they began, are at most eight. Homes on which
 /// they stand are never dead, so no more of them have been promoted, whatever the set.
 pub(crate) fn has_few(query: &Query, side: Colour) -> bool
-    ensures { IsTrue result → (set : List Bool) → HasMore no_odds query.now side set → ⊥ }
+    ensures { IsTrue result → (set : List Bool) → HasTooMany no_odds query.now set side → ⊥ }
 {
     excess(
         &counts(&query.board, side),
@@ -132,7 +134,7 @@ pub(crate) fn needs_few(query: &Query, side: Colour, set: SquareSet) -> bool
     if may_spend(&query.board, set, side.other()) {
         return false;
     }
-    match costs(&query.board, side) {
+    match costs(&query.board, side, Odds::none()) {
         Some(costs) => least(&costs).cost as u32 + men_of(&query.board, side.other()) as u32 <= 16,
         None => true,
     }

@@ -1,4 +1,3 @@
 mod OneTree
-mod Nearest
 mod SomeTree
 mod Written

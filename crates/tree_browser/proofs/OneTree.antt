@@ -4,9 +4,11 @@ use Rattle.std.proofs.lemmas.Bool.{cases_lt}
 use Rattle.board_base.specs.Texts.{unmove_text}
 use Rattle.board_base.specs.declared.unmoves.Unmove.{Unmove}
 use Rattle.query_base.specs.Asked.{Asked}
+use Rattle.query_base.specs.Ancestors.{GoesBack}
+use Rattle.query_base.proofs.Nearest.{covered}
 use Rattle.unmove_gen.specs.Listed.{unmoves}
 use Rattle.unmove_gen.specs.Predecessor.{predecessor}
-use Rattle.tree_browser.specs.Trees.{Each, Expands, GoesBack, IsNote, IsTree, line}
+use Rattle.tree_browser.specs.Trees.{Each, Expands, IsNote, IsTree, line}
 use Rattle.tree_browser.specs.declared.notes.Note.{Note}
 use Rattle.tree_browser.specs.declared.notes.Note.TheVariants.{Closed, Back, Array, End, Expand}
 
@@ -24,21 +26,21 @@ one-note Closed End q above left h g = absurd (g.0 h)
 one-note Closed (Expand n) q above left h g = absurd (g.0 h)
 one-note (Back j) Closed q above left h g = absurd (h.0 g)
 one-note (Back j) (Back k) q above left h g = ap Back (same-steps q above j k h.1 g.1)
-one-note (Back j) Array q above left h g = absurd (g.1 j h.1.covers)
-one-note (Back j) End q above left h g = absurd (g.1 j h.1.covers)
-one-note (Back j) (Expand n) q above left h g = absurd (g.1 j h.1.covers)
+one-note (Back j) Array q above left h g = absurd (g.1 (covered above j q h.1.covers))
+one-note (Back j) End q above left h g = absurd (g.1 (covered above j q h.1.covers))
+one-note (Back j) (Expand n) q above left h g = absurd (g.1 (covered above j q h.1.covers))
 one-note Array Closed q above left h g = absurd (h.0 g)
-one-note Array (Back k) q above left h g = absurd (h.1 k g.1.covers)
+one-note Array (Back k) q above left h g = absurd (h.1 (covered above k q g.1.covers))
 one-note Array Array q above left h g = refl
 one-note Array End q above left h g = absurd (g.2 h.2)
 one-note Array (Expand n) q above left h g = absurd (g.2 h.2)
 one-note End Closed q above left h g = absurd (h.0 g)
-one-note End (Back k) q above left h g = absurd (h.1 k g.1.covers)
+one-note End (Back k) q above left h g = absurd (h.1 (covered above k q g.1.covers))
 one-note End Array q above left h g = absurd (h.2 g.2)
 one-note End End q above left h g = refl
 one-note End (Expand n) q above left h g = absurd (let z : left ≡ 0 = h.3 in let y : 1 ≤ left = g.3 in omega (arith, z, y))
 one-note (Expand i) Closed q above left h g = absurd (h.0 g)
-one-note (Expand i) (Back k) q above left h g = absurd (h.1 k g.1.covers)
+one-note (Expand i) (Back k) q above left h g = absurd (h.1 (covered above k q g.1.covers))
 one-note (Expand i) Array q above left h g = absurd (h.2 g.2)
 one-note (Expand i) End q above left h g = absurd (let z : left ≡ 0 = g.3 in let y : 1 ≤ left = h.3 in omega (arith, z, y))
 one-note (Expand i) (Expand n) q above left h g = ap Expand (h.4 ∙ sym g.4)

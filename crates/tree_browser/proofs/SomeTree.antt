@@ -4,17 +4,18 @@ use Rattle.board_base.specs.Texts.{unmove_text}
 use Rattle.board_base.specs.declared.unmoves.Unmove.{Unmove}
 use Rattle.query_base.specs.Asked.{Asked}
 use Rattle.query_base.specs.Reach.{Reaches}
+use Rattle.query_base.specs.Ancestors.{IsCovered}
 use Rattle.query_base.proofs.Settled.{array_settled}
+use Rattle.query_base.proofs.Nearest.{nearest}
 use Rattle.static_rules.specs.Supports.{IsClosed}
 use Rattle.static_rules.proofs.Settled.{closed_settled}
 use Rattle.unmove_gen.specs.Listed.{unmoves}
 use Rattle.unmove_gen.specs.Predecessor.{predecessor}
-use Rattle.tree_browser.specs.Trees.{Each, Expands, IsNote, IsTree, IsUncovered, line}
+use Rattle.tree_browser.specs.Trees.{Each, Expands, IsNote, IsTree, line}
 use Rattle.tree_browser.specs.declared.notes.Note.{Note}
 use Rattle.tree_browser.specs.declared.notes.Note.TheVariants.{Closed, Back, Array, End, Expand}
-use Rattle.tree_browser.proofs.Nearest.{nearest}
 
-open-note : (q : Asked) (above : List Asked) (left : ℕ) → (IsClosed q → ⊥) → IsUncovered q above → (Reaches [] q → ⊥) → (note : Note) × IsNote note q above left
+open-note : (q : Asked) (above : List Asked) (left : ℕ) → (IsClosed q → ⊥) → (IsCovered q above → ⊥) → (Reaches [] q → ⊥) → (note : Note) × IsNote note q above left
 open-note q above zero unclosed uncovered elsewhere = (End, (unclosed, uncovered, elsewhere, refl))
 open-note q above (suc left) unclosed uncovered elsewhere = (Expand (length (unmoves q)), (unclosed, uncovered, elsewhere, omega arith, refl))
 

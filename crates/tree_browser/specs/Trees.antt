@@ -5,30 +5,22 @@ use Rattle.board_base.specs.Texts.{unmove_text}
 use Rattle.board_base.specs.declared.unmoves.Unmove.{Unmove}
 use Rattle.query_base.specs.Asked.{Asked}
 use Rattle.query_base.specs.Reach.{Reaches}
-use Rattle.query_base.specs.Ancestors.{CoversAt}
+use Rattle.query_base.specs.Ancestors.{GoesBack, IsCovered}
 use Rattle.static_rules.specs.Supports.{IsClosed}
 use Rattle.unmove_gen.specs.Listed.{unmoves}
 use Rattle.unmove_gen.specs.Predecessor.{predecessor}
 use Rattle.tree_browser.specs.declared.notes.Note.{Note}
 use Rattle.tree_browser.specs.declared.notes.Note.TheVariants.{Closed, Back, Array, End, Expand}
 
--- the nearest ancestor that covers the query stands k steps above
-pub record GoesBack (q : Asked) (ancestors : List Asked) (k : ℕ) : Type 0 where
-  pub covers : CoversAt q ancestors k
-  pub nearest : (j : ℕ) → j < k → CoversAt q ancestors j → ⊥
-
-abbrev pub IsUncovered : Asked → List Asked → Type 0
-IsUncovered q ancestors = (k : ℕ) → CoversAt q ancestors k → ⊥
-
 -- What is said of a node: that some rule line supports its query; else how far above its nearest ancestor stands that covers it;
 -- else that the game of no moves reaches it; else that it stands at the last depth; else how many unmoves it has.
 abbrev pub IsNote : Note → Asked → List Asked → ℕ → Type 0
 IsNote Closed q ancestors left = IsClosed q
 IsNote (Back k) q ancestors left = (IsClosed q → ⊥) × GoesBack q ancestors k
-IsNote Array q ancestors left = (IsClosed q → ⊥) × IsUncovered q ancestors × Reaches [] q
-IsNote End q ancestors left = (IsClosed q → ⊥) × IsUncovered q ancestors × (Reaches [] q → ⊥) × (left ≡ 0)
+IsNote Array q ancestors left = (IsClosed q → ⊥) × (IsCovered q ancestors → ⊥) × Reaches [] q
+IsNote End q ancestors left = (IsClosed q → ⊥) × (IsCovered q ancestors → ⊥) × (Reaches [] q → ⊥) × (left ≡ 0)
 IsNote (Expand n) q ancestors left =
-    (IsClosed q → ⊥) × IsUncovered q ancestors × (Reaches [] q → ⊥) × (1 ≤ left) × (n ≡ length (unmoves q))
+    (IsClosed q → ⊥) × (IsCovered q ancestors → ⊥) × (Reaches [] q → ⊥) × (1 ≤ left) × (n ≡ length (unmoves q))
 
 -- the words of a note
 abbrev pub note_text : Note → List ℕ

@@ -1,10 +1,9 @@
-ghost use Rattle.std.specs.Prelude.{◌≡◌, ◌<◌, ◌≤◌, ◌↔◌, IsTrue, MatchOption, length, reverse};
+ghost use Rattle.std.specs.Prelude.{◌≡◌, ◌<◌, ◌≤◌, length, reverse};
 ghost use Rattle.unmove_gen.specs.Listed.{unmoves};
-ghost use Rattle.query_base.specs.Ancestors.{CoversAt};
-ghost use Rattle.tree_browser.specs.Trees.{GoesBack, IsNote, IsUncovered};
+ghost use Rattle.tree_browser.specs.Trees.{IsNote};
 ghost use Rattle.tree_browser.specs.Pages.{expands};
 
-use query_base::{Query, covers, is_array};
+use query_base::{Query, is_array, steps_back};
 use static_rules::close;
 use unmove_gen::{Unmoves, few_unmoves};
 
@@ -28,31 +27,6 @@ pub(crate) fn expands(note: Note) -> bool
     ensures { result ≡ expands note }
 {
     matches!(note, Note::Expand(_))
-}
-
-/// The ancestor so many steps above covers the query. The parent, one step above, comes last.
-fn is_covered(ancestors: &[Query], steps: u8, query: &Query) -> bool
-    ensures { IsTrue result ↔ CoversAt query.now (reverse ancestors.now) steps }
-{
-    let steps = usize::from(steps);
-    if steps == 0 || ancestors.len() < steps {
-        return false;
-    }
-    covers(&ancestors[ancestors.len() - steps], query)
-}
-
-/// How many steps above the nearest ancestor stands that covers the query; None where none does. The parent comes last.
-fn steps_back(query: &Query, ancestors: &[Query]) -> Option<u8>
-    requires { length ancestors.now < 256 }
-    ensures { MatchOption result (IsUncovered query.now (reverse ancestors.now)) (λ k. GoesBack query.now (reverse ancestors.now) k) }
-{
-    for i in 0..ancestors.len() {
-        let steps = (i + 1) as u8;
-        if is_covered(ancestors, steps, query) {
-            return Some(steps);
-        }
-    }
-    None
 }
 
 /// How many unmoves the query has.

@@ -1,8 +1,8 @@
 -- Attacks on boards that are empty on the same squares of the lines that matter.
 use Rattle.std.proofs.Common.{◌≡◌, ◌≢◌, ℕ, zero, suc, ◌+◌, ◌-◌, ◌*◌, ◌<◌, ◌≤◌, ◌==◌, Bool, true, false, ◌&&◌, ◌||◌, not, inl, inr, refl, ap, sym, ◌∙◌, subst, arith}
-use Rattle.std.proofs.lemmas.Bool.{and_parts, and_from, both_ways, cases_eq, cases_lt, cond-true, cond-false, eq-eqb, eqb-true, false_from_ne_true, lt-ltb, ltb-true, or_cases, or_left, or_right}
+use Rattle.std.proofs.lemmas.Bool.{and_parts, and_from, both_ways, cases_eq, cases_lt, eq-eqb, eqb-true, false_from_ne_true, or_cases, or_left, or_right}
 use Rattle.std.proofs.lemmas.List.{get_or-set_same, get_or-set_other}
-use Rattle.std.specs.Prelude.{Option, Some, None, length, nat_lt, slice_set}
+use Rattle.std.specs.Prelude.{Option, Some, None, length, slice_set}
 use Rattle.std.specs.List.{list_all, range_with_len}
 use Rattle.board_base.specs.Board.{Places, at, file, is_empty, is_of, rank}
 use Rattle.board_base.specs.Attacks.{attacks, attacks_from, distance, files_apart, is_open, kind_attacks, king_distance, on_one_diagonal, on_one_line, on_the_way, ranks_apart, toward}
@@ -10,7 +10,7 @@ use Rattle.board_base.specs.declared.men.Man.{Man}
 use Rattle.board_base.specs.declared.men.Colour.{Colour}
 use Rattle.board_base.specs.declared.men.Kind.{Kind}
 use Rattle.board_base.specs.declared.men.Kind.TheVariants.{Pawn, Knight, Bishop, Rook, Queen, King}
-use Rattle.board_base.proofs.Ways.{toward-down, toward-up}
+use Rattle.board_base.proofs.Ways.{toward-down, toward-same, toward-up}
 use Rattle.play_rules.proofs.Attacked.{none_in_range}
 use Rattle.unmove_gen.proofs.Opened.{any-none}
 
@@ -23,13 +23,6 @@ all-same p q k zero same = refl
 all-same p q k (suc n) same =
     ap (λ (b : Bool). b && list_all p (range_with_len (k + 1) n)) (same k (omega arith) (omega arith))
     ∙ ap (λ (b : Bool). q k && b) (all-same p q (k + 1) n (λ i low high. same i (omega arith) (omega arith)))
-
-not-less : (a b : ℕ) → b ≤ a → nat_lt a b ≡ false
-not-less a b le = false_from_ne_true _ (λ up. let wrong : a < b = ltb-true _ _ up in omega arith)
-
-toward-same : (a b k : ℕ) → a ≡ b → toward a b k ≡ a
-unfolding toward
-toward-same a b k e = cond-false _ (a + k) _ (not-less a b (omega arith)) ∙ cond-false _ (a - k) a (not-less b a (omega arith))
 
 -- a number strictly between two others
 record IsBetween (a b n : ℕ) : Type 0 where

@@ -1,5 +1,5 @@
--- Equal boards and tests.
-use Rattle.std.proofs.Common.{◌≡◌, Bool, true, false, [], ◌∷◌, refl, ap, sym, ◌∙◌}
+-- Equal boards.
+use Rattle.std.proofs.Common.{◌≡◌, true, [], ◌∷◌, refl, ap, ◌∙◌}
 use Rattle.std.proofs.lemmas.Bool.{and_parts, and_from}
 use Rattle.std.specs.Prelude.{Option, Some, None}
 use Rattle.board_base.specs.Board.{Places}
@@ -34,9 +34,3 @@ pub places_self : (a : Places) → same_places a a ≡ true
 unfolding same_places
 places_self [] = refl
 places_self (x ∷ xs) = and_from _ _ (place_self x) (places_self xs)
-
--- tests that hold in the same cases are equal
-pub same_tests : (a b : Bool) → (a ≡ true → b ≡ true) → (b ≡ true → a ≡ true) → a ≡ b
-same_tests true b there back = sym (there refl)
-same_tests false true there back = back refl
-same_tests false false there back = refl

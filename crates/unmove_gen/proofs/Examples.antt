@@ -1,7 +1,7 @@
 -- Unmoves that are listed and unmoves that aren't, and predecessors, on boards that are written out.
 use Rattle.std.proofs.Common.{◌≡◌, ℕ, true, false, [], ◌∷◌, map, refl}
 use Rattle.std.specs.Prelude.{Some, None, slice_set}
-use Rattle.board_base.specs.Board.{Places, man, no_men}
+use Rattle.board_base.specs.Board.{Places, array_of, initial_array, man, no_men}
 use Rattle.board_base.specs.Rights.{Rights}
 use Rattle.board_base.specs.Attacks.{attacks, attacks_from, distance, kind_attacks, king_distance, on_the_way, toward}
 use Rattle.board_base.specs.Play.{play}
@@ -12,7 +12,7 @@ use Rattle.board_base.specs.declared.men.Kind.TheVariants.{King, Knight, Pawn, Q
 use Rattle.board_base.specs.declared.moves.Move.{Move}
 use Rattle.board_base.specs.declared.unmoves.Unmove.{Unmove}
 use Rattle.play_rules.specs.Laws.{has_no_pawn_on_ends}
-use Rattle.men_account.specs.Account.{men}
+use Rattle.men_account.specs.Account.{accounts_for, men}
 use Rattle.query_base.specs.Asked.{Asked}
 use Rattle.unmove_gen.specs.TakenBack.{taken_back}
 use Rattle.unmove_gen.specs.Sane.{is_sane}
@@ -43,17 +43,17 @@ pawn_on_d5 = slice_set kings 35 (man Black Pawn)
 
 -- the pawn on d5 came from d7 or d6, or took a queen from c6; not from c6 without a capture, from d4, or from e8, which isn't empty
 pawn_moves : map (is_listed (asked pawn_on_d5 White)) (quiet 51 35 ∷ quiet 43 35 ∷ taking (move 42 35) (Some Queen) ∷ quiet 42 35 ∷ quiet 27 35 ∷ quiet 60 35 ∷ []) ≡ true ∷ true ∷ true ∷ false ∷ false ∷ false ∷ []
-unfolding is_listed taken_back same_places is_sane has_no_pawn_on_ends men attacks attacks_from kind_attacks distance toward on_the_way king_distance play legal_on may_go in_check promotion_fits man_moves pawn_steps pawn_doubles pawn_captures pawn_captures_en_passant king_castles
+unfolding is_listed taken_back same_places is_sane has_no_pawn_on_ends accounts_for array_of initial_array men attacks attacks_from kind_attacks distance toward on_the_way king_distance play legal_on may_go in_check promotion_fits man_moves pawn_steps pawn_doubles pawn_captures pawn_captures_en_passant king_castles
 pawn_moves = refl
 
 -- where the double step is demanded, the king came from nowhere, and where it is barred, the pawn came from d6 alone
 demanded_and_barred : map (λ q. map (is_listed q) (quiet 51 35 ∷ quiet 43 35 ∷ quiet 61 60 ∷ [])) (record (asked pawn_on_d5 White) { only = Some (move 51 35) } ∷ record (asked pawn_on_d5 White) { barred = Some (move 51 35) } ∷ []) ≡ (true ∷ false ∷ false ∷ []) ∷ (false ∷ true ∷ true ∷ []) ∷ []
-unfolding is_listed taken_back same_places is_sane has_no_pawn_on_ends men attacks attacks_from kind_attacks distance toward on_the_way king_distance play legal_on may_go in_check promotion_fits man_moves pawn_steps pawn_doubles pawn_captures pawn_captures_en_passant king_castles
+unfolding is_listed taken_back same_places is_sane has_no_pawn_on_ends accounts_for array_of initial_array men attacks attacks_from kind_attacks distance toward on_the_way king_distance play legal_on may_go in_check promotion_fits man_moves pawn_steps pawn_doubles pawn_captures pawn_captures_en_passant king_castles
 demanded_and_barred = refl
 
 -- the king on e8 came from f8, but not where Black's right to castle is held
 king_stayed : map (λ held. is_listed (record (asked pawn_on_d5 White) { held = held }) (quiet 61 60)) (no_rights ∷ record no_rights { black_short = true } ∷ []) ≡ true ∷ false ∷ []
-unfolding is_listed taken_back same_places is_sane has_no_pawn_on_ends men attacks attacks_from kind_attacks distance toward on_the_way king_distance play legal_on may_go in_check promotion_fits man_moves pawn_steps pawn_doubles pawn_captures pawn_captures_en_passant king_castles
+unfolding is_listed taken_back same_places is_sane has_no_pawn_on_ends accounts_for array_of initial_array men attacks attacks_from kind_attacks distance toward on_the_way king_distance play legal_on may_go in_check promotion_fits man_moves pawn_steps pawn_doubles pawn_captures pawn_captures_en_passant king_castles
 king_stayed = refl
 
 -- kings on e1 and e8, and White's pawn on d6
@@ -65,11 +65,11 @@ e5xd6_ep = taking_en_passant (move 36 43)
 
 -- the pawn on d6 took en passant from e5; it did not go there without a capture, nor past a man on d7, from where a double step began
 took_en_passant : map (is_listed (asked pawn_on_d6 Black)) (e5xd6_ep ∷ quiet 36 43 ∷ []) ≡ true ∷ false ∷ []
-unfolding is_listed taken_back same_places is_sane has_no_pawn_on_ends men attacks attacks_from kind_attacks distance toward on_the_way king_distance play legal_on may_go in_check promotion_fits man_moves pawn_steps pawn_doubles pawn_captures pawn_captures_en_passant king_castles
+unfolding is_listed taken_back same_places is_sane has_no_pawn_on_ends accounts_for array_of initial_array men attacks attacks_from kind_attacks distance toward on_the_way king_distance play legal_on may_go in_check promotion_fits man_moves pawn_steps pawn_doubles pawn_captures pawn_captures_en_passant king_castles
 took_en_passant = refl
 
 d7_is_taken : is_listed (asked (slice_set pawn_on_d6 51 (man Black Knight)) Black) e5xd6_ep ≡ false
-unfolding is_listed taken_back same_places is_sane has_no_pawn_on_ends men attacks attacks_from kind_attacks distance toward on_the_way king_distance play legal_on may_go in_check promotion_fits man_moves pawn_steps pawn_doubles pawn_captures pawn_captures_en_passant king_castles
+unfolding is_listed taken_back same_places is_sane has_no_pawn_on_ends accounts_for array_of initial_array men attacks attacks_from kind_attacks distance toward on_the_way king_distance play legal_on may_go in_check promotion_fits man_moves pawn_steps pawn_doubles pawn_captures pawn_captures_en_passant king_castles
 d7_is_taken = refl
 
 -- before the capture Black's pawn stood on d5, White's on e5, and the double step from d7 was the last move

@@ -12,12 +12,13 @@ use Rattle.board_base.specs.declared.moves.Move.{Move}
 use Rattle.board_base.specs.declared.unmoves.Unmove.{Unmove}
 use Rattle.unmove_gen.specs.Listed.{answered, has_left, is_marked, same_places, took_pawn}
 use Rattle.board_base.proofs.Equal.{move_self}
-use Rattle.unmove_gen.proofs.Equal.{places_are, places_self, same_tests}
+use Rattle.unmove_gen.proofs.Equal.{places_are, places_self}
+use Rattle.general_lemmas.proofs.Truth.{same_truth}
 use Rattle.unmove_gen.proofs.Marks.{has_passed, none-answers}
 
 -- boards that are compared as wholes are compared place by place
 pub same-boards : (a b : Places) (r : Bool) → IsTrue r ↔ (a ≡ b) → r ≡ same_places a b
-same-boards a b r same = same_tests r (same_places a b) (λ h. ap (same_places a) (sym (same.0 h)) ∙ places_self a) (λ h. same.1 (places_are a b h))
+same-boards a b r same = same_truth r (same_places a b) (λ h. ap (same_places a) (sym (same.0 h)) ∙ places_self a) (λ h. same.1 (places_are a b h))
 
 marked_as : Places → Colour → Unmove → Bool → Option Move → Bool
 marked_as board c u ep o = beq ep (pawn_captures_en_passant board c o u.mv) && cond ep (took_pawn u && has_left o board) true

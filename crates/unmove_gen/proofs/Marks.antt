@@ -17,7 +17,7 @@ use Rattle.board_base.proofs.Passing.{may_pass, double-en_passant_victim, other-
 use Rattle.play_rules.proofs.Legality.{Manner, moves, steps, doubles, takes, passes, castles, Legality}
 use Rattle.play_rules.proofs.Kings.{empty-not}
 use Rattle.unmove_gen.specs.Listed.{has_left}
-use Rattle.unmove_gen.proofs.Equal.{same_tests}
+use Rattle.general_lemmas.proofs.Truth.{same_truth}
 
 -- the pawn that has just made this double step stands where it ended
 abbrev pub has_passed : Places → Colour → Option Move → Option Move → Bool
@@ -76,7 +76,7 @@ pawn-no_castling board m h = cond-false _ (castling_from m.from m.to) None (anot
 -- a legal move goes so exactly where it is a capture en passant
 pub goes-same : (board : Places) (c : Colour) (rights : Castle → Bool) (last : Option Move) (m : Move) → Legality board c rights last m → goes_en_passant board m ≡ pawn_captures_en_passant board c last m
 goes-same board c rights last m l =
-    same_tests _ _ (λ h. goes-captures board c rights last m (pawn-no_castling board m h) h l.manner) (λ h. (captures board c last m h).goes)
+    same_truth _ _ (λ h. goes-captures board c rights last m (pawn-no_castling board m h) h l.manner) (λ h. (captures board c last m h).goes)
 
 self-from : (board : Places) (c : Colour) (last o : Option Move) → has_passed board c last o ≡ true → has_passed board c o o ≡ true
 self-from board c last None h = h

@@ -26,7 +26,7 @@ use Rattle.unmove_gen.specs.Listed.{answered, before, candidates, every_right, i
 use Rattle.unmove_gen.specs.Predecessor.{predecessor, with_castle}
 use Rattle.unmove_gen.proofs.Castlings.{castled}
 use Rattle.unmove_gen.proofs.Demands.{barred-met, held-keeps, only-met, untouched}
-use Rattle.unmove_gen.proofs.Equal.{same_tests}
+use Rattle.general_lemmas.proofs.Truth.{same_truth}
 use Rattle.unmove_gen.proofs.Exchanged.{legal-exchanged}
 use Rattle.unmove_gen.proofs.Marks.{captures, goes-same, none-answers}
 use Rattle.unmove_gen.proofs.Parts.{Parts, legality_of, parts}
@@ -55,7 +55,7 @@ onward-from g u q p r =
     let back : castling_back q.board u.mv ≡ Some x = ap (λ (b : Places). castling_back b u.mv) (sym p.here) ∙ castled-played board c every_right u.mv x inside e (two-castles board c every_right (answered u c) u.mv x e l.manner) in
     sym (r.held x (subst (λ (o : Option Castle). holds (with_castle q.held o) x ≡ true) (sym back) (holds_added q.held x))) in
     let passes : pawn_captures_en_passant board c (answered u c) u.mv ≡ pawn_captures_en_passant board c last u.mv =
-    same_tests _ _ (passes-last board c last (answered u c) u.mv r.only) (λ h. sym (goes-same board c every_right (answered u c) u.mv l) ∙ (captures board c last u.mv h).goes) in
+    same_truth _ _ (passes-last board c last (answered u c) u.mv r.only) (λ h. sym (goes-same board c every_right (answered u c) u.mv l) ∙ (captures board c last u.mv h).goes) in
     let legal : legal_after no_odds g u.mv ≡ true =
     ap (λ (b : Places). legal_on b (turn_after g) rights last u.mv) r.board ∙ ap (λ (d : Colour). legal_on board d rights last u.mv) r.turn ∙ sym (legal-exchanged board c every_right rights (answered u c) last u.mv has passes) ∙ p.legal in
     record {

@@ -2,7 +2,7 @@
 use Rattle.std.proofs.Common.{◌≡◌, ℕ, Bool, true, false, ◌&&◌, ◌||◌, not, nat_le, List, [], ◌∷◌, length, set, inl, inr, refl, ap, sym, ◌∙◌, arith}
 use Rattle.std.proofs.lemmas.Bool.{and_from, and_left, and_parts, and_right, both_ways, cases_Bool, cases_eq, false_from_ne_true, true_from_ne_false}
 use Rattle.std.specs.Prelude.{Option, Some, None}
-use Rattle.board_base.specs.Board.{Places, at, is_a, is_empty, is_of, man, opponent, same_kind}
+use Rattle.board_base.specs.Board.{Places, at, is_a, is_empty, is_of, man, opponent, same_kind, no_odds}
 use Rattle.board_base.specs.Attacks.{attacks, attacks_from}
 use Rattle.board_base.specs.Play.{double_of, play, promoted}
 use Rattle.board_base.specs.Legal.{pawn_captures_en_passant}
@@ -15,6 +15,7 @@ use Rattle.board_base.specs.declared.men.Kind.TheVariants.{Pawn, Knight, Bishop,
 use Rattle.board_base.specs.declared.moves.Move.{Move}
 use Rattle.board_base.specs.declared.unmoves.Unmove.{Unmove}
 use Rattle.board_base.proofs.KindsOfMen.{colour_is, opponent-twice}
+use Rattle.men_account.proofs.Accounts.{account-whole}
 use Rattle.men_account.specs.Account.{accounts_for, excess_of, full_allowance}
 use Rattle.men_account.specs.declared.tallies.Counts.{Counts}
 use Rattle.unmove_gen.specs.declared.facts.QueryFacts.{QueryFacts}
@@ -23,7 +24,7 @@ use Rattle.query_base.specs.Asked.{Asked}
 use Rattle.unmove_gen.specs.Listed.{answered, before, every_right, fits_ends, is_listed, is_marked, mover, obeys, taking, taking_en_passant}
 use Rattle.unmove_gen.specs.Plain.{AreAnswers, AreFacts, IsPlain, goes_plainly, goes_soundly, has_room, put_back, starts_on_end}
 use Rattle.unmove_gen.specs.TakenBack.{captured_by}
-use Rattle.unmove_gen.proofs.Equal.{same_tests}
+use Rattle.general_lemmas.proofs.Truth.{same_truth}
 use Rattle.unmove_gen.proofs.Marking.{wrongly-marked}
 use Rattle.unmove_gen.proofs.Opened.{attacks-but, attacks-less, goes-same}
 use Rattle.board_base.proofs.Hits.{hit-attacks}
@@ -75,8 +76,8 @@ pub answer-quiet : (q : Asked) (f : QueryFacts) (m : Move) → AreFacts q f → 
 answer-quiet q f m n p asked =
     let board : Places = put_back q.board m None in
     let k : IsTaken (mover q) None = record { not_own = refl; no_king = refl } in
-    let account : accounts_for board q.turn ≡ nat_le (excess_of f.men full_allowance) 8 =
-    account-quiet q.turn (mover q) q.board m p (other-colour q.turn (at q.board m.to) p.own) ∙ ap (λ (x : Counts). nat_le (excess_of x full_allowance) 8) (sym n.men_are) in
+    let account : accounts_for no_odds board q.turn ≡ nat_le (excess_of f.men full_allowance) 8 =
+    account-quiet q.turn (mover q) q.board m p (other-colour q.turn (at q.board m.to) p.own) ∙ account-whole q.board q.turn ∙ ap (λ (x : Counts). nat_le (excess_of x full_allowance) 8) (sym n.men_are) in
     listed-plain q f m None None (captured-none (at q.board m.to)) n p asked k
     ∙ ap (λ (b : Bool). goes_plainly board (mover q) m && (b && (not (starts_on_end q.board m) && true) && not (attacks board f.king (mover q)))) account
     ∙ shuffled (goes_plainly board (mover q) m) (nat_le (excess_of f.men full_allowance) 8) (not (starts_on_end q.board m)) true (not (attacks board f.king (mover q)))
@@ -129,7 +130,7 @@ no-more d board m j k s p free =
 
 attacks-same : (d : Colour) (board : Places) (m : Move) (j k : Kind) (s : ℕ) → IsPlain board (opponent d) m → attacks (put_back board m (man d j)) s (opponent d) ≡ attacks (put_back board m (man d k)) s (opponent d)
 attacks-same d board m j k s p =
-    same_tests _ _ (λ h. true_from_ne_false _ (λ free. both_ways _ (no-more d board m j k s p free) h)) (λ h. true_from_ne_false _ (λ free. both_ways _ (no-more d board m k j s p free) h))
+    same_truth _ _ (λ h. true_from_ne_false _ (λ free. both_ways _ (no-more d board m j k s p free) h)) (λ h. true_from_ne_false _ (λ free. both_ways _ (no-more d board m k j s p free) h))
 
 pub answer-taken : (q : Asked) (f : QueryFacts) (m : Move) (k : Kind) → AreFacts q f → IsPlain q.board (mover q) m → obeys q m ≡ true → same_kind King k ≡ false → is_listed q (taking m (Some k)) ≡ ((goes_plainly (put_back q.board m (man q.turn Pawn)) (mover q) m && not (starts_on_end q.board m) && not (attacks (put_back q.board m (man q.turn Pawn)) f.king (mover q))) && (has_room f.men k m.to && not (same_kind Pawn k && is_end m.to)))
 answer-taken q f m k n p asked other =
@@ -138,7 +139,7 @@ answer-taken q f m k n p asked other =
     let board : Places = put_back q.board m taken in
     let pawn : Places = put_back q.board m (man q.turn Pawn) in
     let t : IsTaken c taken = record { not_own = not-mine q.turn k; no_king = other } in
-    let account : accounts_for board q.turn ≡ has_room f.men k m.to =
+    let account : accounts_for no_odds board q.turn ≡ has_room f.men k m.to =
     account-taken q.turn c k q.board m p (other-colour q.turn (at q.board m.to) p.own) other ∙ ap (λ (x : Counts). has_room x k m.to) (sym n.men_are) in
     let goes : goes_plainly board c m ≡ goes_plainly pawn c m =
     goes-same board pawn c m (at-origin q.board c m taken p ∙ sym (at-origin q.board c m (man q.turn Pawn) p))
@@ -146,7 +147,7 @@ answer-taken q f m k n p asked other =
     (full-same q.turn q.board m k Pawn p) in
     let hit : attacks board f.king c ≡ attacks pawn f.king c = attacks-same q.turn q.board m k Pawn f.king p in
     listed-plain q f m (Some k) taken (captured-man q.turn (at q.board m.to) k p.own) n p asked t
-    ∙ ap (λ (b : Bool). b && (accounts_for board q.turn && (not (starts_on_end q.board m) && not (same_kind Pawn k && is_end m.to)) && not (attacks board f.king c))) goes
+    ∙ ap (λ (b : Bool). b && (accounts_for no_odds board q.turn && (not (starts_on_end q.board m) && not (same_kind Pawn k && is_end m.to)) && not (attacks board f.king c))) goes
     ∙ ap (λ (b : Bool). goes_plainly pawn c m && (b && (not (starts_on_end q.board m) && not (same_kind Pawn k && is_end m.to)) && not (attacks board f.king c))) account
     ∙ ap (λ (b : Bool). goes_plainly pawn c m && (has_room f.men k m.to && (not (starts_on_end q.board m) && not (same_kind Pawn k && is_end m.to)) && not b)) hit
     ∙ shuffled (goes_plainly pawn c m) (has_room f.men k m.to) (not (starts_on_end q.board m)) (not (same_kind Pawn k && is_end m.to)) (not (attacks pawn f.king c))
@@ -237,7 +238,7 @@ alone-but d board m s p free =
     let whole = p.whole in
     let small = p.to in
     let gone : at (set board m.to None) m.to ≡ None = get_or-set_same board m.to None None (omega arith) in
-    same_tests _ _
+    same_truth _ _
     (λ h. hit-attacks before (opponent d) s m.from p.from (and_from _ _ (ap (is_of (opponent d)) (at-origin board (opponent d) m None p) ∙ p.own) h))
     (λ h. true_from_ne_false _ (λ quiet. both_ways _ (attacks-but before (set board m.to None) s m.from (opponent d)
     (λ x f own. elim (cases_eq x m.to) [

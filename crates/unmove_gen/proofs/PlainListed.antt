@@ -1,9 +1,9 @@
 -- Which moves are listed that may be taken back by hand.
-use Rattle.std.proofs.Common.{◌≡◌, ℕ, ◌+◌, ◌-◌, ◌%◌, ◌<◌, ◌==◌, Bool, true, false, ◌&&◌, ◌||◌, ◌⊎◌, not, length, inl, inr, refl, ap, sym, ◌∙◌, subst, arith}
-use Rattle.std.proofs.lemmas.Bool.{and_parts, and_from, and_left, and_right, both_ways, cases_eq, eq-eqb, eqb-true, false_from_ne_true, lt-ltb, not-true, not_from_false, or_cases, or_left, or_right}
+use Rattle.std.proofs.Common.{◌≡◌, ℕ, ◌+◌, ◌<◌, ◌==◌, Bool, true, false, ◌&&◌, ◌||◌, ◌⊎◌, not, length, inl, inr, refl, ap, sym, ◌∙◌, subst, arith}
+use Rattle.std.proofs.lemmas.Bool.{and_parts, and_from, and_left, and_right, both_ways, cases_eq, eq-eqb, false_from_ne_true, lt-ltb, not-true, not_from_false, or_cases, or_left, or_right}
 use Rattle.std.specs.Prelude.{Option, Some, None}
-use Rattle.board_base.specs.Board.{Places, at, is_a, is_empty, is_of, is_the, file, rank, opponent, same_colour}
-use Rattle.board_base.specs.Attacks.{attacks, attacks_from, distance, files_apart, kind_attacks, ranks_apart}
+use Rattle.board_base.specs.Board.{Places, at, is_a, is_empty, is_of, is_the, opponent, same_colour, no_odds}
+use Rattle.board_base.specs.Attacks.{attacks, attacks_from}
 use Rattle.board_base.specs.Play.{castling, goes_en_passant, play}
 use Rattle.board_base.specs.Legal.{castles_as, in_check, king_castles, legal_on, man_moves, may_go, pawn_captures, pawn_doubles, pawn_steps, promotion_fits}
 use Rattle.board_base.specs.declared.men.Man.{Man}
@@ -14,8 +14,9 @@ use Rattle.board_base.specs.declared.men.Kind.TheVariants.{Pawn, Bishop, King}
 use Rattle.board_base.specs.declared.moves.Move.{Move}
 use Rattle.board_base.specs.declared.castles.Castle.{Castle}
 use Rattle.board_base.specs.declared.unmoves.Unmove.{Unmove}
-use Rattle.board_base.proofs.KindsOfMen.{another_kind, kind_is, opponent-twice}
+use Rattle.board_base.proofs.KindsOfMen.{another_kind, opponent-twice}
 use Rattle.men_account.specs.Account.{accounts_for, is_any, is_light, men}
+use Rattle.men_account.proofs.Bishops.{bishop-steps}
 use Rattle.unmove_gen.specs.declared.facts.QueryFacts.{QueryFacts}
 use Rattle.general_lemmas.proofs.Counts.{one_if}
 use Rattle.play_rules.specs.Kings.{kings}
@@ -28,7 +29,8 @@ use Rattle.unmove_gen.specs.Plain.{AreFacts, IsPlain, goes_plainly, put_back}
 use Rattle.unmove_gen.specs.Sane.{is_sane}
 use Rattle.unmove_gen.specs.TakenBack.{captured_by}
 use Rattle.unmove_gen.proofs.Between.{and-under}
-use Rattle.unmove_gen.proofs.Equal.{places_self, same_tests}
+use Rattle.unmove_gen.proofs.Equal.{places_self}
+use Rattle.general_lemmas.proofs.Truth.{same_truth}
 use Rattle.unmove_gen.proofs.Marking.{unmarked}
 use Rattle.unmove_gen.proofs.Marks.{goes-captures, none-answers}
 use Rattle.unmove_gen.proofs.Opened.{check-is}
@@ -85,7 +87,7 @@ listed-as q m captured taken is p asked safe k =
     let c : Colour = mover q in
     let board : Places = put_back q.board m taken in
     let none : castling board m ≡ None = no-castling q.board c m taken p in
-    same_tests _ _
+    same_truth _ _
     (λ h.
     let p4 = and_parts _ _ h in
     let p3 = and_parts _ _ p4.0 in
@@ -111,7 +113,7 @@ pub ends-put : (board : Places) (c : Colour) (m : Move) (taken : Option Man) →
 ends-put board c m taken p none =
     let after : Places = put_back board m taken in
     let law = answers_law after (has_no_pawn_on_ends after) refl in
-    same_tests _ _
+    same_truth _ _
     (λ h.
     let free : HasNoPawnOnEnds after = law.0 h in
     and_from _ _
@@ -131,16 +133,16 @@ and-yes : (b : Bool) → ((b && true) && true) ≡ b
 and-yes true = refl
 and-yes false = refl
 
-sane-as : (board : Places) (c : Colour) → ((d : Colour) → kings d board ≡ 1) → accounts_for board c ≡ true → is_sane board c ≡ (accounts_for board (opponent c) && has_no_pawn_on_ends board && not (in_check board (opponent c)))
+sane-as : (board : Places) (c : Colour) → ((d : Colour) → kings d board ≡ 1) → accounts_for no_odds board c ≡ true → is_sane board c ≡ (accounts_for no_odds board (opponent c) && has_no_pawn_on_ends board && not (in_check board (opponent c)))
 unfolding is_sane
 sane-as board White one own = rw (eq-eqb _ 1 (one White), eq-eqb _ 1 (one Black), own) refl
 sane-as board Black one own =
     let w : (kings White board == 1) ≡ true = eq-eqb _ 1 (one White) in
     let b : (kings Black board == 1) ≡ true = eq-eqb _ 1 (one Black) in
-    ap (λ (x : Bool). x && accounts_for board White && (kings Black board == 1) && accounts_for board Black && has_no_pawn_on_ends board && not (in_check board White)) w
-    ∙ ap (λ (x : Bool). accounts_for board White && x && accounts_for board Black && has_no_pawn_on_ends board && not (in_check board White)) b
-    ∙ ap (λ (x : Bool). accounts_for board White && true && x && has_no_pawn_on_ends board && not (in_check board White)) own
-    ∙ ap (λ (x : Bool). x && has_no_pawn_on_ends board && not (in_check board White)) (and-yes (accounts_for board White))
+    ap (λ (x : Bool). x && accounts_for no_odds board White && (kings Black board == 1) && accounts_for no_odds board Black && has_no_pawn_on_ends board && not (in_check board White)) w
+    ∙ ap (λ (x : Bool). accounts_for no_odds board White && x && accounts_for no_odds board Black && has_no_pawn_on_ends board && not (in_check board White)) b
+    ∙ ap (λ (x : Bool). accounts_for no_odds board White && true && x && has_no_pawn_on_ends board && not (in_check board White)) own
+    ∙ ap (λ (x : Bool). x && has_no_pawn_on_ends board && not (in_check board White)) (and-yes (accounts_for no_odds board White))
 
 pub other-colour : (c : Colour) (place : Option Man) → is_of (opponent c) place ≡ true → is_of c place ≡ false
 other-colour c None h = refl
@@ -149,9 +151,6 @@ other-colour Black (Some m) h = elim m.colour as (λ d. same_colour White d ≡ 
 
 cancel : (a b x t : ℕ) → a + x ≡ b + x + t → t ≡ 0 → a ≡ b
 cancel a b x t e z = omega arith
-
-diagonal : (f r f' r' : ℕ) → (f - f') + (f' - f) ≡ (r - r') + (r' - r) → (f + r) % 2 ≡ (f' + r') % 2
-diagonal f r f' r' h = omega arith
 
 -- the king of the side to move stands where he stood, alone
 king-stays : (q : Asked) (f : QueryFacts) (m : Move) (taken : Option Man) → AreFacts q f → IsPlain q.board (mover q) m → IsTaken (mover q) taken → (s : ℕ) → s < 64 → is_the q.turn King (at (put_back q.board m taken) s) ≡ (s == f.king)
@@ -176,14 +175,6 @@ kings-stay q f m taken n p k d =
     let was : men d King is_any q.board ≡ 1 = men-kings d q.board n.whole ∙ n.kings d in
     let none : one_if (is_the d King taken && is_any m.to) ≡ 0 = ap one_if (and_left _ _ (and_right _ _ k.no_king)) in
     sym (men-kings d board len) ∙ cancel _ _ _ _ (men-put d (mover q) King is_any q.board m taken p) none ∙ was
-
-bishop-steps : (board : Places) (place : Option Man) (s t : ℕ) → is_a Bishop place ≡ true → elim place as (λ _. Bool) [ None ↦ false | Some m ↦ kind_attacks board m.colour m.kind s t ] ≡ true → is_light s ≡ is_light t
-unfolding kind_attacks distance
-bishop-steps board None s t k h = cc
-bishop-steps board (Some m) s t k h =
-    let goes : kind_attacks board m.colour Bishop s t ≡ true = subst (λ (j : Kind). kind_attacks board m.colour j s t ≡ true) (sym (kind_is Bishop m.kind k)) h in
-    let e : files_apart s t ≡ ranks_apart s t = eqb-true _ _ (and_parts _ _ (and_parts _ _ goes).0).1 in
-    ap (λ (n : ℕ). n == 1) (diagonal (file s) (rank s) (file t) (rank t) e)
 
 moves-light : (board : Places) (m : Move) → is_a Bishop (at board m.from) ≡ true → man_moves board m ≡ true → is_light m.from ≡ is_light m.to
 unfolding man_moves attacks_from
@@ -210,20 +201,20 @@ bishop-goes board c m goes bishop =
     ]
 
 -- the board before is sane where the account of the side to move holds, no pawn comes to an end, and its king isn't attacked
-sane-plain : (q : Asked) (f : QueryFacts) (m : Move) (taken : Option Man) → AreFacts q f → IsPlain q.board (mover q) m → IsTaken (mover q) taken → goes_plainly (put_back q.board m taken) (mover q) m ≡ true → is_sane (put_back q.board m taken) (mover q) ≡ (accounts_for (put_back q.board m taken) q.turn && (not (is_a Pawn (at q.board m.to) && is_end m.from) && not (is_a Pawn taken && is_end m.to)) && not (attacks (put_back q.board m taken) f.king (mover q)))
+sane-plain : (q : Asked) (f : QueryFacts) (m : Move) (taken : Option Man) → AreFacts q f → IsPlain q.board (mover q) m → IsTaken (mover q) taken → goes_plainly (put_back q.board m taken) (mover q) m ≡ true → is_sane (put_back q.board m taken) (mover q) ≡ (accounts_for no_odds (put_back q.board m taken) q.turn && (not (is_a Pawn (at q.board m.to) && is_end m.from) && not (is_a Pawn taken && is_end m.to)) && not (attacks (put_back q.board m taken) f.king (mover q)))
 sane-plain q f m taken n p k goes =
     let c : Colour = mover q in
     let board : Places = put_back q.board m taken in
     let light : is_a Bishop (at q.board m.to) ≡ true → is_light m.to ≡ is_light m.from = λ bishop. sym (bishop-goes board c m goes (ap (is_a Bishop) (at-origin q.board c m taken p) ∙ bishop)) in
-    let own : accounts_for board c ≡ true = account-own c q.board m taken p k.not_own light ∙ n.own in
+    let own : accounts_for no_odds board c ≡ true = account-own c q.board m taken p k.not_own light ∙ n.own in
     let turn : opponent c ≡ q.turn = opponent-twice q.turn in
     sane-as board c (kings-stay q f m taken n p k) own
-    ∙ ap (λ (d : Colour). accounts_for board d && has_no_pawn_on_ends board && not (in_check board d)) turn
-    ∙ ap (λ (b : Bool). accounts_for board q.turn && b && not (in_check board q.turn)) (ends-put q.board c m taken p n.ends)
-    ∙ ap (λ (b : Bool). accounts_for board q.turn && (not (is_a Pawn (at q.board m.to) && is_end m.from) && not (is_a Pawn taken && is_end m.to)) && not b) (check-is board q.turn f.king n.on_board (king-stays q f m taken n p k))
+    ∙ ap (λ (d : Colour). accounts_for no_odds board d && has_no_pawn_on_ends board && not (in_check board d)) turn
+    ∙ ap (λ (b : Bool). accounts_for no_odds board q.turn && b && not (in_check board q.turn)) (ends-put q.board c m taken p n.ends)
+    ∙ ap (λ (b : Bool). accounts_for no_odds board q.turn && (not (is_a Pawn (at q.board m.to) && is_end m.from) && not (is_a Pawn taken && is_end m.to)) && not b) (check-is board q.turn f.king n.on_board (king-stays q f m taken n p k))
 
 -- a plain unmove is listed where its man goes so, and the board before is sane
-pub listed-plain : (q : Asked) (f : QueryFacts) (m : Move) (captured : Option Kind) (taken : Option Man) → taken ≡ captured_by (at q.board m.to) captured → AreFacts q f → IsPlain q.board (mover q) m → obeys q m ≡ true → IsTaken (mover q) taken → is_listed q (taking m captured) ≡ (goes_plainly (put_back q.board m taken) (mover q) m && (accounts_for (put_back q.board m taken) q.turn && (not (is_a Pawn (at q.board m.to) && is_end m.from) && not (is_a Pawn taken && is_end m.to)) && not (attacks (put_back q.board m taken) f.king (mover q))))
+pub listed-plain : (q : Asked) (f : QueryFacts) (m : Move) (captured : Option Kind) (taken : Option Man) → taken ≡ captured_by (at q.board m.to) captured → AreFacts q f → IsPlain q.board (mover q) m → obeys q m ≡ true → IsTaken (mover q) taken → is_listed q (taking m captured) ≡ (goes_plainly (put_back q.board m taken) (mover q) m && (accounts_for no_odds (put_back q.board m taken) q.turn && (not (is_a Pawn (at q.board m.to) && is_end m.from) && not (is_a Pawn taken && is_end m.to)) && not (attacks (put_back q.board m taken) f.king (mover q))))
 listed-plain q f m captured taken is n p asked k =
     as-tested q (taking m captured)
     ∙ ap (tested q (taking m captured)) (before-is q.board (mover q) m captured p ∙ ap (put_back q.board m) (sym is))

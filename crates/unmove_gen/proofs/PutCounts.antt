@@ -5,7 +5,7 @@ use Rattle.std.proofs.lemmas.List.{length-set, get_or-set_same, get_or-set_other
 use Rattle.std.specs.Prelude.{Option, None, nat_lt}
 use Rattle.std.specs.List.{count_by, range_with_len}
 use Rattle.general_lemmas.proofs.Counts.{count-cons, one_if}
-use Rattle.board_base.specs.Board.{Places, at, is_a, is_of, is_the, man, same_kind}
+use Rattle.board_base.specs.Board.{Places, at, is_a, is_of, is_the, man, same_kind, no_odds}
 use Rattle.board_base.specs.declared.men.Man.{Man}
 use Rattle.board_base.specs.declared.men.Colour.{Colour}
 use Rattle.board_base.specs.declared.men.Kind.{Kind}
@@ -14,6 +14,7 @@ use Rattle.board_base.specs.declared.moves.Move.{Move}
 use Rattle.board_base.proofs.KindsOfMen.{same_colour-self}
 use Rattle.men_account.specs.Account.{accounts_for, counts_of, excess_of, full_allowance, is_any, is_dark, is_light, men}
 use Rattle.men_account.specs.declared.tallies.Counts.{Counts}
+use Rattle.men_account.proofs.Accounts.{account-whole}
 use Rattle.unmove_gen.specs.Plain.{IsPlain, has_room, put_back}
 use Rattle.unmove_gen.proofs.PutBack.{apart}
 
@@ -88,18 +89,22 @@ excess-same : (a b : Counts) → a.pawns ≡ b.pawns → a.queens ≡ b.queens �
 excess-same a b p q r n l d = cc
 
 -- the account of the side that moved stays
-pub account-own : (c : Colour) (board : Places) (m : Move) (taken : Option Man) → IsPlain board c m → is_of c taken ≡ false → (is_a Bishop (at board m.to) ≡ true → is_light m.to ≡ is_light m.from) → accounts_for (put_back board m taken) c ≡ accounts_for board c
+pub account-own : (c : Colour) (board : Places) (m : Move) (taken : Option Man) → IsPlain board c m → is_of c taken ≡ false → (is_a Bishop (at board m.to) ≡ true → is_light m.to ≡ is_light m.from) → accounts_for no_odds (put_back board m taken) c ≡ accounts_for no_odds board c
 account-own c board m taken p other bishop =
+    account-whole (put_back board m taken) c ∙
     ap (λ (n : ℕ). nat_le n 8) (excess-same (counts_of c (put_back board m taken)) (counts_of c board) (men-own c Pawn is_any board m taken p other refl) (men-own c Queen is_any board m taken p other refl) (men-own c Rook is_any board m taken p other refl) (men-own c Knight is_any board m taken p other refl)
     (men-own c Bishop is_light board m taken p other (bishop-same c (at board m.to) (is_light m.to) (is_light m.from) bishop)) (men-own c Bishop is_dark board m taken p other (bishop-same c (at board m.to) (is_dark m.to) (is_dark m.from) (λ h. ap not (bishop h)))))
+    ∙ sym (account-whole board c)
 
 men-quiet : (d c : Colour) (k : Kind) (among : ℕ → Bool) (board : Places) (m : Move) → IsPlain board c m → is_of d (at board m.to) ≡ false → men d k among (put_back board m None) ≡ men d k among board
 men-quiet d c k among board m p other = omega (arith, men-other d c k among board m None p other)
 
 -- the account of the side that is to move, where nothing was captured
-pub account-quiet : (d c : Colour) (board : Places) (m : Move) → IsPlain board c m → is_of d (at board m.to) ≡ false → accounts_for (put_back board m None) d ≡ accounts_for board d
+pub account-quiet : (d c : Colour) (board : Places) (m : Move) → IsPlain board c m → is_of d (at board m.to) ≡ false → accounts_for no_odds (put_back board m None) d ≡ accounts_for no_odds board d
 account-quiet d c board m p other =
+    account-whole (put_back board m None) d ∙
     ap (λ (n : ℕ). nat_le n 8) (excess-same (counts_of d (put_back board m None)) (counts_of d board) (men-quiet d c Pawn is_any board m p other) (men-quiet d c Queen is_any board m p other) (men-quiet d c Rook is_any board m p other) (men-quiet d c Knight is_any board m p other) (men-quiet d c Bishop is_light board m p other) (men-quiet d c Bishop is_dark board m p other))
+    ∙ sym (account-whole board d)
 
 room-one : (e f : ℕ) (b : Bool) → (b ≡ true → f ≡ e) → (b ≡ false → f ≡ e + 1) → nat_le f 8 ≡ (nat_lt e 8 || ((e == 8) && b))
 room-one e f true same more = let h : f ≡ e = same refl in grind (arith, h)
@@ -175,20 +180,24 @@ room-dark a b s dark p q r n l d =
     (excess-same b (record a { dark_bishops = a.dark_bishops + 1 }) p q r n l d)
     ∙ ap (λ (x : Bool). nat_lt (excess_of a full_allowance) 8 || ((excess_of a full_allowance == 8) && x)) (sym (cond-false (is_light s) (nat_lt a.light_bishops 1) (nat_lt a.dark_bishops 1) dark))
 
--- the account of the side that is to move, where a man of this kind was captured
-pub account-taken : (d c : Colour) (k : Kind) (board : Places) (m : Move) → IsPlain board c m → is_of d (at board m.to) ≡ false → same_kind King k ≡ false → accounts_for (put_back board m (man d k)) d ≡ has_room (counts_of d board) k m.to
-account-taken d c King board m p other king = absurd (both_ways true king refl)
-account-taken d c Pawn board m p other king =
+-- the room of the side that is to move, where a man of this kind was captured
+room-taken : (d c : Colour) (k : Kind) (board : Places) (m : Move) → IsPlain board c m → is_of d (at board m.to) ≡ false → same_kind King k ≡ false → nat_le (excess_of (counts_of d (put_back board m (man d k))) full_allowance) 8 ≡ has_room (counts_of d board) k m.to
+room-taken d c King board m p other king = absurd (both_ways true king refl)
+room-taken d c Pawn board m p other king =
     room-pawn (counts_of d board) (counts_of d (put_back board m (man d Pawn))) m.to (more-men d c Pawn Pawn is_any board m p other refl) (same-men d c Queen Pawn is_any board m p other refl) (same-men d c Rook Pawn is_any board m p other refl) (same-men d c Knight Pawn is_any board m p other refl) (same-men d c Bishop Pawn is_light board m p other refl) (same-men d c Bishop Pawn is_dark board m p other refl)
-account-taken d c Queen board m p other king =
+room-taken d c Queen board m p other king =
     room-queen (counts_of d board) (counts_of d (put_back board m (man d Queen))) m.to (same-men d c Pawn Queen is_any board m p other refl) (more-men d c Queen Queen is_any board m p other refl) (same-men d c Rook Queen is_any board m p other refl) (same-men d c Knight Queen is_any board m p other refl) (same-men d c Bishop Queen is_light board m p other refl) (same-men d c Bishop Queen is_dark board m p other refl)
-account-taken d c Rook board m p other king =
+room-taken d c Rook board m p other king =
     room-rook (counts_of d board) (counts_of d (put_back board m (man d Rook))) m.to (same-men d c Pawn Rook is_any board m p other refl) (same-men d c Queen Rook is_any board m p other refl) (more-men d c Rook Rook is_any board m p other refl) (same-men d c Knight Rook is_any board m p other refl) (same-men d c Bishop Rook is_light board m p other refl) (same-men d c Bishop Rook is_dark board m p other refl)
-account-taken d c Knight board m p other king =
+room-taken d c Knight board m p other king =
     room-knight (counts_of d board) (counts_of d (put_back board m (man d Knight))) m.to (same-men d c Pawn Knight is_any board m p other refl) (same-men d c Queen Knight is_any board m p other refl) (same-men d c Rook Knight is_any board m p other refl) (more-men d c Knight Knight is_any board m p other refl) (same-men d c Bishop Knight is_light board m p other refl) (same-men d c Bishop Knight is_dark board m p other refl)
-account-taken d c Bishop board m p other king = elim (cases_Bool (is_light m.to)) [
+room-taken d c Bishop board m p other king = elim (cases_Bool (is_light m.to)) [
   | inl light ↦
       room-light (counts_of d board) (counts_of d (put_back board m (man d Bishop))) m.to light (same-men d c Pawn Bishop is_any board m p other refl) (same-men d c Queen Bishop is_any board m p other refl) (same-men d c Rook Bishop is_any board m p other refl) (same-men d c Knight Bishop is_any board m p other refl) (more-men d c Bishop Bishop is_light board m p other light) (same-men d c Bishop Bishop is_dark board m p other (ap not light))
   | inr dark ↦
       room-dark (counts_of d board) (counts_of d (put_back board m (man d Bishop))) m.to dark (same-men d c Pawn Bishop is_any board m p other refl) (same-men d c Queen Bishop is_any board m p other refl) (same-men d c Rook Bishop is_any board m p other refl) (same-men d c Knight Bishop is_any board m p other refl) (same-men d c Bishop Bishop is_light board m p other dark) (more-men d c Bishop Bishop is_dark board m p other (ap not dark))
 ]
+
+-- and its account
+pub account-taken : (d c : Colour) (k : Kind) (board : Places) (m : Move) → IsPlain board c m → is_of d (at board m.to) ≡ false → same_kind King k ≡ false → accounts_for no_odds (put_back board m (man d k)) d ≡ has_room (counts_of d board) k m.to
+account-taken d c k board m p other king = account-whole (put_back board m (man d k)) d ∙ room-taken d c k board m p other king

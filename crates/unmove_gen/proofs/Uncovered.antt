@@ -19,7 +19,7 @@ use Rattle.board_base.specs.declared.castles.Castle.{Castle}
 use Rattle.board_base.specs.declared.castles.Castle.TheVariants.{WhiteShort, WhiteLong, BlackShort, BlackLong}
 use Rattle.board_base.specs.declared.unmoves.Unmove.{Unmove}
 use Rattle.board_base.proofs.CastleSquares.{crossed-within, king_home-within, king_target-within, rook_home-not-home, rook_home-not-target}
-use Rattle.board_base.proofs.KindsOfMen.{kind_is, opponent-twice}
+use Rattle.board_base.proofs.KindsOfMen.{full-of, kind_is, opponent-twice}
 use Rattle.general_lemmas.proofs.Ranges.{all_in_range}
 use Rattle.check_origins.specs.Near.{AreOrigins, checks_nearby, is_near, is_near_checker}
 use Rattle.check_origins.proofs.Found.{checks}
@@ -79,10 +79,6 @@ stood : (after board : Places) (s : ℕ) → is_empty (at after s) ≡ false →
 unfolding Stays
 stood after board s full (inl gone) = absurd (both_ways true (sym (ap is_empty gone) ∙ full) refl)
 stood after board s full (inr same) = same
-
-full-of : (c : Colour) (place : Option Man) → is_of c place ≡ true → is_empty place ≡ false
-full-of c None h = absurd (both_ways false refl h)
-full-of c (Some m) h = refl
 
 -- a man who attacks from near does so on any board
 near-kind : (a b : Places) (d : Colour) (k : Kind) (s t : ℕ) → is_near (Some (record { colour = d; kind = k })) s t ≡ true → kind_attacks a d k s t ≡ true → kind_attacks b d k s t ≡ true

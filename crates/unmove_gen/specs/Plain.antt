@@ -1,7 +1,7 @@
 -- Inner: no public clause cites this file.
 -- Moves that are no castling, no capture en passant and no promotion, taken back by hand.
 use Rattle.std.specs.Prelude.{ℕ, ◌≡◌, ◌<◌, Bool, true, false, cond, ◌&&◌, ◌||◌, not, ◌==◌, nat_lt, length, List, map, slice_set, Option, None}
-use Rattle.board_base.specs.Board.{Places, at, file, is_a, is_of, is_the, rank}
+use Rattle.board_base.specs.Board.{Places, at, file, is_a, is_of, is_the, rank, no_odds}
 use Rattle.board_base.specs.Attacks.{attacks, is_open, kind_attacks, one_ahead, ranks_apart}
 use Rattle.board_base.specs.Play.{castling_from}
 use Rattle.board_base.specs.Legal.{in_check, man_moves, pawn_captures, pawn_doubles, pawn_rank, pawn_steps, promotion_fits}
@@ -76,7 +76,7 @@ pub record AreFacts (q : Asked) (f : QueryFacts) : Type 0 where
   pub kings : HasOneKingEach q.board
   pub ends : HasNoPawnOnEnds q.board
   pub safe : in_check q.board (mover q) ≡ false
-  pub own : accounts_for q.board (mover q) ≡ true
+  pub own : accounts_for no_odds q.board (mover q) ≡ true
   pub men_are : f.men ≡ counts_of q.turn q.board
   pub used_is : f.used ≡ excess_of f.men full_allowance
   pub checked_is : f.checked ≡ attacks q.board f.king (mover q)

@@ -4,7 +4,7 @@ ghost use Rattle.board_base.specs.declared.men.Kind.TheVariants.{King};
 ghost use Rattle.men_account.specs.Account.{excess_of, full_allowance, is_light};
 ghost use Rattle.unmove_gen.specs.Plain.{AreFacts, has_room, lacks};
 
-use board_base::{Board, Colour, Kind, Square, is_the};
+use board_base::{Board, Colour, Kind, Odds, Square, is_the};
 use men_account::{Allowance, Counts, account_ok, counts, excess};
 use play_rules::has_no_pawn_on_ends;
 use query_base::Query;
@@ -55,7 +55,10 @@ pub fn facts_of(query: &Query) -> Option<QueryFacts>
     };
     king.index();
     other.index();
-    if !has_no_pawn_on_ends(board) || board.attacked(other, turn) || !account_ok(board, mover) {
+    if !has_no_pawn_on_ends(board)
+        || board.attacked(other, turn)
+        || !account_ok(board, mover, Odds::none())
+    {
         return None;
     }
     let men = counts(board, turn);

@@ -1,4 +1,5 @@
 ghost use Rattle.std.specs.Prelude.{◌≡◌, ◌&&◌, not};
+ghost use Rattle.board_base.specs.Board.{no_odds};
 ghost use Rattle.men_account.specs.Account.{accounts_for};
 ghost use Rattle.unmove_gen.specs.Sane.{has_one_king, is_sane};
 
@@ -8,7 +9,7 @@ use play_rules::{has_no_pawn_on_ends, in_check};
 
 /// The side has one king, and no more pawns and men that must have been promoted than it began with pawns.
 fn is_accounted(board: &Board, side: Colour) -> bool
-    ensures { result ≡ (has_one_king board.now side && accounts_for board.now side) }
+    ensures { result ≡ (has_one_king board.now side && accounts_for no_odds board.now side) }
 {
     board.is_whole();
     let men = counts(board, side);

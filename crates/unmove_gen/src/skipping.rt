@@ -4,7 +4,7 @@ ghost use Rattle.unmove_gen.specs.Numbers.{AreUnlisted};
 ghost use Rattle.unmove_gen.specs.Ready.{AreTargets};
 
 use crate::candidates::Cursor;
-use crate::ways::{is_way, next_in, next_way, reaches_last};
+use crate::ways::{is_way, next_way, reaches_last};
 use board_base::SquareSet;
 use query_base::Query;
 
@@ -55,7 +55,7 @@ pub fn on_a_way(query: &Query, targets: SquareSet, here: Cursor) -> Cursor
     let board = &query.board;
     board.is_whole();
     if !targets.has(m.to) {
-        return at_target(next_in(targets, here.to + 1));
+        return at_target(targets.next_from(here.to + 1));
     }
     match board.at(m.to) {
         Some(man) => at_origin(here, next_way(board, man, m.to, here.from)),

@@ -89,24 +89,6 @@ fn ways_of(man: Man, to: Square) -> SquareSet
     }
 }
 
-/// The first square of the set from this one on, or 64.
-pub fn next_in(set: SquareSet, start: u8) -> u8
-    requires { start ≤ 64 }
-    ensures high { start ≤ result }
-    ensures low { result ≤ 64 }
-    ensures none { (s : ℕ) → start ≤ s → s < result → is_in set s ≡ false }
-{
-    if start > 63 {
-        return 64;
-    }
-    let rest = set.bits() >> start;
-    if rest == 0 {
-        64
-    } else {
-        start + rest.trailing_zeros() as u8
-    }
-}
-
 /// The first square from this one on that is empty and from which the man on `to` may have come, or 64.
 pub fn next_way(board: &Board, man: Man, to: Square, start: u8) -> u8
     requires { start < 64 }
@@ -115,12 +97,12 @@ pub fn next_way(board: &Board, man: Man, to: Square, start: u8) -> u8
     ensures none { (s : ℕ) → start ≤ s → s < result → IsNoWay board.now (Some man) to s }
 {
     let ways = ways_of(man, to);
-    let mut s = next_in(ways, start);
+    let mut s = ways.next_from(start);
     while s < 64 {
         if board.at(Square::known(s)).is_none() {
             return s;
         }
-        s = next_in(ways, s + 1);
+        s = ways.next_from(s + 1);
     }
     s
 }

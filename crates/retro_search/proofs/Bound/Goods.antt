@@ -17,7 +17,8 @@ use Rattle.unmove_gen.specs.Predecessor.{predecessor}
 use Rattle.cert_text.specs.Tree.{Tree, rule, back, expand}
 use Rattle.cert_text.specs.Seen.{tree_of}
 use Rattle.cert_checker.specs.Proving.{Proves}
-use Rattle.retro_search.specs.Refutable.{IsCovered, IsRefutable, IsShut}
+use Rattle.query_base.specs.Ancestors.{IsCovered}
+use Rattle.retro_search.specs.Refutable.{IsRefutable, IsShut}
 use Rattle.retro_search.specs.Costs.{IsCost}
 use Rattle.retro_search.specs.Lone.{AreDifferent, AreExpanded, IsLone, IsLoneSearch, IsMemoCost, StandsIn, unmoves_in_all}
 use Rattle.retro_search.specs.Eager.{IsEager}
@@ -31,7 +32,7 @@ use Rattle.retro_search.specs.declared.refutations.Refutation.{Refutation}
 use Rattle.retro_search.specs.declared.runs.Run.{Run}
 use Rattle.retro_search.specs.Stops.{IfSpent, IfTooLarge}
 use Rattle.retro_search.specs.declared.stops.Stop.{Stop}
-use Rattle.retro_search.proofs.Expansions.{if_spent}
+use Rattle.retro_search.proofs.Expansions.{if_spent, less_one}
 use Rattle.retro_search.proofs.Costs.CostSums.{cost_below, cost_positive}
 use Rattle.retro_search.proofs.Bound.Different.{different_moved, member_moved, sum-append, sum_within}
 use Rattle.retro_search.proofs.Trees.EagerTrees.{covered-by, eager_low, eager_small, lone-here, lone_unshut}
@@ -172,17 +173,14 @@ room_for ps n m q below ancestors run expanded r size g w = record {
   short = omega (arith, w.lines, w.small, g.lines);
 }
 
-less-one : (depth : ℕ) → depth ≢ 0 → suc (depth - 1) ≡ depth
-less-one depth some = omega arith
-
 -- a good query that is expanded, by its own depth
 pub good_at : (ps : List Asked) (n : ℕ) (q : Asked) (depth : ℕ) (ancestors : List Asked) (run : Run) → depth ≢ 0 → IsGood ps n q depth ancestors run → (IsShut q ancestors → ⊥) → (Reaches [] q → ⊥) → IsSound run.memo → (IsKeptLow run.memo q depth → ⊥) → (m : ℕ) × (n ≡ 1 + m) × IsGoodBelow ps m q (depth - 1) ancestors (visited run)
 good_at ps n q depth ancestors run some g unshut elsewhere sound missed =
-    good_below ps n q (depth - 1) ancestors run (subst (λ (d : ℕ). IsGood ps n q d ancestors run) (sym (less-one depth some)) g) (λ closed. unshut (inl closed)) elsewhere (λ there. missed (kept_low q depth ancestors run.memo g.lone g.refutable g.fits.tidy sound there))
+    good_below ps n q (depth - 1) ancestors run (subst (λ (d : ℕ). IsGood ps n q d ancestors run) (sym (less_one depth some)) g) (λ closed. unshut (inl closed)) elsewhere (λ there. missed (kept_low q depth ancestors run.memo g.lone g.refutable g.fits.tidy sound there))
 
 pub well_at : (ps : List Asked) (n m : ℕ) (q : Asked) (depth : ℕ) (ancestors : List Asked) (run expanded new : Run) (r : Refutation) → depth ≢ 0 → run.left ≢ 0 → n ≡ 1 + m → IsGood ps n q depth ancestors run → IsGoodBelow ps m q (depth - 1) ancestors (visited run) → GoesWellBelow ps m q (depth - 1) ancestors r (visited run) expanded → new.left ≡ expanded.left → (r.lean ≡ 0 → HasRoomFor expanded.memo q r.lines → Keeps expanded.memo q r new.memo) → new.memo.on ≡ expanded.memo.on → GoesWell ps n q depth ancestors r run new
 well_at ps n m q depth ancestors run expanded new r some any size g below w left keeps mode =
-    let e : suc (depth - 1) ≡ depth = less-one depth some in
+    let e : suc (depth - 1) ≡ depth = less_one depth some in
     let kept = keeps w.alone (room_for ps n m q (depth - 1) ancestors run expanded r size below w) in
     subst (λ (d : ℕ). GoesWell ps n q d ancestors r run new) e (kept_after ps n m q (depth - 1) ancestors run expanded new r any size (subst (λ (d : ℕ). IsGood ps n q d ancestors run) (sym e) g) w left kept (mode ∙ w.fits.tidy.on))
 

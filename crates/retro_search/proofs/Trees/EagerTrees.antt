@@ -12,7 +12,8 @@ use Rattle.unmove_gen.specs.Listed.{unmoves}
 use Rattle.unmove_gen.specs.Predecessor.{predecessor}
 use Rattle.cert_text.specs.Tree.{Tree, Forest, rule, back, expand, none, more}
 use Rattle.cert_checker.specs.Proving.{Proves, ProvesEach}
-use Rattle.retro_search.specs.Refutable.{IsCovered, IsRefutable, IsShut}
+use Rattle.query_base.specs.Ancestors.{IsCovered}
+use Rattle.retro_search.specs.Refutable.{IsRefutable, IsShut}
 use Rattle.retro_search.specs.Costs.{IsCost, SumsUpTo}
 use Rattle.retro_search.specs.Eager.{AreEager, IsEager}
 use Rattle.retro_search.specs.Lone.{IsLone, StandsIn}

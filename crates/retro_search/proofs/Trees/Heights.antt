@@ -10,7 +10,7 @@ use Rattle.cert_text.specs.Tree.{Tree, Forest, rule, back, expand, none, more}
 use Rattle.cert_checker.specs.Proving.{Proves, ProvesEach}
 use Rattle.retro_search.specs.Refutable.{IsRefutable, IsShut}
 use Rattle.retro_search.specs.Heights.{height, height_of_all}
-use Rattle.retro_search.proofs.Covered.{covered}
+use Rattle.query_base.proofs.Nearest.{covered}
 
 -- what is shut is refutable at each depth
 pub shut_refutable : (depth : ℕ) (q : Asked) (ancestors : List Asked) → IsShut q ancestors → IsRefutable q depth ancestors

@@ -1,17 +1,12 @@
-use Rattle.std.proofs.Common.{◌≡◌, ℕ, ◌+◌, ◌-◌, ◌<◌, ◌⊎◌, true, false, inl, inr, refl, sym, ap, ◌∙◌, arith, rules}
+use Rattle.std.proofs.Common.{◌≡◌, ℕ, ◌+◌, ◌-◌, ◌<◌, ◌⊎◌, true, false, inl, inr, sym, ap, ◌∙◌, arith, rules}
 use Rattle.std.proofs.lemmas.Bool.{both_ways, cases_eq, cases_lt}
-use Rattle.std.specs.Prelude.{Option, Some, None, is_some}
+use Rattle.std.specs.Prelude.{Some, is_some}
 use Rattle.board_base.specs.Board.{at, file, is_empty, rank}
 use Rattle.board_base.specs.Attacks.{king_distance}
 use Rattle.board_base.specs.Ways.{IsOff, along}
-use Rattle.board_base.specs.declared.men.Man.{Man}
-use Rattle.board_base.proofs.KindsOfMen.{full-some}
+use Rattle.board_base.proofs.KindsOfMen.{full-some, none-empty}
 use Rattle.board_base.proofs.Ways.{IsNext, along-end, along-none, blocked, distance-high, distance-low, is-next, on-board}
 use Rattle.board_base.proofs.lines.first_man.Goals as goal
-
-none-empty : (place : Option Man) → is_some place ≡ false → is_empty place ≡ true
-none-empty None h = refl
-none-empty (Some m) h = cc
 
 next : (c : goal.In-loop) → IsNext c.args.direction c.args.from c.loop.counter
 next c = is-next c.args.direction c.args.from c.loop.counter c.room.result c.room-2.result (search rules) (let low = c.loop-test.true in omega arith) (let low = c.loop-test.true in omega arith) (let r : rank c.args.from ≡ c.rank.result = sym c.rank.ensures in rw r c.room.ensures.inside) (let f : file c.args.from ≡ c.file.result = sym c.file.ensures in rw f c.room-2.ensures.inside)

@@ -11,10 +11,10 @@ use Rattle.play_rules.proofs.king_boards.is_one_attacked.Goals as goal
 pub loop-s-init : goal.loop-s-init
 unfolding in_check
 loop-s-init c = record {
-  low = c.next_in-s.ensures.low;
+  low = c.next_from-s.ensures.low;
   left =
-      any_to (λ s. is_the c.args.side King (at c.args.board.now s) && attacks c.args.board.now s (opponent c.args.side)) 0 c.next_in-s.result 64 _ c.next_in-s.ensures.high c.next_in-s.ensures.low
-      (λ s from to. ap (λ (b : Bool). b && attacks c.args.board.now s (opponent c.args.side)) (no-king c.args.board.now c.args.kings c.args.side s c.requires (c.next_in-s.ensures.none s from to))) refl;
+      any_to (λ s. is_the c.args.side King (at c.args.board.now s) && attacks c.args.board.now s (opponent c.args.side)) 0 c.next_from-s.result 64 _ c.next_from-s.ensures.high c.next_from-s.ensures.low
+      (λ s from to. ap (λ (b : Bool). b && attacks c.args.board.now s (opponent c.args.side)) (no-king c.args.board.now c.args.kings c.args.side s c.requires (c.next_from-s.ensures.none s from to))) refl;
 }
 
 pub returns-then-is_king_attacked : goal.returns-then-is_king_attacked
@@ -25,7 +25,7 @@ returns-then-is_king_attacked c =
 pub loop-s-preserved : goal.loop-s-preserved
 loop-s-preserved c =
     let none = rw c.known.ensures at (sym c.is_king_attacked.ensures ∙ c.if-is_king_attacked.false) in
-    let next = c.next_in-s-in-loop-s in
+    let next = c.next_from-s-in-loop-s in
     record {
       low = next.ensures.low;
       left =

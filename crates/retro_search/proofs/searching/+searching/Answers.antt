@@ -7,7 +7,8 @@ use Rattle.general_lemmas.proofs.Lasts.{pushed}
 use Rattle.general_lemmas.proofs.Lists.{contains-first}
 use Rattle.query_base.specs.Asked.{Asked}
 use Rattle.query_base.specs.Reach.{Reaches}
-use Rattle.retro_search.specs.Refutable.{IsCovered, IsShut}
+use Rattle.query_base.specs.Ancestors.{IsCovered}
+use Rattle.retro_search.specs.Refutable.{IsShut}
 use Rattle.retro_search.specs.Eager.{IsEager}
 use Rattle.retro_search.specs.Good.{IsPaid}
 use Rattle.retro_search.specs.Tidy.{IsKeptLow}

@@ -1,7 +1,7 @@
 use Rattle.std.proofs.Common.{ap, ◌∙◌}
 use Rattle.board_base.specs.Board.{Places, at}
 use Rattle.cage_rules.specs.Regions.{beginner}
-use Rattle.cage_rules.proofs.Beginners.{whole-array}
+use Rattle.board_base.proofs.LeftOut.{whole-array}
 use Rattle.static_rules.proofs.living_homes.beginner.Goals as goal
 
 pub returns : goal.returns

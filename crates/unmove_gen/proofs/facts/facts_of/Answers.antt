@@ -1,7 +1,7 @@
-use Rattle.std.proofs.Common.{◌≡◌, ◌<◌, ◌==◌, ℕ, sym, ap, ◌∙◌, subst, arith}
+use Rattle.std.proofs.Common.{◌≡◌, Bool, List, ◌<◌, ◌==◌, ℕ, sym, ap, ◌∙◌, subst, arith}
 use Rattle.query_base.specs.Asked.{Asked}
 use Rattle.board_base.specs.Attacks.{attacks}
-use Rattle.board_base.specs.Board.{Places, at, is_the, opponent}
+use Rattle.board_base.specs.Board.{Places, at, is_the, opponent, no_odds}
 use Rattle.board_base.specs.declared.men.Colour.{Colour}
 use Rattle.board_base.specs.declared.men.Kind.TheVariants.{King}
 use Rattle.board_base.proofs.KindsOfMen.{opponent-twice}
@@ -32,8 +32,8 @@ returns c =
       kings = each-one board turn king other c.is_whole.ensures inside inside2 (λ s small. c.in-Some.ensures s small) theirs;
       ends = c.has_no_pawn_on_ends.ensures.law.0 c.if-not-has_no_pawn_on_ends.false;
       safe = check-is board (opponent turn) other inside2 theirs ∙ ap (attacks board other) (opponent-twice turn) ∙ sym c.attacked.ensures ∙ c.if-attacked.false;
-      own = ap (accounts_for board) (sym c.other-mover.ensures) ∙ sym c.account_ok.ensures ∙ c.if-not-account_ok.false;
+      own = ap (accounts_for no_odds board) (sym c.other-mover.ensures) ∙ ap (λ (o : List Bool). accounts_for o board c.other-mover.result) (sym c.none.ensures) ∙ sym c.account_ok.ensures ∙ c.if-not-account_ok.false;
       men_are = c.counts-men.ensures;
-      used_is = c.excess.ensures ∙ ap (λ (a : Allowance). excess_of c.counts-men.result a) c.full.ensures;
+      used_is = c.excess.ensures ∙ ap (λ (a : Allowance). excess_of c.counts-men.result a) c.full.ensures.numbers;
       checked_is = c.attacked-2.ensures ∙ ap (attacks board king) c.other-mover.ensures;
     })

@@ -13,12 +13,12 @@ use Rattle.unmove_gen.proofs.skipping.on_a_way.Goals as goal
 pub returns-then-not-has-clause-unlisted : goal.returns-then-not-has-clause-unlisted
 returns-then-not-has-clause-unlisted c =
     let p = c.args.here in
-    let low = c.next_in.ensures.low in
+    let low = c.next_from.ensures.low in
     let out : is_in c.args.targets p.to ≡ false = ap (is_in c.args.targets) (sym c.mv-m.ensures.target) ∙ sym c.has.ensures.member ∙ c.if-not-has.true in
-    skip-targets c.args.query.now p.to p.from p.promotion p.capture c.next_in.result _ low
+    skip-targets c.args.query.now p.to p.from p.promotion p.capture c.next_from.result _ low
     (λ t first last. c.requires.targets t (omega arith) (elim (cases_lt t (p.to + 1)) [
       | inl near ↦ let same : p.to ≡ t = omega arith in ap (is_in c.args.targets) (sym same) ∙ out
-      | inr far ↦ c.next_in.ensures.none t far last
+      | inr far ↦ c.next_from.ensures.none t far last
     ])) c.at_target.ensures
 
 pub returns-in-Some-clause-unlisted : goal.returns-in-Some-clause-unlisted

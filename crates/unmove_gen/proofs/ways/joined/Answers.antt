@@ -2,7 +2,7 @@ use Rattle.std.proofs.Common.{◌==◌, ◌||◌, Bool, List, ap, ◌∙◌}
 use Rattle.std.specs.Int.{bit_at}
 use Rattle.board_base.specs.Board.{is_in}
 use Rattle.board_base.specs.SquareNumbers.{is_in-squares_of}
-use Rattle.play_rules.proofs.Bits.{in-bits}
+use Rattle.board_base.proofs.BitSets.{in-bits}
 use Rattle.unmove_gen.proofs.Bits.{either-bit}
 use Rattle.unmove_gen.proofs.ways.joined.Goals as goal
 
