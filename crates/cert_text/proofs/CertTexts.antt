@@ -18,7 +18,7 @@ use Rattle.cert_text.specs.ClaimLines.{claim_text}
 use Rattle.cert_text.specs.Writable.{is_written, IsQuery, fits}
 use Rattle.cert_text.specs.NodeLines.{root_text}
 use Rattle.cert_text.proofs.ClaimTexts.{claim_back, claim_read, claim_free}
-use Rattle.cert_text.specs.Written.{lines_below}
+use Rattle.cert_text.specs.Written.{cert_lines}
 use Rattle.cert_text.proofs.Gives.{Gives, mapped, always, nothing, in_parts, given}
 use Rattle.cert_text.proofs.Frees.{body_free, spelling_free}
 use Rattle.cert_text.proofs.Begun.{begun}
@@ -120,10 +120,6 @@ writable lines cert a =
       plain = (query_read a.fen_line cert.query a.query).plain;
       root = below_fits cert.root 0 a.below root.fits a.nodes;
     }
-
--- what is written of a certificate
-abbrev pub cert_lines : Certificate → Lines
-cert_lines cert = head_line ∷ ended (claim_text cert.claim) ∷ ended (codes "fen " ++ spelling cert.query) ∷ ended (root_text (body_of cert.root)) ∷ lines_below cert.root
 
 -- the lines of a certificate are the ones that are written of it
 lines_are : (lines : Lines) (cert : Certificate) → AreLinesOf lines cert → lines ≡ cert_lines cert

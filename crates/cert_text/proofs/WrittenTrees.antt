@@ -1,21 +1,22 @@
 -- Lines that are put after one another.
-use Rattle.std.proofs.Common.{◌≡◌, ℕ, zero, suc, ◌+◌, ◌&&◌, true, List, ◌++◌, sym, ap, ◌∙◌, subst, arith}
+use Rattle.std.proofs.Common.{◌≡◌, ℕ, zero, suc, ◌+◌, ◌<◌, ◌^◌, ◌==◌, ◌&&◌, ◌||◌, true, nat_lt, nat_le, List, ◌++◌, sym, ap, ◌∙◌, subst, arith}
 use Rattle.std.specs.Prelude.{Some, None}
 use Rattle.std.specs.List.{concat}
-use Rattle.std.proofs.lemmas.Bool.{and_parts}
+use Rattle.std.proofs.lemmas.Bool.{and_parts, leb-true}
 use Rattle.std.proofs.lemmas.List.{append_assoc}
 use Rattle.std.proofs.lemmas.List.Folds.{concat-append}
 use Rattle.std.proofs.lemmas.Option.{some_pair_parts}
 use Rattle.board_base.specs.declared.unmoves.Unmove.{Unmove}
 use Rattle.fen_text.proofs.PartLemmas.{mapped_some}
-use Rattle.cert_text.specs.Tree.{Tree, Forest, none, more, kid_at}
+use Rattle.cert_text.specs.Tree.{Tree, Forest, rule, back, expand, none, more, count, kid_at}
 use Rattle.cert_text.specs.Sizes.{rest_of}
 use Rattle.cert_text.specs.Lines.{ended}
 use Rattle.cert_text.specs.Certificate.{body_of}
 use Rattle.cert_text.specs.NodeLines.{kid_body, root_body, kid_text, IsLine}
-use Rattle.cert_text.specs.Writable.{all_fit, fits, has_text}
+use Rattle.cert_text.specs.Writable.{all_fit, fits, fits_depth, has_text}
 use Rattle.cert_text.specs.Written.{IsLabel, lines_below, lines_of}
 use Rattle.cert_text.specs.declared.node_lines.BodyLine.{BodyLine}
+use Rattle.cert_text.specs.declared.node_lines.BodyLine.TheVariants.{Expand}
 use Rattle.cert_text.specs.declared.node_lines.NodeLine.{NodeLine}
 use Rattle.cert_text.proofs.Forests.{rest-more}
 use Rattle.cert_text.proofs.SpelledLines.{kid_text_read}
@@ -35,7 +36,7 @@ admitted (more l s rest) (suc i) depth label t fit e =
     admitted rest i depth label t (and_parts (has_text l && fits depth s) (all_fit depth rest) fit).1 e
 
 -- the lines of a child and of those after it
-lines_next : (f : Forest) (i : ℕ) (label : Unmove) (t : Tree) → kid_at f i ≡ Some (label, t) → concat (lines_of (rest_of f i)) ≡ ended (kid_text label (body_of t)) ++ (concat (lines_below t) ++ concat (lines_of (rest_of f (i + 1))))
+pub lines_next : (f : Forest) (i : ℕ) (label : Unmove) (t : Tree) → kid_at f i ≡ Some (label, t) → concat (lines_of (rest_of f i)) ≡ ended (kid_text label (body_of t)) ++ (concat (lines_below t) ++ concat (lines_of (rest_of f (i + 1))))
 lines_next f i label t e =
     let next : suc i ≡ i + 1 = omega arith in
     ap (λ (g : Forest). concat (lines_of g)) (rest-more f i label t e)
@@ -64,3 +65,13 @@ line_label n (zero, text, e) =
 line_label n (suc depth, text, e) =
     let m = mapped_some (λ (k : Unmove × BodyLine). record { label = Some k.0; body = k.1 }) (kid_body (suc depth) text) n e in
     subst (λ (k : NodeLine). IsLabel k.label) m.2 (kid_text_read (suc depth) text m.0.0 m.0.1 m.1).label
+
+-- a tree that the grammar admits has few children
+pub few_children : (t : Tree) (depth n : ℕ) → fits depth t ≡ true → body_of t ≡ Expand n → n < 2 ^ 32
+few_children (rule r) depth n fit e = absurd cc
+few_children (back k) depth n fit e = absurd cc
+few_children (expand kids) depth n fit e =
+    let own = and_parts (fits_depth depth (Expand (count kids))) (all_fit (suc depth) kids) fit in
+    let few = and_parts ((count kids == 0) || nat_lt depth 255) (nat_le (count kids) 999999) own.0 in
+    let same : count kids ≡ n = cc in
+    omega (arith, leb-true (count kids) 999999 few.1)

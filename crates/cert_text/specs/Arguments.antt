@@ -62,6 +62,7 @@ abbrev pub signed_all : List (List ℕ) → Option (List ℤ)
 signed_all [] = Some []
 signed_all (w ∷ ws) = option_and_then (λ x. option_map (λ xs. x ∷ xs) (signed_all ws)) (signed w)
 
+-- the word between the potentials of pawns and of files
 abbrev pub is_slash : List ℕ → Bool
 is_slash w = bytes_eq w (codes "/")
 
@@ -78,6 +79,7 @@ pawns_of ws = cond (nat_le (length ws) 8) (signed_all ws) None
 abbrev pub files_of : List (List ℕ) → Option (List ℤ)
 files_of ws = cond (length ws == 8) (signed_all ws) None
 
+-- the potentials of pawns and of files that two lists of words stand for
 abbrev pub both_of : List (List ℕ) → List (List ℕ) → Option Duals
 both_of us vs = option_and_then (λ u. option_map (λ v. duals u v) (files_of vs)) (pawns_of us)
 

@@ -11,6 +11,7 @@ use Rattle.cert_text.specs.NodeLines.{root_body, kid_body}
 use Rattle.cert_text.specs.declared.node_lines.BodyLine.{BodyLine}
 use Rattle.cert_text.specs.declared.node_lines.BodyLine.TheVariants.{Rule, Back, Expand}
 
+-- lines of bytes, each with its end
 abbrev pub Lines : Type 0
 Lines = List (List ℕ)
 
@@ -20,6 +21,7 @@ pub record Certificate : Type 0 where
   pub query : Asked
   pub root : Tree
 
+-- the first line, which names the format
 abbrev pub head_line : List ℕ
 head_line = ended (codes "retro 1")
 

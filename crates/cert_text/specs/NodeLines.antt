@@ -21,9 +21,11 @@ use Rattle.cert_text.specs.declared.node_lines.NodeLine.{NodeLine}
 unfoldable pub promo_of : List ℕ → Option RuleLine
 promo_of text = parted 32 turn (λ side. None) (λ side rest. option_map (λ set. Promo side set) (set_of rest)) text
 
+-- behind the side of `caps`: a set, a space and potentials
 unfoldable pub set_and_potentials : Colour → List ℕ → Option RuleLine
 set_and_potentials side text = parted 32 set_of (λ set. None) (λ set rest. option_map (λ p. Caps side set p) (potentials_of rest)) text
 
+-- behind `caps`: a side, a set and potentials, with a space between two
 unfoldable pub caps_of : List ℕ → Option RuleLine
 caps_of text = parted 32 turn (λ side. None) set_and_potentials text
 

@@ -1,12 +1,14 @@
 -- Inner: no public clause cites this file.
--- What is written of lines and trees.
+-- What is written of lines, trees and certificates.
 use Rattle.std.specs.Prelude.{ℕ, List, [], ◌∷◌, ◌++◌, codes, IfSome, IsTrue, Option, Some, None}
 use Rattle.board_base.specs.Texts.{unmove_text}
 use Rattle.board_base.specs.declared.unmoves.Unmove.{Unmove}
 use Rattle.cert_text.specs.Tree.{Tree, Forest, rule, back, expand, none, more}
 use Rattle.cert_text.specs.Lines.{ended}
-use Rattle.cert_text.specs.Certificate.{Lines, body_of}
-use Rattle.cert_text.specs.NodeLines.{kid_text}
+use Rattle.cert_text.specs.Certificate.{Certificate, Lines, body_of, head_line}
+use Rattle.cert_text.specs.ClaimLines.{claim_text}
+use Rattle.cert_text.specs.NodeLines.{kid_text, root_text}
+use Rattle.fen_text.specs.Spelling.{spelling}
 use Rattle.cert_text.specs.Writable.{has_text}
 
 -- the label, if there is one, has a text
@@ -29,3 +31,7 @@ abbrev mutual
   pub lines_of : Forest → Lines
   lines_of none = []
   lines_of (more label tree rest) = ended (kid_text label (body_of tree)) ∷ (lines_below tree ++ lines_of rest)
+
+-- the lines of a certificate
+abbrev pub cert_lines : Certificate → Lines
+cert_lines cert = head_line ∷ ended (claim_text cert.claim) ∷ ended (codes "fen " ++ spelling cert.query) ∷ ended (root_text (body_of cert.root)) ∷ lines_below cert.root

@@ -1,4 +1,4 @@
-ghost use Rattle.std.specs.Prelude.{ℕ, List, ◌≡◌, ◌++◌, IfOk, IsTrue, None, OnOk, codes, true};
+ghost use Rattle.std.specs.Prelude.{ℕ, List, ◌≡◌, ◌<◌, ◌^◌, ◌++◌, IfOk, IsTrue, None, OnOk, codes, true};
 ghost use Rattle.std.specs.List.{concat};
 ghost use Rattle.fen_text.specs.Spelling.{spelling};
 ghost use Rattle.cert_text.specs.Certificate.{AreLinesOf, Certificate as AnyCertificate, HasText, IsTextOf, body_of};
@@ -52,9 +52,9 @@ fn push_fen(query: &Query, out: &mut Vec<u8>) -> Result<(), AllocError>
     push_ended(fen.as_slice(), out)
 }
 
-/// What the own line of a node says of it.
-fn body_line(node: &Node) -> BodyLine
-    requires { (depth : ℕ) × (fits depth (tree_of node.now) ≡ true) }
+/// What the own line of a node says of it. The node has fewer than 2^32 children.
+pub fn body_line(node: &Node) -> BodyLine
+    requires { (n : ℕ) → body_of (tree_of node.now) ≡ BodyLine.Expand n → n < 2 ^ 32 }
     ensures { result ≡ body_of (tree_of node.now) }
 {
     match &node.body {

@@ -16,7 +16,7 @@ mod node_lines;
 mod nodes;
 mod reading;
 
-pub use cert_writing::write_cert;
+pub use cert_writing::{body_line, write_cert};
 pub use certificates::Cert;
 pub use claims::{castle_letter, read_claim, write_claim};
 pub use faults::CertFault;

@@ -79,6 +79,8 @@ fn read_caps(text: &[u8]) -> Option<RuleLine>
     }
 }
 
+// It is long, and most lines name no rule.
+#[inline(never)]
 fn read_rule(name: &[u8]) -> Option<RuleLine>
     ensures { result ≡ rule_of name.now }
 {
@@ -130,6 +132,7 @@ fn expand_line(depth: u8, number: u32) -> Option<BodyLine>
 }
 
 #[tactic(auto, unfolding(crate::specs::NodeLines::body_at))]
+#[inline(always)]
 fn read_body(depth: u8, text: &[u8]) -> Option<BodyLine>
     ensures { result ≡ body_at depth text.now }
 {
@@ -166,6 +169,7 @@ pub(crate) fn read_root(text: &[u8]) -> Option<BodyLine>
 }
 
 #[tactic(auto, unfolding(crate::specs::NodeLines::kid_body))]
+#[inline(always)]
 pub(crate) fn read_kid(depth: u8, text: &[u8]) -> Option<(Unmove, BodyLine)>
     ensures { result ≡ kid_body depth text.now }
 {

@@ -19,7 +19,9 @@ use std::alloc::Global;
 
 /// Reads the line of a node below the root, with its end: the unmove that leads to it, and its body. The depth of the root is 0.
 /// None comes exactly where the line is no child's at this depth.
+// A caller that only counts children so copies no label and no body.
 #[tactic(auto, unfolding(crate::specs::Lines::said))]
+#[inline(always)]
 pub fn read_kid_line(depth: u8, line: &[u8]) -> Option<(Unmove, BodyLine)>
     ensures { result ≡ said (kid_body depth) line.now }
 {
