@@ -1,7 +1,7 @@
 -- Trees that prove that no game reaches a query, and trees that don't.
-use Rattle.std.proofs.Common.{◌≡◌, ◌==◌, ℕ, zero, suc, Bool, true, false, List, [], ◌∷◌, refl, ap, subst}
+use Rattle.std.proofs.Common.{◌≡◌, ◌==◌, ℕ, zero, suc, true, false, List, [], ◌∷◌, refl, ap, subst}
 use Rattle.std.proofs.lemmas.Bool.{both_ways}
-use Rattle.std.specs.Prelude.{Option, Some, None, replicate, slice_set}
+use Rattle.std.specs.Prelude.{None, replicate, slice_set}
 use Rattle.std.specs.List.{Contains}
 use Rattle.general_lemmas.proofs.Lists.{contains-first, contains-none}
 use Rattle.board_base.specs.Board.{Places, array_of, at, initial_array, is_empty, is_of, man, no_men, no_odds}

@@ -11,6 +11,7 @@ pub mod Unlisted
 pub mod Contradicted
 pub mod Opening
 pub mod Taking
+pub mod Counted
 pub mod Settling
 pub mod TreeLines
 pub mod Answering

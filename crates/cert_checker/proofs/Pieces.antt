@@ -1,5 +1,5 @@
 -- Lines that are gathered byte by byte.
-use Rattle.std.proofs.Common.{◌≡◌, ◌≢◌, ℕ, zero, suc, ◌+◌, ◌<◌, ◌≤◌, ◌==◌, Bool, true, false, cond, List, [], ◌∷◌, ◌++◌, length, get_or, map, refl, sym, ap, ◌∙◌, subst, arith, append_assoc, length-append}
+use Rattle.std.proofs.Common.{◌≡◌, ◌≢◌, ℕ, zero, suc, ◌+◌, ◌<◌, ◌≤◌, ◌==◌, Bool, true, false, cond, List, [], ◌∷◌, ◌++◌, length, get_or, map, take, refl, sym, ap, ◌∙◌, subst, arith, append_assoc, length-append}
 use Rattle.std.proofs.lemmas.Bool.{ne_eqb, cond-false}
 use Rattle.std.proofs.lemmas.Slice.Eq.{bytes_eq-Decides}
 use Rattle.std.specs.Prelude.{Option, None}
@@ -16,7 +16,8 @@ use Rattle.cert_text.specs.Due.{put_due, step}
 use Rattle.cert_text.specs.declared.node_lines.BodyLine.{BodyLine}
 use Rattle.cert_text.proofs.Cuts.{cut-whole}
 use Rattle.cert_checker.specs.Answers.{Answer, Answers, bad_text}
-use Rattle.cert_checker.specs.Framing.{due_of, walking}
+use Rattle.cert_checker.specs.Frames.{going}
+use Rattle.cert_checker.specs.Framing.{due_of, stopped_by}
 use Rattle.cert_checker.specs.Stages.{bad, claiming, claimed, placed, Rooted, Stepped, NextStage, Rest, answer_at}
 use Rattle.cert_checker.specs.Staging.{IsPart, NoEnd, stage_of, stop_at}
 use Rattle.cert_checker.specs.declared.frames.Frame.{Frame}
@@ -27,6 +28,13 @@ use Rattle.cert_checker.proofs.Answering.{rest_bad}
 pub no_end_both : (g h : List ℕ) → NoEnd g → NoEnd h → NoEnd (g ++ h)
 no_end_both [] h none plain = plain
 no_end_both (b ∷ g) h none plain = (none.0, no_end_both g h none.1 plain)
+
+-- bytes before which no place ends a line
+pub no_end_before : (bytes : List ℕ) (n : ℕ) → n ≤ length bytes → ((k : ℕ) → k < n → get_or bytes k 0 ≢ 10) → NoEnd (take n bytes)
+no_end_before bytes zero within other = tt
+no_end_before [] (suc n) within other = tt
+no_end_before (b ∷ bytes) (suc n) within other =
+    (other 0 (omega arith), no_end_before bytes n (omega arith) (λ k below. other (suc k) (omega arith)))
 
 -- a line ends
 cut_end : (g others : List ℕ) → NoEnd g → cut (g ++ 10 ∷ others) ≡ (g ++ 10 ∷ []) ∷ cut others
@@ -86,13 +94,14 @@ mute_step (zero ∷ due) line mute = mute_step due line mute
 mute_step (suc c ∷ due) line mute = ap (option_map (λ (kid : Unmove × BodyLine). put_due kid.1 (c ∷ due))) (mute.kid (suc (length due)))
 
 -- a line that says nothing is bad text
-mute_stage : (s : Step) (frames : List Frame) (n : ℕ) (line : List ℕ) → IsMute line → NextStage (stage_of s frames) n line (stage_of (stop_at s n) frames)
-mute_stage at.Heading frames n line mute = mute_head (bytes_eq line head_line) n line refl mute.head
-mute_stage at.Claiming frames n line mute = ap (λ (o : Option Claim). claimed o n) (sym mute.claim)
-mute_stage (at.Placing claim) frames n line mute = ap (λ (o : Option Asked). placed o claim n) (sym mute.query)
-mute_stage (at.Rooting claim q) frames n line mute = subst (λ (o : Option BodyLine). Rooted o claim q n (bad n)) (sym mute.root) refl
-mute_stage (at.Nodes claim q found) frames n line mute = subst (λ (o : Option (List ℕ)). Stepped o claim q (walking found frames) n line (bad n)) (sym (mute_step (map due_of frames) line mute)) refl
-mute_stage (at.Bad k) frames n line mute = refl
+mute_stage : (s : Step) (frames : List Frame) (due : List ℕ) (n : ℕ) (line : List ℕ) → IsMute line → NextStage (stage_of s frames due) n line (stage_of (stop_at s n) frames due)
+mute_stage at.Heading frames due n line mute = mute_head (bytes_eq line head_line) n line refl mute.head
+mute_stage at.Claiming frames due n line mute = ap (λ (o : Option Claim). claimed o n) (sym mute.claim)
+mute_stage (at.Placing claim) frames due n line mute = ap (λ (o : Option Asked). placed o claim n) (sym mute.query)
+mute_stage (at.Rooting claim q) frames due n line mute = subst (λ (o : Option BodyLine). Rooted o claim q n (bad n)) (sym mute.root) refl
+mute_stage (at.Walking claim q) frames due n line mute = subst (λ (o : Option (List ℕ)). Stepped o claim q (going frames) n line (bad n)) (sym (mute_step (map due_of frames) line mute)) refl
+mute_stage (at.Counting claim q found) frames due n line mute = subst (λ (o : Option (List ℕ)). Stepped o claim q (stopped_by found) n line (bad n)) (sym (mute_step due line mute)) refl
+mute_stage (at.Bad k) frames due n line mute = refl
 
 bad_rest : (lines : Lines) (k n : ℕ) (a : Answer) → a ≡ bad_text k → Rest (bad k) n lines a
 bad_rest [] k n a e = e
@@ -101,37 +110,39 @@ bad_rest (line ∷ lines) k n a e = (bad k, refl, bad_rest lines k (n + 1) a e)
 bad_moved : (lines others : Lines) (k m n : ℕ) (a : Answer) → Rest (bad k) m lines a → Rest (bad k) n others a
 bad_moved lines others k m n a rest = bad_rest others k n a (rest_bad lines k m a rest)
 
-stopped_moved : (s : Step) (frames : List Frame) (k m n : ℕ) (lines others : Lines) (a : Answer) → Rest (stage_of (stop_at s k) frames) m lines a → Rest (stage_of (stop_at s k) frames) n others a
-stopped_moved at.Heading frames k m n lines others a rest = bad_moved lines others k m n a rest
-stopped_moved at.Claiming frames k m n lines others a rest = bad_moved lines others k m n a rest
-stopped_moved (at.Placing claim) frames k m n lines others a rest = bad_moved lines others k m n a rest
-stopped_moved (at.Rooting claim q) frames k m n lines others a rest = bad_moved lines others k m n a rest
-stopped_moved (at.Nodes claim q found) frames k m n lines others a rest = bad_moved lines others k m n a rest
-stopped_moved (at.Bad j) frames k m n lines others a rest = bad_moved lines others j m n a rest
+stopped_moved : (s : Step) (frames : List Frame) (due : List ℕ) (k m n : ℕ) (lines others : Lines) (a : Answer) → Rest (stage_of (stop_at s k) frames due) m lines a → Rest (stage_of (stop_at s k) frames due) n others a
+stopped_moved at.Heading frames due k m n lines others a rest = bad_moved lines others k m n a rest
+stopped_moved at.Claiming frames due k m n lines others a rest = bad_moved lines others k m n a rest
+stopped_moved (at.Placing claim) frames due k m n lines others a rest = bad_moved lines others k m n a rest
+stopped_moved (at.Rooting claim q) frames due k m n lines others a rest = bad_moved lines others k m n a rest
+stopped_moved (at.Walking claim q) frames due k m n lines others a rest = bad_moved lines others k m n a rest
+stopped_moved (at.Counting claim q found) frames due k m n lines others a rest = bad_moved lines others k m n a rest
+stopped_moved (at.Bad j) frames due k m n lines others a rest = bad_moved lines others j m n a rest
 
 -- the gathered line is too long
-pub rest_long : ((line : List ℕ) → 128 < length line → IsMute line) → (s t : Step) (frames : List Frame) (n : ℕ) (g part after others : List ℕ) (ends : Bool) (a : Answer) → NoEnd g → IsPart ends part → 128 < length g + length part → t ≡ stop_at s n → Rest (stage_of t frames) n (cut (after ++ others)) a → Rest (stage_of s frames) n (cut (g ++ (part ++ others))) a
-rest_long mutes s t frames n g part after others ends a none is long stop rest =
+pub rest_long : ((line : List ℕ) → 128 < length line → IsMute line) → (s t : Step) (frames : List Frame) (due : List ℕ) (n : ℕ) (g part after others : List ℕ) (ends : Bool) (a : Answer) → NoEnd g → IsPart ends part → 128 < length g + length part → t ≡ stop_at s n → Rest (stage_of t frames due) n (cut (after ++ others)) a → Rest (stage_of s frames due) n (cut (g ++ (part ++ others))) a
+rest_long mutes s t frames due n g part after others ends a none is long stop rest =
     let o = over g part others ends none is long in
-    let stopped = subst (λ (u : Step). Rest (stage_of u frames) n (cut (after ++ others)) a) stop rest in
-    subst (λ (lines : Lines). Rest (stage_of s frames) n lines a) (sym o.2)
-    (stage_of (stop_at s n) frames, mute_stage s frames n o.0 (mutes o.0 o.3), stopped_moved s frames n n (n + 1) (cut (after ++ others)) o.1 a stopped)
+    let stopped = subst (λ (u : Step). Rest (stage_of u frames due) n (cut (after ++ others)) a) stop rest in
+    subst (λ (lines : Lines). Rest (stage_of s frames due) n lines a) (sym o.2)
+    (stage_of (stop_at s n) frames due, mute_stage s frames due n o.0 (mutes o.0 o.3), stopped_moved s frames due n n (n + 1) (cut (after ++ others)) o.1 a stopped)
 
-stopped_end : (s : Step) (frames : List Frame) (k m n : ℕ) → answer_at (stage_of (stop_at s k) frames) m ≡ answer_at (stage_of (stop_at s k) frames) n
-stopped_end at.Heading frames k m n = refl
-stopped_end at.Claiming frames k m n = refl
-stopped_end (at.Placing claim) frames k m n = refl
-stopped_end (at.Rooting claim q) frames k m n = refl
-stopped_end (at.Nodes claim q found) frames k m n = refl
-stopped_end (at.Bad j) frames k m n = refl
+stopped_end : (s : Step) (frames : List Frame) (due : List ℕ) (k m n : ℕ) → answer_at (stage_of (stop_at s k) frames due) m ≡ answer_at (stage_of (stop_at s k) frames due) n
+stopped_end at.Heading frames due k m n = refl
+stopped_end at.Claiming frames due k m n = refl
+stopped_end (at.Placing claim) frames due k m n = refl
+stopped_end (at.Rooting claim q) frames due k m n = refl
+stopped_end (at.Walking claim q) frames due k m n = refl
+stopped_end (at.Counting claim q found) frames due k m n = refl
+stopped_end (at.Bad j) frames due k m n = refl
 
 -- the bytes end in a line
-pub rest_unended : ((line : List ℕ) → ((text : List ℕ) → line ≢ ended text) → IsMute line) → (s t : Step) (frames : List Frame) (n : ℕ) (g : List ℕ) (a : Answer) → NoEnd g → (g ≡ [] → ⊥) → t ≡ stop_at s n → a ≡ answer_at (stage_of t frames) n → Rest (stage_of s frames) n (cut g) a
-rest_unended mutes s t frames n g a none some stop e =
-    subst (λ (lines : Lines). Rest (stage_of s frames) n lines a) (sym (cut-whole g some (no_end_at g none))) (
-      stage_of (stop_at s n) frames,
-      mute_stage s frames n g (mutes g (λ text. unended g text none)),
-      e ∙ ap (λ (u : Step). answer_at (stage_of u frames) n) stop ∙ stopped_end s frames n n (n + 1),
+pub rest_unended : ((line : List ℕ) → ((text : List ℕ) → line ≢ ended text) → IsMute line) → (s t : Step) (frames : List Frame) (due : List ℕ) (n : ℕ) (g : List ℕ) (a : Answer) → NoEnd g → (g ≡ [] → ⊥) → t ≡ stop_at s n → a ≡ answer_at (stage_of t frames due) n → Rest (stage_of s frames due) n (cut g) a
+rest_unended mutes s t frames due n g a none some stop e =
+    subst (λ (lines : Lines). Rest (stage_of s frames due) n lines a) (sym (cut-whole g some (no_end_at g none))) (
+      stage_of (stop_at s n) frames due,
+      mute_stage s frames due n g (mutes g (λ text. unended g text none)),
+      e ∙ ap (λ (u : Step). answer_at (stage_of u frames due) n) stop ∙ stopped_end s frames due n n (n + 1),
     )
 
 -- bytes that were fed, for any way to say what is still answered

@@ -10,7 +10,7 @@ use Rattle.cert_text.specs.Certificate.{Lines}
 use Rattle.cert_text.specs.Due.{put_due, step}
 use Rattle.cert_text.specs.declared.node_lines.BodyLine.{BodyLine}
 use Rattle.cert_checker.specs.Answers.{Answer}
-use Rattle.cert_checker.specs.Frames.{Walking, go_on, ended, OnBody}
+use Rattle.cert_checker.specs.Frames.{Walking, going, go_on, ended, OnBody}
 use Rattle.cert_checker.specs.Framing.{popped, due_of, walking, with_body}
 use Rattle.cert_checker.specs.Stages.{nodes, rooting, Rooted, Stepped, Rest}
 use Rattle.cert_checker.specs.declared.frames.Frame.{Frame}
@@ -23,8 +23,8 @@ settled claim q f result mid after n lines a walk dues rest =
     (subst (λ (w : Walking). Rest (nodes claim q w (popped (map due_of mid))) n lines a) walk (subst (λ (d : List ℕ). Rest (nodes claim q (walking result after) d) n lines a) dues rest))
 
 -- a line below the root's
-pub node_rest : (claim : Claim) (q : Asked) (found f result : Option Found) (olds mid after : List Frame) (n : ℕ) (line : List ℕ) (lines : Lines) (a : Answer) → Stepped (step (map due_of olds) line) claim q (walking found olds) n line (nodes claim q (walking f mid) (map due_of mid)) → walking result after ≡ go_on (walking f mid) ended → map due_of after ≡ popped (map due_of mid) → Rest (nodes claim q (walking result after) (map due_of after)) (n + 1) lines a → Rest (nodes claim q (walking found olds) (map due_of olds)) n (line ∷ lines) a
-node_rest claim q found f result olds mid after n line lines a stepped walk dues rest =
+pub node_rest : (claim : Claim) (q : Asked) (f result : Option Found) (olds mid after : List Frame) (n : ℕ) (line : List ℕ) (lines : Lines) (a : Answer) → Stepped (step (map due_of olds) line) claim q (going olds) n line (nodes claim q (walking f mid) (map due_of mid)) → walking result after ≡ go_on (walking f mid) ended → map due_of after ≡ popped (map due_of mid) → Rest (nodes claim q (walking result after) (map due_of after)) (n + 1) lines a → Rest (nodes claim q (going olds) (map due_of olds)) n (line ∷ lines) a
+node_rest claim q f result olds mid after n line lines a stepped walk dues rest =
     (nodes claim q (walking f mid) (map due_of mid), stepped, settled claim q f result mid after (n + 1) lines a walk dues rest)
 
 -- the root's line

@@ -1,5 +1,5 @@
 -- The line of a child.
-use Rattle.std.proofs.Common.{◌≡◌, ℕ, suc, ◌-◌, ◌<◌, List, ◌∷◌, length, map, drop, refl, sym, ap, ◌∙◌, subst, arith}
+use Rattle.std.proofs.Common.{◌≡◌, ℕ, suc, ◌-◌, ◌<◌, List, ◌∷◌, length, map, drop, sym, ap, ◌∙◌, subst, arith}
 use Rattle.std.proofs.lemmas.List.{length-map}
 use Rattle.std.specs.Prelude.{Option, Some, None, IfSome}
 use Rattle.std.specs.Option.{option_map}
@@ -14,39 +14,31 @@ use Rattle.cert_text.specs.Reading.{HasRoom}
 use Rattle.cert_text.specs.Due.{put_due, step}
 use Rattle.cert_text.specs.declared.node_lines.BodyLine.{BodyLine}
 use Rattle.cert_text.proofs.Fitting.{kid_fits}
-use Rattle.cert_checker.specs.Frames.{Walking, Onto, OnKid, OnSaid, OnOpen, OnLine}
-use Rattle.cert_checker.specs.Framing.{due_of, stopped_by, walking, with_body, IsListed, IsStack}
+use Rattle.cert_checker.specs.Frames.{Walking, going, Onto, OnKid, OnSaid, OnOpen, OnLine}
+use Rattle.cert_checker.specs.Framing.{due_of, walking, with_body, IsListed, IsStack}
 use Rattle.cert_checker.specs.Stages.{nodes, Stepped}
 use Rattle.cert_checker.specs.declared.frames.Frame.{Frame}
 use Rattle.cert_checker.specs.declared.frames.Found.{Found}
-use Rattle.cert_checker.specs.declared.frames.Found.TheVariants.{Unlisted, Unsupported}
 use Rattle.cert_checker.proofs.Opening.{listed_rest, open_stands, stack_with}
 
--- after a fault nothing changes
-pub onto_stopped : (x : Found) (Next : List Frame → Walking → Type 0) → Onto (stopped_by x) Next (stopped_by x)
-onto_stopped (Unlisted n u) Next = refl
-onto_stopped (Unsupported n w) Next = refl
+onto_kid : (f : Frame) (frames : List Frame) (n : ℕ) (line : List ℕ) (label : Unmove) (body : BodyLine) (after : Walking) → said (kid_body (suc (length frames))) line ≡ Some (label, body) → OnKid f frames n label body after → OnOpen n line (f ∷ frames) after
+onto_kid f frames n line label body after says on = subst (λ (o : Option (Unmove × BodyLine)). OnSaid o f frames n after) (sym says) on
 
-onto_kid : (found : Option Found) (f : Frame) (frames : List Frame) (n : ℕ) (line : List ℕ) (label : Unmove) (body : BodyLine) (after : Walking) → said (kid_body (suc (length frames))) line ≡ Some (label, body) → Onto (walking found (f ∷ frames)) (λ all. OnKid f frames n label body) after → Onto (walking found (f ∷ frames)) (OnOpen n line) after
-onto_kid None f frames n line label body after says on = subst (λ (o : Option (Unmove × BodyLine)). OnSaid o f frames n after) (sym says) on
-onto_kid (Some (Unlisted m u)) f frames n line label body after says on = on
-onto_kid (Some (Unsupported m w)) f frames n line label body after says on = on
-
-step_kid : (d : ℕ) (others : List ℕ) (line : List ℕ) (label : Unmove) (body : BodyLine) → 0 < d → said (kid_body (suc (length others))) line ≡ Some (label, body) → step (d ∷ others) line ≡ Some (put_due body ((d - 1) ∷ others))
+pub step_kid : (d : ℕ) (others : List ℕ) (line : List ℕ) (label : Unmove) (body : BodyLine) → 0 < d → said (kid_body (suc (length others))) line ≡ Some (label, body) → step (d ∷ others) line ≡ Some (put_due body ((d - 1) ∷ others))
 step_kid d others line label body some says =
     let one : d ≡ suc (d - 1) = omega arith in
     ap (λ (k : ℕ). step (k ∷ others) line) one ∙ ap (option_map (λ (kid : Unmove × BodyLine). put_due kid.1 ((d - 1) ∷ others))) says
 
 -- the line is a child's
-pub stage_kid : (found result : Option Found) (f : Frame) (olds frames after : List Frame) (n depth : ℕ) (line : List ℕ) (label : Unmove) (body : BodyLine) (claim : Claim) (q : Asked) → olds ≡ f ∷ frames → 0 < f.due → depth ≡ suc (length frames) → said (kid_body depth) line ≡ Some (label, body)
-    → Onto (walking found (f ∷ frames)) (λ all. OnKid f frames n label body) (walking result after) → map due_of after ≡ put_due body ((f.due - 1) ∷ map due_of frames)
-    → Stepped (step (map due_of olds) line) claim q (walking found olds) n line (nodes claim q (walking result after) (map due_of after))
-stage_kid found result f olds frames after n depth line label body claim q first some deep says walk dues =
+pub stage_kid : (result : Option Found) (f : Frame) (olds frames after : List Frame) (n depth : ℕ) (line : List ℕ) (label : Unmove) (body : BodyLine) (claim : Claim) (q : Asked) → olds ≡ f ∷ frames → 0 < f.due → depth ≡ suc (length frames) → said (kid_body depth) line ≡ Some (label, body)
+    → OnKid f frames n label body (walking result after) → map due_of after ≡ put_due body ((f.due - 1) ∷ map due_of frames)
+    → Stepped (step (map due_of olds) line) claim q (going olds) n line (nodes claim q (walking result after) (map due_of after))
+stage_kid result f olds frames after n depth line label body claim q first some deep says walk dues =
     let here : said (kid_body (suc (length frames))) line ≡ Some (label, body) = ap (λ (k : ℕ). said (kid_body k) line) (sym deep) ∙ says in
     let there : said (kid_body (suc (length (map due_of frames)))) line ≡ Some (label, body) = ap (λ (k : ℕ). said (kid_body (suc k)) line) (length-map frames due_of) ∙ here in
-    let on : OnLine (walking found (f ∷ frames)) n line (walking result after) = subst (λ (w : Walking). Onto w (OnOpen n line) (walking result after)) (sym (open_stands found (f ∷ frames) some)) (onto_kid found f frames n line label body (walking result after) here walk) in
-    let goes : Stepped (step (f.due ∷ map due_of frames) line) claim q (walking found (f ∷ frames)) n line (nodes claim q (walking result after) (map due_of after)) = subst (λ (o : Option (List ℕ)). Stepped o claim q (walking found (f ∷ frames)) n line (nodes claim q (walking result after) (map due_of after))) (sym (step_kid f.due (map due_of frames) line label body some there)) (walking result after, on, ap (nodes claim q (walking result after)) dues) in
-    subst (λ (l : List Frame). Stepped (step (map due_of l) line) claim q (walking found l) n line (nodes claim q (walking result after) (map due_of after))) (sym first) goes
+    let on : OnLine (going (f ∷ frames)) n line (walking result after) = subst (λ (w : Walking). Onto w (OnOpen n line) (walking result after)) (sym (open_stands None (f ∷ frames) some)) (onto_kid f frames n line label body (walking result after) here walk) in
+    let goes : Stepped (step (f.due ∷ map due_of frames) line) claim q (going (f ∷ frames)) n line (nodes claim q (walking result after) (map due_of after)) = subst (λ (o : Option (List ℕ)). Stepped o claim q (going (f ∷ frames)) n line (nodes claim q (walking result after) (map due_of after))) (sym (step_kid f.due (map due_of frames) line label body some there)) (walking result after, on, ap (nodes claim q (walking result after)) dues) in
+    subst (λ (l : List Frame). Stepped (step (map due_of l) line) claim q (going l) n line (nodes claim q (walking result after) (map due_of after))) (sym first) goes
 
 -- what a line says has room at its depth
 pub kid_room : (depth size : ℕ) (line : List ℕ) (label : Unmove) (body : BodyLine) → depth ≡ suc size → said (kid_body depth) line ≡ Some (label, body) → HasRoom (suc size) body

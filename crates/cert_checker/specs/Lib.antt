@@ -6,4 +6,5 @@ pub mod Stages
 pub mod Remains
 pub mod Walking
 pub mod Framing
+pub mod Counting
 pub mod Staging

@@ -4,7 +4,9 @@ use Rattle.std.specs.Prelude.{ℕ, ◌≡◌, ◌≢◌, Bool, true, false, List
 use Rattle.query_base.specs.Asked.{Asked}
 use Rattle.query_base.specs.declared.claims.Claim.{Claim}
 use Rattle.cert_checker.specs.Stages.{Stage, heading, claiming, placing, rooting, nodes, bad}
-use Rattle.cert_checker.specs.Framing.{IsOpen, IsStack, due_of, walking}
+use Rattle.cert_checker.specs.Frames.{going}
+use Rattle.cert_checker.specs.Framing.{IsOpen, IsStack, due_of, stopped_by, walking}
+use Rattle.cert_checker.specs.Counting.{AreCounts, IsDue}
 use Rattle.cert_checker.specs.declared.frames.Frame.{Frame}
 use Rattle.cert_checker.specs.declared.frames.Found.{Found}
 use Rattle.cert_checker.specs.declared.stages.Step.{Step}
@@ -15,20 +17,22 @@ abbrev pub taken : Option (Option Found) → Claim → Asked → List Frame → 
 taken None claim q frames n = bad n
 taken (Some f) claim q frames n = nodes claim q (walking f frames) (map due_of frames)
 
--- the stage of a step and its frames
-abbrev pub stage_of : Step → List Frame → Stage
-stage_of at.Heading frames = heading
-stage_of at.Claiming frames = claiming
-stage_of (at.Placing claim) frames = placing claim
-stage_of (at.Rooting claim q) frames = rooting claim q
-stage_of (at.Nodes claim q found) frames = nodes claim q (walking found frames) (map due_of frames)
-stage_of (at.Bad n) frames = bad n
+-- the stage of a step, with its frames, or with the numbers of children due where the walk has met a fault
+abbrev pub stage_of : Step → List Frame → List ℕ → Stage
+stage_of at.Heading frames due = heading
+stage_of at.Claiming frames due = claiming
+stage_of (at.Placing claim) frames due = placing claim
+stage_of (at.Rooting claim q) frames due = rooting claim q
+stage_of (at.Walking claim q) frames due = nodes claim q (going frames) (map due_of frames)
+stage_of (at.Counting claim q found) frames due = nodes claim q (stopped_by found) due
+stage_of (at.Bad n) frames due = bad n
 
--- the frames of a step, or its query, are as the next line needs them
-abbrev pub IsReady : Step → List Frame → Type 0
-IsReady (at.Rooting claim q) frames = q.barred ≡ None
-IsReady (at.Nodes claim q found) frames = IsStack frames × IsOpen frames
-IsReady _ frames = Unit {0}
+-- the frames of a step, its numbers or its query are as the next line needs them
+abbrev pub IsReady : Step → List Frame → List ℕ → Type 0
+IsReady (at.Rooting claim q) frames due = q.barred ≡ None
+IsReady (at.Walking claim q) frames due = IsStack frames × IsOpen frames
+IsReady (at.Counting claim q found) frames due = AreCounts due × IsDue due
+IsReady _ frames due = Unit {0}
 
 -- the step where the next line says nothing
 abbrev pub stop_at : Step → ℕ → Step

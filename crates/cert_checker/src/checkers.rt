@@ -11,6 +11,7 @@ use crate::refusals::{Accepted, Fault};
 use crate::stages::{Step, answer, stop, take};
 use arrayvec::ArrayVec;
 use cert_text::no_long_lines;
+use memchr::memchr;
 use std::marker::Model;
 
 /// How many of the bytes are of the first line, with its end, and whether they end it.
@@ -20,12 +21,10 @@ fn first_part(bytes: &[u8]) -> (usize, bool)
     ensures some { 0 < result.0 }
     ensures part { IsPart result.1 (take result.0 bytes.now) }
 {
-    for (i, byte) in bytes.iter().enumerate() {
-        if *byte == b'\n' {
-            return (i + 1, true);
-        }
+    match memchr(b'\n', bytes) {
+        Some(i) => (i + 1, true),
+        None => (bytes.len(), false),
     }
-    (bytes.len(), false)
 }
 
 /// Puts a part of a line behind what is gathered.
@@ -40,47 +39,59 @@ fn gather(gathered: &mut ArrayVec<u8, 128>, part: &[u8])
 fn take_part(
     step: &mut Step,
     frames: &mut ArrayVec<Frame, 256>,
+    counts: &mut ArrayVec<u32, 256>,
     gathered: &mut ArrayVec<u8, 128>,
     number: &mut u32,
     part: &[u8],
     ended: bool,
 )
-    requires ready { IsReady step.old (reverse frames.old.items) }
+    requires ready { IsReady step.old (reverse frames.old.items) (reverse counts.old.items) }
     requires no_end { NoEnd gathered.old.items }
     requires part { IsPart ended part.now }
     requires room { number.old + 1 < 2 ^ 32 }
-    ensures rest { (others : List ℕ) (a : Answer) → Rest (stage_of step.new (reverse frames.new.items)) number.new (cut (gathered.new.items ++ others)) a
-        → Rest (stage_of step.old (reverse frames.old.items)) number.old (cut (gathered.old.items ++ (part.now ++ others))) a }
-    ensures ready { IsReady step.new (reverse frames.new.items) }
+    ensures rest { (others : List ℕ) (a : Answer) → Rest (stage_of step.new (reverse frames.new.items) (reverse counts.new.items)) number.new (cut (gathered.new.items ++ others)) a
+        → Rest (stage_of step.old (reverse frames.old.items) (reverse counts.old.items)) number.old (cut (gathered.old.items ++ (part.now ++ others))) a }
+    ensures ready { IsReady step.new (reverse frames.new.items) (reverse counts.new.items) }
     ensures no_end { NoEnd gathered.new.items }
     ensures number { number.new ≤ number.old + 1 }
 {
     no_long_lines();
     if gathered.len() + part.len() > 128 {
-        *step = stop(*step, *number);
+        *step = stop(step, *number);
+        return;
+    }
+    if ended && gathered.is_empty() {
+        take(step, frames, counts, *number, part);
+        *number += 1;
         return;
     }
     gather(gathered, part);
     if !ended {
         return;
     }
-    *step = take(*step, frames, *number, gathered.as_slice());
+    take(step, frames, counts, *number, gathered.as_slice());
     gathered.clear();
     *number += 1;
 }
 
 /// The answer where no byte follows those that were gathered.
-fn end(step: Step, frames: &[Frame], gathered: &[u8], number: u32) -> Result<Accepted, Fault>
-    requires ready { IsReady step (reverse frames.now) }
+fn end(
+    step: &Step,
+    frames: &[Frame],
+    counts: &[u32],
+    gathered: &[u8],
+    number: u32,
+) -> Result<Accepted, Fault>
+    requires ready { IsReady step.now (reverse frames.now) (reverse counts.now) }
     requires no_end { NoEnd gathered.now }
-    ensures { Rest (stage_of step (reverse frames.now)) number (cut gathered.now) (answer_as result) }
+    ensures { Rest (stage_of step.now (reverse frames.now) (reverse counts.now)) number (cut gathered.now) (answer_as result) }
 {
     no_long_lines();
     if gathered.is_empty() {
-        return answer(step, frames, number);
+        return answer(step, frames, counts, number);
     }
     let last = stop(step, number);
-    answer(last, frames, number)
+    answer(&last, frames, counts, number)
 }
 
 /// A check of a certificate whose bytes come in pieces. It stands for the bytes that it was fed, and takes no memory.
@@ -88,6 +99,7 @@ fn end(step: Step, frames: &[Frame], gathered: &[u8], number: u32) -> Result<Acc
 pub struct Checker {
     step: Step,
     frames: ArrayVec<Frame, 256>,
+    counts: ArrayVec<u32, 256>,
     gathered: ArrayVec<u8, 128>,
     number: u32,
     fed: u32,
@@ -100,9 +112,9 @@ impl Model for Checker {
 
     ghost Value = { Checking };
 
-    ghost view = { λ k. record { stage = stage_of k.step (reverse k.frames.items); gathered = k.gathered.items; number = k.number; fed = k.fed } };
+    ghost view = { λ k. record { stage = stage_of k.step (reverse k.frames.items) (reverse k.counts.items); gathered = k.gathered.items; number = k.number; fed = k.fed } };
 
-    ghost invariant = { λ k. IsReady k.step (reverse k.frames.items) × NoEnd k.gathered.items × (k.number ≤ k.fed + 1) × (k.fed ≤ 67_108_864) };
+    ghost invariant = { λ k. IsReady k.step (reverse k.frames.items) (reverse k.counts.items) × NoEnd k.gathered.items × (k.number ≤ k.fed + 1) × (k.fed ≤ 67_108_864) };
 }
 
 impl Checker {
@@ -113,6 +125,7 @@ impl Checker {
         Checker {
             step: Step::Heading,
             frames: ArrayVec::new(),
+            counts: ArrayVec::new(),
             gathered: ArrayVec::new(),
             number: 1,
             fed: 0,
@@ -137,6 +150,7 @@ impl Checker {
         take_part(
             &mut self.step,
             &mut self.frames,
+            &mut self.counts,
             &mut self.gathered,
             &mut self.number,
             part,
@@ -169,8 +183,9 @@ impl Checker {
         ensures rest { Remains self.now [] (answer_as result) }
     {
         end(
-            self.step,
+            &self.step,
             self.frames.as_slice(),
+            self.counts.as_slice(),
             self.gathered.as_slice(),
             self.number,
         )

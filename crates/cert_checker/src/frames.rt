@@ -8,12 +8,13 @@ ghost use Rattle.unmove_gen.specs.Listed.{unmoves};
 ghost use Rattle.cert_text.specs.Reading.{HasRoom};
 ghost use Rattle.cert_text.specs.Due.{put_due, step};
 ghost use Rattle.query_base.specs.Ancestors.{ancestor};
-ghost use Rattle.cert_checker.specs.Frames.{OnBody, OnFirst, OnKid, ended, go_on, query_of_frame};
+ghost use Rattle.cert_checker.specs.Frames.{OnBody, OnFirst, OnKid, ended, go_on, going, query_of_frame};
 ghost use Rattle.cert_checker.specs.Framing.{IsListed, IsOpen, IsStack, due_of, end_unmoves_of, popped, walking, with_body};
 ghost use Rattle.cert_checker.specs.Stages.{Stepped};
 ghost use Rattle.cert_checker.specs.Staging.{taken};
 ghost use Rattle.cert_checker.specs.declared.frames.Frame.{Frame as AnyFrame};
 
+use crate::left_unmoves::LeftUnmoves;
 use crate::refusals::Why;
 use arrayvec::ArrayVec;
 use board_base::{Board, CastleSet, Colour, Unmove, cmp_unmove};
@@ -21,7 +22,7 @@ use cert_text::{BodyLine, read_kid_line};
 use query_base::{Query, covers, is_array};
 use static_rules::supports;
 use std::cmp::Ordering;
-use unmove_gen::{Unmoves, pred};
+use unmove_gen::pred;
 
 /// A node some of whose children may be due.
 #[derive(Drop)]
@@ -29,7 +30,7 @@ pub struct Frame {
     /// The node's query.
     pub(crate) query: Query,
     /// Its unmoves that no child had.
-    pub(crate) left: Unmoves,
+    pub(crate) left: LeftUnmoves,
     /// How many of its children are due.
     pub(crate) due: u32,
     /// The number of its line.
@@ -48,7 +49,7 @@ impl Default for Frame {
         };
         Frame {
             query,
-            left: Unmoves::new(&query),
+            left: LeftUnmoves::none(),
             due: 0,
             line: 0,
         }
@@ -65,7 +66,7 @@ pub enum Found {
 }
 
 /// The first unmove that is left, which then is left no more.
-fn take_first(left: &mut Unmoves) -> Option<Unmove>
+fn take_first(left: &mut LeftUnmoves) -> Option<Unmove>
     ensures first { result ≡ slice_get left.old 0 }
     ensures others { left.new ≡ drop 1 left.old }
 {
@@ -156,7 +157,7 @@ pub(crate) fn push_body(
     if let BodyLine::Expand(due) = body {
         frames.push(Frame {
             query: *query,
-            left: Unmoves::new(query),
+            left: LeftUnmoves::new(query),
             due: *due,
             line,
         });
@@ -193,24 +194,6 @@ fn look_at(
     }
 }
 
-/// Counts a child's line off, and puts the frame of the child onto the others where it has children. The walk has met a fault.
-fn count_kid(top: Frame, frames: &mut ArrayVec<Frame, 256>, body: &BodyLine, line: u32)
-    requires due { 0 < top.due }
-    requires room { array_vec_len frames.old < 255 }
-    requires listed { IsListed top }
-    ensures due { map due_of (reverse frames.new.items) ≡ put_due body.now ((top.due - 1) ∷ map due_of (reverse frames.old.items)) }
-    ensures stack { HasRoom (suc (array_vec_len frames.old)) body.now → IsStack (reverse frames.old.items) → IsStack (reverse frames.new.items) }
-{
-    let query = top.query;
-    frames.push(Frame {
-        query,
-        left: top.left,
-        due: top.due - 1,
-        line: top.line,
-    });
-    push_body(frames, body, &query, line);
-}
-
 /// Walks a child's line. Its parent's frame was taken off the others.
 fn walk_kid(
     top: Frame,
@@ -244,16 +227,16 @@ fn walk_kid(
     found
 }
 
-/// Takes the line of a node below the root. None comes where it goes bad; else the first fault of the walk, if there was one.
+/// Takes the line of a node below the root, where the walk has met no fault. None comes where it goes bad; else the first fault of
+/// the walk, if this line has it.
 pub(crate) fn take_line(
     frames: &mut ArrayVec<Frame, 256>,
-    found: Option<Found>,
     number: u32,
     line: &[u8],
 ) -> Option<Option<Found>>
     requires stack { IsStack (reverse frames.old.items) }
     requires open { IsOpen (reverse frames.old.items) }
-    ensures stage { (claim : AnyClaim) (q : Asked) → Stepped (step (map due_of (reverse frames.old.items)) line.now) claim q (walking found (reverse frames.old.items)) number line.now
+    ensures stage { (claim : AnyClaim) (q : Asked) → Stepped (step (map due_of (reverse frames.old.items)) line.now) claim q (going (reverse frames.old.items)) number line.now
         (taken result claim q (reverse frames.new.items) number) }
     ensures stack { IfSome result (λ f. IsStack (reverse frames.new.items)) }
 {
@@ -263,13 +246,7 @@ pub(crate) fn take_line(
     let depth = (frames.len() + 1) as u8;
     match read_kid_line(depth, line) {
         None => None,
-        Some((label, body)) => match found {
-            Some(fault) => {
-                count_kid(top, frames, &body, number);
-                Some(Some(fault))
-            }
-            None => Some(walk_kid(top, frames, number, &label, &body)),
-        },
+        Some((label, body)) => Some(walk_kid(top, frames, number, &label, &body)),
     }
 }
 

@@ -5,8 +5,10 @@
 
 mod checkers;
 mod checking;
+mod counting;
 mod frames;
 mod laws;
+mod left_unmoves;
 mod refusals;
 mod stages;
 mod streams;

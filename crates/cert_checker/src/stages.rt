@@ -1,10 +1,14 @@
-ghost use Rattle.std.specs.Prelude.{◌≡◌, ◌+◌, [], ◌∷◌, List, None, map, reverse};
+ghost use Rattle.std.specs.Prelude.{◌≡◌, ◌+◌, ◌∷◌, Err, None, map, reverse};
+ghost use Rattle.query_base.specs.Asked.{Asked};
+ghost use Rattle.query_base.specs.declared.claims.Claim.{Claim as AnyClaim};
 ghost use Rattle.cert_text.specs.Certificate.{Lines};
 ghost use Rattle.cert_checker.specs.Answers.{Answer, answer_as};
-ghost use Rattle.cert_checker.specs.Framing.{IsOpen, IsStack, due_of, walking};
+ghost use Rattle.cert_checker.specs.Framing.{IsOpen, IsStack, due_of, stopped_by, walking};
+ghost use Rattle.cert_checker.specs.Frames.{going};
 ghost use Rattle.cert_checker.specs.Stages.{Rest, answer_at, answer_by, nodes, rooting};
 ghost use Rattle.cert_checker.specs.Staging.{IsReady, stage_of, stop_at};
 
+use crate::counting::{count_frames, count_line};
 use crate::frames::{Found, Frame, body_fault, push_body, settle, take_line};
 use crate::refusals::{Accepted, Fault};
 use arrayvec::ArrayVec;
@@ -22,10 +26,34 @@ pub enum Step {
     Placing(Claim),
     /// The root's line.
     Rooting(Claim, Query),
-    /// A line below the root's, or none, and the first fault of the walk so far.
-    Nodes(Claim, Query, Option<Found>),
+    /// A line below the root's, or none, where the walk has met no fault.
+    Walking(Claim, Query),
+    /// A line below the root's, or none, where the walk has met this fault. From there on only the children due are counted.
+    Counting(Claim, Query, Found),
     /// The text went bad at this line.
     Bad(u32),
+}
+
+/// The step where the walk stands at these frames, or has met this fault.
+fn step_at(
+    claim: Claim,
+    query: Query,
+    found: Option<Found>,
+    frames: &ArrayVec<Frame, 256>,
+    counts: &mut ArrayVec<u32, 256>,
+) -> Step
+    requires stack { IsStack (reverse frames.now.items) }
+    requires open { IsOpen (reverse frames.now.items) }
+    ensures stage { stage_of result (reverse frames.now.items) (reverse counts.new.items) ≡ nodes claim query (walking found (reverse frames.now.items)) (map due_of (reverse frames.now.items)) }
+    ensures ready { IsReady result (reverse frames.now.items) (reverse counts.new.items) }
+{
+    match found {
+        None => Step::Walking(claim, query),
+        Some(found) => {
+            count_frames(frames.as_slice(), counts);
+            Step::Counting(claim, query, found)
+        }
+    }
 }
 
 /// The step after the root's line.
@@ -33,12 +61,13 @@ fn take_root(
     claim: Claim,
     query: Query,
     frames: &mut ArrayVec<Frame, 256>,
+    counts: &mut ArrayVec<u32, 256>,
     number: u32,
     line: &[u8],
 ) -> Step
     requires { query.barred ≡ None }
-    ensures rest { (lines : Lines) (a : Answer) → Rest (stage_of result (reverse frames.new.items)) (number + 1) lines a → Rest (rooting claim query) number (line.now ∷ lines) a }
-    ensures ready { IsReady result (reverse frames.new.items) }
+    ensures rest { (lines : Lines) (a : Answer) → Rest (stage_of result (reverse frames.new.items) (reverse counts.new.items)) (number + 1) lines a → Rest (rooting claim query) number (line.now ∷ lines) a }
+    ensures ready { IsReady result (reverse frames.new.items) (reverse counts.new.items) }
 {
     let Some(body) = read_root_line(line) else {
         return Step::Bad(number);
@@ -48,40 +77,50 @@ fn take_root(
     let fault = body_fault(&body, &aim, frames.as_slice(), number);
     push_body(frames, &body, &aim, number);
     let found = settle(frames, fault);
-    Step::Nodes(claim, query, found)
+    step_at(claim, query, found, frames, counts)
 }
 
-/// The step after the line of a node below the root.
+/// The step after the line of a node below the root, where the walk has met no fault before.
 fn take_node(
     claim: Claim,
     query: Query,
-    found: Option<Found>,
     frames: &mut ArrayVec<Frame, 256>,
+    counts: &mut ArrayVec<u32, 256>,
     number: u32,
     line: &[u8],
 ) -> Step
     requires stack { IsStack (reverse frames.old.items) }
     requires open { IsOpen (reverse frames.old.items) }
-    ensures rest { (lines : Lines) (a : Answer) → Rest (stage_of result (reverse frames.new.items)) (number + 1) lines a
-        → Rest (nodes claim query (walking found (reverse frames.old.items)) (map due_of (reverse frames.old.items))) number (line.now ∷ lines) a }
-    ensures ready { IsReady result (reverse frames.new.items) }
+    ensures rest { (lines : Lines) (a : Answer) → Rest (stage_of result (reverse frames.new.items) (reverse counts.new.items)) (number + 1) lines a
+        → Rest (nodes claim query (going (reverse frames.old.items)) (map due_of (reverse frames.old.items))) number (line.now ∷ lines) a }
+    ensures ready { IsReady result (reverse frames.new.items) (reverse counts.new.items) }
 {
-    match take_line(frames, found, number, line) {
+    match take_line(frames, number, line) {
         Some(fault) => {
             let found = settle(frames, fault);
-            Step::Nodes(claim, query, found)
+            step_at(claim, query, found, frames, counts)
         }
         None => Step::Bad(number),
     }
 }
 
-/// The step after a line, with its end.
-pub(crate) fn take(step: Step, frames: &mut ArrayVec<Frame, 256>, number: u32, line: &[u8]) -> Step
-    requires { IsReady step (reverse frames.old.items) }
-    ensures rest { (lines : Lines) (a : Answer) → Rest (stage_of result (reverse frames.new.items)) (number + 1) lines a → Rest (stage_of step (reverse frames.old.items)) number (line.now ∷ lines) a }
-    ensures ready { IsReady result (reverse frames.new.items) }
+/// Takes a line, with its end.
+// It stays out of `take`, where a line that is only counted would pay for its variables.
+#[inline(never)]
+fn take_step(
+    step: &mut Step,
+    frames: &mut ArrayVec<Frame, 256>,
+    counts: &mut ArrayVec<u32, 256>,
+    number: u32,
+    line: &[u8],
+)
+    requires { IsReady step.old (reverse frames.old.items) (reverse counts.old.items) }
+    ensures rest { (lines : Lines) (a : Answer) → Rest (stage_of step.new (reverse frames.new.items) (reverse counts.new.items)) (number + 1) lines a
+        → Rest (stage_of step.old (reverse frames.old.items) (reverse counts.old.items)) number (line.now ∷ lines) a }
+    ensures ready { IsReady step.new (reverse frames.new.items) (reverse counts.new.items) }
 {
-    match step {
+    let before = *step;
+    *step = match before {
         Step::Heading => {
             if is_head_line(line) {
                 Step::Claiming
@@ -97,41 +136,81 @@ pub(crate) fn take(step: Step, frames: &mut ArrayVec<Frame, 256>, number: u32, l
             Some(query) => Step::Rooting(claim, query),
             None => Step::Bad(number),
         },
-        Step::Rooting(claim, query) => take_root(claim, query, frames, number, line),
-        Step::Nodes(claim, query, found) => take_node(claim, query, found, frames, number, line),
+        Step::Rooting(claim, query) => take_root(claim, query, frames, counts, number, line),
+        Step::Walking(claim, query) => take_node(claim, query, frames, counts, number, line),
+        Step::Counting(claim, query, found) => {
+            if count_line(counts, line) {
+                Step::Counting(claim, query, found)
+            } else {
+                Step::Bad(number)
+            }
+        }
         Step::Bad(bad) => Step::Bad(bad),
+    };
+}
+
+/// Takes a line, with its end. Where only children are counted, the step stays in its place.
+pub(crate) fn take(
+    step: &mut Step,
+    frames: &mut ArrayVec<Frame, 256>,
+    counts: &mut ArrayVec<u32, 256>,
+    number: u32,
+    line: &[u8],
+)
+    requires { IsReady step.old (reverse frames.old.items) (reverse counts.old.items) }
+    ensures rest { (lines : Lines) (a : Answer) → Rest (stage_of step.new (reverse frames.new.items) (reverse counts.new.items)) (number + 1) lines a
+        → Rest (stage_of step.old (reverse frames.old.items) (reverse counts.old.items)) number (line.now ∷ lines) a }
+    ensures ready { IsReady step.new (reverse frames.new.items) (reverse counts.new.items) }
+{
+    if let Step::Counting(_, _, _) = step {
+        if !count_line(counts, line) {
+            *step = Step::Bad(number);
+        }
+        return;
     }
+    take_step(step, frames, counts, number, line);
 }
 
 /// The step where the next line is none of a certificate.
-pub(crate) fn stop(step: Step, number: u32) -> Step
-    ensures { result ≡ stop_at step number }
+pub(crate) fn stop(step: &Step, number: u32) -> Step
+    ensures { result ≡ stop_at step.now number }
 {
-    match step {
+    match *step {
         Step::Bad(line) => Step::Bad(line),
         _ => Step::Bad(number),
     }
 }
 
-fn by_found(claim: Claim, query: Query, found: Option<Found>) -> Result<Accepted, Fault>
-    ensures { answer_as result ≡ answer_by claim query (walking found []) }
+fn fault_of(found: Found) -> Fault
+    ensures { (claim : AnyClaim) (q : Asked) → answer_as (Err result) ≡ answer_by claim q (stopped_by found) }
 {
     match found {
-        None => Ok(Accepted { claim, query }),
-        Some(Found::Unlisted { line, unmove }) => Err(Fault::Unlisted { line, unmove }),
-        Some(Found::Unsupported { line, why }) => Err(Fault::Unsupported { line, why }),
+        Found::Unlisted { line, unmove } => Fault::Unlisted { line, unmove },
+        Found::Unsupported { line, why } => Fault::Unsupported { line, why },
     }
 }
 
 /// The answer where no line follows.
-pub(crate) fn answer(step: Step, frames: &[Frame], number: u32) -> Result<Accepted, Fault>
-    requires { IsReady step (reverse frames.now) }
-    ensures { answer_as result ≡ answer_at (stage_of step (reverse frames.now)) number }
+pub(crate) fn answer(
+    step: &Step,
+    frames: &[Frame],
+    counts: &[u32],
+    number: u32,
+) -> Result<Accepted, Fault>
+    requires { IsReady step.now (reverse frames.now) (reverse counts.now) }
+    ensures { answer_as result ≡ answer_at (stage_of step.now (reverse frames.now) (reverse counts.now)) number }
 {
-    match step {
-        Step::Nodes(claim, query, found) => {
+    match *step {
+        Step::Walking(claim, query) => {
             if frames.is_empty() {
-                by_found(claim, query, found)
+                Ok(Accepted { claim, query })
+            } else {
+                Err(Fault::BadText { line: number })
+            }
+        }
+        Step::Counting(_, _, found) => {
+            if counts.is_empty() {
+                Err(fault_of(found))
             } else {
                 Err(Fault::BadText { line: number })
             }

@@ -1,10 +1,19 @@
-use Rattle.std.proofs.Common.{[], ◌∷◌, get_or, take, sym, subst, arith}
+use Rattle.std.proofs.Common.{◌≡◌, ◌==◌, ℕ, [], ◌∷◌, ◌++◌, get_or, length, take, ap, ◌∙◌, arith}
+use Rattle.std.proofs.lemmas.Bool.{eqb-true}
 use Rattle.std.proofs.lemmas.List.{take_more}
-use Rattle.cert_checker.specs.Staging.{NoEnd}
-use Rattle.cert_checker.proofs.Pieces.{no_end_both}
+use Rattle.cert_checker.proofs.Pieces.{no_end_before}
 use Rattle.cert_checker.proofs.checkers.first_part.Goals as goal
 
-pub loop-i-preserved : goal.loop-i-preserved
-loop-i-preserved c =
+pub returns-in-Some-clause-part : goal.returns-in-Some-clause-part
+returns-in-Some-clause-part c =
     let bytes = c.args.bytes.now in
-    subst NoEnd (sym (take_more bytes c.loop-i.i 0 (omega arith))) (no_end_both (take c.loop-i.i bytes) (get_or bytes c.loop-i.i 0 ∷ []) c.loop-i.invariant (c.if-byte-eq10.false, tt))
+    let found = c.in-Some.ensures.0 in
+    let at-end : get_or bytes c.in-Some.i 0 ≡ 10 = eqb-true (get_or bytes c.in-Some.i 0) 10 c.in-Some.ensures.1 in (
+      take c.in-Some.i bytes,
+      no_end_before bytes c.in-Some.i (omega (arith, found.high)) (λ k below same. found.before k (omega arith) below (ap (λ (b : ℕ). b == 10) same)),
+      take_more bytes c.in-Some.i 0 found.high ∙ ap (λ (b : ℕ). take c.in-Some.i bytes ++ b ∷ []) at-end,
+    )
+
+pub returns-in-None-clause-part : goal.returns-in-None-clause-part
+returns-in-None-clause-part c =
+    no_end_before c.args.bytes.now (length c.args.bytes.now) (omega arith) (λ k below same. c.in-None.ensures k (omega arith) below (ap (λ (b : ℕ). b == 10) same))

@@ -1,33 +1,18 @@
 use Rattle.std.proofs.Common.{◌≡◌, ◌+◌, ◌∙◌, suc, length, reverse, sym, arith}
 use Rattle.std.proofs.lemmas.List.{length-reverse}
-use Rattle.std.specs.Prelude.{Some, None}
-use Rattle.cert_checker.proofs.Taking.{stage_kid, kid_room, onto_stopped}
+use Rattle.cert_checker.proofs.Taking.{stage_kid, kid_room}
 use Rattle.general_lemmas.proofs.Lasts.{pushed}
 use Rattle.cert_checker.proofs.frames.take_line.Goals as goal
 
-pub returns-in-Some-found-clause-stage : goal.returns-in-Some-found-clause-stage
-returns-in-Some-found-clause-stage c = λ claim q.
+pub returns-in-Some-read_kid_line-clause-stage : goal.returns-in-Some-read_kid_line-clause-stage
+returns-in-Some-read_kid_line-clause-stage c = λ claim q.
     let first = pushed c.pop.new.self.items c.args.frames.now.items c.in-Some.top (rw c.in-Some.is at c.pop.ensures.items) in
     let opened = rw first at c.requires.open in
     let deep : c.len.result + 1 ≡ suc (length (reverse c.pop.new.self.items)) = omega (arith, length-reverse c.pop.new.self.items, c.len.ensures.value) in
-    rw c.in-Some-found.is (stage_kid (Some c.in-Some-found.fault) (Some c.in-Some-found.fault) c.in-Some.top (reverse c.args.frames.now.items) (reverse c.pop.new.self.items) (reverse c.count_kid.new.frames.items) c.args.number _ c.args.line.now _ _ claim q first opened deep (sym c.read_kid_line.ensures ∙ c.in-Some-read_kid_line.is) (onto_stopped c.in-Some-found.fault _) c.count_kid.ensures.due)
+    stage_kid c.walk_kid.result c.in-Some.top (reverse c.args.frames.now.items) (reverse c.pop.new.self.items) (reverse c.walk_kid.new.frames.items) c.args.number _ c.args.line.now _ _ claim q first opened deep (sym c.read_kid_line.ensures ∙ c.in-Some-read_kid_line.is) c.walk_kid.ensures.walk c.walk_kid.ensures.due
 
-pub returns-in-Some-found-clause-stack : goal.returns-in-Some-found-clause-stack
-returns-in-Some-found-clause-stack c =
-    let first = pushed c.pop.new.self.items c.args.frames.now.items c.in-Some.top (rw c.in-Some.is at c.pop.ensures.items) in
-    let all = rw first at c.requires.stack in
-    let deep : c.len.result + 1 ≡ suc (length c.pop.new.self.items) = omega (arith, c.len.ensures.value) in
-    c.count_kid.ensures.stack (kid_room _ _ c.args.line.now _ _ deep (sym c.read_kid_line.ensures ∙ c.in-Some-read_kid_line.is)) all.2
-
-pub returns-in-None-found-clause-stage : goal.returns-in-None-found-clause-stage
-returns-in-None-found-clause-stage c = λ claim q.
-    let first = pushed c.pop.new.self.items c.args.frames.now.items c.in-Some.top (rw c.in-Some.is at c.pop.ensures.items) in
-    let opened = rw first at c.requires.open in
-    let deep : c.len.result + 1 ≡ suc (length (reverse c.pop.new.self.items)) = omega (arith, length-reverse c.pop.new.self.items, c.len.ensures.value) in
-    rw c.in-None-found.is (stage_kid None c.walk_kid.result c.in-Some.top (reverse c.args.frames.now.items) (reverse c.pop.new.self.items) (reverse c.walk_kid.new.frames.items) c.args.number _ c.args.line.now _ _ claim q first opened deep (sym c.read_kid_line.ensures ∙ c.in-Some-read_kid_line.is) c.walk_kid.ensures.walk c.walk_kid.ensures.due)
-
-pub returns-in-None-found-clause-stack : goal.returns-in-None-found-clause-stack
-returns-in-None-found-clause-stack c =
+pub returns-in-Some-read_kid_line-clause-stack : goal.returns-in-Some-read_kid_line-clause-stack
+returns-in-Some-read_kid_line-clause-stack c =
     let first = pushed c.pop.new.self.items c.args.frames.now.items c.in-Some.top (rw c.in-Some.is at c.pop.ensures.items) in
     let all = rw first at c.requires.stack in
     let deep : c.len.result + 1 ≡ suc (length c.pop.new.self.items) = omega (arith, c.len.ensures.value) in

@@ -7,5 +7,5 @@ use Rattle.cert_checker.proofs.checkers.Checker.new.Goals as goal
 pub returns : goal.returns
 returns c = record {
   fed = refl;
-  answers = λ others a rest. rest_answers (cut others) a (subst (λ (g : List ℕ). Rest heading 1 (cut (g ++ others)) a) c.new-2.ensures rest);
+  answers = λ others a rest. rest_answers (cut others) a (subst (λ (g : List ℕ). Rest heading 1 (cut (g ++ others)) a) c.new-3.ensures rest);
 }
