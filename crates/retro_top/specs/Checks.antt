@@ -17,6 +17,7 @@ abbrev pub accepted_line : Lines → List ℕ
 accepted_line (head ∷ claim ∷ fen ∷ rest) = codes "accepted " ++ unwrap_or (without_end (drop 6 claim)) [] ++ 32 ∷ drop 4 fen
 accepted_line lines = []
 
+-- why a node does not prove its query, in a word
 abbrev pub why_word : Why → List ℕ
 why_word why.Rule = codes "rule"
 why_word why.Back = codes "back"
@@ -27,6 +28,7 @@ why_word why.Stray = codes "stray"
 abbrev pub refusal_line : ℕ → List ℕ → List ℕ
 refusal_line n what = ended (codes "refused line " ++ decimal n ++ 32 ∷ what)
 
+-- what a refusal says of a fault of the walk
 abbrev pub fault_words : Fault → List ℕ
 fault_words (unlisted u) = codes "unlisted " ++ unmove_text u
 fault_words (unsupported w) = codes "unsupported " ++ why_word w

@@ -15,6 +15,7 @@ use Rattle.retro_top.specs.declared.statuses.Status.{Status}
 use Rattle.retro_top.specs.declared.statuses.Status.TheVariants.{Refused, BadInput}
 use Rattle.retro_top.specs.declared.statuses.Status.TheVariants as status
 
+-- the line of these words and a number
 abbrev pub number_line : List ℕ → ℕ → List ℕ
 number_line front n = ended (front ++ decimal n)
 

@@ -23,9 +23,11 @@ abbrev pub first_and_rest : List ℕ → Option (List ℕ × List ℕ) → List 
 first_and_rest input None = (input, [])
 first_and_rest input (Some parts) = (without_return parts.0, parts.1)
 
+-- the first line of an input, without its end
 unfoldable pub first_line : List ℕ → List ℕ
 first_line input = (first_and_rest input (cut_at 10 input)).0
 
+-- what follows the first line of an input
 unfoldable pub after_first : List ℕ → List ℕ
 after_first input = (first_and_rest input (cut_at 10 input)).1
 

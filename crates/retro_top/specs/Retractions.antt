@@ -21,6 +21,7 @@ unmove_line q u = ended (unmove_text u ++ 32 ∷ spelling (predecessor q u))
 unfoldable pub unmoves_lines : Asked → List Unmove → List ℕ
 unmoves_lines q us = flat_map (unmove_line q) us
 
+-- the lines of all unmoves of the query, and the line of their number
 abbrev pub unmoves_text : Asked → List ℕ
 unmoves_text q = unmoves_lines q (unmoves q) ++ ended (codes "total " ++ decimal (length (unmoves q)))
 

@@ -28,12 +28,15 @@ unmove_words us = flat_map (λ u. 32 ∷ unmove_text u) us
 unfoldable pub move_words : List Move → List ℕ
 move_words ms = flat_map (λ m. 32 ∷ move_text m) ms
 
+-- the line that tells the first open line of unmoves
 abbrev pub undecided_line : List Unmove → List ℕ
 undecided_line line = ended (codes "undecided" ++ unmove_words line)
 
+-- the line that tells a game against the claim
 abbrev pub countered_line : List Move → List ℕ
 countered_line game = ended (codes "countered" ++ move_words game)
 
+-- the line that says how many nodes were spent
 abbrev pub spent_line : ℕ → List ℕ
 spent_line nodes = number_line (codes "spent ") nodes
 

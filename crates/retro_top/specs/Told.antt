@@ -1,19 +1,39 @@
 -- Inner: no public clause cites this file.
--- The text of an answer, unmoves that a line can tell, and rights whose searches are spent.
-use Rattle.std.specs.Prelude.{ℕ, IsTrue, List}
-use Rattle.std.specs.List.{Contains}
+-- The text of an answer, certificates that have lines, unmoves that a line can tell, and rights whose searches are spent.
+use Rattle.std.specs.Prelude.{ℕ, suc, IsTrue, List}
+use Rattle.std.specs.List.{Contains, concat}
 use Rattle.board_base.specs.Texts.{can_capture, can_promote}
 use Rattle.codex_verdict.specs.Rights.{claim_of}
 use Rattle.codex_verdict.specs.declared.kinds.Right.{Right}
 use Rattle.query_base.specs.Asked.{Asked}
 use Rattle.retro_top.specs.Solves.{IsDear}
 use Rattle.board_base.specs.declared.unmoves.Unmove.{Unmove}
-use Rattle.retro_top.specs.declared.top.Text.{Text}
-use Rattle.retro_top.specs.declared.top.Text.TheVariants.{Line, Lines}
+use Rattle.cert_text.specs.Tree.{Forest, Tree}
+use Rattle.cert_text.specs.Certificate as certificates
+use Rattle.cert_text.specs.SeenCert.{cert_of}
+use Rattle.cert_text.specs.Written.{cert_lines}
+use Rattle.retro_top.specs.Retractions.{unmoves_text}
+use Rattle.retro_top.specs.declared.texts.Text.{Text}
+use Rattle.retro_top.specs.declared.texts.Text.TheVariants.{Line, Lines, Retractions, Certificate}
 
 abbrev pub bytes_of : Text → List ℕ
 bytes_of (Line line) = line.items
 bytes_of (Lines lines) = lines.items
+bytes_of (Retractions query) = unmoves_text query
+bytes_of (Certificate cert) = concat (cert_lines (cert_of cert))
+
+-- a certificate that is to be written has a text
+abbrev pub IsWritable : Text → Type 0
+IsWritable (Certificate cert) = certificates.HasText (cert_of cert)
+IsWritable text = Unit {0}
+
+-- at some depth the grammar has lines for what stands below the node
+abbrev pub HasLinesBelow : Tree → Type 0
+HasLinesBelow tree = (depth : ℕ) × (lines : certificates.Lines) × certificates.AreBelow tree depth lines
+
+-- below a node at some depth the grammar has lines for these children
+abbrev pub HaveLines : Forest → Type 0
+HaveLines kids = (depth : ℕ) × (lines : certificates.Lines) × certificates.AreKids kids (suc depth) lines
 
 -- the unmove has a text
 pub record IsSpelled (u : Unmove) : Type 0 where

@@ -1,67 +1,89 @@
-ghost use Rattle.std.specs.Prelude.{◌≡◌, ◌≤◌, ◌++◌, IfOk, IsTrue, None, length};
+ghost use Rattle.std.specs.Prelude.{◌≡◌, ◌≤◌, ◌++◌, IfOk, IsTrue, None, OnErr, OnOk, codes, length};
+ghost use Rattle.std.specs.Fmt.{decimal};
+ghost use Rattle.std.specs.Io.KnownBytes.{Appends};
 ghost use Rattle.std.specs.List.{Contains};
 ghost use Rattle.board_base.specs.Texts.{can_capture, can_promote};
+ghost use Rattle.cert_text.specs.Lines.{ended};
+ghost use Rattle.retro_ports.specs.Causes.{HasCause};
+ghost use Rattle.retro_ports.specs.Ends.{TakesPrefix};
 ghost use Rattle.unmove_gen.specs.Listed.{unmoves};
 ghost use Rattle.retro_top.specs.Retractions.{AnswersUnmoves, unmove_line, unmoves_text};
+ghost use Rattle.retro_top.specs.Told.{IsWritable, bytes_of};
 
 use crate::questions::{read_lone_question, write_no_lone_question};
 use crate::statuses::Status;
+use crate::texts::Text;
+use crate::told::put;
 use arrayvec::ArrayVec;
 use board_base::{Unmove, write_unmove};
 use fen_text::write_fen;
+use itoa::Buffer;
 use query_base::Query;
+use retro_ports::{Failed, Sink, write_all};
 use std::alloc::{AllocError, Global};
 use unmove_gen::{Unmoves, few_unmoves, pred, unmoves_have_texts};
 
-/// Adds the line of an unmove of the query.
-fn push_line(text: &mut Vec<u8>, query: &Query, u: &Unmove) -> Result<(), AllocError>
+/// The line of an unmove of the query.
+fn unmove_line(query: &Query, u: &Unmove) -> ArrayVec<u8, 128>
     requires listed { Contains (unmoves query.now) u.now }
     requires promotion { IsTrue (can_promote u.now.mv.promo) }
     requires capture { IsTrue (can_capture u.now.mv.promo u.now.captured u.now.ep) }
-    ensures { IfOk result (λ _. text.new.items ≡ text.old.items ++ unmove_line query.now u.now) }
+    ensures { result.items ≡ unmove_line query.now u.now }
 {
     let mut name: ArrayVec<u8, 8> = ArrayVec::new();
     write_unmove(u, &mut name);
     let mut fen: ArrayVec<u8, 128> = ArrayVec::new();
     write_fen(&pred(query, u), &mut fen);
-    text.extend_from_slice(name.as_slice())?;
-    text.push(b' ')?;
-    text.extend_from_slice(fen.as_slice())?;
-    text.push(b'\n')?;
-    Ok(())
+    let mut line: ArrayVec<u8, 128> = ArrayVec::new();
+    put(&mut line, name.as_slice());
+    line.push(b' ');
+    put(&mut line, fen.as_slice());
+    line.push(b'\n');
+    line
 }
 
-/// A line for each unmove of the query, and their number.
-fn write_unmoves(alloc: Global, query: &Query) -> Result<Vec<u8>, AllocError>
-    ensures { IfOk result (λ v. v.items ≡ unmoves_text query.now) }
+/// The line that tells how many unmoves there are.
+fn total_line(total: u32) -> ArrayVec<u8, 128>
+    ensures { result.items ≡ ended (codes "total " ++ decimal total) }
+{
+    let mut line: ArrayVec<u8, 128> = ArrayVec::new();
+    let mut digits = Buffer::new();
+    put(&mut line, b"total ");
+    put(&mut line, digits.format(total).as_bytes());
+    line.push(b'\n');
+    line
+}
+
+/// Writes a line for each unmove of the query, and their number. `Failed` comes at the first write that fails, after a part of these
+/// lines, from their front on, was taken. Takes no memory.
+pub fn write_retractions<K: Sink>(sink: &mut K, query: &Query) -> Result<(), Failed>
+    ensures ok { OnOk result (Appends (K.taken sink.old) (K.taken sink.new) (unmoves_text query.now)) }
+    ensures failed { OnErr result (TakesPrefix (K.taken sink.old) (K.taken sink.new) (unmoves_text query.now)) }
+    ensures cause { HasCause (K.faults sink.old) (K.faults sink.new) result }
 {
     few_unmoves();
     unmoves_have_texts();
-    let mut text = Vec::new(alloc);
     let mut total: u32 = 0;
     let mut left = Unmoves::new(query);
     while let Some(u) = left.next() {
-        push_line(&mut text, query, &u)?;
+        write_all(sink, unmove_line(query, &u).as_slice())?;
         total += 1;
     }
-    let count = format!(in alloc; "total {total}\n")?;
-    text.extend_from_slice(count.as_bytes())?;
-    Ok(text)
+    write_all(sink, total_line(total).as_slice())
 }
 
-/// The status and the lines with which `unmoves` answers these bytes.
-pub fn list_unmoves(alloc: Global, input: &[u8]) -> Result<(Status, Vec<u8>), AllocError>
+/// The status and the text with which `unmoves` answers these bytes. It takes memory only where they aren't a line that asks for a
+/// query.
+pub fn list_unmoves(alloc: Global, input: &[u8]) -> Result<(Status, Text), AllocError>
     requires { length input.now ≤ 67_108_864 }
-    ensures { IfOk result (λ a. AnswersUnmoves input.now a.0 a.1.items) }
+    ensures answer { IfOk result (λ a. AnswersUnmoves input.now a.0 (bytes_of a.1)) }
+    ensures writable { IfOk result (λ a. IsWritable a.1) }
 {
     match read_lone_question(input) {
-        Ok(query) => {
-            let lines = write_unmoves(alloc, &query)?;
-            Ok((Status::Done, lines))
-        }
+        Ok(query) => Ok((Status::Done, Text::Retractions(query))),
         Err(why) => {
             let no_question = write_no_lone_question(alloc, why)?;
-            Ok((Status::BadInput, no_question))
+            Ok((Status::BadInput, Text::Lines(no_question)))
         }
     }
 }

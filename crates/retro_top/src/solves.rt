@@ -4,13 +4,13 @@ ghost use Rattle.board_base.specs.Texts.{can_promote, move_text, unmove_text};
 ghost use Rattle.cert_text.specs.ClaimLines.{promotes_well};
 ghost use Rattle.retro_top.specs.Commands.{AreLimits};
 ghost use Rattle.retro_top.specs.Solves.{AnswersClaim, AnswersSolve, countered_line, spent_line, undecided_line};
-ghost use Rattle.retro_top.specs.Told.{IsSpelled};
+ghost use Rattle.retro_top.specs.Told.{IsSpelled, IsWritable, bytes_of};
 
 use crate::statements::{Statement, read_statement, write_no_statement};
 use crate::statuses::Status;
+use crate::texts::Text;
 use arrayvec::ArrayVec;
 use board_base::{Move, MoveList, Unmove, UnmoveList, write_move, write_unmove};
-use cert_text::write_cert;
 use retro_search::{Found, solve};
 use std::alloc::{AllocError, Global};
 use unmove_gen::unmoves_have_texts;
@@ -76,11 +76,12 @@ fn answer_claim(
     statement: &Statement,
     depth: u8,
     nodes: u32,
-) -> Result<(Status, Vec<u8>), AllocError>
+) -> Result<(Status, Text), AllocError>
     requires plain { statement.now.query.barred ≡ None }
     requires promotion { IsTrue (promotes_well statement.now.claim) }
     requires limits { AreLimits depth nodes }
-    ensures { IfOk result (λ a. AnswersClaim depth nodes statement.now.claim statement.now.query a.0 a.1.items) }
+    ensures answer { IfOk result (λ a. AnswersClaim depth nodes statement.now.claim statement.now.query a.0 (bytes_of a.1)) }
+    ensures writable { IfOk result (λ a. IsWritable a.1) }
 {
     unmoves_have_texts();
     let found = match solve(alloc, &statement.query, &statement.claim, depth, nodes) {
@@ -88,21 +89,18 @@ fn answer_claim(
         Err(_) => return Err(AllocError),
     };
     match found {
-        Found::Proved(cert) => match write_cert(alloc, &cert) {
-            Ok(text) => Ok((Status::Done, text)),
-            Err(_) => Err(AllocError),
-        },
+        Found::Proved(cert) => Ok((Status::Done, Text::Certificate(cert))),
         Found::Undecided(line) => {
             let text = write_undecided(alloc, &line)?;
-            Ok((Status::Undecided, text))
+            Ok((Status::Undecided, Text::Lines(text)))
         }
         Found::Countered(game) => {
             let text = write_countered(alloc, &game)?;
-            Ok((Status::Countered, text))
+            Ok((Status::Countered, Text::Lines(text)))
         }
         Found::Spent { visited } => {
             let text = write_spent(alloc, visited)?;
-            Ok((Status::Spent, text))
+            Ok((Status::Spent, Text::Lines(text)))
         }
     }
 }
@@ -114,16 +112,17 @@ pub fn search(
     depth: u8,
     nodes: u32,
     input: &[u8],
-) -> Result<(Status, Vec<u8>), AllocError>
+) -> Result<(Status, Text), AllocError>
     requires short { length input.now ≤ 67_108_864 }
     requires limits { AreLimits depth nodes }
-    ensures { IfOk result (λ a. AnswersSolve depth nodes input.now a.0 a.1.items) }
+    ensures answer { IfOk result (λ a. AnswersSolve depth nodes input.now a.0 (bytes_of a.1)) }
+    ensures writable { IfOk result (λ a. IsWritable a.1) }
 {
     match read_statement(input) {
         Ok(statement) => answer_claim(alloc, &statement, depth, nodes),
         Err(why) => {
             let no_statement = write_no_statement(alloc, why)?;
-            Ok((Status::BadInput, no_statement))
+            Ok((Status::BadInput, Text::Lines(no_statement)))
         }
     }
 }

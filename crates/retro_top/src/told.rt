@@ -15,7 +15,7 @@ use fen_text::write_fen;
 use itoa::Buffer;
 use query_base::{Claim, Query};
 
-fn put(line: &mut ArrayVec<u8, 128>, text: &[u8])
+pub(crate) fn put(line: &mut ArrayVec<u8, 128>, text: &[u8])
     requires { array_vec_len line.old + length text.now ≤ 128 }
     ensures items { line.new.items ≡ line.old.items ++ text.now }
     ensures len { array_vec_len line.new ≡ array_vec_len line.old + length text.now }

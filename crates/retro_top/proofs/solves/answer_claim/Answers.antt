@@ -1,8 +1,11 @@
-use Rattle.std.proofs.Common.{subst, sym}
+use Rattle.std.proofs.Common.{refl, subst, sym}
 use Rattle.std.specs.Prelude.{IsTrue}
-use Rattle.std.specs.List.{All}
+use Rattle.std.specs.List.{All, concat}
 use Rattle.board_base.specs.Texts.{can_promote}
 use Rattle.board_base.specs.declared.moves.Move.{Move}
+use Rattle.cert_text.specs.SeenCert.{cert_of}
+use Rattle.cert_text.specs.Written.{cert_lines}
+use Rattle.cert_text.proofs.CertTexts.{text_written}
 use Rattle.retro_top.proofs.OpenTexts.{first_open-spelled, forwards-spelled, spelled}
 use Rattle.retro_top.proofs.solves.answer_claim.Goals as goal
 
@@ -15,3 +18,13 @@ pub write_countered-requires : goal.write_countered-requires
 write_countered-requires c =
     let said = rw c.in-Countered.is at c.in-Ok.ensures.countered in
     subst (All (λ (m : Move). IsTrue (can_promote m.promo))) (sym said.forwards_is) (forwards-spelled said.line (first_open-spelled (spelled c.unmoves_have_texts.ensures.promotion c.unmoves_have_texts.ensures.capture) _ _ _ _ said.open_line.first))
+
+pub returns-in-Proved-clause-answer : goal.returns-in-Proved-clause-answer
+returns-in-Proved-clause-answer c =
+    let cert = cert_of c.in-Proved.cert in
+    record {
+      cert = cert;
+      is_proof = rw c.in-Proved.is at c.in-Ok.ensures.proved;
+      is_text = text_written cert (concat (cert_lines cert)) (rw c.in-Proved.is at (c.in-Ok.ensures.written c.requires.promotion)) refl;
+      refutable = (rw c.in-Proved.is at c.in-Ok.ensures.exactly).0 tt;
+    }
