@@ -1,0 +1,59 @@
+ghost use Rattle.std.specs.Prelude.{◌≡◌, ◌+◌, ◌<◌, ◌≤◌, SomeIff, length, map};
+ghost use Rattle.std.specs.List.{All, range_with_len};
+ghost use Rattle.length_bound.specs.SideBounds.{home_of, man_row, men_squares, move_costs, place_cost};
+
+use crate::costs::move_cost;
+use crate::table::Costs;
+use board_base::{Board, Colour, Man, Odds, Square, is_of};
+
+/// A home of a side, by its place among the side's sixteen homes in ascending order, from 0.
+fn home_of(side: Colour, j: u8) -> Square
+    requires { j < 16 }
+    ensures { result ≡ home_of side j }
+{
+    match side {
+        Colour::White => Square::known(j),
+        Colour::Black => Square::known(48 + j),
+    }
+}
+
+/// What the man on this place of a square costs from a home; 64 where nobody stands there.
+fn place_cost(odds: Odds, place: Option<Man>, s: Square, home: Square) -> u8
+    ensures value { result ≡ place_cost odds place s home }
+    ensures small { result ≤ 64 }
+{
+    match place {
+        Some(man) => move_cost(odds, man, s, home),
+        None => 64,
+    }
+}
+
+/// What the man on this place of a square costs from each home of a side.
+fn man_row(odds: Odds, side: Colour, place: Option<Man>, s: Square) -> [u8; 16]
+    ensures value { result ≡ man_row odds side place s }
+    ensures small { All (λ cost. cost ≤ 64) result }
+{
+    let mut row = [0; 16];
+    for j in 0..16 {
+        row[j as usize] = place_cost(odds, place, s, home_of(side, j));
+    }
+    row
+}
+
+/// The costs of this side's men in a game at these odds; None exactly where it has more than sixteen.
+pub(crate) fn costs(board: &Board, side: Colour, odds: Odds) -> Option<Costs>
+    ensures { SomeIff result (length (men_squares side board.now) ≤ 16) (move_costs odds side board.now) }
+{
+    let mut costs = Costs::new();
+    for i in 0..64 {
+        let s = Square::known(i);
+        let place = board.at(s);
+        if is_of(side, place) {
+            if costs.rows() == 16 {
+                return None;
+            }
+            costs.push(man_row(odds, side, place, s));
+        }
+    }
+    Some(costs)
+}
