@@ -1,0 +1,11 @@
+mod Search
+mod Candidates
+mod Backs
+mod Written
+mod Pawns
+mod Rivals
+mod Fitted
+mod Spelled
+mod Leading
+mod Told
+mod Examples
