@@ -17,8 +17,10 @@ pub(crate) struct Row {
 /// What a source and a sink do.
 #[derive(Clone, Copy)]
 pub(crate) struct Ports {
-    /// The most bytes that a read gives and that a write takes, at least one.
-    pub piece: usize,
+    /// The most bytes that a read gives, at least one.
+    pub most_read: usize,
+    /// The most bytes that a write takes, at least one.
+    pub most_written: usize,
     /// The read that fails, counted from 0.
     pub failing_read: Option<u32>,
     /// The write that fails, counted from 0.
@@ -27,7 +29,8 @@ pub(crate) struct Ports {
 
 /// No call fails, and the whole input comes in one piece, if it is of at most 64 KiB.
 pub(crate) const WHOLE: Ports = Ports {
-    piece: 65_536,
+    most_read: 65_536,
+    most_written: 65_536,
     failing_read: None,
     failing_write: None,
 };
@@ -58,10 +61,11 @@ pub(crate) fn run_on(
 ) -> Result<(Status, MemSink), AllocError> {
     let words = words_of(alloc, words)?;
     let bytes = Vec::from_slice(alloc, input)?;
-    let piece = ports.piece.max(1);
-    let mut source = MemSource::new(bytes, at_most_one(alloc, ports.failing_read)?, piece);
-    let fails = at_most_one(alloc, ports.failing_write)?;
-    let Ok(mut sink) = MemSink::new(alloc, 1_048_576, fails, piece) else {
+    let failing_reads = at_most_one(alloc, ports.failing_read)?;
+    let mut source = MemSource::new(bytes, failing_reads, ports.most_read.max(1));
+    let failing_writes = at_most_one(alloc, ports.failing_write)?;
+    let most_written = ports.most_written.max(1);
+    let Ok(mut sink) = MemSink::new(alloc, 1_048_576, failing_writes, most_written) else {
         return Err(AllocError);
     };
     let status = run(alloc, &words, &mut source, &mut sink);
@@ -74,8 +78,12 @@ pub(crate) fn assert_answers(
     rows: &[Row],
 ) -> Result<(), AllocError> {
     for row in rows {
-        for piece in [1, 7, 65_536] {
-            let ports = Ports { piece, ..WHOLE };
+        for most in [1, 7, 65_536] {
+            let ports = Ports {
+                most_read: most,
+                most_written: most,
+                ..WHOLE
+            };
             let (status, sink) = run_on(rt.alloc(), row.words, row.input, ports)?;
             assert_eq!(rt; status, row.status);
             assert!(rt; sink.taken() == row.text);

@@ -8,9 +8,15 @@ mod claims;
 #[cfg(test)]
 mod driving;
 #[cfg(test)]
+mod extremes;
+#[cfg(test)]
+mod faults;
+#[cfg(test)]
 mod perft;
 #[cfg(test)]
 mod positions;
+#[cfg(test)]
+mod refused_memory;
 #[cfg(test)]
 mod retractions;
 #[cfg(test)]
@@ -19,3 +25,5 @@ mod rows;
 mod runs;
 #[cfg(test)]
 mod searches;
+#[cfg(test)]
+mod wide_certificates;

@@ -2,9 +2,13 @@
 #![tactic(auto)]
 
 #[cfg(test)]
+mod broken_certificates;
+#[cfg(test)]
 mod certificate_texts;
 #[cfg(test)]
 mod claims;
+#[cfg(test)]
+mod deep_certificates;
 #[cfg(test)]
 mod fens;
 #[cfg(test)]
@@ -13,6 +17,8 @@ mod first_faults;
 mod games;
 #[cfg(test)]
 mod men;
+#[cfg(test)]
+mod odds;
 #[cfg(test)]
 mod queries;
 #[cfg(test)]

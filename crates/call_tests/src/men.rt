@@ -1,6 +1,6 @@
 //! What is said of the men of a side, of the homes of a castling, and of double steps.
 
-use board_base::{Board, Castle, CastleSet, Colour, Move, Square, Unmove};
+use board_base::{Board, Castle, CastleSet, Colour, Move, Odds, Square, Unmove};
 use castle_history::{castle_of, held_fits, home, touches};
 use ep_history::double_of;
 use men_account::{Allowance, Counts, account_ok, counts, excess};
@@ -31,7 +31,7 @@ fn counts_men(rt: HostRuntime) {
     };
     assert_eq!(rt; men, want);
     assert_eq!(rt; excess(&men, &Allowance::full()), 8);
-    assert!(rt; account_ok(&array, Colour::Black));
+    assert!(rt; account_ok(&array, Colour::Black, Odds::none()));
 }
 
 /// The initial array keeps the laws of boards.

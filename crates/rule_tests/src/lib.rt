@@ -1,10 +1,13 @@
-//! Tests of the rules on sets of squares, on promoted men and on captures by pawns, and of the crates that they stand on.
+//! Tests of the rules on sets of squares, on promoted men and on captures by pawns, of the crates that they stand on, and of bounds
+//! on the length of games.
 #![tactic(auto)]
 
 #[cfg(test)]
 mod bounds;
 #[cfg(test)]
 mod cages;
+#[cfg(test)]
+mod lengths;
 #[cfg(test)]
 mod origins;
 #[cfg(test)]

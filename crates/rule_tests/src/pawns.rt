@@ -1,6 +1,6 @@
 //! What the pawns of a side cost, the least assignment of them to files, and potentials that bound it.
 
-use board_base::{Board, Colour, Potentials};
+use board_base::{Board, Colour, Odds, Potentials, SquareSet};
 use fen_text::read_four_fields;
 use pawn_assign::{bound, costs, least};
 use std::test::Fail;
@@ -45,7 +45,7 @@ fn tells_costs(rt: HostRuntime) -> Result<(), Fail> {
     ];
     for (side, rows) in [(Colour::White, white), (Colour::Black, black)] {
         for (text, from_files) in rows {
-            let table = costs(&board(text).ok_or("unread")?, side).ok_or("one pawn")?;
+            let table = costs(&board(text).ok_or("unread")?, side, Odds::none()).ok_or("one pawn")?;
             assert!(rt; table.rows() == 1);
             for file in 0..8 {
                 assert_eq!(rt; table.cost(0, file), from_files[file as usize], "{text}");
@@ -58,7 +58,12 @@ fn tells_costs(rt: HostRuntime) -> Result<(), Fail> {
 /// A white pawn stands on b3 in place of one on a2: it captured once.
 #[test]
 fn captures_once(rt: HostRuntime) -> Result<(), Fail> {
-    let table = costs(&board(DOUBLED).ok_or("unread")?, Colour::White).ok_or("eight pawns")?;
+    let table = costs(
+        &board(DOUBLED).ok_or("unread")?,
+        Colour::White,
+        Odds::none(),
+    )
+    .ok_or("eight pawns")?;
     let best = least(&table);
     assert_eq!(rt; best.cost, 1);
     assert_eq!(rt; best.files.as_slice(), [1, 2, 3, 4, 5, 6, 7, 0].as_slice());
@@ -66,11 +71,35 @@ fn captures_once(rt: HostRuntime) -> Result<(), Fail> {
     Ok(())
 }
 
+/// Where White began without the pawn of a2, that of b3 can't be it, and needs no capture from its own file. Black's pawns cost what
+/// they cost without odds.
+#[test]
+fn leaves_pawns_out(rt: HostRuntime) -> Result<(), Fail> {
+    let no_a2 = Odds::new(SquareSet::from_bits(1 << 8)).ok_or("a home")?;
+    let doubled = board(DOUBLED).ok_or("unread")?;
+    let with_odds = costs(&doubled, Colour::White, no_a2).ok_or("eight pawns")?;
+    let without = costs(&doubled, Colour::White, Odds::none()).ok_or("eight pawns")?;
+    assert!(rt; with_odds.rows() == 8 && without.rows() == 8);
+    assert_eq!(rt; with_odds.cost(7, 0), 64);
+    assert_eq!(rt; without.cost(7, 0), 1);
+    assert_eq!(rt; with_odds.cost(7, 1), 0);
+    let black = board("8/8/8/8/8/1p6/8/8 w - -").ok_or("unread")?;
+    let one = costs(&black, Colour::Black, no_a2).ok_or("one pawn")?;
+    assert!(rt; one.rows() == 1);
+    assert_eq!(rt; one.cost(0, 0), 1);
+    Ok(())
+}
+
 /// Potentials of these pawns with their sum, where they bound the costs, whether or not they reach the least; and some that don't:
 /// a pair above its cost, one pawn's missing, a file's above 0, and those of pawns and files exchanged.
 #[test]
 fn bounds_captures(rt: HostRuntime) -> Result<(), Fail> {
-    let table = costs(&board(DOUBLED).ok_or("unread")?, Colour::White).ok_or("eight pawns")?;
+    let table = costs(
+        &board(DOUBLED).ok_or("unread")?,
+        Colour::White,
+        Odds::none(),
+    )
+    .ok_or("eight pawns")?;
     let sums: [(&[i8], [i8; 8], i32); 4] = [
         (&[1, 0, 0, 0, 0, 0, 0, 1], [0, -1, 0, 0, 0, 0, 0, 0], 1),
         (&[1, 0, 0, 0, 0, 0, 0, 0], [0, -1, 0, 0, 0, 0, 0, 0], 0),
@@ -102,11 +131,11 @@ fn counts_pawns(rt: HostRuntime) -> Result<(), Fail> {
     let white = board("8/8/8/8/8/P7/PPPPPPPP/8 w - -").ok_or("unread")?;
     let black = board("8/pppppppp/p7/8/8/8/8/8 w - -").ok_or("unread")?;
     let eight = board("8/pppppppp/8/8/8/8/PPPPPPPP/8 w - -").ok_or("unread")?;
-    assert!(rt; costs(&white, Colour::White).is_none());
-    assert!(rt; costs(&black, Colour::Black).is_none());
-    assert!(rt; costs(&eight, Colour::White).is_some());
-    assert!(rt; costs(&eight, Colour::Black).is_some());
-    let none = costs(&white, Colour::Black).ok_or("no pawn")?;
+    assert!(rt; costs(&white, Colour::White, Odds::none()).is_none());
+    assert!(rt; costs(&black, Colour::Black, Odds::none()).is_none());
+    assert!(rt; costs(&eight, Colour::White, Odds::none()).is_some());
+    assert!(rt; costs(&eight, Colour::Black, Odds::none()).is_some());
+    let none = costs(&white, Colour::Black, Odds::none()).ok_or("no pawn")?;
     assert_eq!(rt; none.rows(), 0);
     assert_eq!(rt; least(&none).cost, 0);
     let nothing = Potentials::new(&[], &NOTHING).ok_or("in range")?;
@@ -153,7 +182,7 @@ fn finds_least_costs(rt: HostRuntime) -> Result<(), Fail> {
     for (text, white, black) in rows {
         let board = board(text).ok_or("unread")?;
         for (side, cost) in [(Colour::White, white), (Colour::Black, black)] {
-            let table = costs(&board, side).ok_or("at most eight pawns")?;
+            let table = costs(&board, side, Odds::none()).ok_or("at most eight pawns")?;
             assert_eq!(rt; least(&table).cost, cost, "{text}");
         }
     }

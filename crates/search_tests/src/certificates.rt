@@ -1,16 +1,20 @@
 //! Positions of several kinds, each with a claim that the search proves: each certificate that it finds is read by the checker from
 //! its text, and accepted.
 
-use crate::asking::certificate;
+use crate::asking::{ask, certificate};
 use cert_checker::check_bytes;
-use cert_text::{fits_format, write_cert};
+use cert_text::{Cert, fits_format, write_cert};
+use retro_search::Found;
 use std::alloc::Global;
 use std::test::Fail;
 
+/// Only the two kings can be taken back, and each way back leads to a position that was there before.
+const PACING_KINGS: &str = "QN2k1NR/pppppppr/7p/8/8/7P/PPPPPPPR/qn2K1nr w - -";
+
 /// Claim, position and the depth that proves the claim. What proves them: kings in check that can't have arisen, too many men,
-/// cages, men that must have been promoted, too many captures, and positions whose last moves are all looked at, among them
-/// castlings, promotions and captures en passant.
-const CLAIMS: [(&str, &str, u8); 50] = [
+/// cages, men that must have been promoted, too many captures, circles, and positions whose last moves are all looked at, among
+/// them castlings, promotions and captures en passant.
+const CLAIMS: [(&str, &str, u8); 51] = [
     ("claim illegal", "6Bk/1ppp1pp1/8/8/8/8/4K1P1/5N2 w - -", 2),
     ("claim illegal", "7k/2p4p/8/8/7q/8/1PPP1P1P/Kb6 b - -", 2),
     (
@@ -213,14 +217,19 @@ const CLAIMS: [(&str, &str, u8); 50] = [
     ),
     ("claim lost q", "r3k3/pp6/2B5/8/3P4/1Q6/1P3PPP/7K w - -", 0),
     ("claim lost Q", "k7/7p/8/1Pp5/8/8/8/R3K3 w - -", 0),
+    ("claim illegal", PACING_KINGS, 12),
 ];
+
+fn text_of(alloc: Global, cert: &Cert) -> Result<Vec<u8>, Fail> {
+    if !fits_format(cert) {
+        return Err(Fail::from("no text"));
+    }
+    Ok(write_cert(alloc, cert)?)
+}
 
 fn is_accepted(alloc: Global, claim: &str, fen: &str, depth: u8) -> Result<bool, Fail> {
     let cert = certificate(alloc, claim, fen, depth, 2_000)?;
-    if !fits_format(&cert) {
-        return Err(Fail::from("no text"));
-    }
-    let text = write_cert(alloc, &cert)?;
+    let text = text_of(alloc, &cert)?;
     let bytes = text.as_slice();
     if bytes.len() > 1_000_000 {
         return Err(Fail::from("too long"));
@@ -235,6 +244,32 @@ fn is_accepted(alloc: Global, claim: &str, fen: &str, depth: u8) -> Result<bool,
 fn finds_what_the_checker_accepts(rt: HostRuntime) -> Result<(), Fail> {
     for (claim, fen, depth) in CLAIMS {
         assert!(rt; is_accepted(rt.alloc(), claim, fen, depth)?);
+    }
+    Ok(())
+}
+
+/// How many times the part, which isn't empty, stands in the text.
+fn count(text: &[u8], part: &[u8]) -> usize {
+    (0..text.len())
+        .filter(|at| text[*at..].starts_with(part))
+        .count()
+}
+
+#[test]
+fn goes_back_to_what_was_there_before(rt: HostRuntime) -> Result<(), Fail> {
+    let cert = certificate(rt.alloc(), "claim illegal", PACING_KINGS, 12, 1_000)?;
+    let text = text_of(rt.alloc(), &cert)?;
+    assert_eq!(rt; count(text.as_slice(), b" back 4\n"), 14);
+    assert_eq!(rt; count(text.as_slice(), b" back 12\n"), 1);
+    assert_eq!(rt; count(text.as_slice(), b" back "), 15);
+    Ok(())
+}
+
+#[test]
+fn leaves_circles_open_that_are_too_wide(rt: HostRuntime) -> Result<(), Fail> {
+    match ask(rt.alloc(), "claim illegal", PACING_KINGS, 11, 1_000)? {
+        Found::Undecided(line) => assert_eq!(rt; line.len(), 11),
+        _ => return Err(Fail::from("decided")),
     }
     Ok(())
 }

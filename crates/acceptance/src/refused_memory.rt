@@ -1,0 +1,110 @@
+//! Runs of which any allocation may be refused: they answer in full, or end for want of memory with nothing written. Each assertion holds
+//! with and without a refusal, so these tests pass also where `rt try --test --fail-alloc N` refuses the Nth allocation of each. Where the
+//! words, the input or the sink can't be had, a test ends.
+
+use crate::driving::{Row, WHOLE, run_on};
+use crate::rows::{BLOCKED_PAWN, CAPTURES, DOUBLE_STEP, NO_KINGS};
+use retro_top::Status;
+use std::alloc::Global;
+use std::process::Abort;
+use std::test::Fail;
+
+/// A run ends for want of memory with nothing written, or as without a refusal.
+fn assert_whole_or_nothing(rt: &(impl Abort + Alloc<A = Global>), row: &Row) {
+    let Ok((status, sink)) = run_on(rt.alloc(), row.words, row.input, WHOLE) else {
+        return;
+    };
+    if status == Status::Memory {
+        assert!(rt; sink.taken().is_empty());
+    } else {
+        assert_eq!(rt; status, row.status);
+        assert!(rt; sink.taken() == row.text);
+    }
+}
+
+/// `check` takes no memory, so none can be wanting.
+#[test]
+fn checks_in_no_memory(rt: HostRuntime) {
+    if let Ok((status, sink)) = run_on(rt.alloc(), NO_KINGS.words, NO_KINGS.input, WHOLE) {
+        assert_eq!(rt; status, NO_KINGS.status);
+        assert!(rt; sink.taken() == NO_KINGS.text);
+    }
+}
+
+#[test]
+fn plays(rt: HostRuntime) {
+    assert_whole_or_nothing(&rt, &BLOCKED_PAWN);
+}
+
+#[test]
+fn lists_retractions(rt: HostRuntime) {
+    assert_whole_or_nothing(&rt, &CAPTURES);
+}
+
+#[test]
+fn solves(rt: HostRuntime) {
+    assert_whole_or_nothing(&rt, &DOUBLE_STEP);
+}
+
+/// Black's pawns stand at home, so the king or the rook moved last.
+#[test]
+fn solves_a_problem(rt: HostRuntime) {
+    let row = Row {
+        words: &["solve", "1", "1000"],
+        input: b"claim lost q\nr3k3/p1p5/Q3K3/8/8/8/8/8 w - -\n",
+        status: Status::Done,
+        text: b"retro 1\nclaim lost q\nfen r3k3/p1p5/Q3K3/8/8/8/8/8 w - -\nroot expand 0\n",
+    };
+    assert_whole_or_nothing(&rt, &row);
+}
+
+/// The kings and the rooks are barred, so pawns alone moved. Many positions are met on many ways, and their refutations are kept.
+#[test]
+fn keeps_refutations(rt: HostRuntime) -> Result<(), Fail> {
+    let input = b"claim illegal\nr3k2r/1p1p1p1p/p1p1p1p1/8/8/P1P1P1P1/1P1P1P1P/R3K2R b KQkq -\n";
+    let Ok((status, sink)) = run_on(rt.alloc(), &["solve", "9", "281"], input, WHOLE) else {
+        return Ok(());
+    };
+    if status == Status::Memory {
+        assert!(rt; sink.taken().is_empty());
+        return Ok(());
+    }
+    assert_eq!(rt; status, Status::Done);
+    if let Ok((status, _)) = run_on(rt.alloc(), &["check"], sink.taken(), WHOLE) {
+        assert_eq!(rt; status, Status::Done);
+    }
+    Ok(())
+}
+
+#[test]
+fn judges_rights(rt: HostRuntime) {
+    let row = Row {
+        words: &["verdict", "1", "100"],
+        input: b"4k3/8/8/8/8/8/P7/4K2R b - -\n",
+        status: Status::Done,
+        text: b"K not permitted\n",
+    };
+    assert_whole_or_nothing(&rt, &row);
+}
+
+#[test]
+fn writes_trees(rt: HostRuntime) {
+    let row = Row {
+        words: &["tree", "2", "10"],
+        input: b"4k3/8/8/3p4/8/8/P7/4K2R w K d6\n",
+        status: Status::Done,
+        text: b"root expand 1\n  d7d5 expand 0\n",
+    };
+    assert_whole_or_nothing(&rt, &row);
+}
+
+#[test]
+fn samples_games(rt: HostRuntime) {
+    let row = Row {
+        words: &["sample", "0", "1", "1"],
+        input: b"",
+        status: Status::Done,
+        text: b"games 1 plies 1 unmoves 1 missing 0\n",
+    };
+    assert_whole_or_nothing(&rt, &row);
+}
