@@ -138,6 +138,13 @@ def strays(lines):
     return STRAYS + b"root expand %d\n" % len(nodes) + b"".join(b"a1a2 expand %d\n" % n + STRAY * n for n in nodes)
 
 
+def deep_and_wide():
+    """A certificate of a little less than 64 MiB with stray labels, and 143 children a level down to depth 255."""
+    inner, leaf = b"a1a2 expand 143\n", b"a7b8qxq rule count w\n"
+    last_levels = 143 * (inner + 143 * (inner + 143 * leaf))
+    return STRAYS + b"root expand 143\n" + 252 * inner + last_levels + 252 * 142 * leaf
+
+
 def stream(program):
     few, many = strays(20_000), strays(120_000)
     counts = [instructions([program, "check"], text) for text in (few, many)]
@@ -148,6 +155,9 @@ def stream(program):
     done = subprocess.run(["/usr/bin/time", "-v", program, "check"], input=text, capture_output=True)
     resident = re.search(rb"Maximum resident set size \(kbytes\): (\d+)", done.stderr)[1]
     print(f"{done.stdout.decode().strip()}: {int(resident)} KiB resident")
+    text = deep_and_wide()
+    status, answer, seconds = timed([program, "check"], text)
+    print(f"{len(text)} bytes, 143 children a level: status {status}, {answer}, {seconds:.2f} s")
 
 
 def pawns():

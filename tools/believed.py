@@ -146,6 +146,26 @@ def reached(start, definitions, scopes):
     return seen
 
 
+def crates(repo):
+    """The folder of each crate, by its name."""
+    return {path.name: path for path in sorted((repo / "crates").iterdir()) if (path / "src").is_dir()}
+
+
+def load(folders):
+    """The files of specs/ by crate, what each definition says, and what each file's names stand for."""
+    specs = {name: {path.stem: path.read_text() for path in sorted((folder / "specs").glob("*.antt"))} for name, folder in folders.items()}
+    definitions, scopes = {}, {}
+    for crate, files in specs.items():
+        for file, text in files.items():
+            if file == "Lib":
+                continue
+            own = defined(text)
+            definitions.update(((crate, file, name), said) for name, said in own.items())
+            names, modules = imported(text)
+            scopes[crate, file] = ({**names, **{name.strip("◌"): (crate, file, name) for name in own}}, modules)
+    return specs, definitions, scopes
+
+
 def told(crate, files, definitions, believed, everything):
     """What is to be said of a crate's specs/, and in how many files it breaks the rule."""
     inner, broken = set(), 0
@@ -170,19 +190,12 @@ def main():
     parser.add_argument("crates", nargs="*")
     args = parser.parse_args()
 
-    folders = {path.name: path for path in sorted((args.repo / "crates").iterdir()) if (path / "src").is_dir()}
+    folders = crates(args.repo)
     unknown = [name for name in args.crates if name not in folders]
     if unknown:
         parser.error(f"no crate {' '.join(unknown)}")
-    specs = {name: {path.stem: path.read_text() for path in sorted((folder / "specs").glob("*.antt"))} for name, folder in folders.items()}
+    specs, definitions, scopes = load(folders)
     listings = {name: files.pop("Lib", "") for name, files in specs.items()}
-    definitions, scopes = {}, {}
-    for crate, files in specs.items():
-        for file, text in files.items():
-            own = defined(text)
-            definitions.update(((crate, file, name), said) for name, said in own.items())
-            names, modules = imported(text)
-            scopes[crate, file] = ({**names, **{name.strip("◌"): (crate, file, name) for name in own}}, modules)
     start = set().union(*(cited_publicly(folder, definitions) for folder in folders.values()))
     believed = reached(start, definitions, scopes)
 

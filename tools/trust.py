@@ -1,0 +1,96 @@
+#!/usr/bin/env python3
+"""Check that docs/TRUST.md lists each definition that a clause of `run` reaches, with what its comment says, and nothing else.
+
+Usage: tools/trust.py [--repo DIR] [--write]
+  --write   write the list anew
+
+The list begins behind the line MARK below; what stands before it is written by hand. A definition is reached where a clause of `run`
+cites it, directly or through other definitions, as tools/believed.py finds it. The cases of a data type stand in the entry of the type.
+There is a line for each definition that has no comment, or whose entry is missing, old or too many, and exit status 1.
+"""
+import argparse
+import pathlib
+import re
+import sys
+
+sys.path.insert(0, str(pathlib.Path(__file__).resolve().parent))
+from believed import cited, clauses, crates, imported, load, reached
+
+MARK = "<!-- The rest is written by tools/trust.py --write. -->"
+
+
+def cited_by_run(folder, definitions):
+    """The definitions that the clauses of `run` name."""
+    text = re.sub(r"(?m)(^|\s)//.*$", "", (folder / "src" / "top.rt").read_text())
+    start = re.search(r"(?m)^pub fn run\b", text).start()
+    return set().union(*(cited(clause, imported(text), definitions) for clause in clauses(text, start)))
+
+
+def comments(text):
+    """What the comment before each definition of a file says, in the file's order."""
+    found, said = {}, []
+    for line in text.split("\n"):
+        line = line.strip()
+        comment = re.match(r"--( (.*))?$", line)
+        head = re.match(r"(?:pub )?(?:record|data) (\S+)|(?:abbrev |unfoldable )?pub (\S+) : ", line)
+        if comment:
+            said.append(comment[2] or "")
+        elif head:
+            found.setdefault(head[1] or head[2], " ".join(said))
+            said = []
+        elif not re.match(r"infix", line):
+            said = []
+    return found
+
+
+def entry(name, said):
+    """The line of a definition."""
+    said = said[:1].upper() + said[1:] if said else ""
+    return f"- `{name.strip('◌')}`: {said}{'' if said.endswith('.') else '.'}"
+
+
+def listing(folders, specs, believed):
+    """The list, by crate, lowest first, and file, and what is wrong with the comments."""
+    lines, wrong = [], []
+    for crate in folders:
+        files = sorted({file for owner, file, _ in believed if owner == crate})
+        lines += ["", f"## {crate}"] if files else []
+        for file in files:
+            said = comments(specs[crate][file])
+            title = re.match(r"-- (.*)\n", specs[crate][file])
+            lines += ["", f"`{file}`. {title[1] if title else ''}", ""]
+            reached = {name for owner, place, name in believed if (owner, place) == (crate, file)}
+            lines += [entry(name, text) for name, text in said.items() if name in reached]
+            wrong += [f"{crate}/specs/{file}.antt says nothing of {name}" for name, text in said.items() if name in reached and not text]
+    return lines, wrong
+
+
+def main():
+    parser = argparse.ArgumentParser(description=__doc__, formatter_class=argparse.RawDescriptionHelpFormatter)
+    parser.add_argument("--repo", default=pathlib.Path(__file__).resolve().parent.parent, type=pathlib.Path)
+    parser.add_argument("--write", action="store_true")
+    args = parser.parse_args()
+
+    order = re.findall(r"(?m)^(\w+):", (args.repo / "crates.txt").read_text())
+    folders = dict(sorted(crates(args.repo).items(), key=lambda item: order.index(item[0])))
+    specs, definitions, scopes = load(folders)
+    believed = reached(cited_by_run(folders["retro_top"], definitions), definitions, scopes)
+    lines, wrong = listing(folders, specs, believed)
+    path = args.repo / "docs" / "TRUST.md"
+    front, mark, old = path.read_text().partition(MARK)
+    new = "\n".join(lines) + "\n"
+    if args.write:
+        path.write_text(front + MARK + "\n" + new)
+    elif not mark or old.lstrip("\n") != new.lstrip("\n"):
+        before, after = set(old.split("\n")), set(new.split("\n"))
+        wrong += [f"docs/TRUST.md lacks: {line}" for line in lines if line not in before]
+        wrong += [f"docs/TRUST.md has: {line}" for line in old.split("\n") if line not in after and line != MARK]
+        wrong += [] if wrong else ["docs/TRUST.md has its entries in another order"]
+    for fault in wrong:
+        print(fault)
+    print(f"{sum(line.startswith('- ') for line in lines)} entries; {len(wrong)} faults")
+    return 1 if wrong else 0
+
+
+if __name__ == "__main__":
+    sys.exit(main())
