@@ -1,12 +1,16 @@
--- What can be settled of squares' men, moves and rights: that two are equal, and what holds of each colour and each castling.
-use Rattle.std.proofs.Common.{◌≡◌, Bool, ◌&&◌, inl, inr, refl, rules}
-use Rattle.std.specs.Prelude.{Option}
+-- What can be settled of squares' men, moves and rights: that two are equal, and what holds of each colour and each castling. And
+-- whether a list of truth values is a set of men who may be left out.
+use Rattle.std.proofs.Common.{◌≡◌, ◌<◌, ℕ, Bool, false, ◌&&◌, List, inl, inr, length, refl, rules, arith}
+use Rattle.std.specs.Prelude.{IsTrue, Option}
 use Rattle.std.specs.Bool.{Decides, beq}
 use Rattle.std.specs.Option.{option_eq}
+use Rattle.std.specs.Cmp.{unsigned_Decides}
 use Rattle.std.specs.Cmp.Lexicographic.{pointwise}
+use Rattle.std.proofs.lemmas.Bool.{both_ways, cases_lt}
+use Rattle.std.proofs.lemmas.List.{get_or_past}
 use Rattle.std.proofs.lemmas.Slice.Eq.{slice_eq-Decides}
-use Rattle.general_lemmas.proofs.Settling.{Settled, both, same}
-use Rattle.board_base.specs.Board.{Places}
+use Rattle.general_lemmas.proofs.Settling.{Settled, both, by_test, each_below, implied, same, test}
+use Rattle.board_base.specs.Board.{AreOdds, Places, is_in, may_lack}
 use Rattle.board_base.specs.Rights.{Rights}
 use Rattle.board_base.specs.declared.castles.Castle.{Castle}
 use Rattle.board_base.specs.declared.castles.Castle.TheVariants.{WhiteShort, WhiteLong, BlackShort, BlackLong}
@@ -64,3 +68,18 @@ pub each_castle : (P : Castle → Type 0) → ((x : Castle) → Settled (P x)) �
 each_castle P s =
     let parts = both (P WhiteShort × P WhiteLong) (P BlackShort × P BlackLong) (both _ _ (s WhiteShort) (s WhiteLong)) (both _ _ (s BlackShort) (s BlackLong)) in
     same ((P WhiteShort × P WhiteLong) × (P BlackShort × P BlackLong)) ((x : Castle) → P x) (λ h. of-castles P h.0.0 h.0.1 h.1.0 h.1.1) (λ h. ((h WhiteShort, h WhiteLong), (h BlackShort, h BlackLong))) parts
+
+-- whether the men on these squares may be left out
+pub odds_settled : (o : List Bool) → Settled (AreOdds o)
+odds_settled o =
+    let size = by_test (length o ≡ 64) _ (unsigned_Decides (length o) 64) in
+    let homes = each_below (λ s. IsTrue (is_in o s) → IsTrue (may_lack s)) 64 (λ s. implied _ _ (test (is_in o s)) (test (may_lack s))) in
+    same ((length o ≡ 64) × ((s : ℕ) → s < 64 → IsTrue (is_in o s) → IsTrue (may_lack s))) (AreOdds o)
+    (λ h. record {
+      size = h.0;
+      only_homes = λ s there. elim (cases_lt s 64) [
+        | inl low ↦ h.1 s low there
+        | inr past ↦ absurd (both_ways _ (get_or_past o s false (omega (arith, h.0))) there)
+      ];
+    })
+    (λ odds. (odds.size, λ s low. odds.only_homes s)) (both _ _ size homes)

@@ -70,6 +70,21 @@ impl Odds {
         }
     }
 
+    /// Whether the same men are left out.
+    #[tactic(auto, using(crate::specs::SameSets::sets_decide))]
+    pub fn is_same(self, other: Odds) -> bool
+        ensures { IsTrue result ↔ (self ≡ other) }
+    {
+        self == other
+    }
+
+    /// Whether nobody is left out.
+    pub fn is_none(self) -> bool
+        ensures { IsTrue result ↔ (self ≡ no_odds) }
+    {
+        self.is_same(Odds::none())
+    }
+
     /// The squares whose men are left out.
     pub fn set(self) -> SquareSet
         ensures value { result ≡ self }
@@ -90,7 +105,7 @@ fn unless_out(set: SquareSet, s: Square, man: Option<Man>) -> Option<Man>
 pub fn array_of(odds: Odds) -> Board
     ensures { result ≡ array_of odds }
 {
-    if odds == Odds::none() {
+    if odds.is_none() {
         return Board::array();
     }
     let set = odds.set();

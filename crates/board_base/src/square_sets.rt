@@ -1,12 +1,19 @@
-ghost use Rattle.std.specs.Prelude.{◌≡◌, ◌<◌, ◌≤◌, ℕ, false, length, slice_set, true};
+ghost use Rattle.std.specs.Prelude.{Bool, List, ◌≡◌, ◌<◌, ◌≤◌, ℕ, false, length, slice_set, true};
 ghost use Rattle.board_base.specs.Board.{is_in};
 ghost use Rattle.board_base.specs.Squares.{squares_of, number_of};
+ghost use Rattle.board_base.specs.SameSets.{sets_decide};
+ghost use Rattle.std.proofs.Common.{ap, rules};
+ghost use Rattle.std.specs.Bool.{beq};
+ghost use Rattle.std.specs.Cmp.Lexicographic.{pointwise};
+ghost use Rattle.std.specs.Cmp.Rules.{comparing};
+ghost use Rattle.std.specs.Hash as fed;
 
 use crate::squares::Square;
+use std::hash::{Hash, Hasher};
 use std::marker::Model;
 
 /// A set of squares, seen as its 64 truth values: the one at `s` says whether square `s` is in the set.
-#[derive(Clone, Copy, PartialEq, Eq, Hash, Debug)]
+#[derive(Clone, Copy, Debug)]
 pub struct SquareSet {
     bits: u64,
 }
@@ -25,6 +32,30 @@ impl Model for SquareSet {
     ghost inverse = { λ set. record { bits = number_of set } };
 
     ghost inverse_ok = { λ set fits i. record { bits = number_of-squares_of set.bits fits i } };
+}
+
+impl PartialEq for SquareSet {
+    ghost eq = { λ a b. pointwise beq a b };
+
+    ghost laws = { Prim.search (comparing, rules) };
+
+    fn eq(&self, other: &SquareSet) -> bool {
+        self.bits == other.bits
+    }
+}
+
+impl Eq for SquareSet {
+    ghost laws = { Prim.search (comparing, rules) };
+}
+
+impl Hash for SquareSet {
+    ghost hash_input = { λ set. fed.u64 (number_of set) };
+
+    ghost respects_eq = { λ a b same. ap (λ (set : List Bool). fed.u64 (number_of set)) ((sets_decide a b).0 same) };
+
+    fn hash<H: Hasher>(&self, state: &mut H) {
+        self.bits.hash(state);
+    }
 }
 
 impl SquareSet {

@@ -1,5 +1,5 @@
 -- What can be settled, by its parts.
-use Rattle.std.proofs.Common.{ℕ, ◌<◌, ◌≤◌, Bool, true, false, List, [], ◌∷◌, ◌⊎◌, inl, inr, refl, subst, arith}
+use Rattle.std.proofs.Common.{◌≡◌, ℕ, zero, suc, ◌<◌, ◌≤◌, Bool, true, false, List, [], ◌∷◌, ◌⊎◌, inl, inr, refl, subst, arith}
 use Rattle.std.specs.Prelude.{IsTrue}
 use Rattle.std.specs.Bool.{Decides}
 use Rattle.std.specs.List.{Contains}
@@ -59,5 +59,16 @@ each_member {A} P (x ∷ xs) s = elim (s x) [
   | inl p ↦ elim (each_member P xs s) [
     | inl rest ↦ inl (all-of P x xs p rest)
     | inr g ↦ inr (λ h. g (λ y there. h y (contains-later x xs y there)))
+  ]
+]
+
+-- what is said of each number below a bound
+pub each_below : (P : ℕ → Type 0) (n : ℕ) → ((i : ℕ) → Settled (P i)) → Settled ((i : ℕ) → i < n → P i)
+each_below P zero s = inl (λ i low. absurd (omega arith))
+each_below P (suc n) s = elim (s n) [
+  | inr f ↦ inr (λ h. f (h n (omega arith)))
+  | inl p ↦ elim (each_below P n s) [
+    | inl rest ↦ inl (λ i low. elim (cases_lt i n) [ inl lower ↦ rest i lower | inr past ↦ let e : n ≡ i = omega arith in subst P e p ])
+    | inr g ↦ inr (λ h. g (λ i low. h i (omega arith)))
   ]
 ]

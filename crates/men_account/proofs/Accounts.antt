@@ -18,11 +18,6 @@ pub accounts_hold : (o : List Bool) (g : List Move) → IsGame o g → (c : Colo
 unfolding accounts_for
 accounts_hold o g game c = le-leb _ _ (promotions-most o g c is_any game (λ s l label officer. refl))
 
--- without odds these are the eight pawns of the array
-pub account-whole : (board : Places) (c : Colour) → accounts_for no_odds board c ≡ nat_le (excess_of (counts_of c board) full_allowance) 8
-unfolding accounts_for
-account-whole board c = ap (λ (a : Allowance). nat_le (excess_of (counts_of c board) a) a.pawns) (full c)
-
 -- all homes of bishops on squares that pass this test
 bishops-all : (c : Colour) (test : ℕ → Bool) (first : Places) → men c Bishop test first ≡ men c Bishop (λ s. test s && is_any s) first
 bishops-all c test first = ap (λ (among : ℕ → Bool). men c Bishop among first) (λ i s. sym (and-true (test s)) i)

@@ -204,7 +204,7 @@ left-each board labels c d rights last m len size each legal s =
     omega (arith, most, e))
 
 -- where a man led from stood on the board
-led-inside : (m : Move) (castle : Option Castle) (s u : ℕ) → m.from < 64 → s < 64 → Origin m castle u s → u < 64
+pub led-inside : (m : Move) (castle : Option Castle) (s u : ℕ) → m.from < 64 → s < 64 → Origin m castle u s → u < 64
 led-inside m castle s u f small (stays same a b) = omega arith
 led-inside m castle s u f small (goes from to) = omega arith
 led-inside m castle s u f small (with_king x castles from to) = omega (arith, rook_home-within x)

@@ -70,11 +70,12 @@ promoted-some None place after e = (after, e, refl)
 promoted-some (Some k) None after e = cc
 promoted-some (Some k) (Some man) after e = (man, refl, sym (same_Some _ _ e))
 
--- the king of a castling is not promoted
-no-promo : (promo : Option Kind) (pawn reaches : Bool) → pawn ≡ false → elim promo as (λ _. Bool) [ None ↦ not (pawn && reaches) | Some k ↦ pawn && reaches && is_officer k ] ≡ true → promo ≡ None
+-- who is no pawn is not promoted
+pub no-promo : (promo : Option Kind) (pawn reaches : Bool) → pawn ≡ false → elim promo as (λ _. Bool) [ None ↦ not (pawn && reaches) | Some k ↦ pawn && reaches && is_officer k ] ≡ true → promo ≡ None
 no-promo None pawn reaches other h = refl
 no-promo (Some k) pawn reaches other h = absurd (both_ways _ other (and_parts _ _ (and_parts _ _ h).0).0)
 
+-- the king of a castling is not promoted
 castle-no-promo : (board : Places) (c : Colour) (m : Move) (x : Castle) → castling board m ≡ Some x → promotion_fits board c m ≡ true → m.promo ≡ None
 unfolding promotion_fits
 castle-no-promo board c m x is fits = no-promo m.promo (is_a Pawn (at board m.from)) _ (another_kind Pawn King _ (castle-ends board m x is).king) fits

@@ -71,7 +71,7 @@ aside-is o c board labels (s ∷ squares) stands =
     omega (arith, first, rest, sum_by-cons (λ t. files_left c (at board t) (label_at labels t) t) s squares)
 
 -- a label for each man
-label-of : (place : Option Man) (label : Option ℕ) (man : Man) → place ≡ Some man → is_none label ≡ is_empty place → (l : ℕ) × (label ≡ Some l)
+pub label-of : (place : Option Man) (label : Option ℕ) (man : Man) → place ≡ Some man → is_none label ≡ is_empty place → (l : ℕ) × (label ≡ Some l)
 label-of place None man there same = absurd (both_ways false refl (sym (ap is_empty there) ∙ sym same))
 label-of place (Some l) man there same = (l, refl)
 

@@ -10,7 +10,7 @@ use board_base::{Board, Colour, Odds, array_of};
 pub fn allowance(side: Colour, odds: Odds) -> Allowance
     ensures { result ≡ allowance_of side is_any (array_of odds) }
 {
-    if odds == Odds::none() {
+    if odds.is_none() {
         return Allowance::full();
     }
     let men = counts(&array_of(odds), side);

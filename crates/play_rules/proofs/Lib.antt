@@ -4,6 +4,7 @@ pub mod Legality
 pub mod Kings
 pub mod EnPassant
 pub mod Doubles
+pub mod Clocks
 pub mod Standing
 pub mod Ends
 pub mod Attacked

@@ -1,5 +1,5 @@
 -- A state that stands for a game answers as the game does.
-use Rattle.std.proofs.Common.{◌≡◌, ℕ, Bool, true, false, ◌&&◌, ◌||◌, not, List, [], ◌∷◌, ◌++◌, refl, ap, sym, ◌∙◌}
+use Rattle.std.proofs.Common.{◌≡◌, ℕ, ◌+◌, Bool, true, false, cond, ◌&&◌, ◌||◌, not, List, [], ◌∷◌, ◌++◌, refl, ap, sym, ◌∙◌}
 use Rattle.std.specs.Prelude.{Option, Some, None}
 use Rattle.board_base.specs.Board.{Places, opponent}
 use Rattle.std.specs.List.{list_all}
@@ -9,6 +9,8 @@ use Rattle.board_base.specs.Play.{play, castling}
 use Rattle.board_base.specs.Legal.{legal_on, may_go, man_moves, pawn_steps, pawn_doubles, pawn_captures, pawn_captures_en_passant, king_castles, castles_as}
 use Rattle.board_base.specs.Game.{IsGame, board_after, turn_after, unmoved, last_move, legal_after, touches, lacks_home}
 use Rattle.play_rules.specs.States.{Position, StandsFor, Follows, legal_at, step_over, crossed_by}
+use Rattle.play_rules.specs.Clocks.{clock_after, counted, resets}
+use Rattle.play_rules.proofs.Clocks.{clock-more, counted-more}
 use Rattle.play_rules.proofs.Doubles.{en_passant-in-game, last_move-more, turn_after-more}
 use Rattle.play_rules.proofs.Games.{board_after-more}
 use Rattle.board_base.specs.declared.men.Colour.{Colour}
@@ -58,4 +60,8 @@ follows-stands p q o g m stands follows =
       ep_is =
           follows.ep_is ∙ ap (λ (b : Places). crossed_by b (opponent p.turn) (Some m)) board ∙ ap (λ (c : Colour). crossed_by (board_after o (g ++ m ∷ [])) c (Some m)) turn
           ∙ ap (crossed_by (board_after o (g ++ m ∷ [])) (turn_after (g ++ m ∷ []))) (sym (last_move-more g m));
+      clock_is =
+          follows.clock_is ∙ ap (λ (b : Places). cond (resets b m) 0 (counted (p.clock + 1))) stands.board_is
+          ∙ ap (λ (n : ℕ). cond (resets (board_after o g) m) 0 (counted (n + 1))) stands.clock_is
+          ∙ counted-more (resets (board_after o g) m) (clock_after o g) ∙ ap counted (sym (clock-more o g m));
     }

@@ -2,7 +2,7 @@
 use Rattle.std.proofs.Common.{◌≡◌, ◌≢◌, ◌+◌, ◌<◌, ◌==◌, Bool, true, false, cond, ◌&&◌, not, List, refl, ap, sym, ◌∙◌, subst, arith}
 use Rattle.std.proofs.lemmas.Bool.{and_parts, and_from, eqb-true, ne_eqb, both_ways, not_from_false, lt-ltb, and_right, or_left, or_right}
 use Rattle.std.specs.Prelude.{Option, Some, None, IfSome, IsTrue, ◌↔◌}
-use Rattle.board_base.specs.Board.{Places, at, is_a, is_of, is_the, is_empty, no_odds, opponent, rank}
+use Rattle.board_base.specs.Board.{Places, at, is_a, is_of, is_the, is_empty, opponent, rank}
 use Rattle.board_base.specs.Attacks.{one_ahead}
 use Rattle.board_base.specs.Play.{double_of, en_passant_rank}
 use Rattle.board_base.specs.Legal.{legal_on, may_go, promotion_fits, is_officer, last_rank, pawn_captures_en_passant, is_move}
@@ -57,15 +57,15 @@ passing board c last m h =
     let p1 = and_parts _ _ p2.0 in
     record { pawn = p1.0; target = p1.1; answering = answering-from board c last m (double_of m c) refl p2.1 }
 
-record FitsAfter (g : List Move) (m : Move) : Type 0 where
-  fit : Fitting (board_after no_odds g) (turn_after g) m
+record FitsAfter (o : List Bool) (g : List Move) (m : Move) : Type 0 where
+  fit : Fitting (board_after o g) (turn_after g) m
   ends : EndsWith g fit.step
 
-fits-after : (g : List Move) (m : Move) → IsGame no_odds g → captures_en_passant g m ≡ true → FitsAfter g m
-fits-after g m game h =
+fits-after : (o : List Bool) (g : List Move) (m : Move) → IsGame o g → captures_en_passant o g m ≡ true → FitsAfter o g m
+fits-after o g m game h =
     let both = and_parts _ _ h in
-    let l = legality (board_after no_odds g) (turn_after g) _ _ m both.0 in
-    let p = passing (board_after no_odds g) (turn_after g) (last_move g) m both.1 in
+    let l = legality (board_after o g) (turn_after g) _ _ m both.0 in
+    let p = passing (board_after o g) (turn_after g) (last_move g) m both.1 in
     let a = p.answering in
     record {
       fit = record {
@@ -74,7 +74,7 @@ fits-after g m game h =
         pawn = and_from _ _ l.mover p.pawn;
         target = p.target;
         enemy = a.enemy;
-        origin = ap is_empty (left-in-game no_odds g game a.step a.last_is);
+        origin = ap is_empty (left-in-game o g game a.step a.last_is);
         safe = l.safe;
       };
       ends = a.last_is;
@@ -108,41 +108,41 @@ legal board c rights last m f last_is =
     (not_from_false _ (empty-not (is_of c) _ refl f.target))) (not_from_false _ (empty-not (is_a King) _ refl f.target)))
     (no_promotion board c m may.promo there.1)) (goes board c rights last m (passes board c last m f last_is))) (not_from_false _ f.safe)
 
-legal-after : (g : List Move) (m : Move) (f : Fitting (board_after no_odds g) (turn_after g) m) → EndsWith g f.step → captures_en_passant g m ≡ true
-legal-after g m f ends = and_from _ _ (legal (board_after no_odds g) (turn_after g) (unmoved no_odds g) (last_move g) m f ends) (passes (board_after no_odds g) (turn_after g) (last_move g) m f ends)
+legal-after : (o : List Bool) (g : List Move) (m : Move) (f : Fitting (board_after o g) (turn_after g) m) → EndsWith g f.step → captures_en_passant o g m ≡ true
+legal-after o g m f ends = and_from _ _ (legal (board_after o g) (turn_after g) (unmoved o g) (last_move g) m f ends) (passes (board_after o g) (turn_after g) (last_move g) m f ends)
 
 -- the target
 
-fits-there : (g : List Move) (m : Move) (board : Places) (c : Colour) → board_after no_odds g ≡ board → turn_after g ≡ c → ep_fits (board_after no_odds g) (turn_after g) m ≡ ep_fits board c m
-fits-there g m board c b t = ap (λ (x : Places). ep_fits x (turn_after g) m) b ∙ ap (λ (x : Colour). ep_fits board x m) t
+fits-there : (o : List Bool) (g : List Move) (m : Move) (board : Places) (c : Colour) → board_after o g ≡ board → turn_after g ≡ c → ep_fits (board_after o g) (turn_after g) m ≡ ep_fits board c m
+fits-there o g m board c b t = ap (λ (x : Places). ep_fits x (turn_after g) m) b ∙ ap (λ (x : Colour). ep_fits board x m) t
 
-step-barred : (g : List Move) (m : Move) (f : Fitting (board_after no_odds g) (turn_after g) m) → (IsTrue (captures_en_passant g m) → ⊥) → IfSome (double_of m (turn_after g)) (λ d. EndsWith g d → ⊥)
-step-barred g m f other = subst (λ (o : Option Move). IfSome o (λ d. EndsWith g d → ⊥)) (sym f.answers) (λ ends. other (legal-after g m f ends))
+step-barred : (o : List Bool) (g : List Move) (m : Move) (f : Fitting (board_after o g) (turn_after g) m) → (IsTrue (captures_en_passant o g m) → ⊥) → IfSome (double_of m (turn_after g)) (λ d. EndsWith g d → ⊥)
+step-barred o g m f other = subst (λ (o : Option Move). IfSome o (λ d. EndsWith g d → ⊥)) (sym f.answers) (λ ends. other (legal-after o g m f ends))
 
 reaches-as : (g : List Move) (m : Move) (q : Asked) (b : Bool) → ep_fits q.board q.turn m ≡ b → Contradicts g (Ep m) q → Reaches g (cond b (record q { barred = double_of m q.turn }) q)
 reaches-as g m q false e h = h.0
 reaches-as g m q true e h =
     let r : Reaches g q = h.0 in
-    let f = fitting (board_after no_odds g) (turn_after g) m (fits-there g m q.board q.turn r.board r.turn ∙ e) in
-    let barred : IfSome (double_of m q.turn) (λ d. EndsWith g d → ⊥) = subst (λ (c : Colour). IfSome (double_of m c) (λ d. EndsWith g d → ⊥)) r.turn (step-barred g m f h.1) in
-    record { game = r.game; board = r.board; turn = r.turn; held = r.held; only = r.only; barred = barred }
+    let f = fitting (board_after q.odds g) (turn_after g) m (fits-there q.odds g m q.board q.turn r.board r.turn ∙ e) in
+    let barred : IfSome (double_of m q.turn) (λ d. EndsWith g d → ⊥) = subst (λ (c : Colour). IfSome (double_of m c) (λ d. EndsWith g d → ⊥)) r.turn (step-barred q.odds g m f h.1) in
+    record { odds = r.odds; game = r.game; board = r.board; turn = r.turn; held = r.held; only = r.only; barred = barred; clock = r.clock }
 
 -- what contradicts the claim reaches the target
 pub ep-reaches : (g : List Move) (m : Move) (q : Asked) → Contradicts g (Ep m) q → Reaches g (target q (Ep m))
 ep-reaches g m q h = reaches-as g m q (ep_fits q.board q.turn m) refl h
 
-not-passing : (g : List Move) (m : Move) (q : Asked) → board_after no_odds g ≡ q.board → turn_after g ≡ q.turn → IsGame no_odds g → IfSome (double_of m q.turn) (λ d. EndsWith g d → ⊥) → IsTrue (captures_en_passant g m) → ⊥
+not-passing : (g : List Move) (m : Move) (q : Asked) → board_after q.odds g ≡ q.board → turn_after g ≡ q.turn → IsGame q.odds g → IfSome (double_of m q.turn) (λ d. EndsWith g d → ⊥) → IsTrue (captures_en_passant q.odds g m) → ⊥
 not-passing g m q board turn game barred h =
-    let after = fits-after g m game h in
+    let after = fits-after q.odds g m game h in
     let there : double_of m q.turn ≡ Some after.fit.step = ap (double_of m) (sym turn) ∙ after.fit.answers in
     let never : EndsWith g after.fit.step → ⊥ = subst (λ (o : Option Move). IfSome o (λ d. EndsWith g d → ⊥)) there barred in
     never after.ends
 
 contradicts-as : (g : List Move) (m : Move) (q : Asked) (b : Bool) → q.barred ≡ None → ep_fits q.board q.turn m ≡ b → Reaches g (cond b (record q { barred = double_of m q.turn }) q) → Contradicts g (Ep m) q
 contradicts-as g m q false none e r =
-    (r, λ h. both_ways _ e (sym (fits-there g m q.board q.turn r.board r.turn) ∙ fits (board_after no_odds g) (turn_after g) m (fits-after g m r.game h).fit))
+    (r, λ h. both_ways _ e (sym (fits-there q.odds g m q.board q.turn r.board r.turn) ∙ fits (board_after q.odds g) (turn_after g) m (fits-after q.odds g m r.game h).fit))
 contradicts-as g m q true none e r = (
-  record { game = r.game; board = r.board; turn = r.turn; held = r.held; only = r.only; barred = subst (λ (o : Option Move). IfSome o (λ d. EndsWith g d → ⊥)) (sym none) tt },
+  record { odds = r.odds; game = r.game; board = r.board; turn = r.turn; held = r.held; only = r.only; barred = subst (λ (o : Option Move). IfSome o (λ d. EndsWith g d → ⊥)) (sym none) tt; clock = r.clock },
   not-passing g m q r.board r.turn r.game r.barred,
 )
 

@@ -12,6 +12,7 @@ use Rattle.board_base.specs.declared.men.Kind.TheVariants.{King, Knight, Pawn}
 use Rattle.board_base.specs.declared.moves.Move.{Move}
 use Rattle.board_base.specs.declared.castles.Castle.TheVariants.{WhiteShort, WhiteLong, BlackShort, BlackLong}
 use Rattle.board_base.proofs.EachCastle.{each-castle}
+use Rattle.board_base.proofs.Without.{are-no-odds}
 use Rattle.play_rules.proofs.Games.{game_more, no_moves}
 use Rattle.query_base.specs.Asked.{Asked}
 use Rattle.query_base.specs.Reach.{Reaches}
@@ -57,18 +58,20 @@ rights white black = record { white_short = white; white_long = white; black_sho
 
 -- Black to move, with these rights, this last move demanded and this one barred
 abbrev blacks_turn : Places → Rights → Option Move → Option Move → Asked
-blacks_turn board held only barred = record { board = board; turn = Black; held = held; only = only; barred = barred }
+blacks_turn board held only barred = record { board = board; turn = Black; odds = no_odds; held = held; only = only; barred = barred; clock = None }
 
 -- 1. e4 reaches its position with all rights, and its double step may be demanded
 one_move : Reaches (e2e4 ∷ []) (blacks_turn king_pawn (rights true true) (Some e2e4) None)
 unfolding initial_array array_of attacks attacks_from kind_attacks distance toward on_the_way king_distance play legal_on may_go in_check promotion_fits man_moves pawn_steps pawn_doubles pawn_captures pawn_captures_en_passant king_castles
 one_move = record {
+  odds = are-no-odds;
   game = game_more no_odds [] e2e4 (no_moves no_odds) refl;
   board = refl;
   turn = refl;
   held = λ x h. each-castle (unmoved no_odds (e2e4 ∷ [])) refl x;
   only = (refl, refl);
   barred = tt;
+  clock = tt;
 }
 
 -- it reaches no position with White to move
@@ -82,12 +85,14 @@ king_goes_out = e2e4 ∷ e7e5 ∷ e1e2 ∷ []
 right_kept : Reaches king_goes_out (blacks_turn king_out (rights false true) None None)
 unfolding initial_array array_of attacks attacks_from kind_attacks distance toward on_the_way king_distance play legal_on may_go in_check promotion_fits man_moves pawn_steps pawn_doubles pawn_captures pawn_captures_en_passant king_castles
 right_kept = record {
+  odds = are-no-odds;
   game = game_more no_odds (e2e4 ∷ e7e5 ∷ []) e1e2 (game_more no_odds (e2e4 ∷ []) e7e5 (game_more no_odds [] e2e4 (no_moves no_odds) refl) refl) refl;
   board = refl;
   turn = refl;
   held = λ x. elim x as (λ y. IsTrue (holds (rights false true) y) → IsTrue (unmoved no_odds king_goes_out y)) [ WhiteShort ↦ λ h. h | WhiteLong ↦ λ h. h | BlackShort ↦ λ h. refl | BlackLong ↦ λ h. refl ];
   only = tt;
   barred = tt;
+  clock = tt;
 }
 
 right_lost : Reaches king_goes_out (blacks_turn king_out (record (rights false true) { white_short = true }) None None) → ⊥
@@ -100,12 +105,14 @@ pawn_last = g1f3 ∷ g8f6 ∷ e2e4 ∷ []
 demanded : Reaches pawn_last (blacks_turn knights_out (rights true true) (Some e2e4) None)
 unfolding initial_array array_of attacks attacks_from kind_attacks distance toward on_the_way king_distance play legal_on may_go in_check promotion_fits man_moves pawn_steps pawn_doubles pawn_captures pawn_captures_en_passant king_castles
 demanded = record {
+  odds = are-no-odds;
   game = game_more no_odds (g1f3 ∷ g8f6 ∷ []) e2e4 (game_more no_odds (g1f3 ∷ []) g8f6 (game_more no_odds [] g1f3 (no_moves no_odds) refl) refl) refl;
   board = refl;
   turn = refl;
   held = λ x h. each-castle (unmoved no_odds pawn_last) refl x;
   only = (refl, refl);
   barred = tt;
+  clock = tt;
 }
 
 barred : Reaches pawn_last (blacks_turn knights_out (rights true true) None (Some e2e4)) → ⊥
@@ -118,12 +125,14 @@ knight_last = e2e4 ∷ g8f6 ∷ g1f3 ∷ []
 not_barred : Reaches knight_last (blacks_turn knights_out (rights true true) None (Some e2e4))
 unfolding initial_array array_of attacks attacks_from kind_attacks distance toward on_the_way king_distance play legal_on may_go in_check promotion_fits man_moves pawn_steps pawn_doubles pawn_captures pawn_captures_en_passant king_castles
 not_barred = record {
+  odds = are-no-odds;
   game = game_more no_odds (e2e4 ∷ g8f6 ∷ []) g1f3 (game_more no_odds (e2e4 ∷ []) g8f6 (game_more no_odds [] e2e4 (no_moves no_odds) refl) refl) refl;
   board = refl;
   turn = refl;
   held = λ x h. each-castle (unmoved no_odds knight_last) refl x;
   only = tt;
   barred = λ last. let same : false ≡ true = ap (begins_on 12) last in cc;
+  clock = tt;
 }
 
 not_demanded : Reaches knight_last (blacks_turn knights_out (rights true true) (Some e2e4) None) → ⊥

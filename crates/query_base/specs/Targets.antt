@@ -17,10 +17,12 @@ target q (Last m) = record q { barred = Some m }
 target q (Lost x) = record q { held = with_castling q.held x }
 target q (Ep m) = cond (ep_fits q.board q.turn m) (record q { barred = double_of m q.turn }) q
 
--- The first query has the board and the side to move of the second, and demands nothing that the second doesn't.
+-- The first query has the board, the side to move and the odds of the second, and demands nothing that the second doesn't.
 pub record Covers (a q : Asked) : Type 0 where
   pub board : a.board ≡ q.board
   pub turn : a.turn ≡ q.turn
+  pub odds : a.odds ≡ q.odds
   pub held : IsWithin a.held q.held
   pub only : IfSome a.only (λ m. q.only ≡ Some m)
   pub barred : IfSome a.barred (λ m. q.barred ≡ Some m)
+  pub clock : IfSome a.clock (λ n. q.clock ≡ Some n)

@@ -42,8 +42,15 @@ fn is_kept(first: &Option<Move>, second: &Option<Move>) -> bool
     }
 }
 
-/// Whether the first query asks no more than the second: board and side to move are the same; each castling that `a` holds `q`
-/// holds too; `a.only` is None or is `q.only`; `a.barred` is None or is `q.barred`. Each game that reaches `q` then reaches `a`.
+/// A clock that the first query demands, if it does, is the one that the second does.
+fn is_same_clock(first: Option<u16>, second: Option<u16>) -> bool
+    ensures { IsTrue result ↔ IfSome first (λ n. second ≡ Some n) }
+{
+    first.is_none() || first == second
+}
+
+/// Whether the first query asks no more than the second: board, side to move and odds are the same; each castling that `a` holds `q`
+/// holds too; `a.only` is None or is `q.only`; `a.barred` is None or is `q.barred`; `a.clock` is None or is `q.clock`. Each game that reaches `q` then reaches `a`.
 pub fn covers(a: &Query, q: &Query) -> bool
     ensures answer { IsTrue result ↔ Covers a.now q.now }
     ensures reached { IsTrue result → (g : List AMove) → Reaches g q.now → Reaches g a.now }
@@ -54,11 +61,14 @@ pub fn covers(a: &Query, q: &Query) -> bool
     if a.turn != q.turn {
         return false;
     }
+    if !a.odds.is_same(q.odds) {
+        return false;
+    }
     if !is_within(a.held, q.held) {
         return false;
     }
     if !is_kept(&a.only, &q.only) {
         return false;
     }
-    is_kept(&a.barred, &q.barred)
+    is_kept(&a.barred, &q.barred) && is_same_clock(a.clock, q.clock)
 }

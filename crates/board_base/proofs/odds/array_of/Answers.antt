@@ -1,4 +1,4 @@
-use Rattle.std.proofs.Common.{◌≡◌, ◌+◌, List, Bool, cond, ap, ◌∙◌, arith, subst}
+use Rattle.std.proofs.Common.{◌≡◌, ◌+◌, List, Bool, cond, ap, sym, ◌∙◌, arith, subst}
 use Rattle.std.specs.Prelude.{None, slice_set}
 use Rattle.board_base.specs.Board.{Places, array_of, at, is_in}
 use Rattle.board_base.proofs.LeftOut.{LeftOut, left-all, left-one, left-start}
@@ -15,3 +15,6 @@ loop-i-preserved c =
 
 pub returns : goal.returns
 returns c = left-all c.set-set.result c.loop-i.board c.loop-i.i (omega arith) c.loop-i.invariant ∙ ap array_of c.set-set.ensures.value
+
+pub returns-then-is_none : goal.returns-then-is_none
+returns-then-is_none c = c.array.ensures ∙ ap array_of (sym (c.is_none.ensures.0 c.if-is_none.true))
