@@ -2,7 +2,7 @@
 use Rattle.std.proofs.Common.{◌≡◌, ℕ, zero, suc, ◌≤◌, ◌⊎◌, inl, inr, true, false, List, length, refl, sym, ap, ◌∙◌, arith}
 use Rattle.std.proofs.lemmas.Bool.{both_ways}
 use Rattle.std.specs.Prelude.{Bool}
-use Rattle.board_base.specs.Board.{Places, array_of, is_in, no_odds}
+use Rattle.board_base.specs.Board.{Places, array_of, is_in}
 use Rattle.query_base.specs.Asked.{Asked}
 use Rattle.play_rules.specs.Reach.{IsWithin}
 use Rattle.general_lemmas.proofs.Rounds.{count, count-le, fewer}
@@ -35,13 +35,13 @@ shrinks (suc n) q start set h few = elim (fewer (kept (ways_of q) set) set (leng
 pub greatest-within : (q : Asked) (start : List Bool) → length start ≡ 64 → (found : List Bool) × GreatestWithin q start found
 greatest-within q start size = shrinks 64 q start start (shrunk-start q start size) (let few = count-le start in omega arith)
 
--- a set is as in the array, or it isn't
-pub alike-or-not : (board : Places) (set : List Bool) → length set ≡ 64 → IsAsArray no_odds board set ⊎ (IsAsArray no_odds board set → ⊥)
-alike-or-not board set size =
-    let alike : List Bool = squares_alike board (array_of no_odds) in
+-- a set is as in the array at these odds, or it isn't
+pub alike-or-not : (o : List Bool) (board : Places) (set : List Bool) → length set ≡ 64 → IsAsArray o board set ⊎ (IsAsArray o board set → ⊥)
+alike-or-not o board set size =
+    let alike : List Bool = squares_alike board (array_of o) in
     let within : IsWithin (both set alike) set = λ s member.
     (and_parts (is_in set s) (is_in alike s) (sym (is_in-both set alike s (member-inside (both set alike) s (length-both set alike) member)) ∙ member)).0 in
     elim (fewer (both set alike) set (length-both set alike ∙ sym size) within) [
-      | inl same ↦ inl ((alike-answer no_odds true board set (λ _. same, λ _. refl) size).0 refl)
-      | inr less ↦ inr (λ h. both_ways false refl ((alike-answer no_odds false board set (λ f. absurd (both_ways false refl f), λ e. absurd (let same = ap count e in omega arith)) size).1 h))
+      | inl same ↦ inl ((alike-answer o true board set (λ _. same, λ _. refl) size).0 refl)
+      | inr less ↦ inr (λ h. both_ways false refl ((alike-answer o false board set (λ f. absurd (both_ways false refl f), λ e. absurd (let same = ap count e in omega arith)) size).1 h))
     ]

@@ -10,9 +10,9 @@ use Rattle.board_base.specs.declared.men.Man.{Man}
 use Rattle.board_base.proofs.KindsOfMen.{colour_is, kind_is, same_colour-self, same_kind-self}
 use Rattle.query_base.specs.Asked.{Asked}
 use Rattle.play_rules.specs.Reach.{IsWithin}
-use Rattle.cage_rules.specs.Frozen.{IsAsArray, IsCaged, IsFrozen, is_held_home}
+use Rattle.cage_rules.specs.Frozen.{IsAsArray, IsCaged, IsFrozen, is_held_home, same_place}
 use Rattle.cage_rules.specs.Steps.{both}
-use Rattle.cage_rules.specs.Tests.{kept, same_place, squares_alike, ways_of}
+use Rattle.cage_rules.specs.Tests.{kept, squares_alike, ways_of}
 use Rattle.cage_rules.proofs.Filling.{in-that, is_in-that}
 use Rattle.general_lemmas.proofs.Rounds.{count, fewer}
 use Rattle.cage_rules.proofs.Loose.{Still, kept-tells, kept-told, length-kept}

@@ -4,7 +4,7 @@ use Rattle.std.proofs.lemmas.Bool.{and_parts, and_from}
 use Rattle.std.proofs.lemmas.List.{append-nil, append_assoc}
 use Rattle.std.proofs.lemmas.List.Folds.{list_all-append}
 use Rattle.std.specs.Prelude.{Option}
-use Rattle.board_base.specs.Board.{Places, at, is_empty, is_in, is_of, no_odds}
+use Rattle.board_base.specs.Board.{Places, at, is_empty, is_in, is_of}
 use Rattle.board_base.specs.Play.{play, castling, goes_en_passant}
 use Rattle.board_base.specs.Game.{IsGame, board_after, turn_after, last_move, touches, unmoved}
 use Rattle.board_base.specs.Rights.{Rights, holds}
@@ -112,8 +112,8 @@ kept-in o g before after m q set caged e =
     (λ x has. unmoved-begins o (before ++ m ∷ []) after x (ap (λ (h : List Move). unmoved o h x) (sym e') ∙ caged.leads.held x has))
     (frozen-begun o g (before ++ m ∷ []) after q set caged e')
 
--- a game that reaches the query leads to it
-pub reaches-leads : (g : List Move) (q : Asked) → Reaches g q → LeadsTo no_odds g q
+-- a game that reaches the query leads to it from the array at its odds
+pub reaches-leads : (g : List Move) (q : Asked) → Reaches g q → LeadsTo q.odds g q
 reaches-leads g q reaches = record { game = reaches.game; board = reaches.board; held = reaches.held }
 
 pub unreached : (o : List Bool) (g : List Move) (q : Asked) (set : List Bool) → IsFrozen q set → (IsAsArray o q.board set → ⊥) → LeadsTo o g q → ⊥

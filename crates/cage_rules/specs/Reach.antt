@@ -7,7 +7,8 @@ use Rattle.board_base.specs.declared.castles.Castle.{Castle}
 use Rattle.query_base.specs.Asked.{Asked}
 
 -- The game ends with the query's board. The king and the rook of each castling that is held have not moved (article 3.8.2.1), and
--- the rook was not captured. A game that reaches the query does so, whoever is to move and whatever was the last move.
+-- the rook was not captured. A game that reaches the query does so with the query's odds as o, whoever is to move and whatever was
+-- the last move.
 pub record LeadsTo (o : List Bool) (g : List Move) (q : Asked) : Type 0 where
   pub game : IsGame o g
   pub board : board_after o g ≡ q.board

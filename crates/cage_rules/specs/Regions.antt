@@ -10,11 +10,11 @@ use Rattle.play_rules.specs.Laws.{is_end}
 use Rattle.play_rules.specs.Reach.{IsWithin}
 use Rattle.cage_rules.specs.Sets.{each_set, squares_that}
 
--- Article 2.3: the man who begins on h
+-- Article 2.3: the man who begins on h, unless he is left out
 unfoldable pub beginner : ℕ → Option Man
 beginner h = at initial_array h
 
--- Article 2.3: a knight, a bishop, a rook or a queen begins on h
+-- Article 2.3: h is the home of a knight, a bishop, a rook or a queen
 abbrev pub is_officer_home : ℕ → Bool
 is_officer_home h = is_a Knight (beginner h) || is_a Bishop (beginner h) || is_a Rook (beginner h) || is_a Queen (beginner h)
 

@@ -10,7 +10,7 @@ use Rattle.board_base.specs.declared.men.Kind.TheVariants.{Pawn, Knight, Bishop,
 use Rattle.board_base.specs.declared.men.Man.{Man}
 use Rattle.query_base.specs.Asked.{Asked}
 use Rattle.cage_rules.specs.declared.ways.Ways.{Ways}
-use Rattle.cage_rules.specs.Frozen.{is_behind, is_held_home, is_past_home}
+use Rattle.cage_rules.specs.Frozen.{is_behind, is_held_home, is_past_home, same_place}
 use Rattle.cage_rules.specs.Sets.{squares_that}
 use Rattle.cage_rules.specs.Steps.{is_diagonal_step, is_knight_step, is_line_step, is_near, outside}
 
@@ -81,12 +81,6 @@ stays w set s = is_in set s && is_in w.occupied s && (is_in w.held s || not (is_
 -- the squares of the set that stay when those whose men are loose are taken out
 unfoldable pub kept : Ways → List Bool → List Bool
 kept w set = squares_that (stays w set)
-
--- the places hold the same
-abbrev pub same_place : Option Man → Option Man → Bool
-same_place None None = true
-same_place (Some a) (Some b) = same_colour a.colour b.colour && same_kind a.kind b.kind
-same_place _ _ = false
 
 -- the squares that hold the same on both boards
 unfoldable pub squares_alike : Places → Places → List Bool

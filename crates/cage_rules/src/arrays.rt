@@ -1,7 +1,6 @@
 ghost use Rattle.std.specs.Prelude.{◌≡◌, ◌↔◌, IsTrue, List, Bool};
-ghost use Rattle.board_base.specs.Board.{no_odds};
-ghost use Rattle.cage_rules.specs.Frozen.{IsAsArray, IsFrozen};
-ghost use Rattle.cage_rules.specs.Tests.{same_place, squares_alike};
+ghost use Rattle.cage_rules.specs.Frozen.{IsAsArray, IsFrozen, same_place};
+ghost use Rattle.cage_rules.specs.Tests.{squares_alike};
 ghost use Rattle.play_rules.specs.Reach.{IsWithin};
 
 use crate::frozen::{has_whole_board, settled};
@@ -9,7 +8,8 @@ use crate::sets::{both, is_same, is_whole, with_if};
 use board_base::{Board, Man, Odds, Square, SquareSet, array_of};
 use query_base::Query;
 
-fn is_same_place(a: Option<Man>, b: Option<Man>) -> bool
+/// Whether the places hold the same: nobody, or men of one colour and kind.
+pub fn is_same_place(a: Option<Man>, b: Option<Man>) -> bool
     ensures { result ≡ same_place a b }
 {
     match (a, b) {
@@ -39,13 +39,13 @@ pub fn as_array(board: &Board, set: SquareSet, odds: Odds) -> bool
     is_same(both(set, squares_alike(board, &array_of(odds))), set)
 }
 
-/// The greatest frozen set that is as in the array without odds: it is frozen, holds what the array has there, and contains every set of which
-/// both are true.
+/// The greatest frozen set that is as in the array at the query's odds: it is frozen, holds what that array has there, and contains
+/// every set of which both are true.
 pub fn greatest_as_array(query: &Query) -> SquareSet
     ensures frozen { IsFrozen query.now result }
-    ensures as_array { IsAsArray no_odds query.now.board result }
-    ensures greatest { (set : List Bool) → IsFrozen query.now set → IsAsArray no_odds query.now.board set → IsWithin set result }
+    ensures as_array { IsAsArray query.now.odds query.now.board result }
+    ensures greatest { (set : List Bool) → IsFrozen query.now set → IsAsArray query.now.odds query.now.board set → IsWithin set result }
 {
     has_whole_board(query);
-    settled(query, squares_alike(&query.board, &Board::array()))
+    settled(query, squares_alike(&query.board, &array_of(query.odds)))
 }

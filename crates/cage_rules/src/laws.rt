@@ -1,5 +1,5 @@
 ghost use Rattle.std.specs.Prelude.{◌≡◌, ℕ, Bool, false, IsTrue, List, length};
-ghost use Rattle.board_base.specs.Board.{Places, is_in, no_odds};
+ghost use Rattle.board_base.specs.Board.{Places, is_in};
 ghost use Rattle.play_rules.specs.Reach.{IsWithin};
 ghost use Rattle.board_base.specs.declared.moves.Move.{Move};
 ghost use Rattle.query_base.specs.Asked.{Asked};
@@ -11,18 +11,20 @@ ghost use Rattle.cage_rules.specs.Sets.{union};
 ghost use Rattle.cage_rules.specs.Reach.{LeadsTo};
 
 /// The law of frozen sets, for every game that leads to a query, from the array without any of its men. What stands on a frozen
-/// set stood there after each beginning of the game, and so in the array; each of these men is the one who began there.
+/// set stood there after each beginning of the game, and so in the array without these men; each of these men is the one who began
+/// there. A game that reaches a query leads to it from the array at the query's odds.
 pub fn frozen_men_stood()
     ensures stood { (o : List Bool) (g : List Move) (q : Asked) (set : List Bool) → Caged o g q set → StoodSo o g q set }
     ensures as_array { (o : List Bool) (g : List Move) (q : Asked) (set : List Bool) → Caged o g q set → IsAsArray o q.board set }
     ensures labels { (o : List Bool) (g : List Move) (q : Asked) (set : List Bool) → Caged o g q set → KeepLabels o g set }
-    ensures reached { (g : List Move) (q : Asked) → Reaches g q → LeadsTo no_odds g q }
+    ensures reached { (g : List Move) (q : Asked) → Reaches g q → LeadsTo q.odds g q }
 {}
 
-/// The law that where a frozen set holds what the array doesn't, no game leads to the query.
+/// The law that where a frozen set holds what the array without any of its men doesn't, no game leads from there to the query; so
+/// where the array at the query's odds doesn't hold it, no game reaches the query.
 pub fn frozen_refutes()
     ensures from_odds { (o : List Bool) (q : Asked) (set : List Bool) → IsFrozen q set → (IsAsArray o q.board set → ⊥) → (g : List Move) → LeadsTo o g q → ⊥ }
-    ensures reached { (q : Asked) (set : List Bool) → IsFrozen q set → (IsAsArray no_odds q.board set → ⊥) → (g : List Move) → Reaches g q → ⊥ }
+    ensures reached { (q : Asked) (set : List Bool) → IsFrozen q set → (IsAsArray q.odds q.board set → ⊥) → (g : List Move) → Reaches g q → ⊥ }
 {}
 
 /// The law that a region is the least set that has its home and that the array's man there doesn't leave, and the only one.

@@ -3,6 +3,7 @@ use Rattle.std.proofs.Common.{◌≡◌, inl, Bool, true, false, cond, ◌&&◌,
 use Rattle.std.proofs.lemmas.Bool.{and_parts, both_ways}
 use Rattle.std.specs.Prelude.{IsTrue, IfSome, MatchResult, Option, Some, None, Result, Ok, ◌↔◌}
 use Rattle.std.specs.List.{Contains}
+use Rattle.board_base.proofs.Without.{are-no-odds}
 use Rattle.board_base.specs.Board.{no_odds, at, is_a}
 use Rattle.board_base.specs.Attacks.{ranks_apart}
 use Rattle.board_base.specs.Game.{IsGame, board_after, last_move, unmoved}
@@ -38,15 +39,18 @@ only-last g (Some m) e = only-one g m (is_a Pawn (at (board_after no_odds g) m.t
 pub reaches-own : (g : List Move) → IsGame no_odds g → Reaches g (query_after g)
 unfolding query_after
 reaches-own g game = record {
+  odds = are-no-odds;
   game = game;
   board = refl;
   turn = refl;
   held = held g;
   only = only-last g (last_move g) refl;
   barred = tt;
+  clock = tt;
 }
 
 pub found : (g : List Move) (m : Move) → IsGame no_odds (g ++ m ∷ []) → IsFound g m
+unfolding query_after
 found g m game = listed_after g m (query_after (g ++ m ∷ [])) (reaches-own (g ++ m ∷ []) game)
 
 front-game : (g rest : List Move) → IsGame no_odds (g ++ rest) → IsGame no_odds g
@@ -62,7 +66,7 @@ pub stepped_to : {S E : Type 0} (r : Result S E) (s : S) (P : S → Type 0) (Q :
 stepped_to {S} {E} r s P Q e h = subst (λ (t : Result S E). MatchResult t P Q) e h
 
 -- the test for the move that leads to a position doesn't fail
-pub seen : (g : List Move) (m : Move) (q : Asked) (u : Unmove) (b : Bool) → IsGame no_odds (g ++ m ∷ []) → q ≡ query_after (g ++ m ∷ []) → u ≡ unmove_after g m → IsTrue b ↔ Contains (unmoves q) u → b ≡ false → ⊥
+pub seen : (g : List Move) (m : Move) (q : Asked) (u : Unmove) (b : Bool) → IsGame no_odds (g ++ m ∷ []) → q ≡ query_after (g ++ m ∷ []) → u ≡ unmove_after no_odds g m → IsTrue b ↔ Contains (unmoves q) u → b ≡ false → ⊥
 seen g m q u b game eq eu test lost =
-    let there : Contains (unmoves q) u = subst (λ (v : Unmove). Contains (unmoves q) v) (sym eu) (subst (λ (p : Asked). Contains (unmoves p) (unmove_after g m)) (sym eq) (found g m game)) in
+    let there : Contains (unmoves q) u = subst (λ (v : Unmove). Contains (unmoves q) v) (sym eu) (subst (λ (p : Asked). Contains (unmoves p) (unmove_after no_odds g m)) (sym eq) (found g m game)) in
     both_ways b lost (test.1 there)

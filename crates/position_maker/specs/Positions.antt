@@ -23,12 +23,15 @@ abbrev pub if_double : Places → Option Move → Option Move
 if_double board None = None
 if_double board (Some m) = cond (is_a Pawn (at board m.to) && (ranks_apart m.from m.to == 2)) (Some m) None
 
--- what is asked of a game that comes to where this one has come: all rights that it has, and its last move if it was a double step
+-- what is asked of a game without odds that comes to where this one has come: all rights that it has, and its last move if it was a
+-- double step
 unfoldable pub query_after : List Move → Asked
 query_after g = record {
   board = board_after no_odds g;
   turn = turn_after g;
+  odds = no_odds;
   held = rights_after g;
   only = if_double (board_after no_odds g) (last_move g);
   barred = None;
+  clock = None;
 }

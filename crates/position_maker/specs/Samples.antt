@@ -1,6 +1,7 @@
 -- What is counted of games.
 use Rattle.std.specs.Prelude.{ℕ, suc, ◌+◌, ◌≡◌, ◌⊎◌, List, [], ◌∷◌, ◌++◌, length}
 use Rattle.std.specs.List.{Contains}
+use Rattle.board_base.specs.Board.{no_odds}
 use Rattle.board_base.specs.declared.moves.Move.{Move}
 use Rattle.unmove_gen.specs.Listed.{unmoves}
 use Rattle.unmove_gen.specs.Predecessor.{unmove_after}
@@ -13,7 +14,7 @@ unmoves_along g (m ∷ ms) = length (unmoves (query_after (g ++ m ∷ []))) + un
 
 -- the move just played is among the unmoves of the position after it
 abbrev pub IsFound : List Move → Move → Type 0
-IsFound g m = Contains (unmoves (query_after (g ++ m ∷ []))) (unmove_after g m)
+IsFound g m = Contains (unmoves (query_after (g ++ m ∷ []))) (unmove_after no_odds g m)
 
 -- n of these moves, which follow g, aren't found among the unmoves of the positions after them
 abbrev pub AreMissing : List Move → List Move → ℕ → Type 0

@@ -10,7 +10,7 @@ ghost use Rattle.unmove_gen.specs.Predecessor.{unmove_after};
 ghost use Rattle.unmove_gen.specs.TakenBack.{kind_of};
 ghost use Rattle.position_maker.specs.Positions.{if_double, query_after};
 
-use board_base::{Board, Kind, Man, Move, Unmove, is_a};
+use board_base::{Board, Kind, Man, Move, Odds, Unmove, is_a};
 use play_rules::State;
 use query_base::Query;
 use unmove_gen::{Unmoves, few_unmoves};
@@ -26,7 +26,7 @@ fn if_double(before: &State, m: &Move, after: &State) -> Option<Move>
     if after.ep().is_some() { Some(*m) } else { None }
 }
 
-/// The query of the position after a legal move.
+/// The query, without odds, of the position after a legal move.
 pub(crate) fn query_after(before: &State, m: &Move, after: &State) -> Query
     requires legal { IsTrue (legal_at before.now m.now) }
     requires follows { Follows before.now m.now after.now }
@@ -36,9 +36,11 @@ pub(crate) fn query_after(before: &State, m: &Move, after: &State) -> Query
     Query {
         board: *after.board(),
         turn: after.turn(),
+        odds: Odds::none(),
         held: after.rights(),
         only: if_double(before, m, after),
         barred: None,
+        clock: None,
     }
 }
 
@@ -60,7 +62,7 @@ fn kind_of(place: Option<Man>) -> Option<Kind>
 /// The unmove that takes the move back.
 pub(crate) fn unmove_after(before: &State, m: &Move) -> Unmove
     requires { IsTrue (legal_at before.now m.now) }
-    ensures { (g : List AMove) → IsGame no_odds g → StandsFor before.now no_odds g → result ≡ unmove_after g m.now }
+    ensures { (g : List AMove) → IsGame no_odds g → StandsFor before.now no_odds g → result ≡ unmove_after no_odds g m.now }
 {
     let ep = goes_en_passant(before.board(), m);
     let captured = if ep {

@@ -2,11 +2,11 @@
 use Rattle.std.proofs.Common.{◌≡◌, ℕ, zero, suc, ◌+◌, ◌-◌, ◌<◌, ◌≤◌, inl, inr, Bool, true, false, cond, ◌&&◌, ◌||◌, ◌==◌, not, List, length, refl, sym, ap, ◌∙◌, subst, arith}
 use Rattle.std.specs.Prelude.{Option, None, Some, ℤ, pos, ◌+ℤ◌, ◌≤ℤ◌, ◌<ℤ◌}
 use Rattle.std.specs.List.{count_by, list_all, list_any, range_with_len}
-use Rattle.std.proofs.lemmas.Bool.{and_from, and_parts, both_ways, cases_Bool, false_from_ne_true, ltb-true, not-true, not_from_false, or_cases, or_from, or_left, or_parts, or_right}
+use Rattle.std.proofs.lemmas.Bool.{and_from, and_parts, both_ways, cases_Bool, false_from_ne_true, not-true, not_from_false, or_cases, or_from, or_left, or_parts, or_right}
 use Rattle.std.proofs.lemmas.Int.{ints}
 use Rattle.std.proofs.lemmas.List.Sums.{sum_by-cons}
 use Rattle.board_base.specs.Attacks.{distance}
-use Rattle.board_base.specs.Board.{Places, array_of, at, file, initial_array, is_a, is_in, is_of, is_the, no_odds, opponent, rank}
+use Rattle.board_base.specs.Board.{Places, array_of, at, file, initial_array, is_a, is_empty, is_in, is_of, is_the, opponent, rank}
 use Rattle.board_base.specs.Legal.{is_officer}
 use Rattle.board_base.specs.declared.men.Colour.{Colour}
 use Rattle.board_base.specs.declared.men.Kind.{Kind}
@@ -21,7 +21,7 @@ use Rattle.men_account.specs.declared.tallies.Counts.{Counts}
 use Rattle.query_base.specs.Asked.{Asked}
 use Rattle.cage_rules.specs.Refuted.{HasTooMany, is_spent}
 use Rattle.cage_rules.specs.Regions.{beginner, is_dead, is_exposed, is_like, is_officer_home, is_shielded, is_struck, may_strike, region}
-use Rattle.board_base.proofs.LeftOut.{whole-array}
+use Rattle.board_base.proofs.Without.{at-without}
 use Rattle.cage_rules.proofs.Beginners.{officer-inside}
 use Rattle.cage_rules.proofs.Greatest.{same-told}
 use Rattle.cage_rules.proofs.Regions.{region-home}
@@ -35,8 +35,6 @@ use Rattle.static_rules.specs.SetRules.{IsAbove}
 use Rattle.static_rules.specs.Stayed.{IsStayedAllowance, front, has_stayed, is_guarded, may_be_spent, may_spend}
 use Rattle.static_rules.proofs.Larger.{excess-more, less-count}
 use Rattle.static_rules.proofs.Left.{at-left, home-of}
-use Rattle.men_account.proofs.FirstMen.{sixteen}
-use Rattle.static_rules.proofs.Tested.{more-told}
 
 -- a man is like himself
 both-not : (a b : Bool) → a ≡ true → not (a && not b) ≡ true → b ≡ true
@@ -48,18 +46,30 @@ like-self : (place : Option Man) → (is_a Knight place || is_a Bishop place || 
 like-self None h = absurd (both_ways false refl h)
 like-self (Some m) h = and_from _ _ (same_colour-self m.colour) (same_kind-self m.kind)
 
-stayed-there : (board : Places) (h : ℕ) → has_stayed board h ≡ true → at board h ≡ beginner h
-unfolding beginner
-stayed-there board h stayed = same-told _ _ stayed ∙ whole-array h
+kept-full : (b : Bool) (place : Option Man) → is_empty (cond b None place) ≡ false → cond b None place ≡ place
+kept-full true place full = absurd (both_ways true full refl)
+kept-full false place full = refl
+
+-- who isn't left out begins where he begins in the whole array
+begins-there : (o : List Bool) (h : ℕ) → is_empty (at (array_of o) h) ≡ false → at (array_of o) h ≡ beginner h
+unfolding array_of beginner
+begins-there o h full = at-without o initial_array h ∙ kept-full (is_in o h) (at initial_array h) (sym (ap is_empty (at-without o initial_array h)) ∙ full)
+
+full-of : (c : Colour) (place : Option Man) → is_of c place ≡ true → is_empty place ≡ false
+full-of c None h = absurd (both_ways false refl h)
+full-of c (Some m) h = refl
+
+stayed-there : (o : List Bool) (board : Places) (h : ℕ) → is_empty (at (array_of o) h) ≡ false → has_stayed (array_of o) board h ≡ true → at board h ≡ beginner h
+stayed-there o board h full stayed = same-told _ _ stayed ∙ begins-there o h full
 
 -- a home is alive on which its man stands
-pub alive-at-home : (board : Places) (set : List Bool) (h : ℕ) → is_officer_home h ≡ true → has_stayed board h ≡ true → is_dead board set h ≡ false
+alive-at-home : (o : List Bool) (board : Places) (set : List Bool) (h : ℕ) → is_officer_home h ≡ true → is_empty (at (array_of o) h) ≡ false → has_stayed (array_of o) board h ≡ true → is_dead board set h ≡ false
 unfolding is_dead
-alive-at-home board set h home stayed =
+alive-at-home o board set h home full stayed =
     let inside : h < 64 = officer-inside h home in
     false_from_ne_true _ (λ dead.
     both_ways _ (not-true _ (at_board (λ t. not (is_in (region set h) t && is_like (beginner h) (at board t))) h dead inside))
-    (and_from _ _ (region-home set h inside) (subst (λ (p : Option Man). is_like (beginner h) p ≡ true) (sym (stayed-there board h stayed)) (like-self (beginner h) home))))
+    (and_from _ _ (region-home set h inside) (subst (λ (p : Option Man). is_like (beginner h) p ≡ true) (sym (stayed-there o board h full stayed)) (like-self (beginner h) home))))
 
 -- Officers who stand where they began
 
@@ -67,22 +77,25 @@ kept-both : (c : Colour) (k : Kind) (b : Bool) (place : Option Man) → is_the c
 kept-both c k true place h = (refl, h)
 kept-both c k false place h = absurd (both_ways false refl h)
 
-stayed-less : (board : Places) (set : List Bool) (c : Colour) (k : Kind) (among : ℕ → Bool) → is_officer k ≡ true → men c k among (left_with (has_stayed board) (array_of no_odds)) ≤ men c k (λ s. among s && not (is_dead board set s)) (array_of no_odds)
+stayed-less : (o : List Bool) (board : Places) (set : List Bool) (c : Colour) (k : Kind) (among : ℕ → Bool) → is_officer k ≡ true → men c k among (left_with (has_stayed (array_of o) board) (array_of o)) ≤ men c k (λ s. among s && not (is_dead board set s)) (array_of o)
 unfolding men
-stayed-less board set c k among officer =
-    less-count (λ s. is_the c k (at (left_with (has_stayed board) (array_of no_odds)) s) && among s) (λ s. is_the c k (at (array_of no_odds) s) && (among s && not (is_dead board set s))) 0 64 (λ s low high here.
+stayed-less o board set c k among officer =
+    less-count (λ s. is_the c k (at (left_with (has_stayed (array_of o) board) (array_of o)) s) && among s) (λ s. is_the c k (at (array_of o) s) && (among s && not (is_dead board set s))) 0 64 (λ s low high here.
     let inside : s < 64 = omega arith in
-    let parts = and_parts (is_the c k (at (left_with (has_stayed board) (array_of no_odds)) s)) (among s) here in
-    let kept = kept-both c k (has_stayed board s) (at (array_of no_odds) s) (ap (is_the c k) (sym (at-left (has_stayed board) (array_of no_odds) s inside)) ∙ parts.0) in
-    and_from _ _ kept.1 (and_from _ _ parts.1 (not_from_false _ (alive-at-home board set s (home-of no_odds c k s officer kept.1) kept.0))))
+    let parts = and_parts (is_the c k (at (left_with (has_stayed (array_of o) board) (array_of o)) s)) (among s) here in
+    let kept = kept-both c k (has_stayed (array_of o) board s) (at (array_of o) s) (ap (is_the c k) (sym (at-left (has_stayed (array_of o) board) (array_of o) s inside)) ∙ parts.0) in
+    let full : is_empty (at (array_of o) s) ≡ false = full-of c (at (array_of o) s) (and_parts (is_of c (at (array_of o) s)) (is_a k (at (array_of o) s)) kept.1).0 in
+    and_from _ _ kept.1 (and_from _ _ parts.1 (not_from_false _ (alive-at-home o board set s (home-of o c k s officer kept.1) full kept.0))))
+
+above-most : (all most excess less : ℕ) → all < excess → excess ≤ less → less ≤ most → most ≡ all → ⊥
+above-most all most excess less above fewer few same = omega arith
 
 -- no more than those who don't stand there have been promoted
-pub few-more : (q : Asked) (side : Colour) (a : Allowance) → IsStayedAllowance side q.board a → excess_of (counts_of side q.board) a ≤ 8 → (set : List Bool) → HasTooMany no_odds q set side → ⊥
-few-more q side a (knights, light, dark, rooks, queens) few set more =
-    let living : Allowance = allowance_of side (λ h. not (is_dead q.board set h)) (array_of no_odds) in
-    let least = excess-more (counts_of side q.board) living a (omega (arith, knights, stayed-less q.board set side Knight is_any refl)) (omega (arith, light, stayed-less q.board set side Bishop is_light refl)) (omega (arith, dark, stayed-less q.board set side Bishop is_dark refl)) (omega (arith, rooks, stayed-less q.board set side Rook is_any refl)) (omega (arith, queens, stayed-less q.board set side Queen is_any refl)) in
-    let above : 8 < excess_of (counts_of side q.board) living = ltb-true 8 _ ((more-told side _ _ refl).1 more) in
-    absurd (omega arith)
+few-more : (o : List Bool) (q : Asked) (side : Colour) (a : Allowance) → IsStayedAllowance (array_of o) side q.board a → excess_of (counts_of side q.board) a ≤ a.pawns → (set : List Bool) → HasTooMany o q set side → ⊥
+few-more o q side a (pawns, knights, light, dark, rooks, queens) few set more =
+    let living : Allowance = allowance_of side (λ h. not (is_dead q.board set h)) (array_of o) in
+    let least = excess-more (counts_of side q.board) living a (omega (arith, knights, stayed-less o q.board set side Knight is_any refl)) (omega (arith, light, stayed-less o q.board set side Bishop is_light refl)) (omega (arith, dark, stayed-less o q.board set side Bishop is_dark refl)) (omega (arith, rooks, stayed-less o q.board set side Rook is_any refl)) (omega (arith, queens, stayed-less o q.board set side Queen is_any refl)) in
+    above-most _ _ _ _ more least few pawns
 
 -- Homes that an enemy pawn can strike
 
@@ -134,11 +147,11 @@ guarded set h home shielded =
     let struck = and_parts _ _ (both-not (is_officer_home h) (is_struck_home h) home (at_board (λ t. not (is_officer_home t && not (is_struck_home t))) h each-home (officer-inside h home))) in
     and_from _ _ (beside set (file h == 0) (strikes h (front h - 1)) (front h - 1) (in-front set h (front h - 1) (omega arith) safe) struck.0) (beside set (file h == 7) (strikes h (front h + 1)) (front h + 1) (in-front set h (front h + 1) (omega arith) safe) struck.1)
 
-spent-may : (board : Places) (set : List Bool) (h : ℕ) → is_spent board set h ≡ true → may_be_spent board set h ≡ true
-spent-may board set h spent =
+spent-may : (o : List Bool) (board : Places) (set : List Bool) (h : ℕ) → is_empty (at (array_of o) h) ≡ false → is_spent board set h ≡ true → may_be_spent (array_of o) board set h ≡ true
+spent-may o board set h full spent =
     let parts = and_parts (is_officer_home h && is_dead board set h) (is_shielded set h) spent in
     let dead = and_parts (is_officer_home h) (is_dead board set h) parts.0 in
-    let gone : has_stayed board h ≡ false = false_from_ne_true _ (λ stayed. both_ways _ (alive-at-home board set h dead.0 stayed) dead.1) in
+    let gone : has_stayed (array_of o) board h ≡ false = false_from_ne_true _ (λ stayed. both_ways _ (alive-at-home o board set h dead.0 full stayed) dead.1) in
     and_from _ _ (and_from _ _ dead.0 (not_from_false _ gone)) (guarded set h dead.0 parts.1)
 
 -- what passes a test that none passes isn't counted
@@ -151,28 +164,30 @@ none-counted p q k (suc n) less none =
     let zero_here : ◌≡◌ {A = ℕ} (cond (q k) 1 0) 0 = ap (λ (b : Bool). cond b 1 0) here in
     omega (arith, sum_by-cons (λ x. cond (q x) 1 0) k (range_with_len (k + 1) n), rest, zero_here)
 
-none-spent : (c : Colour) (board : Places) (set : List Bool) → may_spend c board set ≡ false → men_of c (is_spent board set) (array_of no_odds) ≡ 0
+none-spent : (o : List Bool) (c : Colour) (board : Places) (set : List Bool) → may_spend (array_of o) c board set ≡ false → men_of c (is_spent board set) (array_of o) ≡ 0
 unfolding may_spend men_of
-none-spent c board set none =
-    none-counted (λ s. is_of c (at (array_of no_odds) s) && may_be_spent board set s) (λ s. is_of c (at (array_of no_odds) s) && is_spent board set s) 0 64 (λ s here.
-    let parts = and_parts (is_of c (at (array_of no_odds) s)) (is_spent board set s) here in and_from _ _ parts.0 (spent-may board set s parts.1)) none
+none-spent o c board set none =
+    none-counted (λ s. is_of c (at (array_of o) s) && may_be_spent (array_of o) board set s) (λ s. is_of c (at (array_of o) s) && is_spent board set s) 0 64 (λ s here.
+    let parts = and_parts (is_of c (at (array_of o) s)) (is_spent board set s) here in and_from _ _ parts.0 (spent-may o board set s (full-of c _ parts.0) parts.1)) none
 
-too-few : (cost on_board spent : ℕ) (all : ℕ) (sum : ℤ) → all ≡ 16 → spent ≡ 0 → cost + on_board ≤ 16 → sum ≤ℤ pos cost → pos all <ℤ (sum +ℤ pos (on_board + spent)) → ⊥
-too-few cost on_board spent all sum whole none few least above = absurd (omega (arith, ints))
+too-few : (cost on_board spent all : ℕ) (sum : ℤ) → spent ≡ 0 → cost + on_board ≤ all → sum ≤ℤ pos cost → pos all <ℤ (sum +ℤ pos (on_board + spent)) → ⊥
+too-few cost on_board spent all sum none few least above = absurd (omega (arith, ints))
 
 -- where no home may be spent, the pawns need no more captures than there are men gone
-pub few-needed : (q : Asked) (side : Colour) (set : List Bool) (table : List (List ℕ)) (files : List ℕ) (cost on_board : ℕ) → may_spend (opponent side) q.board set ≡ false → table ≡ pawn_costs no_odds side q.board → IsInjection 8 (length table) files → cost ≡ assignment_cost table files → on_board ≡ men_of (opponent side) is_any q.board → cost + on_board ≤ 16 → (u v : List ℤ) → IsAbove no_odds q side set u v → ⊥
-few-needed q side set table files cost on_board none same injection costs counted few u v h =
+few-needed : (o : List Bool) (q : Asked) (side : Colour) (set : List Bool) (table : List (List ℕ)) (files : List ℕ) (cost on_board begun : ℕ) → may_spend (array_of o) (opponent side) q.board set ≡ false → table ≡ pawn_costs o side q.board → IsInjection 8 (length table) files → cost ≡ assignment_cost table files → on_board ≡ men_of (opponent side) is_any q.board → begun ≡ men_of (opponent side) is_any (array_of o) → cost + on_board ≤ begun → (u v : List ℤ) → IsAbove o q side set u v → ⊥
+few-needed o q side set table files cost on_board begun none same injection costs counted first few u v h =
     let least = weak_duality 8 table u v files (subst (λ (t : List (List ℕ)). IsBounded 8 t u v) (sym same) h.needs.bounded) injection in
-    too-few (assignment_cost table files) (men_of (opponent side) is_any q.board) (men_of (opponent side) (is_spent q.board set) (array_of no_odds)) (men_of (opponent side) is_any (array_of no_odds)) (total u +ℤ total v) (sixteen (opponent side)) (none-spent (opponent side) q.board set none) (omega arith) least h.needs.above
+    too-few (assignment_cost table files) (men_of (opponent side) is_any q.board) (men_of (opponent side) (is_spent q.board set) (array_of o)) (men_of (opponent side) is_any (array_of o)) (total u +ℤ total v) (none-spent o (opponent side) q.board set none) (omega arith) least h.needs.above
 
 -- The same, as the tests have it.
 
-pub few-from : (q : Asked) (side : Colour) (board : Places) (counted : Counts) (a : Allowance) (n : ℕ) → board ≡ q.board → counted ≡ counts_of side board → IsStayedAllowance side board a → n ≡ excess_of counted a → n ≤ 8 → (set : List Bool) → HasTooMany no_odds q set side → ⊥
-few-from q side board counted a n here counts stayed is few =
-    few-more q side a (subst (λ (b : Places). IsStayedAllowance side b a) here stayed) (subst (λ (m : ℕ). m ≤ 8) (is ∙ ap (λ (k : Counts). excess_of k a) (counts ∙ ap (counts_of side) here)) few)
+pub few-from : (q : Asked) (side : Colour) (o : List Bool) (board : Places) (counted : Counts) (a : Allowance) (n : ℕ) → o ≡ q.odds → board ≡ q.board → counted ≡ counts_of side board → IsStayedAllowance (array_of o) side board a → n ≡ excess_of counted a → n ≤ a.pawns → (set : List Bool) → HasTooMany q.odds q set side → ⊥
+few-from q side o board counted a n odds here counts stayed is few set more =
+    few-more o q side a (subst (λ (b : Places). IsStayedAllowance (array_of o) side b a) here stayed) (subst (λ (m : ℕ). m ≤ a.pawns) (is ∙ ap (λ (k : Counts). excess_of k a) (counts ∙ ap (counts_of side) here)) few) set
+    (subst (λ (x : List Bool). HasTooMany x q set side) (sym odds) more)
 
-pub needed-from : (q : Asked) (side : Colour) (set : List Bool) (board : Places) (enemy other : Colour) (spends : Bool) (table : List (List ℕ)) (files : List ℕ) (cost on_board : ℕ) → board ≡ q.board → enemy ≡ opponent side → spends ≡ may_spend enemy board set → spends ≡ false → table ≡ pawn_costs no_odds side board → IsInjection 8 (length table) files → cost ≡ assignment_cost table files → other ≡ opponent side → on_board ≡ men_of other is_any board → cost + on_board ≤ 16 → (u v : List ℤ) → IsAbove no_odds q side set u v → ⊥
-needed-from q side set board enemy other spends table files cost on_board here against is none same injection costs against_too counted few =
-    few-needed q side set table files cost on_board (sym (ap (λ (c : Colour). may_spend c q.board set) against) ∙ sym (ap (λ (b : Places). may_spend enemy b set) here) ∙ sym is ∙ none) (same ∙ ap (pawn_costs no_odds side) here) injection costs
-    (counted ∙ ap (λ (c : Colour). men_of c is_any board) against_too ∙ ap (men_of (opponent side) is_any) here) few
+pub needed-from : (q : Asked) (side : Colour) (set o : List Bool) (board : Places) (enemy : Colour) (spends : Bool) (table : List (List ℕ)) (files : List ℕ) (cost on_board begun : ℕ) → o ≡ q.odds → board ≡ q.board → enemy ≡ opponent side → spends ≡ may_spend (array_of o) enemy board set → spends ≡ false → table ≡ pawn_costs o side board → IsInjection 8 (length table) files → cost ≡ assignment_cost table files → on_board ≡ men_of enemy is_any board → begun ≡ men_of enemy is_any (array_of o) → cost + on_board ≤ begun → (u v : List ℤ) → IsAbove q.odds q side set u v → ⊥
+needed-from q side set o board enemy spends table files cost on_board begun odds here against is none same injection costs counted first few u v h =
+    few-needed o q side set table files cost on_board begun (sym (ap (λ (c : Colour). may_spend (array_of o) c q.board set) against) ∙ sym (ap (λ (b : Places). may_spend (array_of o) enemy b set) here) ∙ sym is ∙ none) (same ∙ ap (pawn_costs o side) here) injection costs
+    (counted ∙ ap (λ (c : Colour). men_of c is_any board) against ∙ ap (men_of (opponent side) is_any) here) (first ∙ ap (λ (c : Colour). men_of c is_any (array_of o)) against) few u v
+    (subst (λ (x : List Bool). IsAbove x q side set u v) (sym odds) h)

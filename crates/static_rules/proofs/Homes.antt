@@ -1,14 +1,16 @@
 -- A castling's king and rook stand at home until one of them moves or is captured.
-use Rattle.std.proofs.Common.{◌≡◌, ◌≢◌, ℕ, ◌+◌, ◌*◌, ◌==◌, Bool, true, false, cond, ◌||◌, List, [], set, refl, ap, sym, ◌∙◌, subst, arith}
-use Rattle.std.proofs.lemmas.Bool.{and_parts, and_from, or_parts, not-true, eqb-false, both_ways}
+use Rattle.std.proofs.Common.{◌≡◌, ◌≢◌, ℕ, ◌+◌, ◌*◌, ◌==◌, Bool, true, false, cond, ◌||◌, List, set, refl, ap, sym, ◌∙◌, subst, arith}
+use Rattle.std.proofs.lemmas.Bool.{and_parts, and_from, or_from, or_parts, not-true, eqb-false, both_ways}
 use Rattle.std.proofs.lemmas.List.{get_or-set_other}
 use Rattle.std.specs.Prelude.{Option, Some, None}
-use Rattle.board_base.specs.Board.{Places, initial_array, array_of, at, is_a, is_the, rank}
+use Rattle.board_base.specs.Board.{Places, initial_array, array_of, at, is_a, is_in, is_the, rank}
 use Rattle.board_base.specs.Play.{play, played_as, castling, goes_en_passant, en_passant_victim, side, king_home, rook_home, crossed}
 use Rattle.board_base.specs.Carry.{carry}
-use Rattle.board_base.specs.Game.{IsGame, board_after, touches, unmoved}
+use Rattle.board_base.specs.Game.{IsGame, board_after, lacks_home, touches, unmoved}
+use Rattle.board_base.specs.declared.men.Colour.{Colour}
 use Rattle.board_base.specs.declared.men.Kind.{Kind}
 use Rattle.board_base.specs.declared.men.Kind.TheVariants.{Pawn, Rook, King}
+use Rattle.board_base.specs.declared.men.Man.{Man}
 use Rattle.board_base.specs.declared.moves.Move.{Move}
 use Rattle.board_base.specs.declared.castles.Castle.{Castle}
 use Rattle.board_base.proofs.Without.{at-without}
@@ -77,17 +79,28 @@ first-rook : (x : Castle) → is_the (side x) Rook (at initial_array (rook_home 
 unfolding initial_array
 first-rook = each-castle (λ x. is_the (side x) Rook (at initial_array (rook_home x))) refl
 
-first-at_home : (o : List Bool) (x : Castle) → unmoved o [] x ≡ true → are_at_home (array_of o) x ≡ true
+-- where neither is left out they stand at home in the array, and only there
+pub first-at_home : (o : List Bool) (x : Castle) → lacks_home o x ≡ false → are_at_home (array_of o) x ≡ true
 unfolding array_of
 first-at_home o x there =
-    let lacks = or_parts _ _ (not-true _ (and_parts _ _ there).0) in
+    let lacks = or_parts _ _ there in
     let king : at (array_of o) (king_home x) ≡ at initial_array (king_home x) = at-without o initial_array (king_home x) ∙ ap (λ (b : Bool). cond b None (at initial_array (king_home x))) lacks.0 in
     let rook : at (array_of o) (rook_home x) ≡ at initial_array (rook_home x) = at-without o initial_array (rook_home x) ∙ ap (λ (b : Bool). cond b None (at initial_array (rook_home x))) lacks.1 in
     and_from _ _ (ap (is_the (side x) King) king ∙ first-king x) (ap (is_the (side x) Rook) rook ∙ first-rook x)
 
+not-out : (b : Bool) (c : Colour) (k : Kind) (place : Option Man) → is_the c k (cond b None place) ≡ true → b ≡ false
+not-out true c k place h = absurd (both_ways false refl h)
+not-out false c k place h = refl
+
+pub at_home-first : (o : List Bool) (x : Castle) → are_at_home (array_of o) x ≡ true → lacks_home o x ≡ false
+unfolding array_of
+at_home-first o x home =
+    let parts = and_parts _ _ home in
+    or_from (is_in o (king_home x)) (is_in o (rook_home x)) (not-out (is_in o (king_home x)) (side x) King (at initial_array (king_home x)) (sym (ap (is_the (side x) King) (at-without o initial_array (king_home x))) ∙ parts.0)) (not-out (is_in o (rook_home x)) (side x) Rook (at initial_array (rook_home x)) (sym (ap (is_the (side x) Rook) (at-without o initial_array (rook_home x))) ∙ parts.1))
+
 -- the king and the rook of a castling whose right is held stand at home, in every game
 pub rights_have_homes : (o : List Bool) (g : List Move) (x : Castle) → IsGame o g → unmoved o g x ≡ true → are_at_home (board_after o g) x ≡ true
 rights_have_homes o g x game =
-    in_every_game o (λ h. unmoved o h x ≡ true → are_at_home (board_after o h) x ≡ true) (first-at_home o x) (λ h m before legal home there.
+    in_every_game o (λ h. unmoved o h x ≡ true → are_at_home (board_after o h) x ≡ true) (λ there. first-at_home o x (not-true _ (and_parts _ _ there).0)) (λ h m before legal home there.
     let parts = unmoved-before o h m x there in
     subst (λ (b : Places). are_at_home b x ≡ true) (sym (board_after-more o h m)) (home-stays (board_after o h) m x parts.1 (no_pawn_on_ends o h before) (home parts.0))) g game

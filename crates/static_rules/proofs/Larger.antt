@@ -5,7 +5,7 @@ use Rattle.std.proofs.lemmas.Bool.{and_parts, and_from, both_ways, false_from_ne
 use Rattle.std.proofs.lemmas.Int.{ints}
 use Rattle.std.proofs.lemmas.List.Sums.{sum_by-cons}
 use Rattle.std.specs.List.{count_by, range_with_len}
-use Rattle.board_base.specs.Board.{Places, array_of, at, is_of, is_the, no_odds, opponent}
+use Rattle.board_base.specs.Board.{Places, array_of, at, is_of, is_the, opponent}
 use Rattle.board_base.specs.Legal.{is_officer}
 use Rattle.board_base.specs.Potentials.{ArePotentials, Duals, duals}
 use Rattle.board_base.specs.declared.men.Colour.{Colour}
@@ -99,17 +99,17 @@ above-gains o q side inner outer u v size within h = record {
   };
 }
 
-above-best : (q : Asked) (side : Colour) (set : List Bool) (u v bu bv : List ℤ) → AreBest side q.board bu bv → IsAbove no_odds q side set u v → IsAbove no_odds q side set bu bv
-above-best q side set u v bu bv b h =
+above-best : (o : List Bool) (q : Asked) (side : Colour) (set : List Bool) (u v bu bv : List ℤ) → AreBest o side q.board bu bv → IsAbove o q side set u v → IsAbove o q side set bu bv
+above-best o q side set u v bu bv b h =
     let few : length (pawn_squares side q.board) ≤ 8 = (let p = h.pawns in let e = h.eight in omega arith) in
     let best = b few in
-    let spent : ℕ = men_of (opponent side) (is_spent q.board set) (array_of no_odds) in
+    let spent : ℕ = men_of (opponent side) (is_spent q.board set) (array_of o) in
     record {
       pawns = best.0.1;
       eight = (let same = best.0.1 in omega arith);
       needs = record {
         bounded = best.0.0;
-        above = above-more (men_of (opponent side) is_any (array_of no_odds)) (men_of (opponent side) is_any q.board) spent spent (total u +ℤ total v) (total bu +ℤ total bv) h.needs.above (omega arith) (best.1 u v h.needs.bounded);
+        above = above-more (men_of (opponent side) is_any (array_of o)) (men_of (opponent side) is_any q.board) spent spent (total u +ℤ total v) (total bu +ℤ total bv) h.needs.above (omega arith) (best.1 u v h.needs.bounded);
       };
     }
 
@@ -121,31 +121,31 @@ promo-gains o q side inner outer within settled h = record { settled = settled; 
 pub caps-gains : (o : List Bool) (q : Asked) (side : Colour) (inner outer : List Bool) (u v : List ℤ) → IsWithin inner outer → IsSettled o q outer → CapsSupports o q side inner u v → CapsSupports o q side outer u v
 caps-gains o q side inner outer u v within settled h = record { settled = settled; numbers = h.numbers; above = above-gains o q side inner outer u v h.settled.whole within h.above }
 
-pub best-gains : (q : Asked) (side : Colour) (set : List Bool) (u v bu bv : List ℤ) → AreBest side q.board bu bv → ArePotentials (duals bu bv) → CapsSupports no_odds q side set u v → CapsSupports no_odds q side set bu bv
-best-gains q side set u v bu bv best numbers h = record { settled = h.settled; numbers = numbers; above = above-best q side set u v bu bv best h.above }
+pub best-gains : (o : List Bool) (q : Asked) (side : Colour) (set : List Bool) (u v bu bv : List ℤ) → AreBest o side q.board bu bv → ArePotentials (duals bu bv) → CapsSupports o q side set u v → CapsSupports o q side set bu bv
+best-gains o q side set u v bu bv best numbers h = record { settled = h.settled; numbers = numbers; above = above-best o q side set u v bu bv best h.above }
 
 -- The greatest sets and the best potentials decide.
 
-pub frozen-decided : (q : Asked) (greatest : List Bool) → ((set : List Bool) → IsFrozen q set → IsWithin set greatest) → IsAsArray no_odds q.board greatest → (set : List Bool) → FrozenSupports no_odds q set → ⊥
-frozen-decided q greatest contains same set h = h.changed (λ s member. same s (contains set h.frozen s member))
+pub frozen-decided : (o : List Bool) (q : Asked) (greatest : List Bool) → ((set : List Bool) → IsFrozen q set → IsWithin set greatest) → IsAsArray o q.board greatest → (set : List Bool) → FrozenSupports o q set → ⊥
+frozen-decided o q greatest contains same set h = h.changed (λ s member. same s (contains set h.frozen s member))
 
-pub promo-decided : (q : Asked) (side : Colour) (greatest : List Bool) → IsGreatestSettled q greatest → (set : List Bool) → PromoSupports no_odds q side set → HasTooMany no_odds q greatest side
-promo-decided q side greatest g set h = more-gains no_odds q side set greatest h.settled.whole (g.greatest set h.settled.frozen h.settled.as_array) h.more
+pub promo-decided : (o : List Bool) (q : Asked) (side : Colour) (greatest : List Bool) → IsGreatestSettled o q greatest → (set : List Bool) → PromoSupports o q side set → HasTooMany o q greatest side
+promo-decided o q side greatest g set h = more-gains o q side set greatest h.settled.whole (g.greatest set h.settled.frozen h.settled.as_array) h.more
 
 -- what a set and potentials tell of the greatest set
-pub caps-greatest : (q : Asked) (side : Colour) (greatest : List Bool) → IsGreatestSettled q greatest → (set : List Bool) (u v : List ℤ) → CapsSupports no_odds q side set u v → IsAbove no_odds q side greatest u v
-caps-greatest q side greatest g set u v h = above-gains no_odds q side set greatest u v h.settled.whole (g.greatest set h.settled.frozen h.settled.as_array) h.above
+pub caps-greatest : (o : List Bool) (q : Asked) (side : Colour) (greatest : List Bool) → IsGreatestSettled o q greatest → (set : List Bool) (u v : List ℤ) → CapsSupports o q side set u v → IsAbove o q side greatest u v
+caps-greatest o q side greatest g set u v h = above-gains o q side set greatest u v h.settled.whole (g.greatest set h.settled.frozen h.settled.as_array) h.above
 
-pub caps-decided : (q : Asked) (side : Colour) (greatest : List Bool) (bu bv : List ℤ) → IsGreatestSettled q greatest → AreBest side q.board bu bv → (set : List Bool) (u v : List ℤ) → CapsSupports no_odds q side set u v → IsAbove no_odds q side greatest bu bv
-caps-decided q side greatest bu bv g best set u v h = above-best q side greatest u v bu bv best (caps-greatest q side greatest g set u v h)
+pub caps-decided : (o : List Bool) (q : Asked) (side : Colour) (greatest : List Bool) (bu bv : List ℤ) → IsGreatestSettled o q greatest → AreBest o side q.board bu bv → (set : List Bool) (u v : List ℤ) → CapsSupports o q side set u v → IsAbove o q side greatest bu bv
+caps-decided o q side greatest bu bv g best set u v h = above-best o q side greatest u v bu bv best (caps-greatest o q side greatest g set u v h)
 
-pub frozen-by-greatest : (q : Asked) (greatest : List Bool) → length greatest ≡ 64 → IsFrozen q greatest → ((set : List Bool) → IsFrozen q set → IsWithin set greatest) → ((set : List Bool) × FrozenSupports no_odds q set) ↔ FrozenSupports no_odds q greatest
-frozen-by-greatest q greatest size frozen contains =
-    (λ h. record { whole = size; frozen = frozen; changed = λ same. frozen-decided q greatest contains same h.0 h.1 }, λ h. (greatest, h))
+pub frozen-by-greatest : (o : List Bool) (q : Asked) (greatest : List Bool) → length greatest ≡ 64 → IsFrozen q greatest → ((set : List Bool) → IsFrozen q set → IsWithin set greatest) → ((set : List Bool) × FrozenSupports o q set) ↔ FrozenSupports o q greatest
+frozen-by-greatest o q greatest size frozen contains =
+    (λ h. record { whole = size; frozen = frozen; changed = λ same. frozen-decided o q greatest contains same h.0 h.1 }, λ h. (greatest, h))
 
-pub promo-by-greatest : (q : Asked) (side : Colour) (greatest : List Bool) → IsGreatestSettled q greatest → ((set : List Bool) × PromoSupports no_odds q side set) ↔ PromoSupports no_odds q side greatest
-promo-by-greatest q side greatest g = (λ h. record { settled = g.settled; more = promo-decided q side greatest g h.0 h.1 }, λ h. (greatest, h))
+pub promo-by-greatest : (o : List Bool) (q : Asked) (side : Colour) (greatest : List Bool) → IsGreatestSettled o q greatest → ((set : List Bool) × PromoSupports o q side set) ↔ PromoSupports o q side greatest
+promo-by-greatest o q side greatest g = (λ h. record { settled = g.settled; more = promo-decided o q side greatest g h.0 h.1 }, λ h. (greatest, h))
 
-pub caps-by-greatest : (q : Asked) (side : Colour) (greatest : List Bool) (u v : List ℤ) → IsGreatestSettled q greatest → AreBest side q.board u v → ArePotentials (duals u v) → ((set : List Bool) × (p : Duals) × CapsSupports no_odds q side set p.u p.v) ↔ CapsSupports no_odds q side greatest u v
-caps-by-greatest q side greatest u v g best numbers =
-    (λ h. record { settled = g.settled; numbers = numbers; above = caps-decided q side greatest u v g best h.0 h.1.u h.1.v h.2 }, λ h. (greatest, duals u v, h))
+pub caps-by-greatest : (o : List Bool) (q : Asked) (side : Colour) (greatest : List Bool) (u v : List ℤ) → IsGreatestSettled o q greatest → AreBest o side q.board u v → ArePotentials (duals u v) → ((set : List Bool) × (p : Duals) × CapsSupports o q side set p.u p.v) ↔ CapsSupports o q side greatest u v
+caps-by-greatest o q side greatest u v g best numbers =
+    (λ h. record { settled = g.settled; numbers = numbers; above = caps-decided o q side greatest u v g best h.0 h.1.u h.1.v h.2 }, λ h. (greatest, duals u v, h))

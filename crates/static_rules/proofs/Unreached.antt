@@ -1,12 +1,11 @@
 -- Where a rule line supports a query, no game reaches it.
 use Rattle.std.proofs.Common.{◌≡◌, true, false, List, ap, sym, ◌∙◌, subst}
-use Rattle.std.proofs.lemmas.Bool.{both_ways}
-use Rattle.board_base.specs.Board.{Places, no_odds, opponent}
+use Rattle.std.proofs.lemmas.Bool.{and_parts, both_ways, not-true}
+use Rattle.board_base.specs.Board.{Places, opponent}
 use Rattle.board_base.specs.Legal.{in_check}
 use Rattle.board_base.specs.Game.{board_after}
 use Rattle.board_base.specs.declared.men.Colour.{Colour}
 use Rattle.board_base.specs.declared.moves.Move.{Move}
-use Rattle.board_base.proofs.Without.{are-no-odds}
 use Rattle.castle_history.specs.Homes.{are_at_home}
 use Rattle.play_rules.specs.Kings.{HasOneKingEach}
 use Rattle.play_rules.specs.Laws.{HasNoPawnOnEnds}
@@ -24,17 +23,20 @@ use Rattle.static_rules.specs.Supports.{Supports}
 use Rattle.static_rules.proofs.Homes.{rights_have_homes}
 
 pub unreached : (q : Asked) (rule : RuleLine) → Supports q rule → (g : List Move) → Reaches g q → ⊥
-unreached q Kings broken g r = broken (subst HasOneKingEach r.board (one_king_each no_odds g are-no-odds r.game))
-unreached q Ranks broken g r = broken (subst HasNoPawnOnEnds r.board (no_pawn_on_ends no_odds g r.game))
+unreached q Kings broken g r = broken (subst HasOneKingEach r.board (one_king_each q.odds g r.odds r.game))
+unreached q Ranks broken g r = broken (subst HasNoPawnOnEnds r.board (no_pawn_on_ends q.odds g r.game))
 unreached q Check attacked g r =
     let here : in_check q.board (opponent q.turn) ≡ false =
     ap (λ (b : Places). in_check b (opponent q.turn)) (sym r.board)
-    ∙ ap (λ (c : Colour). in_check (board_after no_odds g) (opponent c)) (sym r.turn) ∙ no_king_left_attacked no_odds g r.game in
+    ∙ ap (λ (c : Colour). in_check (board_after q.odds g) (opponent c)) (sym r.turn) ∙ no_king_left_attacked q.odds g r.game in
     both_ways _ here attacked
 unreached q Rights broken g r =
-    broken (λ x held. subst (λ (b : Places). are_at_home b x ≡ true) r.board (rights_have_homes no_odds g x r.game (r.held x held)))
+    broken (record {
+      begun = λ x held. not-true _ (and_parts _ _ (r.held x held)).0;
+      at_home = λ x held. subst (λ (b : Places). are_at_home b x ≡ true) r.board (rights_have_homes q.odds g x r.game (r.held x held));
+    })
 unreached q (Count side) broken g r =
-    broken (subst (λ (b : Places). accounts_for no_odds b side ≡ true) r.board (accounts_hold no_odds g r.game side))
+    broken (subst (λ (b : Places). accounts_for q.odds b side ≡ true) r.board (accounts_hold q.odds g r.game side))
 unreached q (Frozen set) h g r = frozen-unreached q set h g r
 unreached q (Caps side set p) h g r = caps-unreached q side set p.u p.v h g r
 unreached q (Promo side set) h g r = promo-unreached q side set h g r

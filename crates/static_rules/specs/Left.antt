@@ -1,8 +1,10 @@
 -- Inner: no public clause cites this file.
--- Boards with only some of the men of another, and which homes of officers count.
+-- Boards with only some of the men of another, which homes of officers count, and what they allow.
 use Rattle.std.specs.Prelude.{ℕ, Bool, cond, ◌&&◌, not, List, map, None}
 use Rattle.std.specs.List.{range_with_len}
 use Rattle.board_base.specs.Board.{Places, at}
+use Rattle.men_account.specs.declared.tallies.Allowance.{Allowance}
+use Rattle.men_account.specs.declared.tallies.Counts.{Counts}
 use Rattle.cage_rules.specs.Regions.{is_dead, is_officer_home}
 
 -- a board with only those men of this one who stand on squares that pass the test
@@ -12,3 +14,7 @@ left_with keeps first = map (λ s. cond (keeps s) (at first s) None) (range_with
 -- the square is no home of an officer that is dead
 abbrev pub may_live : Places → List Bool → ℕ → Bool
 may_live board set h = not (is_officer_home h && is_dead board set h)
+
+-- so many pawns, and as many officers of each kind as are counted
+abbrev pub with_pawns : ℕ → Counts → Allowance
+with_pawns p n = record { pawns = p; knights = n.knights; light_bishops = n.light_bishops; dark_bishops = n.dark_bishops; rooks = n.rooks; queens = n.queens }

@@ -25,7 +25,7 @@ HasNoPromoLine q side = (set : List Bool) → Supports q (Promo side set) → �
 abbrev pub HasNoCapsLine : Asked → Colour → Type 0
 HasNoCapsLine q side = (set : List Bool) (p : Duals) → Supports q (Caps side set p) → ⊥
 
--- nor any that asks for a set which is frozen and as in the array
+-- nor any that asks for a set which is frozen and as in the array at the query's odds
 pub record HasNoSettledLine (q : Asked) : Type 0 where
   pub promo : (side : Colour) → HasNoPromoLine q side
   pub caps : (side : Colour) → HasNoCapsLine q side

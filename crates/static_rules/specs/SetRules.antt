@@ -7,13 +7,13 @@ use Rattle.cage_rules.specs.Frozen.{IsAsArray, IsFrozen}
 use Rattle.cage_rules.specs.Refuted.{HasTooMany, NeedTooMany}
 use Rattle.pawn_assign.specs.PawnCosts.{pawn_squares}
 
--- a set of squares, which is frozen and isn't as in the array
+-- a set of squares, which is frozen and isn't as in the array without the men on the squares of o
 pub record FrozenSupports (o : List Bool) (q : Asked) (set : List Bool) : Type 0 where
   pub whole : length set ≡ 64
   pub frozen : IsFrozen q set
   pub changed : IsAsArray o q.board set → ⊥
 
--- a set of squares, which is frozen and as in the array
+-- a set of squares, which is frozen and as in the array without the men on the squares of o
 pub record IsSettled (o : List Bool) (q : Asked) (set : List Bool) : Type 0 where
   pub whole : length set ≡ 64
   pub frozen : IsFrozen q set

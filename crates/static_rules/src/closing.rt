@@ -9,7 +9,7 @@ ghost use Rattle.static_rules.specs.Supports.{IsClosed, Supports};
 use crate::rules::supports;
 use crate::set_rules::{best_potentials, has_more, is_above, is_whole};
 use crate::stayed::{has_few, needs_few};
-use board_base::{Colour, Odds, SquareSet};
+use board_base::{Colour, SquareSet};
 use cage_rules::{as_array, greatest_frozen};
 use query_base::{Query, RuleLine};
 
@@ -44,7 +44,7 @@ fn simple_line(query: &Query) -> Option<RuleLine>
 
 /// A rule line on promoted men of this side that supports the query. Most queries are told by the men who stand where they began.
 fn promo_line(query: &Query, side: Colour, settled: SquareSet) -> Option<RuleLine>
-    requires { IsGreatestSettled query.now settled }
+    requires { IsGreatestSettled query.now.odds query.now settled }
     ensures { MatchOption result (HasNoPromoLine query.now side) (λ rule. Supports query.now rule) }
 {
     if has_few(query, side) {
@@ -59,13 +59,13 @@ fn promo_line(query: &Query, side: Colour, settled: SquareSet) -> Option<RuleLin
 
 /// A rule line on captures by pawns of this side that supports the query. Most queries are told by the number of enemy men.
 fn caps_line(query: &Query, side: Colour, settled: SquareSet) -> Option<RuleLine>
-    requires { IsGreatestSettled query.now settled }
+    requires { IsGreatestSettled query.now.odds query.now settled }
     ensures { MatchOption result (HasNoCapsLine query.now side) (λ rule. Supports query.now rule) }
 {
     if needs_few(query, side, settled) {
         return None;
     }
-    let p = best_potentials(&query.board, side);
+    let p = best_potentials(&query.board, side, query.odds);
     if is_above(query, side, settled, &p) {
         Some(RuleLine::Caps(side, settled, p))
     } else {
@@ -73,9 +73,10 @@ fn caps_line(query: &Query, side: Colour, settled: SquareSet) -> Option<RuleLine
     }
 }
 
-/// A rule line on a set that is frozen and as in the array that supports the query, where the greatest of these sets is known.
+/// A rule line on a set that is frozen and as in the array at the query's odds that supports the query, where the greatest of these sets
+/// is known.
 fn settled_line(query: &Query, settled: SquareSet) -> Option<RuleLine>
-    requires { IsGreatestSettled query.now settled }
+    requires { IsGreatestSettled query.now.odds query.now settled }
     ensures { MatchOption result (HasNoSettledLine query.now) (λ rule. Supports query.now rule) }
 {
     if let Some(rule) = promo_line(query, Colour::White, settled) {
@@ -90,14 +91,14 @@ fn settled_line(query: &Query, settled: SquareSet) -> Option<RuleLine>
     caps_line(query, Colour::Black, settled)
 }
 
-/// A rule line on a set that supports the query. Where the greatest frozen set is as in the array, it is the greatest of those that
-/// are, which decides the other rules.
+/// A rule line on a set that supports the query. Where the greatest frozen set is as in the array at the query's odds, it is the
+/// greatest of those that are, which decides the other rules.
 fn set_line(query: &Query) -> Option<RuleLine>
     ensures { MatchOption result (HasNoFrozenLine query.now × HasNoSettledLine query.now) (λ rule. Supports query.now rule) }
 {
     let set = greatest_frozen(query);
     is_whole(set);
-    if as_array(&query.board, set, Odds::none()) {
+    if as_array(&query.board, set, query.odds) {
         settled_line(query, set)
     } else {
         Some(RuleLine::Frozen(set))

@@ -1,33 +1,14 @@
 ghost use Rattle.std.specs.Prelude.{◌≡◌, ◌+◌, ◌<◌, ◌≤◌, cond, not, None};
-ghost use Rattle.board_base.specs.Board.{array_of, at, is_of, no_odds};
+ghost use Rattle.board_base.specs.Board.{array_of, at, is_of};
 ghost use Rattle.men_account.specs.Account.{is_any, allowance_of};
 ghost use Rattle.men_account.specs.Homes.{men_of};
 ghost use Rattle.cage_rules.specs.Refuted.{is_spent};
-ghost use Rattle.cage_rules.specs.Regions.{beginner, is_dead, is_officer_home};
-ghost use Rattle.static_rules.specs.Left.{left_with, may_live};
+ghost use Rattle.cage_rules.specs.Regions.{is_dead};
+ghost use Rattle.static_rules.specs.Left.{left_with, may_live, with_pawns};
 
-use board_base::{Board, Colour, Kind, Man, Odds, Square, SquareSet, is_a, is_of};
-use cage_rules::{is_dead, is_shielded};
-use men_account::{Allowance, allowance, counts};
-
-/// The man who begins on this square (article 2.3).
-#[tactic(auto, unfolding(cage_rules::specs::Regions::beginner))]
-fn beginner(home: Square) -> Option<Man>
-    ensures { result ≡ beginner home }
-{
-    Board::array().at(home)
-}
-
-/// Whether a knight, a bishop, a rook or a queen begins on the square.
-pub(crate) fn is_officer_home(home: Square) -> bool
-    ensures { result ≡ is_officer_home home }
-{
-    let place = beginner(home);
-    is_a(Kind::Knight, place)
-        || is_a(Kind::Bishop, place)
-        || is_a(Kind::Rook, place)
-        || is_a(Kind::Queen, place)
-}
+use board_base::{Board, Colour, Man, Odds, Square, SquareSet, array_of, is_of};
+use cage_rules::{is_dead, is_officer_home, is_shielded};
+use men_account::{Allowance, Counts, allowance, counts};
 
 fn may_live(board: &Board, set: SquareSet, s: Square) -> bool
     ensures { result ≡ may_live board.now set s }
@@ -41,63 +22,71 @@ fn is_spent(board: &Board, set: SquareSet, s: Square) -> bool
     is_officer_home(s) && is_dead(board, set, s) && is_shielded(set, s)
 }
 
-fn living_at(board: &Board, set: SquareSet, s: Square) -> Option<Man>
-    ensures { result ≡ cond (may_live board.now set s) (at (array_of no_odds) s) None }
+fn living_at(first: &Board, board: &Board, set: SquareSet, s: Square) -> Option<Man>
+    ensures { result ≡ cond (may_live board.now set s) (at first.now s) None }
 {
     if may_live(board, set, s) {
-        Board::array().at(s)
+        first.at(s)
     } else {
         None
     }
 }
 
-fn spent_at(board: &Board, set: SquareSet, s: Square) -> Option<Man>
-    ensures { result ≡ cond (is_spent board.now set s) (at (array_of no_odds) s) None }
+fn spent_at(first: &Board, board: &Board, set: SquareSet, s: Square) -> Option<Man>
+    ensures { result ≡ cond (is_spent board.now set s) (at first.now s) None }
 {
     if is_spent(board, set, s) {
-        Board::array().at(s)
+        first.at(s)
     } else {
         None
     }
 }
 
-/// The array without the men of the homes that are dead.
-fn living(board: &Board, set: SquareSet) -> Board
-    ensures { result ≡ left_with (may_live board.now set) (array_of no_odds) }
+/// The first board without the men of the homes that are dead.
+fn living(first: &Board, board: &Board, set: SquareSet) -> Board
+    ensures { result ≡ left_with (may_live board.now set) first.now }
 {
     let mut left = Board::empty();
     for i in 0..64 {
         let s = Square::known(i);
-        left.put(s, living_at(board, set, s));
+        left.put(s, living_at(first, board, set, s));
     }
     left
 }
 
-/// The array's men of the homes that are dead and shielded.
-fn spent(board: &Board, set: SquareSet) -> Board
-    ensures { result ≡ left_with (is_spent board.now set) (array_of no_odds) }
+/// The first board's men of the homes that are dead and shielded.
+fn spent(first: &Board, board: &Board, set: SquareSet) -> Board
+    ensures { result ≡ left_with (is_spent board.now set) first.now }
 {
     let mut left = Board::empty();
     for i in 0..64 {
         let s = Square::known(i);
-        left.put(s, spent_at(board, set, s));
+        left.put(s, spent_at(first, board, set, s));
     }
     left
 }
 
-/// The pawns with which a side begins, and the officers with which it begins on homes that aren't dead.
-pub(crate) fn living_allowance(board: &Board, set: SquareSet, side: Colour) -> Allowance
-    ensures { result ≡ allowance_of side (λ h. not (is_dead board.now set h)) (array_of no_odds) }
+/// So many pawns, and as many officers of each kind as are counted.
+pub(crate) fn with_pawns(pawns: u8, n: &Counts) -> Allowance
+    ensures { result ≡ with_pawns pawns n.now }
 {
-    let n = counts(&living(board, set), side);
     Allowance {
-        pawns: allowance(side, Odds::none()).pawns,
+        pawns,
         knights: n.knights,
         light_bishops: n.light_bishops,
         dark_bishops: n.dark_bishops,
         rooks: n.rooks,
         queens: n.queens,
     }
+}
+
+/// The pawns with which a side begins at these odds, and the officers with which it begins on homes that aren't dead. Homes whose men
+/// are left out aren't counted.
+pub(crate) fn living_allowance(board: &Board, set: SquareSet, side: Colour, odds: Odds) -> Allowance
+    ensures { result ≡ allowance_of side (λ h. not (is_dead board.now set h)) (array_of odds) }
+{
+    let n = counts(&living(&array_of(odds), board, set), side);
+    with_pawns(allowance(side, odds).pawns, &n)
 }
 
 fn with_place(so_far: u8, side: Colour, place: Option<Man>) -> u8
@@ -123,10 +112,21 @@ pub(crate) fn men_of(board: &Board, side: Colour) -> u8
     n
 }
 
-/// How many homes of a side's officers are dead and shielded.
-pub(crate) fn spent_of(board: &Board, set: SquareSet, side: Colour) -> u8
-    ensures number { result ≡ men_of side (is_spent board.now set) (array_of no_odds) }
+/// With how many men a side begins at these odds.
+pub(crate) fn begun_with(side: Colour, odds: Odds) -> u8
+    ensures number { result ≡ men_of side is_any (array_of odds) }
     ensures few { result ≤ 64 }
 {
-    men_of(&spent(board, set), side)
+    if odds.is_none() {
+        return 16;
+    }
+    men_of(&array_of(odds), side)
+}
+
+/// How many homes of a side's officers are dead and shielded, of those whose men stand on the first board.
+pub(crate) fn spent_of(first: &Board, board: &Board, set: SquareSet, side: Colour) -> u8
+    ensures number { result ≡ men_of side (is_spent board.now set) first.now }
+    ensures few { result ≤ 64 }
+{
+    men_of(&spent(first, board, set), side)
 }

@@ -1,5 +1,4 @@
 ghost use Rattle.std.specs.Prelude.{◌≡◌, ◌↔◌, ◌+◌, length, IsTrue, List, pos, ◌+ℤ◌, ◌<ℤ◌};
-ghost use Rattle.board_base.specs.Board.{array_of, no_odds};
 ghost use Rattle.board_base.specs.Potentials.{ArePotentials};
 ghost use Rattle.board_base.specs.declared.moves.Move.{Move};
 ghost use Rattle.men_account.specs.Account.{is_any};
@@ -10,7 +9,7 @@ ghost use Rattle.static_rules.specs.SetRules.{CapsSupports, FrozenSupports, IsAb
 ghost use Rattle.static_rules.specs.Greatest.{AreBest};
 
 use crate::living_homes::{living_allowance, men_of, spent_of};
-use board_base::{Board, Colour, Odds, Potentials, Square, SquareSet};
+use board_base::{Board, Colour, Odds, Potentials, Square, SquareSet, array_of};
 use cage_rules::{as_array, is_frozen};
 use men_account::{counts, excess};
 use pawn_assign::{bound, costs, least};
@@ -31,69 +30,68 @@ pub(crate) fn are_potentials(p: &Potentials)
 }
 
 fn is_changed(query: &Query, set: SquareSet) -> bool
-    ensures { IsTrue result ↔ FrozenSupports no_odds query.now set }
+    ensures { IsTrue result ↔ FrozenSupports query.now.odds query.now set }
 {
     is_whole(set);
-    is_frozen(query, set) && !as_array(&query.board, set, Odds::none())
+    is_frozen(query, set) && !as_array(&query.board, set, query.odds)
 }
 
 /// Whether the rule on frozen sets supports the query. Where it does, no game of any length reaches the query.
 pub(crate) fn frozen_supports(query: &Query, set: SquareSet) -> bool
-    ensures answer { IsTrue result ↔ FrozenSupports no_odds query.now set }
+    ensures answer { IsTrue result ↔ FrozenSupports query.now.odds query.now set }
     ensures unreached { IsTrue result → (g : List Move) → Reaches g query.now → ⊥ }
 {
     is_changed(query, set)
 }
 
 fn is_settled(query: &Query, set: SquareSet) -> bool
-    ensures { IsTrue result ↔ IsSettled no_odds query.now set }
+    ensures { IsTrue result ↔ IsSettled query.now.odds query.now set }
 {
     is_whole(set);
-    is_frozen(query, set) && as_array(&query.board, set, Odds::none())
+    is_frozen(query, set) && as_array(&query.board, set, query.odds)
 }
 
-/// Whether the side's pawns, and its officers of each kind above its homes of the kind that aren't dead, are more than the eight pawns
-/// with which it began.
+/// Whether the side's pawns, and its officers of each kind above its homes of the kind that aren't dead, are more than the pawns with
+/// which it began. Homes whose men are left out aren't counted.
 pub(crate) fn has_more(query: &Query, side: Colour, set: SquareSet) -> bool
-    ensures { IsTrue result ↔ HasTooMany no_odds query.now set side }
+    ensures { IsTrue result ↔ HasTooMany query.now.odds query.now set side }
 {
-    excess(
-        &counts(&query.board, side),
-        &living_allowance(&query.board, set, side),
-    ) > 8
+    let allowed = living_allowance(&query.board, set, side, query.odds);
+    excess(&counts(&query.board, side), &allowed) > allowed.pawns as u16
 }
 
 fn promo_holds(query: &Query, side: Colour, set: SquareSet) -> bool
-    ensures { IsTrue result ↔ PromoSupports no_odds query.now side set }
+    ensures { IsTrue result ↔ PromoSupports query.now.odds query.now side set }
 {
     is_settled(query, set) && has_more(query, side, set)
 }
 
 /// Whether the rule on promoted men supports the query. Where it does, no game of any length reaches the query.
 pub(crate) fn promo_supports(query: &Query, side: Colour, set: SquareSet) -> bool
-    ensures answer { IsTrue result ↔ PromoSupports no_odds query.now side set }
+    ensures answer { IsTrue result ↔ PromoSupports query.now.odds query.now side set }
     ensures unreached { IsTrue result → (g : List Move) → Reaches g query.now → ⊥ }
 {
     promo_holds(query, side, set)
 }
 
-/// Whether a sum is above the side's 16 men, less those on the board, less those of its homes that are dead and shielded.
-fn is_over(board: &Board, side: Colour, set: SquareSet, sum: i32) -> bool
-    ensures { IsTrue result ↔ (pos 16 <ℤ (sum +ℤ pos (men_of side is_any board.now + men_of side (is_spent board.now set) (array_of no_odds)))) }
+/// Whether a sum is above the side's men on the first board, less those on the board, less those of its homes that are dead and shielded.
+fn is_over(first: &Board, board: &Board, side: Colour, set: SquareSet, sum: i32) -> bool
+    ensures { IsTrue result ↔ (pos (men_of side is_any first.now) <ℤ (sum +ℤ pos (men_of side is_any board.now + men_of side (is_spent board.now set) first.now))) }
 {
+    let begun = men_of(first, side) as i32;
     let on_board = men_of(board, side) as i32;
-    let lost = spent_of(board, set, side) as i32;
-    sum > 16 - on_board - lost
+    let lost = spent_of(first, board, set, side) as i32;
+    sum > begun - on_board - lost
 }
 
-/// Whether the potentials are bounded by the costs of the side's pawns, and their sum is above the other side's men, less those on the
-/// board, less those of its homes that are dead and shielded.
+/// Whether the potentials are bounded by the costs of the side's pawns, and their sum is above the men with which the other side begins,
+/// less those on the board, less those of its homes that are dead and shielded.
 pub(crate) fn is_above(query: &Query, side: Colour, set: SquareSet, p: &Potentials) -> bool
-    ensures { IsTrue result ↔ IsAbove no_odds query.now side set p.now.u p.now.v }
+    ensures { IsTrue result ↔ IsAbove query.now.odds query.now side set p.now.u p.now.v }
 {
-    match costs(&query.board, side, Odds::none()) {
+    match costs(&query.board, side, query.odds) {
         Some(costs) => match bound(&costs, p) {
-            Some(sum) => is_over(&query.board, side.other(), set, sum),
+            Some(sum) => is_over(&array_of(query.odds), &query.board, side.other(), set, sum),
             None => false,
         },
         None => false,
@@ -101,11 +99,11 @@ pub(crate) fn is_above(query: &Query, side: Colour, set: SquareSet, p: &Potentia
 }
 
 /// Potentials of the side's pawns with the greatest sum that their costs bound.
-pub(crate) fn best_potentials(board: &Board, side: Colour) -> Potentials
-    ensures best { AreBest side board.now result.u result.v }
+pub(crate) fn best_potentials(board: &Board, side: Colour, odds: Odds) -> Potentials
+    ensures best { AreBest odds side board.now result.u result.v }
     ensures known { ArePotentials result }
 {
-    match costs(board, side, Odds::none()) {
+    match costs(board, side, odds) {
         Some(costs) => {
             let p = least(&costs).potentials;
             are_potentials(&p);
@@ -120,7 +118,7 @@ pub(crate) fn best_potentials(board: &Board, side: Colour) -> Potentials
 }
 
 fn caps_holds(query: &Query, side: Colour, set: SquareSet, p: &Potentials) -> bool
-    ensures { IsTrue result ↔ CapsSupports no_odds query.now side set p.now.u p.now.v }
+    ensures { IsTrue result ↔ CapsSupports query.now.odds query.now side set p.now.u p.now.v }
 {
     are_potentials(p);
     is_settled(query, set) && is_above(query, side, set, p)
@@ -128,7 +126,7 @@ fn caps_holds(query: &Query, side: Colour, set: SquareSet, p: &Potentials) -> bo
 
 /// Whether the rule on captures by pawns supports the query. Where it does, no game of any length reaches the query.
 pub(crate) fn caps_supports(query: &Query, side: Colour, set: SquareSet, p: &Potentials) -> bool
-    ensures answer { IsTrue result ↔ CapsSupports no_odds query.now side set p.now.u p.now.v }
+    ensures answer { IsTrue result ↔ CapsSupports query.now.odds query.now side set p.now.u p.now.v }
     ensures unreached { IsTrue result → (g : List Move) → Reaches g query.now → ⊥ }
 {
     caps_holds(query, side, set, p)

@@ -57,7 +57,7 @@ answer-same board c m captured true = ap (λ (b : Bool). is_a Pawn (at board m.f
 
 -- the state before an unmove's move: every castling is allowed, and the double step that it answers has just been made
 abbrev pub state_before : Places → Colour → Rights → Unmove → Position
-state_before board c rights u = record { board = board; turn = c; rights = rights; ep = cond u.ep (Some u.mv.to) None }
+state_before board c rights u = record { board = board; turn = c; rights = rights; ep = cond u.ep (Some u.mv.to) None; clock = 0 }
 
 pub legal-before : (board : Places) (c : Colour) (rights : Rights) (u : Unmove) → ((x : Castle) → holds rights x ≡ true) → legal_at (state_before board c rights u) u.mv ≡ is_legal_before board c u
 legal-before board c rights u all = legal-exchanged board c (holds rights) every_right (step_over (cond u.ep (Some u.mv.to) None) c) (answered u c) u.mv (λ x e. all x) (answer-same board c u.mv u.captured u.ep)

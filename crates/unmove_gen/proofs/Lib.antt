@@ -22,6 +22,8 @@ pub mod Between
 pub mod PutCounts
 pub mod PlainListed
 pub mod PlainAnswers
+pub mod Clocked
+pub mod ClockAnswers
 pub mod Comes
 pub mod OneKing
 pub mod Bits

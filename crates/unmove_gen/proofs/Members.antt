@@ -84,7 +84,7 @@ length-back board u =
     ∙ length-set (set home u.mv.to None) u.mv.from man ∙ length-set home u.mv.to None ∙ length-rook_back (castling_back board u.mv) board
 
 -- what was captured stands on its square again
-at-capture : (board : Places) (u : Unmove) → capture_square u < length board → at (taken_back board u) (capture_square u) ≡ captured_by (at board u.mv.to) u.captured
+pub at-capture : (board : Places) (u : Unmove) → capture_square u < length board → at (taken_back board u) (capture_square u) ≡ captured_by (at board u.mv.to) u.captured
 unfolding taken_back
 at-capture board u inside =
     let home : Places = rook_back (castling_back board u.mv) board in

@@ -1,8 +1,8 @@
 -- Which moves are listed that may be taken back by hand.
-use Rattle.std.proofs.Common.{◌≡◌, ℕ, ◌+◌, ◌<◌, ◌==◌, Bool, true, false, ◌&&◌, ◌||◌, ◌⊎◌, not, length, inl, inr, refl, ap, sym, ◌∙◌, subst, arith}
+use Rattle.std.proofs.Common.{◌≡◌, ℕ, ◌+◌, ◌<◌, ◌==◌, Bool, true, false, ◌&&◌, ◌||◌, ◌⊎◌, not, List, length, inl, inr, refl, ap, sym, ◌∙◌, subst, arith}
 use Rattle.std.proofs.lemmas.Bool.{and_parts, and_from, and_left, and_right, both_ways, cases_eq, eq-eqb, false_from_ne_true, lt-ltb, not-true, not_from_false, or_cases, or_left, or_right}
 use Rattle.std.specs.Prelude.{Option, Some, None}
-use Rattle.board_base.specs.Board.{Places, at, is_a, is_empty, is_of, is_the, opponent, same_colour, no_odds}
+use Rattle.board_base.specs.Board.{Places, at, is_a, is_empty, is_of, is_the, opponent, same_colour}
 use Rattle.board_base.specs.Attacks.{attacks, attacks_from}
 use Rattle.board_base.specs.Play.{castling, goes_en_passant, play}
 use Rattle.board_base.specs.Legal.{castles_as, in_check, king_castles, legal_on, man_moves, may_go, pawn_captures, pawn_doubles, pawn_steps, promotion_fits}
@@ -24,7 +24,7 @@ use Rattle.play_rules.specs.Laws.{HasNoPawnOnEnds, has_no_pawn_on_ends, is_end}
 use Rattle.play_rules.proofs.Legality.{Manner, moves, steps, doubles, takes, passes, castles, Legality, legality}
 use Rattle.play_rules.proofs.NoPawns.{answers_law}
 use Rattle.query_base.specs.Asked.{Asked}
-use Rattle.unmove_gen.specs.Listed.{before, every_right, fits_ends, is_legal_before, is_listed, is_marked, leads_here, mover, obeys, same_places, taking}
+use Rattle.unmove_gen.specs.Listed.{before, every_right, fits_ends, is_legal_before, is_retraction, is_marked, leads_here, mover, obeys, same_places, taking}
 use Rattle.unmove_gen.specs.Plain.{AreFacts, IsPlain, goes_plainly, put_back}
 use Rattle.unmove_gen.specs.Sane.{is_sane}
 use Rattle.unmove_gen.specs.TakenBack.{captured_by}
@@ -72,16 +72,16 @@ manner-plain board c m none (castles h) =
 
 -- the test of the list, on this board before the move
 tested : Asked → Unmove → Places → Bool
-tested q u board = fits_ends q u && obeys q u.mv && is_marked board (mover q) u && is_legal_before board (mover q) u && leads_here board q u.mv && is_sane board (mover q)
+tested q u board = fits_ends q u && obeys q u.mv && is_marked board (mover q) u && is_legal_before board (mover q) u && leads_here board q u.mv && is_sane q.odds board (mover q)
 
-as-tested : (q : Asked) (u : Unmove) → is_listed q u ≡ tested q u (before q u)
-unfolding is_listed tested
+as-tested : (q : Asked) (u : Unmove) → is_retraction q u ≡ tested q u (before q u)
+unfolding is_retraction tested
 as-tested q u = refl
 
 no-passing : (board : Places) (c : Colour) (m : Move) → castling board m ≡ None → goes_plainly board c m ≡ true → goes_en_passant board m ≡ false
 no-passing board c m none goes = false_from_ne_true _ (λ t. both_ways _ (none-answers board c m) (goes-captures board c every_right None m none t (plain-manner board c m goes)))
 
-listed-as : (q : Asked) (m : Move) (captured : Option Kind) (taken : Option Man) → taken ≡ captured_by (at q.board m.to) captured → IsPlain q.board (mover q) m → obeys q m ≡ true → in_check q.board (mover q) ≡ false → IsTaken (mover q) taken → tested q (taking m captured) (put_back q.board m taken) ≡ (goes_plainly (put_back q.board m taken) (mover q) m && is_sane (put_back q.board m taken) (mover q))
+listed-as : (q : Asked) (m : Move) (captured : Option Kind) (taken : Option Man) → taken ≡ captured_by (at q.board m.to) captured → IsPlain q.board (mover q) m → obeys q m ≡ true → in_check q.board (mover q) ≡ false → IsTaken (mover q) taken → tested q (taking m captured) (put_back q.board m taken) ≡ (goes_plainly (put_back q.board m taken) (mover q) m && is_sane q.odds (put_back q.board m taken) (mover q))
 unfolding tested legal_on may_go
 listed-as q m captured taken is p asked safe k =
     let c : Colour = mover q in
@@ -133,16 +133,16 @@ and-yes : (b : Bool) → ((b && true) && true) ≡ b
 and-yes true = refl
 and-yes false = refl
 
-sane-as : (board : Places) (c : Colour) → ((d : Colour) → kings d board ≡ 1) → accounts_for no_odds board c ≡ true → is_sane board c ≡ (accounts_for no_odds board (opponent c) && has_no_pawn_on_ends board && not (in_check board (opponent c)))
+sane-as : (o : List Bool) (board : Places) (c : Colour) → ((d : Colour) → kings d board ≡ 1) → accounts_for o board c ≡ true → is_sane o board c ≡ (accounts_for o board (opponent c) && has_no_pawn_on_ends board && not (in_check board (opponent c)))
 unfolding is_sane
-sane-as board White one own = rw (eq-eqb _ 1 (one White), eq-eqb _ 1 (one Black), own) refl
-sane-as board Black one own =
+sane-as o board White one own = rw (eq-eqb _ 1 (one White), eq-eqb _ 1 (one Black), own) refl
+sane-as o board Black one own =
     let w : (kings White board == 1) ≡ true = eq-eqb _ 1 (one White) in
     let b : (kings Black board == 1) ≡ true = eq-eqb _ 1 (one Black) in
-    ap (λ (x : Bool). x && accounts_for no_odds board White && (kings Black board == 1) && accounts_for no_odds board Black && has_no_pawn_on_ends board && not (in_check board White)) w
-    ∙ ap (λ (x : Bool). accounts_for no_odds board White && x && accounts_for no_odds board Black && has_no_pawn_on_ends board && not (in_check board White)) b
-    ∙ ap (λ (x : Bool). accounts_for no_odds board White && true && x && has_no_pawn_on_ends board && not (in_check board White)) own
-    ∙ ap (λ (x : Bool). x && has_no_pawn_on_ends board && not (in_check board White)) (and-yes (accounts_for no_odds board White))
+    ap (λ (x : Bool). x && accounts_for o board White && (kings Black board == 1) && accounts_for o board Black && has_no_pawn_on_ends board && not (in_check board White)) w
+    ∙ ap (λ (x : Bool). accounts_for o board White && x && accounts_for o board Black && has_no_pawn_on_ends board && not (in_check board White)) b
+    ∙ ap (λ (x : Bool). accounts_for o board White && true && x && has_no_pawn_on_ends board && not (in_check board White)) own
+    ∙ ap (λ (x : Bool). x && has_no_pawn_on_ends board && not (in_check board White)) (and-yes (accounts_for o board White))
 
 pub other-colour : (c : Colour) (place : Option Man) → is_of (opponent c) place ≡ true → is_of c place ≡ false
 other-colour c None h = refl
@@ -201,20 +201,20 @@ bishop-goes board c m goes bishop =
     ]
 
 -- the board before is sane where the account of the side to move holds, no pawn comes to an end, and its king isn't attacked
-sane-plain : (q : Asked) (f : QueryFacts) (m : Move) (taken : Option Man) → AreFacts q f → IsPlain q.board (mover q) m → IsTaken (mover q) taken → goes_plainly (put_back q.board m taken) (mover q) m ≡ true → is_sane (put_back q.board m taken) (mover q) ≡ (accounts_for no_odds (put_back q.board m taken) q.turn && (not (is_a Pawn (at q.board m.to) && is_end m.from) && not (is_a Pawn taken && is_end m.to)) && not (attacks (put_back q.board m taken) f.king (mover q)))
+sane-plain : (q : Asked) (f : QueryFacts) (m : Move) (taken : Option Man) → AreFacts q f → IsPlain q.board (mover q) m → IsTaken (mover q) taken → goes_plainly (put_back q.board m taken) (mover q) m ≡ true → is_sane q.odds (put_back q.board m taken) (mover q) ≡ (accounts_for q.odds (put_back q.board m taken) q.turn && (not (is_a Pawn (at q.board m.to) && is_end m.from) && not (is_a Pawn taken && is_end m.to)) && not (attacks (put_back q.board m taken) f.king (mover q)))
 sane-plain q f m taken n p k goes =
     let c : Colour = mover q in
     let board : Places = put_back q.board m taken in
     let light : is_a Bishop (at q.board m.to) ≡ true → is_light m.to ≡ is_light m.from = λ bishop. sym (bishop-goes board c m goes (ap (is_a Bishop) (at-origin q.board c m taken p) ∙ bishop)) in
-    let own : accounts_for no_odds board c ≡ true = account-own c q.board m taken p k.not_own light ∙ n.own in
+    let own : accounts_for q.odds board c ≡ true = account-own q.odds c q.board m taken p k.not_own light ∙ n.own in
     let turn : opponent c ≡ q.turn = opponent-twice q.turn in
-    sane-as board c (kings-stay q f m taken n p k) own
-    ∙ ap (λ (d : Colour). accounts_for no_odds board d && has_no_pawn_on_ends board && not (in_check board d)) turn
-    ∙ ap (λ (b : Bool). accounts_for no_odds board q.turn && b && not (in_check board q.turn)) (ends-put q.board c m taken p n.ends)
-    ∙ ap (λ (b : Bool). accounts_for no_odds board q.turn && (not (is_a Pawn (at q.board m.to) && is_end m.from) && not (is_a Pawn taken && is_end m.to)) && not b) (check-is board q.turn f.king n.on_board (king-stays q f m taken n p k))
+    sane-as q.odds board c (kings-stay q f m taken n p k) own
+    ∙ ap (λ (d : Colour). accounts_for q.odds board d && has_no_pawn_on_ends board && not (in_check board d)) turn
+    ∙ ap (λ (b : Bool). accounts_for q.odds board q.turn && b && not (in_check board q.turn)) (ends-put q.board c m taken p n.ends)
+    ∙ ap (λ (b : Bool). accounts_for q.odds board q.turn && (not (is_a Pawn (at q.board m.to) && is_end m.from) && not (is_a Pawn taken && is_end m.to)) && not b) (check-is board q.turn f.king n.on_board (king-stays q f m taken n p k))
 
 -- a plain unmove is listed where its man goes so, and the board before is sane
-pub listed-plain : (q : Asked) (f : QueryFacts) (m : Move) (captured : Option Kind) (taken : Option Man) → taken ≡ captured_by (at q.board m.to) captured → AreFacts q f → IsPlain q.board (mover q) m → obeys q m ≡ true → IsTaken (mover q) taken → is_listed q (taking m captured) ≡ (goes_plainly (put_back q.board m taken) (mover q) m && (accounts_for no_odds (put_back q.board m taken) q.turn && (not (is_a Pawn (at q.board m.to) && is_end m.from) && not (is_a Pawn taken && is_end m.to)) && not (attacks (put_back q.board m taken) f.king (mover q))))
+pub listed-plain : (q : Asked) (f : QueryFacts) (m : Move) (captured : Option Kind) (taken : Option Man) → taken ≡ captured_by (at q.board m.to) captured → AreFacts q f → IsPlain q.board (mover q) m → obeys q m ≡ true → IsTaken (mover q) taken → is_retraction q (taking m captured) ≡ (goes_plainly (put_back q.board m taken) (mover q) m && (accounts_for q.odds (put_back q.board m taken) q.turn && (not (is_a Pawn (at q.board m.to) && is_end m.from) && not (is_a Pawn taken && is_end m.to)) && not (attacks (put_back q.board m taken) f.king (mover q))))
 listed-plain q f m captured taken is n p asked k =
     as-tested q (taking m captured)
     ∙ ap (tested q (taking m captured)) (before-is q.board (mover q) m captured p ∙ ap (put_back q.board m) (sym is))

@@ -4,8 +4,7 @@ use Rattle.std.proofs.lemmas.Bool.{and_from, not_from_false, eq-eqb}
 use Rattle.std.proofs.lemmas.List.Sums.{sum_by-cons}
 use Rattle.std.specs.Prelude.{Option, None}
 use Rattle.std.specs.List.{count_by, range_with_len}
-use Rattle.board_base.proofs.Without.{are-no-odds}
-use Rattle.board_base.specs.Board.{Places, at, is_the, no_odds}
+use Rattle.board_base.specs.Board.{AreOdds, Places, at, is_the}
 use Rattle.board_base.specs.Game.{IsGame, board_after, turn_after}
 use Rattle.board_base.specs.declared.men.Man.{Man}
 use Rattle.board_base.specs.declared.men.Colour.{Colour}
@@ -43,10 +42,10 @@ men-kings c board len =
     ap (λ (n : ℕ). count_by (λ s. is_the c King (at board s) && is_any s) (range_with_len 0 n)) (sym len)
     ∙ count-places (is_the c King) (λ s. is_the c King (at board s) && is_any s) board 0 (λ i inside. let e : 0 + i ≡ i = omega arith in ap (λ (s : ℕ). is_the c King (at board s) && true) e ∙ and-true _)
 
-one-king : (g : List Move) → IsGame no_odds g → (c : Colour) → has_one_king (board_after no_odds g) c ≡ true
-one-king g game c = eq-eqb _ 1 (one_king_each no_odds g are-no-odds game c)
+one-king : (o : List Bool) (g : List Move) → AreOdds o → IsGame o g → (c : Colour) → has_one_king (board_after o g) c ≡ true
+one-king o g odds game c = eq-eqb _ 1 (one_king_each o g odds game c)
 
-pub sane-in-game : (g : List Move) → IsGame no_odds g → is_sane (board_after no_odds g) (turn_after g) ≡ true
+pub sane-in-game : (o : List Bool) (g : List Move) → AreOdds o → IsGame o g → is_sane o (board_after o g) (turn_after g) ≡ true
 unfolding is_sane
-sane-in-game g game =
-    and_from _ _ (and_from _ _ (and_from _ _ (and_from _ _ (and_from _ _ (one-king g game White) (accounts_hold no_odds g game White)) (one-king g game Black)) (accounts_hold no_odds g game Black)) (no_pawns _ (no_pawn_on_ends no_odds g game))) (not_from_false _ (no_king_left_attacked no_odds g game))
+sane-in-game o g odds game =
+    and_from _ _ (and_from _ _ (and_from _ _ (and_from _ _ (and_from _ _ (one-king o g odds game White) (accounts_hold o g game White)) (one-king o g odds game Black)) (accounts_hold o g game Black)) (no_pawns _ (no_pawn_on_ends o g game))) (not_from_false _ (no_king_left_attacked o g game))

@@ -29,11 +29,11 @@ use Rattle.board_base.proofs.Ways.{near-open}
 use Rattle.play_rules.proofs.Kings.{castle-ends, length-carry, two-castles}
 use Rattle.play_rules.proofs.Legality.{Legality}
 use Rattle.query_base.specs.Asked.{Asked}
-use Rattle.unmove_gen.specs.Listed.{answered, before, every_right, is_listed, mover}
+use Rattle.unmove_gen.specs.Listed.{answered, before, every_right, is_listed, is_retraction, mover}
 use Rattle.unmove_gen.specs.Sane.{is_sane}
 use Rattle.unmove_gen.proofs.Castlings.{castle-there}
 use Rattle.unmove_gen.proofs.Members.{length-back}
-use Rattle.unmove_gen.proofs.Parts.{Parts, legality_of, parts}
+use Rattle.unmove_gen.proofs.Parts.{clocked, Parts, legality_of, parts}
 use Rattle.unmove_gen.proofs.PlainListed.{other-colour}
 
 -- a square after another was emptied
@@ -243,13 +243,13 @@ no-scene : (q : Asked) (u : Unmove) (s k : ℕ) (o : Option Castle) → castling
 no-scene q u s k None e w = both-stood q u s k None w e (king-apart q u s k w) (λ x z. cc) (λ x z. cc)
 no-scene q u s k (Some x) e w = castled-scene q u s k x w e
 
-sane-free : (board : Places) (c : Colour) → is_sane board c ≡ true → in_check board (opponent c) ≡ false
+sane-free : (o : List Bool) (board : Places) (c : Colour) → is_sane o board c ≡ true → in_check board (opponent c) ≡ false
 unfolding is_sane
-sane-free board c h = not-true _ (and_parts _ _ h).1
+sane-free o board c h = not-true _ (and_parts _ _ h).1
 
-listed-sane : (q : Asked) (u : Unmove) → is_listed q u ≡ true → is_sane (before q u) (mover q) ≡ true
-unfolding is_listed
-listed-sane q u h = (and_parts _ _ h).1
+listed-sane : (q : Asked) (u : Unmove) → is_listed q u ≡ true → is_sane q.odds (before q u) (mover q) ≡ true
+unfolding is_retraction
+listed-sane q u h = (and_parts _ _ (clocked q u h).0).1
 
 -- each man who checks from near stands on the target of each listed unmove
 pub near-came : (q : Asked) (u : Unmove) (s : ℕ) → length q.board ≡ 64 → is_listed q u ≡ true → s < 64 → is_near_checker q.board q.turn s ≡ true → s ≡ u.mv.to
@@ -262,7 +262,7 @@ near-came q u s whole h small near =
       | inr apart ↦ absurd (no-scene q u s w.number _ refl (record {
         listed = parts q u h;
         whole = length-back q.board u ∙ whole;
-        free = ap (in_check (before q u)) (sym (opponent-twice q.turn)) ∙ sane-free (before q u) (mover q) (listed-sane q u h);
+        free = ap (in_check (before q u)) (sym (opponent-twice q.turn)) ∙ sane-free q.odds (before q u) (mover q) (listed-sane q u h);
         small = small;
         inside = omega arith;
         check = checks-parts q.board q.turn s w.number w.passes;

@@ -1,5 +1,5 @@
 -- The unmoves of a query.
-use Rattle.std.specs.Prelude.{ℕ, Bool, true, false, cond, ◌&&◌, not, List, [], ◌∷◌, Option, Some, None}
+use Rattle.std.specs.Prelude.{ℕ, zero, suc, Bool, true, false, cond, ◌&&◌, ◌||◌, not, is_some, List, [], ◌∷◌, Option, Some, None}
 use Rattle.std.specs.List.{filter, flat_map, list_all, range_with_len}
 use Rattle.std.specs.Bool.{beq}
 use Rattle.board_base.specs.Board.{Places, at, is_empty, is_of, is_a, opponent, same_kind, same_colour}
@@ -115,10 +115,28 @@ is_legal_before board c u = legal_on board c every_right (answered u c) u.mv
 abbrev pub leads_here : Places → Asked → Move → Bool
 leads_here board q m = same_places (play board m) q.board
 
+-- its move may have been the last of a game that reaches the query, but for the clock
+unfoldable pub is_retraction : Asked → Unmove → Bool
+is_retraction q u =
+    fits_ends q u && obeys q u.mv && is_marked (before q u) (mover q) u && is_legal_before (before q u) (mover q) u && leads_here (before q u) q u.mv && is_sane q.odds (before q u) (mover q)
+
+-- Article 9.3: the move sets the clock to 0: a pawn made it, or it captured
+abbrev pub resets : Places → Unmove → Bool
+resets board u = is_a Pawn (at board u.mv.to) || is_some u.mv.promo || is_some u.captured || u.ep
+
+-- a clock of 0 comes after a move that sets it to 0, and a higher one after another
+abbrev pub allows : Option ℕ → Bool → Bool
+allows None reset = true
+allows (Some zero) reset = reset
+allows (Some (suc n)) reset = not reset
+
+-- the move meets the clock that is demanded, if one is
+abbrev pub obeys_clock : Asked → Unmove → Bool
+obeys_clock q u = allows q.clock (resets q.board u)
+
 -- the unmove is in the list of the query: its move may have been the last of a game that reaches it
 unfoldable pub is_listed : Asked → Unmove → Bool
-is_listed q u =
-    fits_ends q u && obeys q u.mv && is_marked (before q u) (mover q) u && is_legal_before (before q u) (mover q) u && leads_here (before q u) q u.mv && is_sane (before q u) (mover q)
+is_listed q u = is_retraction q u && obeys_clock q u
 
 -- the unmoves of the query
 unfoldable pub unmoves : Asked → List Unmove

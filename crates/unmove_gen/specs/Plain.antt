@@ -1,17 +1,18 @@
 -- Inner: no public clause cites this file.
 -- Moves that are no castling, no capture en passant and no promotion, taken back by hand.
-use Rattle.std.specs.Prelude.{ℕ, ◌≡◌, ◌<◌, Bool, true, false, cond, ◌&&◌, ◌||◌, not, ◌==◌, nat_lt, length, List, map, slice_set, Option, None}
-use Rattle.board_base.specs.Board.{Places, at, file, is_a, is_of, is_the, rank, no_odds}
+use Rattle.std.specs.Prelude.{ℕ, ◌≡◌, ◌<◌, Bool, true, false, cond, ◌&&◌, ◌||◌, not, ◌==◌, nat_lt, length, List, [], ◌∷◌, map, slice_set, Option, None}
+use Rattle.board_base.specs.Board.{Places, array_of, at, file, is_a, is_of, is_the, rank}
 use Rattle.board_base.specs.Attacks.{attacks, is_open, kind_attacks, one_ahead, ranks_apart}
 use Rattle.board_base.specs.Play.{castling_from}
 use Rattle.board_base.specs.Legal.{in_check, man_moves, pawn_captures, pawn_doubles, pawn_rank, pawn_steps, promotion_fits}
-use Rattle.men_account.specs.Account.{accounts_for, counts_of, excess_of, full_allowance, is_light}
+use Rattle.men_account.specs.Account.{accounts_for, allowance_of, counts_of, excess_of, is_any, is_light}
+use Rattle.men_account.specs.declared.tallies.Allowance.{Allowance}
 use Rattle.men_account.specs.declared.tallies.Counts.{Counts}
 use Rattle.unmove_gen.specs.declared.facts.QueryFacts.{QueryFacts}
 use Rattle.play_rules.specs.Kings.{HasOneKingEach}
 use Rattle.play_rules.specs.Laws.{HasNoPawnOnEnds, is_end}
 use Rattle.query_base.specs.Asked.{Asked}
-use Rattle.unmove_gen.specs.Listed.{is_listed, mover, unmoves_of}
+use Rattle.unmove_gen.specs.Listed.{is_listed, is_retraction, mover, unmoves_of}
 use Rattle.board_base.specs.declared.castles.Castle.{Castle}
 use Rattle.board_base.specs.declared.men.Colour.{Colour}
 use Rattle.board_base.specs.declared.men.Kind.{Kind}
@@ -55,20 +56,20 @@ abbrev pub king_goes : Places → Move → Option Castle
 king_goes board m = cond (is_a King (at board m.to)) (castling_from m.from m.to) None
 
 -- Articles 2.2 and 2.3: of a man of this kind, who would stand on this square, the side began with more than it has
-abbrev pub lacks : Counts → Kind → ℕ → Bool
-lacks n Pawn s = false
-lacks n Knight s = nat_lt n.knights 2
-lacks n Bishop s = cond (is_light s) (nat_lt n.light_bishops 1) (nat_lt n.dark_bishops 1)
-lacks n Rook s = nat_lt n.rooks 2
-lacks n Queen s = nat_lt n.queens 1
-lacks n King s = false
+abbrev pub lacks : Allowance → Counts → Kind → ℕ → Bool
+lacks a n Pawn s = false
+lacks a n Knight s = nat_lt n.knights a.knights
+lacks a n Bishop s = cond (is_light s) (nat_lt n.light_bishops a.light_bishops) (nat_lt n.dark_bishops a.dark_bishops)
+lacks a n Rook s = nat_lt n.rooks a.rooks
+lacks a n Queen s = nat_lt n.queens a.queens
+lacks a n King s = false
 
--- the side has room for one man more of this kind, on this square
-abbrev pub has_room : Counts → Kind → ℕ → Bool
-has_room n k s = nat_lt (excess_of n full_allowance) 8 || ((excess_of n full_allowance == 8) && lacks n k s)
+-- a side that began with so many men has room for one man more of this kind, on this square
+abbrev pub has_room : Allowance → Counts → Kind → ℕ → Bool
+has_room a n k s = nat_lt (excess_of n a) a.pawns || ((excess_of n a == a.pawns) && lacks a n k s)
 
 -- The facts are true of the query, whose board has one king each, no pawn on rank 1 or 8, no king open to capture and a side that moved
--- whose account holds.
+-- whose account holds at the query's odds.
 pub record AreFacts (q : Asked) (f : QueryFacts) : Type 0 where
   pub whole : length q.board ≡ 64
   pub on_board : f.king < 64
@@ -76,9 +77,10 @@ pub record AreFacts (q : Asked) (f : QueryFacts) : Type 0 where
   pub kings : HasOneKingEach q.board
   pub ends : HasNoPawnOnEnds q.board
   pub safe : in_check q.board (mover q) ≡ false
-  pub own : accounts_for no_odds q.board (mover q) ≡ true
+  pub own : accounts_for q.odds q.board (mover q) ≡ true
   pub men_are : f.men ≡ counts_of q.turn q.board
-  pub used_is : f.used ≡ excess_of f.men full_allowance
+  pub allowed_is : f.allowed ≡ allowance_of q.turn is_any (array_of q.odds)
+  pub used_is : f.used ≡ excess_of f.men f.allowed
   pub checked_is : f.checked ≡ attacks q.board f.king (mover q)
 
 -- a move that may be taken back by hand: of a man of c who goes to his square from an empty one, with no castling or promotion
@@ -91,10 +93,19 @@ pub record IsPlain (board : Places) (c : Colour) (m : Move) : Type 0 where
   pub promo : m.promo ≡ None
   pub king : king_goes board m ≡ None
 
--- a truth value for each number below seven says whether that candidate of the move is listed
+-- a truth value for each candidate of the move says whether it is a retraction of the query, but for the clock
+abbrev pub AreFitting : Asked → Move → List Bool → Type 0
+AreFitting q m answers = answers ≡ map (is_retraction q) (unmoves_of m)
+
+-- a truth value for each candidate of the move says whether it is listed
 abbrev pub AreAnswers : Asked → Move → List Bool → Type 0
 AreAnswers q m answers = answers ≡ map (is_listed q) (unmoves_of m)
 
 -- it may be known that with the man on a square taken off no man of the side that moved attacks this king
 abbrev pub KnowsAlone : Asked → ℕ → ℕ → Bool → Type 0
 KnowsAlone q king to alone = alone ≡ true → attacks (slice_set q.board to None) king (mover q) ≡ false
+
+-- the answers of those that fit, where a clock allows a quiet move or not, and a capture or not
+abbrev pub kept_of : List Bool → Bool → Bool → List Bool
+kept_of [] quiet takes = []
+kept_of (first ∷ others) quiet takes = (first && quiet) ∷ map (λ b. b && takes) others

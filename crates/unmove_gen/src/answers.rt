@@ -2,20 +2,19 @@ ghost use Rattle.std.specs.Prelude.{◌≡◌, ◌∷◌, [], ◌&&◌, ◌||◌
 ghost use Rattle.board_base.specs.Attacks.{attacks, on_one_diagonal, on_one_line};
 ghost use Rattle.board_base.specs.Board.{at, man};
 ghost use Rattle.board_base.specs.declared.men.Kind.TheVariants.{Pawn};
-ghost use Rattle.men_account.specs.Account.{excess_of, full_allowance};
+ghost use Rattle.men_account.specs.Account.{excess_of};
 ghost use Rattle.play_rules.specs.Laws.{HasNoPawnOnEnds, is_end};
-ghost use Rattle.unmove_gen.specs.Listed.{fits_ends, is_listed, mover, obeys, taking, taking_en_passant};
-ghost use Rattle.unmove_gen.specs.Plain.{AreAnswers, AreFacts, IsPlain, KnowsAlone, goes_plainly, has_room, king_goes, put_back, starts_on_end};
+ghost use Rattle.unmove_gen.specs.Listed.{fits_ends, is_retraction, mover, obeys, taking, taking_en_passant};
+ghost use Rattle.unmove_gen.specs.Plain.{AreAnswers, AreFacts, AreFitting, IsPlain, KnowsAlone, goes_plainly, has_room, kept_of, king_goes, put_back, starts_on_end};
 
-use crate::conditions::{fits_ends, obeys};
+use crate::conditions::{fits_ends, obeys, obeys_clock};
 use crate::facts::{QueryFacts, has_room};
-use crate::legality::is_listed;
+use crate::legality::is_retraction;
 use crate::plain_moves::{attacks_past, goes_to_empty, is_end, put_back, starts_on_end};
 use crate::ways::ways_to;
 use board_base::{Board, Castle, Colour, Kind, Man, Move, Square, Unmove, is_a, man_attacks};
 use castle_history::castling_from;
 use ep_history::double_of;
-use men_account::Counts;
 use query_base::Query;
 
 fn taking(m: &Move, captured: Option<Kind>) -> Unmove
@@ -38,18 +37,18 @@ fn taking_en_passant(m: &Move) -> Unmove
     }
 }
 
-/// Of each candidate of the move whether it is listed, one by one.
+/// Of each candidate of the move whether it fits, one by one. A candidate fits that is a retraction of the query, but for the clock.
 fn one_by_one(query: &Query, m: &Move) -> [bool; 7]
-    ensures { AreAnswers query.now m.now result }
+    ensures { AreFitting query.now m.now result }
 {
     [
-        is_listed(query, &taking(m, None)),
-        is_listed(query, &taking(m, Some(Kind::Pawn))),
-        is_listed(query, &taking(m, Some(Kind::Knight))),
-        is_listed(query, &taking(m, Some(Kind::Bishop))),
-        is_listed(query, &taking(m, Some(Kind::Rook))),
-        is_listed(query, &taking(m, Some(Kind::Queen))),
-        is_listed(query, &taking_en_passant(m)),
+        is_retraction(query, &taking(m, None)),
+        is_retraction(query, &taking(m, Some(Kind::Pawn))),
+        is_retraction(query, &taking(m, Some(Kind::Knight))),
+        is_retraction(query, &taking(m, Some(Kind::Bishop))),
+        is_retraction(query, &taking(m, Some(Kind::Rook))),
+        is_retraction(query, &taking(m, Some(Kind::Queen))),
+        is_retraction(query, &taking_en_passant(m)),
     ]
 }
 
@@ -64,15 +63,15 @@ fn king_goes(board: &Board, m: &Move) -> Option<Castle>
     }
 }
 
-/// The capture en passant is listed.
-fn listed_en_passant(query: &Query, m: &Move) -> bool
-    ensures { result ≡ is_listed query.now (taking_en_passant m.now) }
+/// The capture en passant fits.
+fn fits_en_passant(query: &Query, m: &Move) -> bool
+    ensures { result ≡ is_retraction query.now (taking_en_passant m.now) }
 {
     if !is_a(Kind::Pawn, query.board.at(m.to)) {
         return false;
     }
     match double_of(m, query.turn.other()) {
-        Some(_) => is_listed(query, &taking_en_passant(m)),
+        Some(_) => is_retraction(query, &taking_en_passant(m)),
         None => false,
     }
 }
@@ -205,45 +204,45 @@ fn strikes_freely(strikes: bool, query: &Query, king: Square, m: &Move, free: bo
 }
 
 /// And the side has no more men than it may.
-fn fits_account(goes: bool, used: u16) -> bool
-    ensures { result ≡ (goes && nat_le used 8) }
+fn fits_account(goes: bool, facts: &QueryFacts) -> bool
+    ensures { result ≡ (goes && nat_le facts.now.used facts.now.allowed.pawns) }
 {
-    goes && used <= 8
+    goes && facts.used <= facts.allowed.pawns as u16
 }
 
 /// And the side has room for one man more of this kind.
-fn fits_room(goes: bool, men: &Counts, used: u16, kind: Kind, s: Square) -> bool
-    requires { used ≡ excess_of men.now full_allowance }
-    ensures { result ≡ (goes && has_room men.now kind s) }
+fn fits_room(goes: bool, facts: &QueryFacts, kind: Kind, s: Square) -> bool
+    requires { facts.now.used ≡ excess_of facts.now.men facts.now.allowed }
+    ensures { result ≡ (goes && has_room facts.now.allowed facts.now.men kind s) }
 {
-    goes && has_room(men, used, kind, s)
+    goes && has_room(facts, kind, s)
 }
 
 /// And for one pawn more, on no end.
-fn fits_pawn(goes: bool, men: &Counts, used: u16, s: Square) -> bool
-    requires { used ≡ excess_of men.now full_allowance }
-    ensures { result ≡ (goes && (has_room men.now Pawn s && not (is_end s))) }
+fn fits_pawn(goes: bool, facts: &QueryFacts, s: Square) -> bool
+    requires { facts.now.used ≡ excess_of facts.now.men facts.now.allowed }
+    ensures { result ≡ (goes && (has_room facts.now.allowed facts.now.men Pawn s && not (is_end s))) }
 {
-    goes && (has_room(men, used, Kind::Pawn, s) && !is_end(s))
+    goes && (has_room(facts, Kind::Pawn, s) && !is_end(s))
 }
 
-/// Of each candidate of a move whether it is listed, where only the capture en passant may be.
+/// Of each candidate of a move whether it fits, where only the capture en passant may be.
 fn only_en_passant(query: &Query, m: &Move) -> [bool; 7]
-    ensures { result ≡ false ∷ false ∷ false ∷ false ∷ false ∷ false ∷ is_listed query.now (taking_en_passant m.now) ∷ [] }
+    ensures { result ≡ false ∷ false ∷ false ∷ false ∷ false ∷ false ∷ is_retraction query.now (taking_en_passant m.now) ∷ [] }
 {
-    let passes = listed_en_passant(query, m);
+    let passes = fits_en_passant(query, m);
     [false, false, false, false, false, false, passes]
 }
 
-/// Of each candidate of a plain move of this man whether it is listed.
+/// Of each candidate of a plain move of this man whether it fits.
 fn answers_of_man(query: &Query, facts: &QueryFacts, them: Man, m: &Move, alone: bool) -> [bool; 7]
     requires alone { KnowsAlone query.now facts.now.king m.now.to alone }
     requires facts { AreFacts query.now facts.now }
     requires plain { IsPlain query.now.board (mover query.now) m.now }
     requires there { at query.now.board m.now.to ≡ Some them }
-    ensures { AreAnswers query.now m.now result }
+    ensures { AreFitting query.now m.now result }
 {
-    let (king, men, used) = (facts.king, &facts.men, facts.used);
+    let king = facts.king;
     let quiet = comes_quietly(query, them, m);
     let taking = comes_taking(query, them, m, quiet);
     if !(quiet | taking) {
@@ -255,22 +254,22 @@ fn answers_of_man(query: &Query, facts: &QueryFacts, them: Man, m: &Move, alone:
     let free = comes_freely(quiet | taking, query, king, them, m, alone);
     let takes = strikes_freely(taking, query, king, m, free);
     [
-        fits_account(quiet & free, used),
-        fits_pawn(takes, men, used, m.to),
-        fits_room(takes, men, used, Kind::Knight, m.to),
-        fits_room(takes, men, used, Kind::Bishop, m.to),
-        fits_room(takes, men, used, Kind::Rook, m.to),
-        fits_room(takes, men, used, Kind::Queen, m.to),
-        listed_en_passant(query, m),
+        fits_account(quiet & free, facts),
+        fits_pawn(takes, facts, m.to),
+        fits_room(takes, facts, Kind::Knight, m.to),
+        fits_room(takes, facts, Kind::Bishop, m.to),
+        fits_room(takes, facts, Kind::Rook, m.to),
+        fits_room(takes, facts, Kind::Queen, m.to),
+        fits_en_passant(query, m),
     ]
 }
 
-/// Of each candidate of a plain move whether it is listed.
+/// Of each candidate of a plain move whether it fits.
 fn answers_of_plain(query: &Query, facts: &QueryFacts, m: &Move, alone: bool) -> [bool; 7]
     requires alone { KnowsAlone query.now facts.now.king m.now.to alone }
     requires facts { AreFacts query.now facts.now }
     requires plain { IsPlain query.now.board (mover query.now) m.now }
-    ensures { AreAnswers query.now m.now result }
+    ensures { AreFitting query.now m.now result }
 {
     match query.board.at(m.to) {
         Some(them) => answers_of_man(query, facts, them, m, alone),
@@ -291,14 +290,41 @@ fn is_plain(query: &Query, m: &Move) -> bool
     m.promo.is_none() && king_goes(&query.board, m).is_none()
 }
 
+/// Of each candidate of the move whether it fits.
+fn fitting(query: &Query, facts: &Option<QueryFacts>, m: &Move, alone: bool) -> [bool; 7]
+    requires facts { IfSome facts.now (λ f. AreFacts query.now f) }
+    requires alone { IfSome facts.now (λ f. KnowsAlone query.now f.king m.now.to alone) }
+    ensures { AreFitting query.now m.now result }
+{
+    match facts {
+        Some(facts) if is_plain(query, m) => answers_of_plain(query, facts, m, alone),
+        _ => one_by_one(query, m),
+    }
+}
+
+/// Of those that fit, a quiet move where this is allowed, and captures where these are.
+fn kept(fitting: [bool; 7], quiet: bool, takes: bool) -> [bool; 7]
+    ensures { result ≡ kept_of fitting quiet takes }
+{
+    [
+        fitting[0] & quiet,
+        fitting[1] & takes,
+        fitting[2] & takes,
+        fitting[3] & takes,
+        fitting[4] & takes,
+        fitting[5] & takes,
+        fitting[6] & takes,
+    ]
+}
+
 /// Of each candidate of the move whether it is listed.
 pub fn answers_to(query: &Query, facts: &Option<QueryFacts>, m: &Move, alone: bool) -> [bool; 7]
     requires facts { IfSome facts.now (λ f. AreFacts query.now f) }
     requires alone { IfSome facts.now (λ f. KnowsAlone query.now f.king m.now.to alone) }
     ensures { AreAnswers query.now m.now result }
 {
-    match facts {
-        Some(facts) if is_plain(query, m) => answers_of_plain(query, facts, m, alone),
-        _ => one_by_one(query, m),
-    }
+    let fitting = fitting(query, facts, m, alone);
+    let quiet = obeys_clock(query, &taking(m, None));
+    let takes = obeys_clock(query, &taking_en_passant(m));
+    kept(fitting, quiet, takes)
 }

@@ -1,9 +1,9 @@
 ghost use Rattle.std.specs.Prelude.{◌≡◌, ◌&&◌, not};
 ghost use Rattle.board_base.specs.Rights.{holds};
 ghost use Rattle.board_base.specs.Game.{touches};
-ghost use Rattle.unmove_gen.specs.Listed.{fits_ends, keeps_held, obeys, obeys_only};
+ghost use Rattle.unmove_gen.specs.Listed.{allows, fits_ends, keeps_held, obeys, obeys_clock, obeys_only, resets};
 
-use board_base::{Castle, Kind, Move, Unmove, is_a, is_move, is_of};
+use board_base::{Board, Castle, Kind, Move, Unmove, is_a, is_move, is_of};
 use castle_history::touches;
 use query_base::Query;
 
@@ -42,4 +42,30 @@ pub fn obeys(query: &Query, m: &Move) -> bool
     ensures { result ≡ obeys query.now m.now }
 {
     keeps_held(query, m) && obeys_only(query, m) && !is_move(&query.barred, m)
+}
+
+/// The move sets the clock to 0: a pawn made it, or it captured.
+fn resets(board: &Board, u: &Unmove) -> bool
+    ensures { result ≡ resets board.now u.now }
+{
+    is_a(Kind::Pawn, board.at(u.mv.to)) || u.mv.promo.is_some() || u.captured.is_some() || u.ep
+}
+
+/// A clock of 0 comes after a move that sets it to 0, and a higher one after another.
+#[tactic(auto, using(crate::proofs::Clocked::allows_above))]
+fn allows(clock: Option<u16>, reset: bool) -> bool
+    ensures { result ≡ allows clock reset }
+{
+    match clock {
+        Some(0) => reset,
+        Some(_) => !reset,
+        None => true,
+    }
+}
+
+/// The clock that is demanded, if one is, is 0 exactly where the move sets it to 0.
+pub fn obeys_clock(query: &Query, u: &Unmove) -> bool
+    ensures { result ≡ obeys_clock query.now u.now }
+{
+    allows(query.clock, resets(&query.board, u))
 }

@@ -1,11 +1,11 @@
 ghost use Rattle.std.specs.Prelude.{◌≡◌, ℕ, ◌==◌, ◌<◌, ◌&&◌, ◌||◌, cond, nat_lt, IfSome, IsTrue, false};
 ghost use Rattle.board_base.specs.Board.{at, is_the};
 ghost use Rattle.board_base.specs.declared.men.Kind.TheVariants.{King};
-ghost use Rattle.men_account.specs.Account.{excess_of, full_allowance, is_light};
+ghost use Rattle.men_account.specs.Account.{excess_of, is_light};
 ghost use Rattle.unmove_gen.specs.Plain.{AreFacts, has_room, lacks};
 
-use board_base::{Board, Colour, Kind, Odds, Square, is_the};
-use men_account::{Allowance, Counts, account_ok, counts, excess};
+use board_base::{Board, Colour, Kind, Square, is_the};
+use men_account::{Allowance, Counts, account_ok, allowance, counts, excess};
 use play_rules::has_no_pawn_on_ends;
 use query_base::Query;
 
@@ -16,7 +16,9 @@ pub struct QueryFacts {
     pub king: Square,
     /// The men of the side to move.
     pub men: Counts,
-    /// How many of them are pawns or must have been promoted.
+    /// What that side begins with at the query's odds.
+    pub allowed: Allowance,
+    /// How many of its men are pawns or must have been promoted.
     pub used: u16,
     /// The king of the side to move is attacked.
     pub checked: bool,
@@ -40,7 +42,7 @@ fn sole_king(board: &Board, colour: Colour) -> Option<Square>
 }
 
 /// What the retractions share, where each side has one king, no pawn stands on rank 1 or 8, the side that moved isn't in check, and
-/// it has no more men than it may.
+/// it has no more men than it may at the query's odds.
 pub fn facts_of(query: &Query) -> Option<QueryFacts>
     ensures { IfSome result (λ f. AreFacts query.now f) }
 {
@@ -57,15 +59,17 @@ pub fn facts_of(query: &Query) -> Option<QueryFacts>
     other.index();
     if !has_no_pawn_on_ends(board)
         || board.attacked(other, turn)
-        || !account_ok(board, mover, Odds::none())
+        || !account_ok(board, mover, query.odds)
     {
         return None;
     }
     let men = counts(board, turn);
+    let allowed = allowance(turn, query.odds);
     Some(QueryFacts {
         king,
         men,
-        used: excess(&men, &Allowance::full()),
+        allowed,
+        used: excess(&men, &allowed),
         checked: board.attacked(king, mover),
     })
 }
@@ -77,28 +81,29 @@ fn is_light(s: Square) -> bool
 }
 
 /// Of a man of this kind, who would stand on this square, the side began with more than it has.
-fn lacks(men: &Counts, kind: Kind, s: Square) -> bool
-    ensures { result ≡ lacks men.now kind s }
+fn lacks(allowed: &Allowance, men: &Counts, kind: Kind, s: Square) -> bool
+    ensures { result ≡ lacks allowed.now men.now kind s }
 {
     match kind {
         Kind::Pawn | Kind::King => false,
-        Kind::Knight => men.knights < 2,
+        Kind::Knight => men.knights < allowed.knights,
         Kind::Bishop => {
             if is_light(s) {
-                men.light_bishops < 1
+                men.light_bishops < allowed.light_bishops
             } else {
-                men.dark_bishops < 1
+                men.dark_bishops < allowed.dark_bishops
             }
         }
-        Kind::Rook => men.rooks < 2,
-        Kind::Queen => men.queens < 1,
+        Kind::Rook => men.rooks < allowed.rooks,
+        Kind::Queen => men.queens < allowed.queens,
     }
 }
 
-/// The side has room for a man of this kind on this square, beside men that use up so much of its account.
-pub fn has_room(men: &Counts, used: u16, kind: Kind, s: Square) -> bool
-    requires { used ≡ excess_of men.now full_allowance }
-    ensures { result ≡ has_room men.now kind s }
+/// The side to move has room for a man more of this kind on this square.
+pub fn has_room(facts: &QueryFacts, kind: Kind, s: Square) -> bool
+    requires { facts.now.used ≡ excess_of facts.now.men facts.now.allowed }
+    ensures { result ≡ has_room facts.now.allowed facts.now.men kind s }
 {
-    used < 8 || (used == 8 && lacks(men, kind, s))
+    let pawns = facts.allowed.pawns as u16;
+    facts.used < pawns || (facts.used == pawns && lacks(&facts.allowed, &facts.men, kind, s))
 }

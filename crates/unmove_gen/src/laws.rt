@@ -14,8 +14,8 @@ ghost use Rattle.unmove_gen.specs.Predecessor.{predecessor, unmove_after};
 /// The law that the last move of each game that reaches a query is in the query's list, with the kind that it captured, and marked
 /// en passant exactly where it was; and that the moves before it reach its predecessor.
 pub fn last_moves_are_listed()
-    ensures listed { (g : List Move) (m : Move) (q : Asked) → Reaches (g ++ m ∷ []) q → Contains (unmoves q) (unmove_after g m) }
-    ensures reached { (g : List Move) (m : Move) (q : Asked) → Reaches (g ++ m ∷ []) q → Reaches g (predecessor q (unmove_after g m)) }
+    ensures listed { (g : List Move) (m : Move) (q : Asked) → Reaches (g ++ m ∷ []) q → Contains (unmoves q) (unmove_after q.odds g m) }
+    ensures reached { (g : List Move) (m : Move) (q : Asked) → Reaches (g ++ m ∷ []) q → Reaches g (predecessor q (unmove_after q.odds g m)) }
 {}
 
 /// The law that a game that reaches the predecessor of a listed unmove reaches the query with that unmove's move added.

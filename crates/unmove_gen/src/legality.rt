@@ -2,9 +2,9 @@ ghost use Rattle.std.specs.Prelude.{◌≡◌, ◌&&◌, cond};
 ghost use Rattle.board_base.specs.Board.{at, is_a, is_empty, is_the, opponent};
 ghost use Rattle.board_base.specs.declared.men.Kind.TheVariants.{Pawn};
 ghost use Rattle.play_rules.specs.States.{legal_at};
-ghost use Rattle.unmove_gen.specs.Listed.{answered, is_legal_before, is_listed, is_marked, leads_here, mover, took_pawn};
+ghost use Rattle.unmove_gen.specs.Listed.{answered, is_legal_before, is_listed, is_marked, is_retraction, leads_here, mover, took_pawn};
 
-use crate::conditions::{fits_ends, obeys};
+use crate::conditions::{fits_ends, obeys, obeys_clock};
 use crate::sanity::is_sane;
 use crate::taking_back::take_back;
 use board_base::{Board, CastleSet, Colour, Kind, Move, Square, Unmove, is_a, is_the};
@@ -69,10 +69,10 @@ fn leads_here(query: &Query, board: &Board, u: &Unmove) -> bool
     }
 }
 
-/// The unmove is in the query's list.
-#[tactic(auto, unfolding(crate::specs::Listed::is_listed))]
-pub fn is_listed(query: &Query, u: &Unmove) -> bool
-    ensures { result ≡ is_listed query.now u.now }
+/// The unmove's move may have been the last, but for the clock.
+#[tactic(auto, unfolding(crate::specs::Listed::is_retraction))]
+pub fn is_retraction(query: &Query, u: &Unmove) -> bool
+    ensures { result ≡ is_retraction query.now u.now }
 {
     if !fits_ends(query, u) {
         return false;
@@ -82,5 +82,15 @@ pub fn is_listed(query: &Query, u: &Unmove) -> bool
     }
     let before = take_back(&query.board, u);
     let mover = query.turn.other();
-    is_marked(&before, mover, u) && leads_here(query, &before, u) && is_sane(&before, mover)
+    is_marked(&before, mover, u)
+        && leads_here(query, &before, u)
+        && is_sane(&before, mover, query.odds)
+}
+
+/// The unmove is in the query's list.
+#[tactic(auto, unfolding(crate::specs::Listed::is_listed))]
+pub fn is_listed(query: &Query, u: &Unmove) -> bool
+    ensures { result ≡ is_listed query.now u.now }
+{
+    is_retraction(query, u) && obeys_clock(query, u)
 }

@@ -13,9 +13,9 @@ use std::marker::Model;
 /// last in a game that reaches the query, with the kind of the man that it captured; it captured en passant only where it is so
 /// marked. Its origin is empty, and a man of that side stands on its target. On the board before it, the move is legal where every
 /// castling is allowed, it leads to the query's board, and that board passes tests that the board of every game passes: one king
-/// each, no pawn on rank 1 or 8, no king attacked out of turn, and for each side no more than eight pawns and men that must have
-/// been promoted, seen from the full array. The move touches no home of a right that is held, and is what `only` and `barred` ask of
-/// the last move.
+/// each, no pawn on rank 1 or 8, no king attacked out of turn, and for each side no more pawns and men that must have been promoted
+/// than it begins with pawns, seen from what it begins with at the query's odds. The move touches no home of a right that is held,
+/// and is what `only` and `barred` ask of the last move.
 ///
 /// They ascend in the order of `cmp_unmove`: by target, then origin, then promotion, then captured man, en passant after all others.
 /// There are at most 143,360.

@@ -1,6 +1,7 @@
 use Rattle.std.proofs.Common.{◌≡◌, ◌+◌, ℕ, Bool, true, false, List, cond, set, subst, arith}
 use Rattle.board_base.specs.Board.{at}
-use Rattle.cage_rules.specs.Tests.{same_place, squares_alike}
+use Rattle.cage_rules.specs.Frozen.{same_place}
+use Rattle.cage_rules.specs.Tests.{squares_alike}
 use Rattle.cage_rules.proofs.Filling.{Filled, empty-start, filled-that}
 use Rattle.cage_rules.proofs.Sorting.{filled-if}
 use Rattle.cage_rules.proofs.arrays.squares_alike.Goals as goal

@@ -1,4 +1,3 @@
-use Rattle.board_base.specs.Board.{no_odds}
 use Rattle.cage_rules.proofs.Histories.{reaches-leads}
 use Rattle.cage_rules.proofs.Refuted.{caps-refuted}
 use Rattle.cage_rules.proofs.refutations.captures_refute.Goals as goal
@@ -7,4 +6,4 @@ pub returns-clause-from_odds : goal.returns-clause-from_odds
 returns-clause-from_odds c = caps-refuted
 
 pub returns-clause-reached : goal.returns-clause-reached
-returns-clause-reached c = λ q set colour u v frozen many g reaches. caps-refuted no_odds q set colour u v frozen many g (reaches-leads g q reaches)
+returns-clause-reached c = λ q set colour u v frozen many g reaches. caps-refuted q.odds q set colour u v frozen many g (reaches-leads g q reaches)

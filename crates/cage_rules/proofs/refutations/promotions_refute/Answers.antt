@@ -1,4 +1,3 @@
-use Rattle.board_base.specs.Board.{no_odds}
 use Rattle.cage_rules.proofs.Histories.{reaches-leads}
 use Rattle.cage_rules.proofs.Refuted.{promo-refuted}
 use Rattle.cage_rules.proofs.refutations.promotions_refute.Goals as goal
@@ -7,4 +6,4 @@ pub returns-clause-from_odds : goal.returns-clause-from_odds
 returns-clause-from_odds c = promo-refuted
 
 pub returns-clause-reached : goal.returns-clause-reached
-returns-clause-reached c = λ q set colour frozen many g reaches. promo-refuted no_odds q set colour frozen many g (reaches-leads g q reaches)
+returns-clause-reached c = λ q set colour frozen many g reaches. promo-refuted q.odds q set colour frozen many g (reaches-leads g q reaches)

@@ -1,9 +1,9 @@
 use Rattle.std.proofs.Common.{ℕ, cond}
 use Rattle.std.specs.Prelude.{None}
-use Rattle.board_base.specs.Board.{array_of, at, no_odds}
+use Rattle.board_base.specs.Board.{at}
 use Rattle.cage_rules.specs.Refuted.{is_spent}
 use Rattle.cage_rules.proofs.Filling.{Filled}
 use Rattle.static_rules.proofs.living_homes.spent.Given as goal
 
 abbrev pub invariant-loop-i : goal.invariant-loop-i
-invariant-loop-i l = Filled (λ (s : ℕ). cond (is_spent l.board l.set s) (at (array_of no_odds) s) None) None l.left l.i
+invariant-loop-i l = Filled (λ (s : ℕ). cond (is_spent l.board l.set s) (at l.first s) None) None l.left l.i

@@ -5,4 +5,5 @@ use Rattle.static_rules.proofs.AtHome.{few-from}
 use Rattle.static_rules.proofs.stayed.has_few.Goals as goal
 
 pub returns : goal.returns
-returns c h = few-from c.args.query.now c.args.side _ _ c.stayed_allowance.result _ (ap (λ (q : Asked). q.board) c.query.view_is) c.counts.ensures c.stayed_allowance.ensures c.excess.ensures (leb-true _ 8 h)
+returns c h =
+    few-from c.args.query.now c.args.side _ _ _ c.stayed_allowance-allowed.result _ (ap (λ (q : Asked). q.odds) c.query.view_is) (ap (λ (q : Asked). q.board) c.query.view_is) c.counts.ensures c.stayed_allowance-allowed.ensures c.excess.ensures (leb-true _ _ h)

@@ -31,10 +31,10 @@ returns c =
     ∙ absorbed c.comes_quietly-quiet.result c.comes_taking-taking.result safe
     ∙ ap (λ (b : Bool). b && safe) c.comes_quietly-quiet.ensures in
     same-seven _ _ _ _ _ _ _ _ _ _ _ _ _ _
-    (c.fits_account.ensures ∙ ap (λ n. (c.comes_quietly-quiet.result && c.comes_freely-free.result) && nat_le n 8) c.requires.facts.used_is)
+    (c.fits_account.ensures ∙ ap (λ n. (c.comes_quietly-quiet.result && c.comes_freely-free.result) && nat_le n c.args.facts.now.allowed.pawns) c.requires.facts.used_is)
     c.fits_pawn.ensures c.fits_room.ensures c.fits_room-2.ensures c.fits_room-3.ensures c.fits_room-4.ensures refl
-    ∙ seven-answers q c.args.facts.now c.args.m.now (c.comes_quietly-quiet.result && c.comes_freely-free.result) c.strikes_freely-takes.result c.listed_en_passant.result c.requires.facts c.requires.plain (sym c.obeys.ensures ∙ c.if-not-obeys.false) quiet
-    (c.strikes_freely-takes.ensures ∙ ap (λ (b : Bool). b && not (attacks (put_back q.board c.args.m.now (man q.turn Pawn)) king (mover q))) c.comes_taking-taking.ensures) c.listed_en_passant.ensures
+    ∙ seven-answers q c.args.facts.now c.args.m.now (c.comes_quietly-quiet.result && c.comes_freely-free.result) c.strikes_freely-takes.result c.fits_en_passant.result c.requires.facts c.requires.plain (sym c.obeys.ensures ∙ c.if-not-obeys.false) quiet
+    (c.strikes_freely-takes.ensures ∙ ap (λ (b : Bool). b && not (attacks (put_back q.board c.args.m.now (man q.turn Pawn)) king (mover q))) c.comes_taking-taking.ensures) c.fits_en_passant.ensures
 
 pub returns-then-not-quiet-taking : goal.returns-then-not-quiet-taking
 returns-then-not-quiet-taking c =

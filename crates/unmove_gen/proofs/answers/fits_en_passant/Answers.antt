@@ -6,7 +6,7 @@ use Rattle.board_base.specs.declared.men.Colour.{Colour}
 use Rattle.query_base.specs.Asked.{Asked}
 use Rattle.unmove_gen.specs.Listed.{mover}
 use Rattle.unmove_gen.proofs.PlainAnswers.{answer-none, answer-other}
-use Rattle.unmove_gen.proofs.answers.listed_en_passant.Goals as goal
+use Rattle.unmove_gen.proofs.answers.fits_en_passant.Goals as goal
 
 pub returns-in-None : goal.returns-in-None
 returns-in-None c =
