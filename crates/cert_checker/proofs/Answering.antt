@@ -1,25 +1,25 @@
 -- What is answered from a stage on is the answer to the lines.
-use Rattle.std.proofs.Common.{◌≡◌, ℕ, ◌+◌, Bool, true, false, cond, List, [], ◌∷◌, refl, sym, ap, ◌∙◌, subst}
-use Rattle.std.proofs.lemmas.Bool.{both_ways}
+use Rattle.std.proofs.Common.{◌≡◌, ℕ, ◌+◌, Bool, true, false, cond, List, [], ◌∷◌, ◌++◌, length, refl, sym, ap, ◌∙◌, subst, arith, append_assoc, length-append}
 use Rattle.std.proofs.lemmas.List.{append-nil}
-use Rattle.std.proofs.lemmas.Slice.Eq.{bytes_eq-Decides}
 use Rattle.std.specs.Prelude.{Option, Some, None}
-use Rattle.std.specs.Str.{bytes_eq}
 use Rattle.query_base.specs.Asked.{Asked}
 use Rattle.query_base.specs.Targets.{target}
 use Rattle.query_base.specs.declared.claims.Claim.{Claim}
 use Rattle.cert_text.specs.Lines.{said}
 use Rattle.cert_text.specs.NodeLines.{root_body}
-use Rattle.cert_text.specs.Certificate.{Lines, Certificate, AreLinesOf, head_line, query_of}
-use Rattle.cert_text.specs.ClaimLines.{claim_of}
+use Rattle.cert_text.specs.Certificate.{Lines, Certificate, AreLinesOf, root_at}
+use Rattle.cert_text.specs.Heads.{Leads, head_step}
+use Rattle.cert_text.specs.declared.heads.Head.{Head}
+use Rattle.cert_text.specs.declared.heads.Head.TheVariants.{FormatDue, ClaimDue, DemandDue, ClockOrFenDue, FenDue, RootDue}
 use Rattle.cert_text.specs.Due.{put_due, step, on_step, is_done, refused}
 use Rattle.cert_text.specs.declared.node_lines.BodyLine.{BodyLine}
-use Rattle.cert_text.proofs.Due.{fills}
-use Rattle.cert_text.proofs.Bad.{planted, bad_below_root, bad1, bad1-end, bad2, bad2-end, bad3, bad3-end, bad4, bad4-end}
-use Rattle.cert_checker.specs.Walk.{Walked, fault_at, next_line, WalksTo}
+use Rattle.cert_text.proofs.Bad.{bad_below_root, bad_end, bad_line, bad_root, planted_text}
+use Rattle.cert_text.proofs.HeadSteps.{leads_head, leads_more}
+use Rattle.cert_text.proofs.HeadTexts.{head_count}
+use Rattle.cert_checker.specs.Walk.{Walked, fault_at, next_line, Walks, WalksTo}
 use Rattle.cert_checker.specs.Answers.{Answer, Answers, bad_text}
 use Rattle.cert_checker.specs.Frames.{Walking, go_on, ended, OnBody, OnLine, WalksOn}
-use Rattle.cert_checker.specs.Stages.{Stage, heading, claiming, nodes, bad, claimed, placed, Rooted, Stepped, answer_by, Rest, BadTextFirst}
+use Rattle.cert_checker.specs.Stages.{Stage, heading, in_head, nodes, bad, headed, OnHead, Rooted, Stepped, answer_at, answer_by, Rest, BadTextFirst}
 use Rattle.cert_checker.proofs.Proofs.{walk_proves}
 use Rattle.cert_checker.proofs.TreeLines.{Carries, GoesOn, tree_walk}
 
@@ -57,60 +57,50 @@ answer_walk (fault_at n f) lines cert last a text walks e is =
 answer_walk (next_line n) lines cert last a text walks e is =
     subst (Answers lines) (sym (is ∙ ap (answer_by cert.claim cert.query) e)) (cert, text, refl, refl, (walk_proves lines cert text).0 (n, walks))
 
-answer_nodes : (o : Option ℕ) (c f root : List ℕ) (claim : Claim) (q : Asked) (body : BodyLine) (lines : Lines) (w : Walking) (a : Answer) → said claim_of c ≡ Some claim → said query_of f ≡ Some q → said root_body root ≡ Some body → refused (put_due body []) 5 lines ≡ o → OnBody body (target q claim) [] 4 w → BadTextFirst o claim q w 5 lines a → Answers (head_line ∷ c ∷ f ∷ root ∷ lines) a
-answer_nodes (Some n) c f root claim q body lines w a claim-is query-is root-is here on e =
-    subst (Answers (head_line ∷ c ∷ f ∷ root ∷ lines)) (sym e) (bad_below_root c f root claim q body lines n claim-is query-is root-is here)
-answer_nodes None c f root claim q body lines w a claim-is query-is root-is here on (last, walks, e) =
-    let t = planted body lines (fills lines (put_due body []) 5 here) in
+answer_nodes : (o : Option ℕ) (front : Lines) (root : List ℕ) (claim : Claim) (q : Asked) (body : BodyLine) (n : ℕ) (lines : Lines) (w : Walking) (a : Answer) → n ≡ length front + 1 → Leads FormatDue front (RootDue claim q) → said root_body root ≡ Some body → refused (put_due body []) (n + 1) lines ≡ o → OnBody body (target q claim) [] n w → BadTextFirst o claim q w (n + 1) lines a → Answers (front ++ root ∷ lines) a
+answer_nodes (Some k) front root claim q body n lines w a at leads root-is here on e =
+    subst (Answers (front ++ root ∷ lines)) (sym e) (bad_below_root front root claim q body (n + 1) lines k (omega arith) leads root-is here)
+answer_nodes None front root claim q body n lines w a at leads root-is here on (last, walks, e) =
+    let t = planted_text front root claim q body (n + 1) lines leads root-is here in
     let cert : Certificate = record { claim = claim; query = q; root = t.0 } in
-    let text : AreLinesOf (head_line ∷ c ∷ f ∷ root ∷ lines) cert = record {
-      claim_line = c;
-      fen_line = f;
-      root_line = root;
-      below = lines;
-      parts = refl;
-      claim = claim-is;
-      query = query-is;
-      root = root-is ∙ ap (λ (b : BodyLine). Some b) (sym t.1);
-      nodes = t.2;
-    } in
-    let k = tree_walk t.0 (target q claim) [] 4 lines [] w last t.2 (subst (λ (b : BodyLine). OnBody b (target q claim) [] 4 w) (sym t.1) on) (subst (λ (l : Lines). WalksOn w 5 l last) (sym (append-nil lines)) walks) in
-    answer_walk k.0 (head_line ∷ c ∷ f ∷ root ∷ lines) cert last a text k.1 k.2 e
+    let place : n ≡ root_at q = at ∙ head_count front claim q (leads_head front claim q leads) in
+    let k = tree_walk t.0 (target q claim) [] n lines [] w last t.2 (subst (λ (b : BodyLine). OnBody b (target q claim) [] n w) (sym t.1) on) (subst (λ (l : Lines). WalksOn w (n + 1) l last) (sym (append-nil lines)) walks) in
+    answer_walk k.0 (front ++ root ∷ lines) cert last a t.3 (subst (λ (i : ℕ). Walks t.0 (target q claim) [] i k.0) place k.1) k.2 e
 
-from_root : (o : Option BodyLine) (c f root : List ℕ) (claim : Claim) (q : Asked) (lines : Lines) (next : Stage) (a : Answer) → said claim_of c ≡ Some claim → said query_of f ≡ Some q → said root_body root ≡ o → Rooted o claim q 4 next → Rest next 5 lines a → Answers (head_line ∷ c ∷ f ∷ root ∷ lines) a
-from_root None c f root claim q lines next a claim-is query-is none e rest =
-    subst (Answers (head_line ∷ c ∷ f ∷ root ∷ lines)) (sym (rests_bad lines 4 5 next a e rest)) (bad4 c f root lines claim q claim-is query-is none)
-from_root (Some body) c f root claim q lines next a claim-is query-is root-is (w, on, e) rest =
-    answer_nodes (refused (put_due body []) 5 lines) c f root claim q body lines w a claim-is query-is root-is refl on (rest_nodes lines claim q w (put_due body []) 5 a (subst (λ (s : Stage). Rest s 5 lines a) e rest))
+from_root : (o : Option BodyLine) (front : Lines) (root : List ℕ) (claim : Claim) (q : Asked) (n : ℕ) (lines : Lines) (next : Stage) (a : Answer) → n ≡ length front + 1 → Leads FormatDue front (RootDue claim q) → said root_body root ≡ o → Rooted o claim q n next → Rest next (n + 1) lines a → Answers (front ++ root ∷ lines) a
+from_root None front root claim q n lines next a at leads none e rest =
+    subst (Answers (front ++ root ∷ lines)) (sym (rests_bad lines n (n + 1) next a e rest)) (bad_root front root lines claim q n at leads none)
+from_root (Some body) front root claim q n lines next a at leads root-is (w, on, e) rest =
+    answer_nodes (refused (put_due body []) (n + 1) lines) front root claim q body n lines w a at leads root-is refl on (rest_nodes lines claim q w (put_due body []) (n + 1) a (subst (λ (s : Stage). Rest s (n + 1) lines a) e rest))
 
-from_query : (o : Option Asked) (c f : List ℕ) (claim : Claim) (lines : Lines) (next : Stage) (a : Answer) → said claim_of c ≡ Some claim → said query_of f ≡ o → next ≡ placed o claim 3 → Rest next 4 lines a → Answers (head_line ∷ c ∷ f ∷ lines) a
-from_query None c f claim lines next a claim-is none e rest =
-    subst (Answers (head_line ∷ c ∷ f ∷ lines)) (sym (rests_bad lines 3 4 next a e rest)) (bad3 c f lines claim claim-is none)
-from_query (Some q) c f claim [] next a claim-is query-is e rest =
-    subst (Answers (head_line ∷ c ∷ f ∷ [])) (sym (subst (λ (s : Stage). Rest s 4 [] a) e rest)) (bad4-end c f claim q claim-is query-is)
-from_query (Some q) c f claim (root ∷ lines) next a claim-is query-is e rest =
-    let more = subst (λ (s : Stage). Rest s 4 (root ∷ lines) a) e rest in
-    from_root (said root_body root) c f root claim q lines more.0 a claim-is query-is refl more.1 more.2
+-- what the lines after a head's are answered
+abbrev Later : Lines → ℕ → Answer → Type 0
+Later lines n a = (front : Lines) (due : Head) → n ≡ length front + 1 → Leads FormatDue front due → Rest (in_head due) n lines a → Answers (front ++ lines) a
 
-from_claim : (o : Option Claim) (c : List ℕ) (lines : Lines) (next : Stage) (a : Answer) → said claim_of c ≡ o → next ≡ claimed o 2 → Rest next 3 lines a → Answers (head_line ∷ c ∷ lines) a
-from_claim None c lines next a none e rest = subst (Answers (head_line ∷ c ∷ lines)) (sym (rests_bad lines 2 3 next a e rest)) (bad2 c lines none)
-from_claim (Some claim) c [] next a claim-is e rest = subst (Answers (head_line ∷ c ∷ [])) (sym (subst (λ (s : Stage). Rest s 3 [] a) e rest)) (bad3-end c claim claim-is)
-from_claim (Some claim) c (f ∷ lines) next a claim-is e rest =
-    let more = subst (λ (s : Stage). Rest s 3 (f ∷ lines) a) e rest in
-    from_query (said query_of f) c f claim lines more.0 a claim-is refl more.1 more.2
+from_line : (o : Option Head) (front : Lines) (line : List ℕ) (due : Head) (n : ℕ) (lines : Lines) (next : Stage) (a : Answer) → n ≡ length front + 1 → Leads FormatDue front due → ((claim : Claim) (q : Asked) → due ≡ RootDue claim q → ⊥) → head_step due line ≡ o → next ≡ headed o n → Rest next (n + 1) lines a → Later lines (n + 1) a → Answers (front ++ line ∷ lines) a
+from_line None front line due n lines next a at leads other none e rest later =
+    subst (Answers (front ++ line ∷ lines)) (sym (rests_bad lines n (n + 1) next a e rest)) (bad_line front line lines due n at leads other none)
+from_line (Some k) front line due n lines next a at leads other is e rest later =
+    subst (λ (l : Lines). Answers l a) (append_assoc front (line ∷ []) lines)
+    (later (front ++ line ∷ []) k (omega (arith, length-append front (line ∷ []))) (leads_more front line FormatDue due k leads is) (subst (λ (s : Stage). Rest s (n + 1) lines a) e rest))
 
-from_head : (b : Bool) (line : List ℕ) (lines : Lines) (next : Stage) (a : Answer) → bytes_eq line head_line ≡ b → next ≡ cond b claiming (bad 1) → Rest next 2 lines a → Answers (line ∷ lines) a
-from_head false line lines next a is e rest =
-    subst (Answers (line ∷ lines)) (sym (rests_bad lines 1 2 next a e rest)) (bad1 line lines (λ same. both_ways _ is ((bytes_eq-Decides line head_line).1 same)))
-from_head true line [] next a is e rest =
-    let same : line ≡ head_line = (bytes_eq-Decides line head_line).0 is in
-    subst (λ (l : List ℕ). Answers (l ∷ []) a) (sym same) (subst (Answers (head_line ∷ [])) (sym (subst (λ (s : Stage). Rest s 2 [] a) e rest)) bad2-end)
-from_head true line (c ∷ lines) next a is e rest =
-    let same : line ≡ head_line = (bytes_eq-Decides line head_line).0 is in
-    let more = subst (λ (s : Stage). Rest s 2 (c ∷ lines) a) e rest in
-    subst (λ (l : List ℕ). Answers (l ∷ c ∷ lines) a) (sym same) (from_claim (said claim_of c) c lines more.0 a refl more.1 more.2)
+from_due : (due : Head) (front : Lines) (line : List ℕ) (n : ℕ) (lines : Lines) (next : Stage) (a : Answer) → n ≡ length front + 1 → Leads FormatDue front due → OnHead due n line next → Rest next (n + 1) lines a → Later lines (n + 1) a → Answers (front ++ line ∷ lines) a
+from_due FormatDue front line n lines next a at leads e rest later = from_line (head_step FormatDue line) front line FormatDue n lines next a at leads (λ claim q is. cc) refl e rest later
+from_due (ClaimDue f) front line n lines next a at leads e rest later = from_line (head_step (ClaimDue f) line) front line (ClaimDue f) n lines next a at leads (λ claim q is. cc) refl e rest later
+from_due (DemandDue c) front line n lines next a at leads e rest later = from_line (head_step (DemandDue c) line) front line (DemandDue c) n lines next a at leads (λ claim q is. cc) refl e rest later
+from_due (ClockOrFenDue c o) front line n lines next a at leads e rest later = from_line (head_step (ClockOrFenDue c o) line) front line (ClockOrFenDue c o) n lines next a at leads (λ claim q is. cc) refl e rest later
+from_due (FenDue c o k) front line n lines next a at leads e rest later = from_line (head_step (FenDue c o k) line) front line (FenDue c o k) n lines next a at leads (λ claim q is. cc) refl e rest later
+from_due (RootDue claim q) front line n lines next a at leads on rest later = from_root (said root_body line) front line claim q n lines next a at leads refl on rest
+
+end_answer : (due : Head) (n : ℕ) → answer_at (in_head due) n ≡ bad_text n
+end_answer due n = refl
+
+-- what is answered from a line of the head on
+from_head : (lines : Lines) (n : ℕ) (a : Answer) → Later lines n a
+from_head [] n a front due at leads e =
+    subst (λ (l : Lines). Answers l a) (sym (append-nil front)) (subst (Answers front) (sym (e ∙ end_answer due n)) (bad_end front due n at leads))
+from_head (line ∷ lines) n a front due at leads (next, on, rest) = from_due due front line n lines next a at leads on rest (from_head lines (n + 1) a)
 
 -- what is answered from the start on
 pub rest_answers : (lines : Lines) (a : Answer) → Rest heading 1 lines a → Answers lines a
-rest_answers [] a e = subst (Answers []) (sym e) bad1-end
-rest_answers (line ∷ lines) a (next, e, rest) = from_head (bytes_eq line head_line) line lines next a refl e rest
+rest_answers lines a rest = from_head lines 1 a [] FormatDue refl refl rest

@@ -5,6 +5,7 @@ use Rattle.std.specs.Prelude.{None, replicate, slice_set}
 use Rattle.std.specs.List.{Contains}
 use Rattle.general_lemmas.proofs.Lists.{contains-first, contains-none}
 use Rattle.board_base.specs.Board.{Places, array_of, at, initial_array, is_empty, is_of, man, no_men, no_odds}
+use Rattle.board_base.proofs.Without.{are-no-odds}
 use Rattle.board_base.specs.Rights.{Rights, holds}
 use Rattle.board_base.specs.Attacks.{attacks, attacks_from, distance, kind_attacks, king_distance, on_the_way, toward}
 use Rattle.board_base.specs.Play.{play}
@@ -37,7 +38,7 @@ none_held x = elim x as (λ y. holds no_rights y ≡ false) [ WhiteShort ↦ ref
 
 -- the board with White to move, and nothing demanded
 abbrev asked : Places → Asked
-asked board = record { board = board; turn = White; held = no_rights; only = None; barred = None }
+asked board = record { board = board; turn = White; odds = no_odds; held = no_rights; only = None; barred = None; clock = None }
 
 abbrev the_array : Asked
 the_array = asked initial_array
@@ -85,7 +86,7 @@ stray_child u tree proves = let one : unmoves (asked no_men) ≡ u ∷ proves.1.
 -- the game of no moves reaches the array, so no children prove that none does
 array_reached : (kids : Forest) → Proves (expand kids) the_array [] → ⊥
 unfolding array_of initial_array
-array_reached kids proves = proves.0 (reaches_nothing the_array refl refl refl)
+array_reached kids proves = proves.0 (reaches_nothing the_array are-no-odds refl refl (λ x h. absurd (both_ways _ (none_held x) h)) refl tt)
 
 abbrev e2e4 : Move
 e2e4 = record { from = 12; to = 28; promo = None }
@@ -97,17 +98,19 @@ after_e4 = record (asked (slice_set (slice_set initial_array 12 None) 28 (man Wh
 e4_reaches : Reaches (e2e4 ∷ []) after_e4
 unfolding initial_array array_of attacks attacks_from kind_attacks distance toward on_the_way king_distance play legal_on may_go in_check promotion_fits man_moves pawn_steps pawn_doubles pawn_captures pawn_captures_en_passant king_castles
 e4_reaches = record {
+  odds = are-no-odds;
   game = game_more no_odds [] e2e4 (no_moves no_odds) refl;
   board = refl;
   turn = refl;
   held = λ x h. absurd (both_ways _ (none_held x) h);
   only = tt;
   barred = tt;
+  clock = tt;
 }
 
 -- its last move may have been e2e4, so a node that leaves this out proves nothing
 left_out : Proves (expand none) after_e4 [] → ⊥
-left_out proves = contains-none _ (subst (λ (us : List Unmove). Contains us (unmove_after [] e2e4)) proves.1 (listed_after [] e2e4 after_e4 e4_reaches))
+left_out proves = contains-none _ (subst (λ (us : List Unmove). Contains us (unmove_after no_odds [] e2e4)) proves.1 (listed_after [] e2e4 after_e4 e4_reaches))
 
 -- the same position, where White's right to castle short is held
 abbrev with_right : Asked
@@ -115,10 +118,10 @@ with_right = record after_e4 { held = record no_rights { white_short = true } }
 
 -- a step back is a proof below the same query, or one that demands less; not below one that demands more, and not past the root
 same_above : Proves (back 1) after_e4 (after_e4 ∷ [])
-same_above = record { board = refl; turn = refl; held = λ x h. h; only = tt; barred = tt }
+same_above = record { board = refl; turn = refl; odds = refl; held = λ x h. h; only = tt; barred = tt; clock = tt }
 
 less_above : Proves (back 1) with_right (after_e4 ∷ [])
-less_above = record { board = refl; turn = refl; held = λ x h. absurd (both_ways _ (none_held x) h); only = tt; barred = tt }
+less_above = record { board = refl; turn = refl; odds = refl; held = λ x h. absurd (both_ways _ (none_held x) h); only = tt; barred = tt; clock = tt }
 
 more_above : Proves (back 1) after_e4 (with_right ∷ []) → ⊥
 more_above proves = let held : false ≡ true = proves.held WhiteShort refl in cc

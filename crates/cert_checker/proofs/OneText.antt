@@ -1,7 +1,7 @@
 -- Lines have one answer.
 use Rattle.std.proofs.Common.{◌≡◌, ℕ, [], sym, ap, ◌∙◌, subst}
 use Rattle.query_base.specs.declared.claims.Claim.{Claim}
-use Rattle.cert_text.specs.Certificate.{Lines, Certificate, AreLinesOf}
+use Rattle.cert_text.specs.Certificate.{Lines, Certificate, AreLinesOf, root_at}
 use Rattle.cert_text.proofs.OneCertificate.{certificate_one}
 use Rattle.cert_text.proofs.OneFault.{bad-no_text, line_one}
 use Rattle.cert_checker.specs.Walk.{Walked, fault_at, next_line, WalksTo}
@@ -11,7 +11,7 @@ use Rattle.cert_checker.proofs.OneWalk.{one_walk}
 
 one_end : (lines : Lines) (a b : Certificate) (v w : Walked) → AreLinesOf lines a → AreLinesOf lines b → WalksTo a v → WalksTo b w → v ≡ w
 one_end lines a b v w x y walks walks' =
-    one_walk b.root _ [] 4 v w (subst (λ (c : Certificate). WalksTo c v) (certificate_one lines a b x y) walks) walks'
+    one_walk b.root _ [] (root_at b.query) v w (subst (λ (c : Certificate). WalksTo c v) (certificate_one lines a b x y) walks) walks'
 
 -- lines have one answer
 pub one_answer : (lines : Lines) (a b : Answer) → Answers lines a → Answers lines b → a ≡ b

@@ -1,24 +1,22 @@
 -- Lines that are gathered byte by byte.
-use Rattle.std.proofs.Common.{◌≡◌, ◌≢◌, ℕ, zero, suc, ◌+◌, ◌<◌, ◌≤◌, ◌==◌, Bool, true, false, cond, List, [], ◌∷◌, ◌++◌, length, get_or, map, take, refl, sym, ap, ◌∙◌, subst, arith, append_assoc, length-append}
+use Rattle.std.proofs.Common.{◌≡◌, ◌≢◌, ℕ, zero, suc, ◌+◌, ◌<◌, ◌≤◌, ◌==◌, Bool, true, false, List, [], ◌∷◌, ◌++◌, length, get_or, map, take, refl, sym, ap, ◌∙◌, subst, arith, append_assoc, length-append}
 use Rattle.std.proofs.lemmas.Bool.{ne_eqb, cond-false}
-use Rattle.std.proofs.lemmas.Slice.Eq.{bytes_eq-Decides}
 use Rattle.std.specs.Prelude.{Option, None}
 use Rattle.std.specs.List.{onto_first}
 use Rattle.std.specs.Option.{option_map}
-use Rattle.std.specs.Str.{bytes_eq}
 use Rattle.board_base.specs.declared.unmoves.Unmove.{Unmove}
-use Rattle.query_base.specs.Asked.{Asked}
-use Rattle.query_base.specs.declared.claims.Claim.{Claim}
 use Rattle.cert_text.specs.Lines.{cut, ended}
 use Rattle.cert_text.specs.Mute.{IsMute}
-use Rattle.cert_text.specs.Certificate.{Lines, head_line}
+use Rattle.cert_text.specs.Certificate.{Lines}
+use Rattle.cert_text.specs.declared.heads.Head.{Head}
+use Rattle.cert_text.specs.declared.heads.Head.TheVariants.{FormatDue, ClaimDue, DemandDue, ClockOrFenDue, FenDue, RootDue}
 use Rattle.cert_text.specs.Due.{put_due, step}
 use Rattle.cert_text.specs.declared.node_lines.BodyLine.{BodyLine}
 use Rattle.cert_text.proofs.Cuts.{cut-whole}
 use Rattle.cert_checker.specs.Answers.{Answer, Answers, bad_text}
 use Rattle.cert_checker.specs.Frames.{going}
 use Rattle.cert_checker.specs.Framing.{due_of, stopped_by}
-use Rattle.cert_checker.specs.Stages.{bad, claiming, claimed, placed, Rooted, Stepped, NextStage, Rest, answer_at}
+use Rattle.cert_checker.specs.Stages.{OnHead, bad, headed, Rooted, Stepped, NextStage, Rest, answer_at}
 use Rattle.cert_checker.specs.Staging.{IsPart, NoEnd, stage_of, stop_at}
 use Rattle.cert_checker.specs.declared.frames.Frame.{Frame}
 use Rattle.cert_checker.specs.declared.stages.Step.{Step}
@@ -84,9 +82,13 @@ unended (b ∷ g) (c ∷ text) none e =
     let same : g ≡ text ++ 10 ∷ [] = cc in
     unended g text none.1 same
 
-mute_head : (b : Bool) (n : ℕ) (line : List ℕ) → bytes_eq line head_line ≡ b → line ≢ head_line → bad n ≡ cond b claiming (bad n)
-mute_head true n line e other = absurd (other ((bytes_eq-Decides line head_line).0 e))
-mute_head false n line e other = refl
+mute_head : (due : Head) (n : ℕ) (line : List ℕ) → IsMute line → OnHead due n line (bad n)
+mute_head FormatDue n line mute = ap (λ (o : Option Head). headed o n) (sym (mute.head FormatDue))
+mute_head (ClaimDue f) n line mute = ap (λ (o : Option Head). headed o n) (sym (mute.head (ClaimDue f)))
+mute_head (DemandDue claim) n line mute = ap (λ (o : Option Head). headed o n) (sym (mute.head (DemandDue claim)))
+mute_head (ClockOrFenDue claim odds) n line mute = ap (λ (o : Option Head). headed o n) (sym (mute.head (ClockOrFenDue claim odds)))
+mute_head (FenDue claim odds clock) n line mute = ap (λ (o : Option Head). headed o n) (sym (mute.head (FenDue claim odds clock)))
+mute_head (RootDue claim q) n line mute = subst (λ (o : Option BodyLine). Rooted o claim q n (bad n)) (sym mute.root) refl
 
 mute_step : (due : List ℕ) (line : List ℕ) → IsMute line → step due line ≡ None
 mute_step [] line mute = refl
@@ -95,10 +97,7 @@ mute_step (suc c ∷ due) line mute = ap (option_map (λ (kid : Unmove × BodyLi
 
 -- a line that says nothing is bad text
 mute_stage : (s : Step) (frames : List Frame) (due : List ℕ) (n : ℕ) (line : List ℕ) → IsMute line → NextStage (stage_of s frames due) n line (stage_of (stop_at s n) frames due)
-mute_stage at.Heading frames due n line mute = mute_head (bytes_eq line head_line) n line refl mute.head
-mute_stage at.Claiming frames due n line mute = ap (λ (o : Option Claim). claimed o n) (sym mute.claim)
-mute_stage (at.Placing claim) frames due n line mute = ap (λ (o : Option Asked). placed o claim n) (sym mute.query)
-mute_stage (at.Rooting claim q) frames due n line mute = subst (λ (o : Option BodyLine). Rooted o claim q n (bad n)) (sym mute.root) refl
+mute_stage (at.Heading due) frames ds n line mute = mute_head due n line mute
 mute_stage (at.Walking claim q) frames due n line mute = subst (λ (o : Option (List ℕ)). Stepped o claim q (going frames) n line (bad n)) (sym (mute_step (map due_of frames) line mute)) refl
 mute_stage (at.Counting claim q found) frames due n line mute = subst (λ (o : Option (List ℕ)). Stepped o claim q (stopped_by found) n line (bad n)) (sym (mute_step due line mute)) refl
 mute_stage (at.Bad k) frames due n line mute = refl
@@ -111,10 +110,7 @@ bad_moved : (lines others : Lines) (k m n : ℕ) (a : Answer) → Rest (bad k) m
 bad_moved lines others k m n a rest = bad_rest others k n a (rest_bad lines k m a rest)
 
 stopped_moved : (s : Step) (frames : List Frame) (due : List ℕ) (k m n : ℕ) (lines others : Lines) (a : Answer) → Rest (stage_of (stop_at s k) frames due) m lines a → Rest (stage_of (stop_at s k) frames due) n others a
-stopped_moved at.Heading frames due k m n lines others a rest = bad_moved lines others k m n a rest
-stopped_moved at.Claiming frames due k m n lines others a rest = bad_moved lines others k m n a rest
-stopped_moved (at.Placing claim) frames due k m n lines others a rest = bad_moved lines others k m n a rest
-stopped_moved (at.Rooting claim q) frames due k m n lines others a rest = bad_moved lines others k m n a rest
+stopped_moved (at.Heading head) frames due k m n lines others a rest = bad_moved lines others k m n a rest
 stopped_moved (at.Walking claim q) frames due k m n lines others a rest = bad_moved lines others k m n a rest
 stopped_moved (at.Counting claim q found) frames due k m n lines others a rest = bad_moved lines others k m n a rest
 stopped_moved (at.Bad j) frames due k m n lines others a rest = bad_moved lines others j m n a rest
@@ -128,10 +124,7 @@ rest_long mutes s t frames due n g part after others ends a none is long stop re
     (stage_of (stop_at s n) frames due, mute_stage s frames due n o.0 (mutes o.0 o.3), stopped_moved s frames due n n (n + 1) (cut (after ++ others)) o.1 a stopped)
 
 stopped_end : (s : Step) (frames : List Frame) (due : List ℕ) (k m n : ℕ) → answer_at (stage_of (stop_at s k) frames due) m ≡ answer_at (stage_of (stop_at s k) frames due) n
-stopped_end at.Heading frames due k m n = refl
-stopped_end at.Claiming frames due k m n = refl
-stopped_end (at.Placing claim) frames due k m n = refl
-stopped_end (at.Rooting claim q) frames due k m n = refl
+stopped_end (at.Heading head) frames due k m n = refl
 stopped_end (at.Walking claim q) frames due k m n = refl
 stopped_end (at.Counting claim q found) frames due k m n = refl
 stopped_end (at.Bad j) frames due k m n = refl

@@ -11,7 +11,7 @@ use Rattle.query_base.specs.Asked.{Asked}
 use Rattle.unmove_gen.specs.Listed.{unmoves}
 use Rattle.unmove_gen.specs.Predecessor.{predecessor}
 use Rattle.cert_text.specs.Tree.{Tree, Forest, rule, back, expand, none, more}
-use Rattle.cert_text.specs.Certificate.{Lines, Certificate, AreLinesOf}
+use Rattle.cert_text.specs.Certificate.{Lines, Certificate, AreLinesOf, root_at}
 use Rattle.cert_checker.specs.Proving.{Proves, ProvesEach, ProvesClaim}
 use Rattle.cert_checker.specs.Walk.{Walked, fault_at, next_line, Onwards, ByLabel, Walks, WalksEach, WalksTo}
 use Rattle.general_lemmas.proofs.Lists.{contains-first, contains-later}
@@ -73,6 +73,6 @@ mutual
 -- the walk of a certificate that has a text meets no fault exactly where it proves its claim
 pub walk_proves : (lines : Lines) (cert : Certificate) → AreLinesOf lines cert → (((n : ℕ) × WalksTo cert (next_line n)) → ProvesClaim cert) × (ProvesClaim cert → (n : ℕ) × WalksTo cert (next_line n))
 walk_proves lines cert text = (
-  λ clean. clean_proves cert.root _ [] 4 clean.0 (tree_written cert.root 0 text.below text.nodes) clean.1,
-  proves_clean cert.root _ [] 4,
+  λ clean. clean_proves cert.root _ [] (root_at cert.query) clean.0 (tree_written cert.root 0 text.below text.nodes) clean.1,
+  proves_clean cert.root _ [] (root_at cert.query),
 )

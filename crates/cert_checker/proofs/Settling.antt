@@ -12,7 +12,8 @@ use Rattle.cert_text.specs.declared.node_lines.BodyLine.{BodyLine}
 use Rattle.cert_checker.specs.Answers.{Answer}
 use Rattle.cert_checker.specs.Frames.{Walking, going, go_on, ended, OnBody}
 use Rattle.cert_checker.specs.Framing.{popped, due_of, walking, with_body}
-use Rattle.cert_checker.specs.Stages.{nodes, rooting, Rooted, Stepped, Rest}
+use Rattle.cert_checker.specs.Stages.{nodes, Rooted, Stepped, Rest}
+use Rattle.cert_checker.specs.Staging.{rooting}
 use Rattle.cert_checker.specs.declared.frames.Frame.{Frame}
 use Rattle.cert_checker.specs.declared.frames.Found.{Found}
 use Rattle.cert_checker.proofs.Opening.{rest_settled, due_with}

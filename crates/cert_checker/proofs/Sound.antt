@@ -52,7 +52,7 @@ by_game n q elsewhere before g short reaches = elim (by_last g) [
   | inl none-made ↦ elsewhere (subst (λ (h : List Move). Reaches h q) none-made reaches)
   | inr (h, m, e) ↦
       let whole : Reaches (h ++ m ∷ []) q = subst (λ (k : List Move). Reaches k q) e reaches in
-      before h (unmove_after h m) (omega (arith, ap length e, length-append h (m ∷ []))) (listed_after h m q whole) (reached_after h m q whole)
+      before h (unmove_after q.odds h m) (omega (arith, ap length e, length-append h (m ∷ []))) (listed_after h m q whole) (reached_after h m q whole)
 ]
 
 -- no game of at most n moves reaches what is proved below ancestors that none reaches

@@ -1,69 +1,54 @@
 -- A query that is read bars no move.
-use Rattle.std.proofs.Common.{◌≡◌, ℕ, inl, inr, Bool, true, false, cond, List, refl, sym, ap, ◌∙◌}
-use Rattle.std.proofs.lemmas.Option.{same_Some}
-use Rattle.std.specs.Prelude.{Option, Some, None, nat_eq, drop, codes}
-use Rattle.std.specs.Option.{option_map}
-use Rattle.std.specs.List.{starts_with}
+use Rattle.std.proofs.Common.{◌≡◌, ℕ, Bool, List, subst, Option, Some, None, inl, inr}
+use Rattle.board_base.specs.Board.{no_odds}
 use Rattle.query_base.specs.Asked.{Asked}
-use Rattle.fen_text.specs.Parts.{parted}
-use Rattle.fen_text.specs.Fen.{Position, asked, placement, turn, rights, en_passant, number, from_numbers, from_en_passant, from_rights, from_turn, fen, unnumbered, fen_of_four}
-use Rattle.fen_text.proofs.PartLemmas.{parted_known}
-use Rattle.cert_text.specs.Lines.{said, without_end}
-use Rattle.cert_text.specs.Certificate.{Lines, Certificate, AreLinesOf, query_of}
-
--- a position that is given bars no move
-abbrev Bars : Option Position → Type 0
-Bars o = (p : Position) → o ≡ Some p → p.0.barred ≡ None
-
-bars-parted : {A : Type 0} (part : List ℕ → Option A) (last : A → Option Position) (more : A → List ℕ → Option Position) (text : List ℕ) → ((x : A) → Bars (last x)) → ((x : A) (rest : List ℕ) → Bars (more x rest)) → Bars (parted 32 part last more text)
-bars-parted {A} part last more text ends goes p e = elim (parted_known 32 part last more text p e) [
-  | inl alone ↦ ends alone.value p alone.ends
-  | inr f ↦ goes f.value f.rest p f.goes_on
-]
-
-bars-none : Bars None
-bars-none p e = cc
-
-bars-some : (q : Asked) (numbers : Option (ℕ × ℕ)) → q.barred ≡ None → Bars (Some (q, numbers))
-bars-some q numbers plain p e = ap (λ (r : Position). r.0.barred) (sym (same_Some (q, numbers) p e)) ∙ plain
-
-bars-map : (q : Asked) (h : ℕ) (o : Option ℕ) → q.barred ≡ None → Bars (option_map (λ f. (q, Some (h, f))) o)
-bars-map q h None plain = bars-none
-bars-map q h (Some f) plain = bars-some q (Some (h, f)) plain
-
-bars-numbers : (q : Asked) (text : List ℕ) → q.barred ≡ None → Bars (from_numbers q text)
-unfolding from_numbers
-bars-numbers q text plain = bars-parted number (λ h. None) (λ h last. option_map (λ f. (q, Some (h, f))) (number last)) text (λ h. bars-none) (λ h last. bars-map q h (number last) plain)
-
-bars-fen : (text : List ℕ) → Bars (fen text)
-unfolding fen from_turn from_rights from_en_passant
-bars-fen text =
-    bars-parted placement (λ b. None) from_turn text (λ b. bars-none) (λ b more.
-    bars-parted turn (λ t. None) (from_rights b) more (λ t. bars-none) (λ t others.
-    bars-parted rights (λ r. None) (from_en_passant b t) others (λ r. bars-none) (λ r last.
-    bars-parted (en_passant t) (λ e. Some (asked b t r e, None)) (λ e. from_numbers (asked b t r e)) last (λ e. bars-some (asked b t r e) None refl) (λ e numbers. bars-numbers (asked b t r e) numbers refl))))
-
-unnumbered-plain : (o : Option Position) (q : Asked) → Bars o → unnumbered o ≡ Some q → q.barred ≡ None
-unnumbered-plain None q bars e = cc
-unnumbered-plain (Some (p, None)) q bars e = ap (λ (r : Asked). r.barred) (sym (same_Some p q e)) ∙ bars (p, None) refl
-unnumbered-plain (Some (p, Some numbers)) q bars e = cc
-
-query-plain : (b : Bool) (text : List ℕ) (q : Asked) → cond b (fen_of_four text) None ≡ Some q → q.barred ≡ None
-unfolding fen_of_four
-query-plain true text q e = unnumbered-plain (fen text) q (bars-fen text) e
-query-plain false text q e = cc
-
-said-plain : (o : Option (List ℕ)) (q : Asked) → elim o as (λ _. Option Asked) [ None ↦ None | Some text ↦ query_of text ] ≡ Some q → q.barred ≡ None
-unfolding query_of
-said-plain None q e = cc
-said-plain (Some text) q e = query-plain (starts_with nat_eq text (codes "fen ")) (drop 4 text) q e
+use Rattle.query_base.specs.declared.claims.Claim.{Claim}
+use Rattle.fen_text.specs.ClockLines.{clock_line}
+use Rattle.fen_text.specs.OddsLines.{odds_line}
+use Rattle.fen_text.proofs.PartLemmas.{mapped_some}
+use Rattle.cert_text.specs.Lines.{said}
+use Rattle.cert_text.specs.Certificate.{Lines, Certificate, AreLinesOf, format_of, query_of}
+use Rattle.cert_text.specs.ClaimLines.{claim_of}
+use Rattle.cert_text.specs.Heads.{after_claim, clock_step, fen_step, head_step, odds_step}
+use Rattle.cert_text.specs.declared.heads.Format.{Format}
+use Rattle.cert_text.specs.declared.heads.Format.TheVariants.{One, Two}
+use Rattle.cert_text.specs.declared.heads.Head.{Head}
+use Rattle.cert_text.specs.declared.heads.Head.TheVariants.{FormatDue, ClaimDue, DemandDue, ClockOrFenDue, FenDue, RootDue}
+use Rattle.cert_text.proofs.FenLines.{query_read}
+use Rattle.cert_text.proofs.HeadSteps.{one_of}
+use Rattle.cert_text.proofs.HeadTexts.{head_plain}
+use Rattle.cert_checker.specs.Staging.{BarsNothing}
 
 -- a certificate that has a text is about such a query
 pub query_unbarred : (lines : Lines) (cert : Certificate) → AreLinesOf lines cert → cert.query.barred ≡ None
-unfolding said
-query_unbarred lines cert text = said-plain (without_end text.fen_line) cert.query text.query
+query_unbarred lines cert text = head_plain text.head cert.claim cert.query text.heading
 
--- the query of a line that is read
-pub said_unbarred : (line : List ℕ) (q : Asked) → said query_of line ≡ Some q → q.barred ≡ None
-unfolding said
-said_unbarred line q e = said-plain (without_end line) q e
+after-plain : (f : Format) (claim : Claim) → BarsNothing (after_claim f claim)
+after-plain One claim = tt
+after-plain Two claim = tt
+
+clock_unbarred : (claim : Claim) (odds : List Bool) (next : Head) (line : List ℕ) → clock_step claim odds line ≡ Some next → BarsNothing next
+clock_unbarred claim odds next line e =
+    let m = mapped_some (λ (n : ℕ). FenDue claim odds (Some n)) (said clock_line line) next e in subst BarsNothing m.2 tt
+
+fen_unbarred : (claim : Claim) (odds : List Bool) (clock : Option ℕ) (next : Head) (line : List ℕ) → fen_step claim odds clock line ≡ Some next → BarsNothing next
+fen_unbarred claim odds clock next line e =
+    let m = mapped_some (λ (q : Asked). RootDue claim (record q { odds = odds; clock = clock })) (said query_of line) next e in
+    subst BarsNothing m.2 (query_read line m.0 m.1).plain
+
+-- so does the head that is read
+pub head_unbarred : (due next : Head) (line : List ℕ) → head_step due line ≡ Some next → BarsNothing next
+head_unbarred FormatDue next line e =
+    let m = mapped_some (λ (f : Format). ClaimDue f) (said format_of line) next e in subst BarsNothing m.2 tt
+head_unbarred (ClaimDue f) next line e =
+    let m = mapped_some (after_claim f) (said claim_of line) next e in subst BarsNothing m.2 (after-plain f m.0)
+head_unbarred (DemandDue claim) next line e = elim (one_of (odds_step claim line) (clock_step claim no_odds line) next e) [
+  | inl odds ↦ let m = mapped_some (λ (o : List Bool). ClockOrFenDue claim o) (said odds_line line) next odds in subst BarsNothing m.2 tt
+  | inr clock ↦ clock_unbarred claim no_odds next line clock
+]
+head_unbarred (ClockOrFenDue claim odds) next line e = elim (one_of (clock_step claim odds line) (fen_step claim odds None line) next e) [
+  | inl clock ↦ clock_unbarred claim odds next line clock
+  | inr fen ↦ fen_unbarred claim odds None next line fen
+]
+head_unbarred (FenDue claim odds clock) next line e = fen_unbarred claim odds clock next line e
+head_unbarred (RootDue claim q) next line e = cc

@@ -1,51 +1,54 @@
 -- How far a check of lines that come one after another has come, and what it still answers.
 use Rattle.std.specs.Prelude.{ℕ, ◌+◌, ◌≡◌, cond, List, [], ◌∷◌, Option, Some, None}
-use Rattle.std.specs.Str.{bytes_eq}
 use Rattle.query_base.specs.Asked.{Asked}
 use Rattle.query_base.specs.Targets.{target}
 use Rattle.query_base.specs.declared.claims.Claim.{Claim}
 use Rattle.cert_text.specs.Lines.{said}
 use Rattle.cert_text.specs.NodeLines.{root_body}
-use Rattle.cert_text.specs.Certificate.{Lines, head_line, query_of}
-use Rattle.cert_text.specs.ClaimLines.{claim_of}
+use Rattle.cert_text.specs.Certificate.{Lines}
+use Rattle.cert_text.specs.Heads.{head_step}
+use Rattle.cert_text.specs.declared.heads.Head.{Head}
+use Rattle.cert_text.specs.declared.heads.Head.TheVariants.{FormatDue, RootDue}
 use Rattle.cert_text.specs.Due.{put_due, step, is_done}
 use Rattle.cert_text.specs.declared.node_lines.BodyLine.{BodyLine}
 use Rattle.cert_checker.specs.Answers.{Answer, bad_text, fault, accepted}
 use Rattle.cert_checker.specs.Frames.{Walking, going, stopped, go_on, ended, OnBody, OnLine, WalksOn}
 
--- Bad text was met, or the line that comes next is the first, the claim's, the FEN's, the root's or a later one. In the last case
--- there are a walk and the numbers of children due.
+-- Bad text was met, or this line of the head comes next, or the root's, or a later one. In the last case there are a walk and the
+-- numbers of children due.
 pub data Stage : Type 0 where
-  heading : Stage
-  claiming : Stage
-  placing : Claim → Stage
-  rooting : Claim → Asked → Stage
+  in_head : Head → Stage
   nodes : Claim → Asked → Walking → List ℕ → Stage
   bad : ℕ → Stage
 
-abbrev pub claimed : Option Claim → ℕ → Stage
-claimed None n = bad n
-claimed (Some claim) n = placing claim
+-- the first line comes next
+abbrev pub heading : Stage
+heading = in_head FormatDue
 
-abbrev pub placed : Option Asked → Claim → ℕ → Stage
-placed None claim n = bad n
-placed (Some q) claim n = rooting claim q
+-- the stage after a line of the head, number n
+abbrev pub headed : Option Head → ℕ → Stage
+headed None n = bad n
+headed (Some due) n = in_head due
 
+-- the stage after the root's line, number n
 abbrev pub Rooted : Option BodyLine → Claim → Asked → ℕ → Stage → Type 0
 Rooted None claim q n next = next ≡ bad n
 Rooted (Some body) claim q n next =
     (walk : Walking) × OnBody body (target q claim) [] n walk × (next ≡ nodes claim q walk (put_due body []))
 
+-- the stage after a line below the root's, number n
 abbrev pub Stepped : Option (List ℕ) → Claim → Asked → Walking → ℕ → List ℕ → Stage → Type 0
 Stepped None claim q walk n line next = next ≡ bad n
 Stepped (Some due) claim q walk n line next = (after : Walking) × OnLine walk n line after × (next ≡ nodes claim q after due)
 
+-- the stage after line n, where this line of the head is due, or the root's
+abbrev pub OnHead : Head → ℕ → List ℕ → Stage → Type 0
+OnHead (RootDue claim q) n line next = Rooted (said root_body line) claim q n next
+OnHead due n line next = next ≡ headed (head_step due line) n
+
 -- the stage after line n
 abbrev pub NextStage : Stage → ℕ → List ℕ → Stage → Type 0
-NextStage heading n line next = next ≡ cond (bytes_eq line head_line) claiming (bad n)
-NextStage claiming n line next = next ≡ claimed (said claim_of line) n
-NextStage (placing claim) n line next = next ≡ placed (said query_of line) claim n
-NextStage (rooting claim q) n line next = Rooted (said root_body line) claim q n next
+NextStage (in_head due) n line next = OnHead due n line next
 NextStage (nodes claim q walk due) n line next = Stepped (step due line) claim q walk n line next
 NextStage (bad k) n line next = next ≡ bad k
 

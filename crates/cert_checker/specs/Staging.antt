@@ -3,7 +3,9 @@
 use Rattle.std.specs.Prelude.{ℕ, ◌≡◌, ◌≢◌, Bool, true, false, List, [], ◌∷◌, ◌++◌, map, Option, Some, None}
 use Rattle.query_base.specs.Asked.{Asked}
 use Rattle.query_base.specs.declared.claims.Claim.{Claim}
-use Rattle.cert_checker.specs.Stages.{Stage, heading, claiming, placing, rooting, nodes, bad}
+use Rattle.cert_text.specs.declared.heads.Head.{Head}
+use Rattle.cert_text.specs.declared.heads.Head.TheVariants.{RootDue}
+use Rattle.cert_checker.specs.Stages.{Stage, in_head, nodes, bad}
 use Rattle.cert_checker.specs.Frames.{going}
 use Rattle.cert_checker.specs.Framing.{IsOpen, IsStack, due_of, stopped_by, walking}
 use Rattle.cert_checker.specs.Counting.{AreCounts, IsDue}
@@ -12,6 +14,10 @@ use Rattle.cert_checker.specs.declared.frames.Found.{Found}
 use Rattle.cert_checker.specs.declared.stages.Step.{Step}
 use Rattle.cert_checker.specs.declared.stages.Step.TheVariants as at
 
+-- the root's line comes next
+abbrev pub rooting : Claim → Asked → Stage
+rooting claim q = in_head (RootDue claim q)
+
 -- the stage after a line of a node, from what a function answers
 abbrev pub taken : Option (Option Found) → Claim → Asked → List Frame → ℕ → Stage
 taken None claim q frames n = bad n
@@ -19,17 +25,19 @@ taken (Some f) claim q frames n = nodes claim q (walking f frames) (map due_of f
 
 -- the stage of a step, with its frames, or with the numbers of children due where the walk has met a fault
 abbrev pub stage_of : Step → List Frame → List ℕ → Stage
-stage_of at.Heading frames due = heading
-stage_of at.Claiming frames due = claiming
-stage_of (at.Placing claim) frames due = placing claim
-stage_of (at.Rooting claim q) frames due = rooting claim q
+stage_of (at.Heading head) frames due = in_head head
 stage_of (at.Walking claim q) frames due = nodes claim q (going frames) (map due_of frames)
 stage_of (at.Counting claim q found) frames due = nodes claim q (stopped_by found) due
 stage_of (at.Bad n) frames due = bad n
 
+-- the query of a head that is read bars no move
+abbrev pub BarsNothing : Head → Type 0
+BarsNothing (RootDue claim q) = q.barred ≡ None
+BarsNothing _ = Unit {0}
+
 -- the frames of a step, its numbers or its query are as the next line needs them
 abbrev pub IsReady : Step → List Frame → List ℕ → Type 0
-IsReady (at.Rooting claim q) frames due = q.barred ≡ None
+IsReady (at.Heading head) frames due = BarsNothing head
 IsReady (at.Walking claim q) frames due = IsStack frames × IsOpen frames
 IsReady (at.Counting claim q found) frames due = AreCounts due × IsDue due
 IsReady _ frames due = Unit {0}

@@ -11,7 +11,7 @@ use Rattle.static_rules.specs.Supports.{Supports}
 use Rattle.unmove_gen.specs.Listed.{unmoves}
 use Rattle.unmove_gen.specs.Predecessor.{predecessor}
 use Rattle.cert_text.specs.Tree.{Tree, Forest, rule, back, expand, none, more}
-use Rattle.cert_text.specs.Certificate.{Certificate}
+use Rattle.cert_text.specs.Certificate.{Certificate, root_at}
 use Rattle.cert_checker.specs.Proving.{target_of}
 use Rattle.cert_checker.specs.declared.refusals.Why.{Why}
 use Rattle.cert_checker.specs.declared.refusals.Why.TheVariants as why
@@ -59,6 +59,6 @@ abbrev mutual
   WalksEach (more label tree rest) q (u ∷ us) ancestors top n walked =
       ByLabel (unmove_order label u) u n walked ((kid : Walked) × Walks tree (predecessor q u) (q ∷ ancestors) n kid × Onwards kid (WalksEach rest q us ancestors top) walked)
 
--- what the walk of a certificate comes to, whose root stands on line 4
+-- what the walk of a certificate comes to, from its root's line on
 abbrev pub WalksTo : Certificate → Walked → Type 0
-WalksTo cert walked = Walks cert.root (target_of cert) [] 4 walked
+WalksTo cert walked = Walks cert.root (target_of cert) [] (root_at cert.query) walked

@@ -10,7 +10,7 @@ use crate::frames::Frame;
 use crate::refusals::{Accepted, Fault};
 use crate::stages::{Step, answer, stop, take};
 use arrayvec::ArrayVec;
-use cert_text::no_long_lines;
+use cert_text::{Head, no_long_lines};
 use memchr::memchr;
 use std::marker::Model;
 
@@ -123,7 +123,7 @@ impl Checker {
         ensures { StandsFor result [] }
     {
         Checker {
-            step: Step::Heading,
+            step: Step::Heading(Head::FormatDue),
             frames: ArrayVec::new(),
             counts: ArrayVec::new(),
             gathered: ArrayVec::new(),

@@ -5,7 +5,7 @@ ghost use Rattle.cert_checker.specs.Answers.{Answers, answered};
 
 use crate::refusals::{Accepted, Refused};
 use crate::walking::check_node;
-use cert_text::{CertFault, read_cert};
+use cert_text::{CertFault, read_cert, root_line_of};
 use query_base::target;
 use std::alloc::Global;
 
@@ -32,7 +32,7 @@ pub fn check_bytes(alloc: Global, bytes: &[u8]) -> Result<Accepted, Refused>
         &target(&cert.query, &cert.claim),
         &cert.root,
         &mut ancestors,
-        4,
+        root_line_of(&cert.query),
     ) {
         Ok(_) => Ok(Accepted {
             claim: cert.claim,

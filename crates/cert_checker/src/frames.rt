@@ -17,7 +17,7 @@ ghost use Rattle.cert_checker.specs.declared.frames.Frame.{Frame as AnyFrame};
 use crate::left_unmoves::LeftUnmoves;
 use crate::refusals::Why;
 use arrayvec::ArrayVec;
-use board_base::{Board, CastleSet, Colour, Unmove, cmp_unmove};
+use board_base::{Board, CastleSet, Colour, Odds, Unmove, cmp_unmove};
 use cert_text::{BodyLine, read_kid_line};
 use query_base::{Query, covers, is_array};
 use static_rules::supports;
@@ -43,9 +43,11 @@ impl Default for Frame {
         let query = Query {
             board: Board::empty(),
             turn: Colour::White,
+            odds: Odds::none(),
             held: CastleSet::none(),
             only: None,
             barred: None,
+            clock: None,
         };
         Frame {
             query,

@@ -5,27 +5,21 @@ ghost use Rattle.cert_text.specs.Certificate.{Lines};
 ghost use Rattle.cert_checker.specs.Answers.{Answer, answer_as};
 ghost use Rattle.cert_checker.specs.Framing.{IsOpen, IsStack, due_of, stopped_by, walking};
 ghost use Rattle.cert_checker.specs.Frames.{going};
-ghost use Rattle.cert_checker.specs.Stages.{Rest, answer_at, answer_by, nodes, rooting};
-ghost use Rattle.cert_checker.specs.Staging.{IsReady, stage_of, stop_at};
+ghost use Rattle.cert_checker.specs.Stages.{Rest, answer_at, answer_by, in_head, nodes};
+ghost use Rattle.cert_checker.specs.Staging.{BarsNothing, IsReady, rooting, stage_of, stop_at};
 
 use crate::counting::{count_frames, count_line};
 use crate::frames::{Found, Frame, body_fault, push_body, settle, take_line};
 use crate::refusals::{Accepted, Fault};
 use arrayvec::ArrayVec;
-use cert_text::{is_head_line, read_claim_line, read_fen_line, read_root_line};
+use cert_text::{Head, read_head_line, read_root_line};
 use query_base::{Claim, Query, target};
 
 /// How far a check of lines has come: which line comes next, or at which line the text went bad.
 #[derive(Clone, Copy, PartialEq, Eq, Debug)]
 pub enum Step {
-    /// The first line.
-    Heading,
-    /// The claim's line.
-    Claiming,
-    /// The FEN's line.
-    Placing(Claim),
-    /// The root's line.
-    Rooting(Claim, Query),
+    /// A line of the head, or the root's.
+    Heading(Head),
     /// A line below the root's, or none, where the walk has met no fault.
     Walking(Claim, Query),
     /// A line below the root's, or none, where the walk has met this fault. From there on only the children due are counted.
@@ -80,6 +74,27 @@ fn take_root(
     step_at(claim, query, found, frames, counts)
 }
 
+/// The step after a line of the head, or the root's.
+fn take_head(
+    head: Head,
+    frames: &mut ArrayVec<Frame, 256>,
+    counts: &mut ArrayVec<u32, 256>,
+    number: u32,
+    line: &[u8],
+) -> Step
+    requires { BarsNothing head }
+    ensures rest { (lines : Lines) (a : Answer) → Rest (stage_of result (reverse frames.new.items) (reverse counts.new.items)) (number + 1) lines a → Rest (in_head head) number (line.now ∷ lines) a }
+    ensures ready { IsReady result (reverse frames.new.items) (reverse counts.new.items) }
+{
+    if let Head::RootDue(claim, query) = head {
+        return take_root(claim, query, frames, counts, number, line);
+    }
+    match read_head_line(&head, line) {
+        Some(next) => Step::Heading(next),
+        None => Step::Bad(number),
+    }
+}
+
 /// The step after the line of a node below the root, where the walk has met no fault before.
 fn take_node(
     claim: Claim,
@@ -121,22 +136,7 @@ fn take_step(
 {
     let before = *step;
     *step = match before {
-        Step::Heading => {
-            if is_head_line(line) {
-                Step::Claiming
-            } else {
-                Step::Bad(number)
-            }
-        }
-        Step::Claiming => match read_claim_line(line) {
-            Some(claim) => Step::Placing(claim),
-            None => Step::Bad(number),
-        },
-        Step::Placing(claim) => match read_fen_line(line) {
-            Some(query) => Step::Rooting(claim, query),
-            None => Step::Bad(number),
-        },
-        Step::Rooting(claim, query) => take_root(claim, query, frames, counts, number, line),
+        Step::Heading(head) => take_head(head, frames, counts, number, line),
         Step::Walking(claim, query) => take_node(claim, query, frames, counts, number, line),
         Step::Counting(claim, query, found) => {
             if count_line(counts, line) {

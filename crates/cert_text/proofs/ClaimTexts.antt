@@ -22,7 +22,7 @@ use Rattle.cert_text.specs.ClaimLines.{castling_named, capture_claimed, claim_of
 use Rattle.cert_text.specs.Writable.{is_on_board, is_written}
 use Rattle.cert_text.proofs.Frees.{move_free}
 use Rattle.cert_text.proofs.OnBoard.{move_on_board}
-use Rattle.cert_text.proofs.Begun.{begun}
+use Rattle.fen_text.proofs.Begun.{begun}
 use Rattle.cert_text.proofs.RuleTexts.{Only, only_none}
 use Rattle.cert_text.proofs.SpelledLines.{said_back, said_read}
 

@@ -1,7 +1,7 @@
 -- The text of a certificate, and lines that go bad.
-use Rattle.std.proofs.Common.{◌≡◌, ℕ, List, [], ◌∷◌, ◌++◌, inl, inr, refl, sym, ◌∙◌, ap, arith}
-use Rattle.std.specs.Prelude.{Option, Some, None, codes}
-use Rattle.board_base.specs.Board.{no_men}
+use Rattle.std.proofs.Common.{◌≡◌, ℕ, Bool, true, List, [], ◌∷◌, refl}
+use Rattle.std.specs.Prelude.{None, Some, codes, slice_set}
+use Rattle.board_base.specs.Board.{no_men, no_odds}
 use Rattle.board_base.specs.declared.men.Colour.TheVariants.{White}
 use Rattle.query_base.specs.declared.claims.Claim.TheVariants.{Illegal}
 use Rattle.query_base.specs.declared.rule_lines.RuleLine.TheVariants.{Kings}
@@ -13,9 +13,17 @@ use Rattle.cert_text.specs.Lines.{ended, said}
 use Rattle.cert_text.specs.Texts.{IsBadAt}
 use Rattle.cert_text.specs.NodeLines.{body_at, root_body}
 use Rattle.cert_text.specs.ClaimLines.{claim_of}
-use Rattle.cert_text.specs.Certificate.{AreLinesOf, Certificate, Lines, head_line, query_of}
-use Rattle.cert_text.specs.declared.node_lines.BodyLine.{BodyLine}
-use Rattle.general_lemmas.proofs.Lists.{same_first, same_rest}
+use Rattle.cert_text.specs.Certificate.{AreHeadLines, AreLinesOf, Certificate, Lines, format_of, query_of, root_at}
+use Rattle.cert_text.specs.Heads.{Leads, head_step}
+use Rattle.cert_text.specs.declared.heads.Format.TheVariants.{Two}
+use Rattle.cert_text.specs.declared.heads.Head.TheVariants.{FormatDue, ClaimDue, DemandDue, FenDue, RootDue}
+use Rattle.cert_text.proofs.Bad.{bad_end, bad_line, bad_root}
+use Rattle.cert_text.proofs.HeadSteps.{head_leads}
+use Rattle.fen_text.specs.ClockLines.{clock_line}
+use Rattle.fen_text.specs.Numbers.{number}
+use Rattle.fen_text.specs.OddsLines.{odds_line, odds_of}
+use Rattle.fen_text.specs.Sets.{set_of}
+use Rattle.board_base.specs.Squares.{squares_of}
 
 -- no game leads to the board without men, for want of kings
 abbrev no_kings : Certificate
@@ -27,39 +35,35 @@ claim_line = ended (codes "claim illegal")
 abbrev fen_line : List ℕ
 fen_line = ended (codes "fen 8/8/8/8/8/8/8/8 w - -")
 
+abbrev one_line : List ℕ
+one_line = ended (codes "retro 1")
+
 -- its first three lines, with this one as the fourth
 abbrev with_root : List ℕ → Lines
-with_root line = head_line ∷ claim_line ∷ fen_line ∷ line ∷ []
+with_root line = one_line ∷ claim_line ∷ fen_line ∷ line ∷ []
+
+-- they are its head
+good_head : AreHeadLines (one_line ∷ claim_line ∷ fen_line ∷ []) Illegal (asked no_men White no_rights None)
+unfolding said claim_of query_of format_of fen_of_four fen from_turn from_rights from_en_passant parted placement ranks rank is_symbol places_of rights
+good_head = record { format_line = one_line; claim_line = claim_line; odds_lines = []; clock_lines = []; fen_line = fen_line; parts = refl; format_is = refl; claim_is = refl; odds_are = refl; clock_is = refl; query_is = refl }
 
 abbrev kings_line : List ℕ
 kings_line = ended (codes "root rule kings")
 
 -- the four lines are its text
 good_lines : AreLinesOf (with_root kings_line) no_kings
-unfolding said claim_of query_of root_body body_at fen_of_four fen from_turn from_rights from_en_passant parted placement ranks rank is_symbol places_of rights
-good_lines = record { claim_line = claim_line; fen_line = fen_line; root_line = kings_line; below = []; parts = refl; claim = refl; query = refl; root = refl; nodes = refl }
+unfolding said root_body body_at
+good_lines = record { head = one_line ∷ claim_line ∷ fen_line ∷ []; root_line = kings_line; below = []; parts = refl; heading = good_head; root = refl; nodes = refl }
 
--- without a line a text ends too early, at line 1
+-- without a line a text ends too early, at line 1; without the root's, at line 4
 no_bytes : IsBadAt AreLinesOf [] 1
-no_bytes = record {
-  counted = omega arith;
-  front = (with_root kings_line, no_kings, good_lines);
-  bad = inr (refl, λ cert text. let none : [] ≡ head_line ∷ text.claim_line ∷ text.fen_line ∷ text.root_line ∷ text.below = text.parts in cc);
-}
+no_bytes = bad_end [] FormatDue 1 refl refl
 
--- without the root's line it ends too early at line 4
-no_root : IsBadAt AreLinesOf (head_line ∷ claim_line ∷ fen_line ∷ []) 4
-no_root = record {
-  counted = omega arith;
-  front = (kings_line ∷ [], no_kings, good_lines);
-  bad = inr (
-    refl,
-    λ cert text.
-        let three : head_line ∷ claim_line ∷ fen_line ∷ [] ≡ head_line ∷ text.claim_line ∷ text.fen_line ∷ text.root_line ∷ text.below = text.parts in
-        let none : [] ≡ text.root_line ∷ text.below = same_rest (same_rest (same_rest three)) in
-        cc,
-  );
-}
+head_read : Leads FormatDue (one_line ∷ claim_line ∷ fen_line ∷ []) (RootDue Illegal (asked no_men White no_rights None))
+head_read = head_leads (one_line ∷ claim_line ∷ fen_line ∷ []) Illegal (asked no_men White no_rights None) good_head
+
+no_root : IsBadAt AreLinesOf (one_line ∷ claim_line ∷ fen_line ∷ []) 4
+no_root = bad_end (one_line ∷ claim_line ∷ fen_line ∷ []) (RootDue Illegal (asked no_men White no_rights None)) 4 refl head_read
 
 abbrev queens_line : List ℕ
 queens_line = ended (codes "root rule queens")
@@ -69,16 +73,142 @@ unfolding said root_body body_at
 no_such_rule = refl
 
 -- with a root of a rule that there isn't it goes bad at line 4
-bad_root : IsBadAt AreLinesOf (with_root queens_line) 4
-bad_root = record {
-  counted = omega arith;
-  front = (kings_line ∷ [], no_kings, good_lines);
-  bad = inl (
-    omega arith,
-    λ begun.
-        let four : with_root queens_line ++ begun.0 ≡ head_line ∷ begun.2.claim_line ∷ begun.2.fen_line ∷ begun.2.root_line ∷ begun.2.below = begun.2.parts in
-        let line : queens_line ≡ begun.2.root_line = same_first (same_rest (same_rest (same_rest four))) in
-        let none : said root_body begun.2.root_line ≡ None = ap (said root_body) (sym line) ∙ no_such_rule in
-        cc (none, begun.2.root),
-  );
+bad_queens : IsBadAt AreLinesOf (with_root queens_line) 4
+bad_queens = bad_root (one_line ∷ claim_line ∷ fen_line ∷ []) queens_line [] Illegal (asked no_men White no_rights None) 4 refl head_read no_such_rule
+
+abbrev two_line : List ℕ
+two_line = ended (codes "retro 2")
+
+two_read : Leads FormatDue (two_line ∷ claim_line ∷ []) (DemandDue Illegal)
+unfolding said claim_of format_of
+two_read = (ClaimDue Two, refl, (DemandDue Illegal, refl, refl))
+
+nothing_demanded : head_step (DemandDue Illegal) fen_line ≡ None
+unfolding said odds_line clock_line
+nothing_demanded = refl
+
+-- in format 2 a FEN behind the claim goes bad at line 3
+no_demand : IsBadAt AreLinesOf (two_line ∷ claim_line ∷ fen_line ∷ kings_line ∷ []) 3
+no_demand =
+    bad_line (two_line ∷ claim_line ∷ []) fen_line (kings_line ∷ []) (DemandDue Illegal) 3 refl two_read (λ claim q e. cc) nothing_demanded
+
+abbrev a2_line : List ℕ
+a2_line = ended (codes "odds 0000000000000100")
+
+-- the square a2
+abbrev a2 : List Bool
+a2 = slice_set no_odds 8 true
+
+-- without the pawn of a2
+abbrev no_kings_at_odds : Certificate
+no_kings_at_odds = record { claim = Illegal; query = record (asked no_men White no_rights None) { odds = a2 }; root = rule Kings }
+
+-- with the odds behind the claim the five lines are a text
+lines_at_odds : AreLinesOf (two_line ∷ claim_line ∷ a2_line ∷ fen_line ∷ kings_line ∷ []) no_kings_at_odds
+unfolding said claim_of query_of format_of root_body body_at odds_line odds_of set_of squares_of fen_of_four fen from_turn from_rights from_en_passant parted placement ranks rank is_symbol places_of rights
+lines_at_odds = record {
+  head = two_line ∷ claim_line ∷ a2_line ∷ fen_line ∷ [];
+  root_line = kings_line;
+  below = [];
+  parts = refl;
+  heading = record {
+    format_line = two_line;
+    claim_line = claim_line;
+    odds_lines = a2_line ∷ [];
+    clock_lines = [];
+    fen_line = fen_line;
+    parts = refl;
+    format_is = refl;
+    claim_is = refl;
+    odds_are = refl;
+    clock_is = refl;
+    query_is = refl;
+  };
+  root = refl;
+  nodes = refl;
 }
+
+-- and the root stands on line 5
+root_of_odds : root_at no_kings_at_odds.query ≡ 5
+root_of_odds = refl
+
+abbrev clock_7 : List ℕ
+clock_7 = ended (codes "clock 7")
+
+-- where the clock must be 7
+abbrev no_kings_by_clock : Certificate
+no_kings_by_clock = record { claim = Illegal; query = record (asked no_men White no_rights None) { clock = Some 7 }; root = rule Kings }
+
+-- with the clock alone behind the claim the five lines are a text
+lines_by_clock : AreLinesOf (two_line ∷ claim_line ∷ clock_7 ∷ fen_line ∷ kings_line ∷ []) no_kings_by_clock
+unfolding said claim_of query_of format_of root_body body_at clock_line number fen_of_four fen from_turn from_rights from_en_passant parted placement ranks rank is_symbol places_of rights
+lines_by_clock = record {
+  head = two_line ∷ claim_line ∷ clock_7 ∷ fen_line ∷ [];
+  root_line = kings_line;
+  below = [];
+  parts = refl;
+  heading = record {
+    format_line = two_line;
+    claim_line = claim_line;
+    odds_lines = [];
+    clock_lines = clock_7 ∷ [];
+    fen_line = fen_line;
+    parts = refl;
+    format_is = refl;
+    claim_is = refl;
+    odds_are = refl;
+    clock_is = refl;
+    query_is = refl;
+  };
+  root = refl;
+  nodes = refl;
+}
+
+root_by_clock : root_at no_kings_by_clock.query ≡ 5
+root_by_clock = refl
+
+-- without the pawn of a2, and where the clock must be 7
+abbrev no_kings_by_both : Certificate
+no_kings_by_both = record { claim = Illegal; query = record (asked no_men White no_rights None) { odds = a2; clock = Some 7 }; root = rule Kings }
+
+-- with the odds and then the clock behind the claim the six lines are a text
+lines_by_both : AreLinesOf (two_line ∷ claim_line ∷ a2_line ∷ clock_7 ∷ fen_line ∷ kings_line ∷ []) no_kings_by_both
+unfolding said claim_of query_of format_of root_body body_at odds_line odds_of set_of squares_of clock_line number fen_of_four fen from_turn from_rights from_en_passant parted placement ranks rank is_symbol places_of rights
+lines_by_both = record {
+  head = two_line ∷ claim_line ∷ a2_line ∷ clock_7 ∷ fen_line ∷ [];
+  root_line = kings_line;
+  below = [];
+  parts = refl;
+  heading = record {
+    format_line = two_line;
+    claim_line = claim_line;
+    odds_lines = a2_line ∷ [];
+    clock_lines = clock_7 ∷ [];
+    fen_line = fen_line;
+    parts = refl;
+    format_is = refl;
+    claim_is = refl;
+    odds_are = refl;
+    clock_is = refl;
+    query_is = refl;
+  };
+  root = refl;
+  nodes = refl;
+}
+
+-- and the root stands on line 6
+root_by_both : root_at no_kings_by_both.query ≡ 6
+root_by_both = refl
+
+clock_read : Leads FormatDue (two_line ∷ claim_line ∷ clock_7 ∷ []) (FenDue Illegal no_odds (Some 7))
+unfolding said claim_of format_of odds_line clock_line number
+clock_read = (ClaimDue Two, refl, (DemandDue Illegal, refl, (FenDue Illegal no_odds (Some 7), refl, refl)))
+
+no_odds_behind : head_step (FenDue Illegal no_odds (Some 7)) a2_line ≡ None
+unfolding said query_of
+no_odds_behind = refl
+
+-- with the clock before the odds it goes bad at line 4, where the odds are
+clock_before_odds : IsBadAt AreLinesOf (two_line ∷ claim_line ∷ clock_7 ∷ a2_line ∷ fen_line ∷ kings_line ∷ []) 4
+clock_before_odds =
+    bad_line (two_line ∷ claim_line ∷ clock_7 ∷ []) a2_line (fen_line ∷ kings_line ∷ []) (FenDue Illegal no_odds (Some 7)) 4 refl clock_read (λ claim q e. cc) no_odds_behind

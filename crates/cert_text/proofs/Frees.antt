@@ -21,7 +21,7 @@ use Rattle.cert_text.specs.Writable.{fits_depth}
 use Rattle.cert_text.specs.NodeLines.{body_text}
 use Rattle.cert_text.specs.declared.node_lines.BodyLine.{BodyLine}
 use Rattle.cert_text.specs.declared.node_lines.BodyLine.TheVariants.{Rule, Back, Expand}
-use Rattle.cert_text.proofs.Decimals.{model}
+use Rattle.fen_text.proofs.Decimals.{model}
 use Rattle.cert_text.proofs.RuleTexts.{name_free}
 
 -- a byte above c, in front of a text without c
@@ -58,7 +58,7 @@ pub unmove_free : (c : ℕ) (u : Unmove) → c < 48 → Free c (unmove_text u)
 unmove_free c u low =
     free_append c (move_text u.mv) (capture_text u.captured u.ep) (move_free c u.mv low) (capture_free c u.captured u.ep low)
 
-decimal_free : (n : ℕ) → n ≤ 999999 → Free 10 (decimal n)
+pub decimal_free : (n : ℕ) → n ≤ 999999 → Free 10 (decimal n)
 decimal_free n few = digits_free 10 (decimal n) (omega arith) (digits_decimal model n (omega arith))
 
 -- the text of a body has no line end

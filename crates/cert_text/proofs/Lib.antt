@@ -1,7 +1,6 @@
 mod Examples
 pub mod Tests
 pub mod Forests
-pub mod Numbers
 pub mod Cuts
 pub mod PartTexts
 pub mod KidLines
@@ -10,9 +9,7 @@ pub mod Gives
 pub mod Fitting
 pub mod Children
 pub mod Bad
-pub mod Decimals
-pub mod Begun
-pub mod HexTexts
+pub mod HeadLines
 pub mod SignedTexts
 pub mod WordTexts
 pub mod NearNumbers
@@ -24,10 +21,12 @@ pub mod SpelledLines
 pub mod Short
 pub mod TreeTexts
 pub mod ClaimTexts
+pub mod FenLines
+pub mod HeadTexts
+pub mod HeadSteps
 pub mod CertTexts
 pub mod Admitted
 pub mod OneCertificate
 pub mod OneFault
-pub mod WrittenSets
 pub mod WrittenNumbers
 pub mod WrittenTrees

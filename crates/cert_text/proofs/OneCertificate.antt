@@ -1,15 +1,16 @@
 -- Lines are the text of one certificate.
-use Rattle.std.proofs.Common.{◌≡◌, ℕ, suc, Option, List, [], ◌∷◌, ◌++◌, Some, refl, sym, ap, ◌∙◌, arith, append_assoc}
+use Rattle.std.proofs.Common.{◌≡◌, ℕ, suc, List, [], ◌∷◌, ◌++◌, Some, refl, sym, ap, ◌∙◌, arith, append_assoc}
 use Rattle.std.proofs.lemmas.Option.{same_Some, some_pair_parts}
 use Rattle.board_base.specs.declared.unmoves.Unmove.{Unmove}
 use Rattle.query_base.specs.declared.rule_lines.RuleLine.{RuleLine}
 use Rattle.cert_text.specs.Tree.{Tree, Forest, rule, back, expand, none, more, count}
 use Rattle.cert_text.specs.Lines.{said}
 use Rattle.cert_text.specs.NodeLines.{root_body, kid_body}
-use Rattle.cert_text.specs.Certificate.{Lines, Certificate, AreLinesOf, AreBelow, AreKids, body_of, query_of}
-use Rattle.cert_text.specs.ClaimLines.{claim_of}
+use Rattle.cert_text.specs.Certificate.{Lines, Certificate, AreLinesOf, AreBelow, AreKids, body_of}
+use Rattle.cert_text.specs.declared.heads.Head.TheVariants.{FormatDue, RootDue}
 use Rattle.cert_text.specs.declared.node_lines.BodyLine.{BodyLine}
 use Rattle.general_lemmas.proofs.Lists.{same_first, same_rest}
+use Rattle.cert_text.proofs.HeadSteps.{at_root, goes_on, head_leads}
 
 -- two trees that begin the same lines are one, and so is what follows them
 record SameTree (t u : Tree) (x y : Lines) : Type 0 where
@@ -65,17 +66,12 @@ mutual
         rest = others.rest;
       }
 
--- what a line says, it says alone
-one_said : {A : Type 0} (grammar : List ℕ → Option A) (k l : List ℕ) (x y : A) → k ≡ l → said grammar k ≡ Some x → said grammar l ≡ Some y → x ≡ y
-one_said grammar k l x y same p q = same_Some x y (sym p ∙ ap (said grammar) same ∙ q)
-
 -- lines are the text of one certificate
 pub certificate_one : (lines : Lines) (c d : Certificate) → AreLinesOf lines c → AreLinesOf lines d → c ≡ d
 certificate_one lines c d p q =
-    let all = sym p.parts ∙ q.parts in
-    let claim : c.claim ≡ d.claim = one_said claim_of p.claim_line q.claim_line c.claim d.claim (same_first (same_rest all)) p.claim q.claim in
-    let query : c.query ≡ d.query = one_said query_of p.fen_line q.fen_line c.query d.query (same_first (same_rest (same_rest all))) p.query q.query in
-    let own : body_of c.root ≡ body_of d.root = one_said root_body p.root_line q.root_line (body_of c.root) (body_of d.root) (same_first (same_rest (same_rest (same_rest all)))) p.root q.root in
-    let below : p.below ++ [] ≡ q.below ++ [] = ap (λ (l : Lines). l ++ []) (same_rest (same_rest (same_rest (same_rest all)))) in
+    let on = goes_on p.head q.head FormatDue (RootDue c.claim c.query) d.claim d.query (p.root_line ∷ p.below) (q.root_line ∷ q.below) (head_leads p.head c.claim c.query p.heading) (head_leads q.head d.claim d.query q.heading) (sym p.parts ∙ q.parts) in
+    let is = at_root c.claim d.claim c.query d.query (p.root_line ∷ p.below) (q.root_line ∷ q.below) on in
+    let own : body_of c.root ≡ body_of d.root = same_Some (body_of c.root) (body_of d.root) (sym p.root ∙ ap (said root_body) (same_first is.rest) ∙ q.root) in
+    let below : p.below ++ [] ≡ q.below ++ [] = ap (λ (l : Lines). l ++ []) (same_rest is.rest) in
     let tree : SameTree c.root d.root [] [] = below_same c.root d.root 0 p.below q.below [] [] own p.nodes q.nodes below in
-    λ i. record { claim = claim i; query = query i; root = tree.tree i }
+    λ i. record { claim = is.claim_is i; query = is.query_is i; root = tree.tree i }

@@ -18,13 +18,14 @@ use Rattle.fen_text.specs.Parts.{Free}
 use Rattle.fen_text.specs.Spelling.{turn_letter}
 use Rattle.fen_text.proofs.OneText.{turn_spelled}
 use Rattle.fen_text.proofs.PartLemmas.{followed, free_append, mapped_some, part_more, parted_next}
-use Rattle.cert_text.specs.Arguments.{potentials_of, potentials_text, set_of, set_text}
-use Rattle.cert_text.specs.Writable.{are_near, is_whole, is_rule}
+use Rattle.fen_text.specs.Sets.{is_whole, set_of, set_text}
+use Rattle.cert_text.specs.Arguments.{potentials_of, potentials_text}
+use Rattle.cert_text.specs.Writable.{are_near, is_rule}
 use Rattle.cert_text.specs.NodeLines.{rule_name, caps_of, promo_of, rule_of, set_and_potentials}
-use Rattle.cert_text.proofs.Begun.{begun}
+use Rattle.fen_text.proofs.Begun.{begun}
 use Rattle.cert_text.proofs.PartTexts.{no_part, no_rest}
-use Rattle.cert_text.proofs.HexTexts.{set_back, set_free, set_read}
-use Rattle.cert_text.proofs.WordTexts.{potentials_back, potentials_free, potentials_read}
+use Rattle.fen_text.proofs.HexTexts.{set_back, set_free, set_read}
+use Rattle.cert_text.proofs.WordTexts.{duals_back, duals_free, duals_read}
 
 -- what an option gives, if anything, has the property
 abbrev pub Only : {A : Type 0} → (A → Type 0) → Option A → Type 0
@@ -44,14 +45,14 @@ promo_back Black set whole =
     parted_next 32 turn (λ (side : Colour). None) (λ (side : Colour) (rest : List ℕ). option_map (λ (s : List Bool). Promo side s) (set_of rest)) (98 ∷ []) (set_text set) refl
     ∙ ap (option_map (λ (s : List Bool). Promo Black s)) (set_back set whole)
 
-arguments_back : (side : Colour) (set : List Bool) (p : Duals) → is_whole set ≡ true → are_near p ≡ true → set_and_potentials side (set_text set ++ 32 ∷ potentials_text p) ≡ Some (Caps side set p)
+arguments_back : (side : Colour) (set : List Bool) (p : Duals) → is_whole set ≡ true → are_near 8 p ≡ true → set_and_potentials side (set_text set ++ 32 ∷ potentials_text p) ≡ Some (Caps side set p)
 unfolding set_and_potentials
 arguments_back side set p whole near =
     parted_next 32 set_of (λ (s : List Bool). None) (λ (s : List Bool) (rest : List ℕ). option_map (λ (d : Duals). Caps side s d) (potentials_of rest)) (set_text set) (potentials_text p) (set_free 32 set (omega arith))
     ∙ ap (λ (o : Option (List Bool)). o >>= (λ (s : List Bool). option_map (λ (d : Duals). Caps side s d) (potentials_of (potentials_text p)))) (set_back set whole)
-    ∙ ap (option_map (λ (d : Duals). Caps side set d)) (potentials_back p near)
+    ∙ ap (option_map (λ (d : Duals). Caps side set d)) (duals_back 8 p near)
 
-caps_back : (side : Colour) (set : List Bool) (p : Duals) → is_whole set ≡ true → are_near p ≡ true → caps_of (turn_letter side ∷ 32 ∷ (set_text set ++ 32 ∷ potentials_text p)) ≡ Some (Caps side set p)
+caps_back : (side : Colour) (set : List Bool) (p : Duals) → is_whole set ≡ true → are_near 8 p ≡ true → caps_of (turn_letter side ∷ 32 ∷ (set_text set ++ 32 ∷ potentials_text p)) ≡ Some (Caps side set p)
 unfolding caps_of
 caps_back White set p whole near =
     parted_next 32 turn (λ (side : Colour). None) set_and_potentials (119 ∷ []) (set_text set ++ 32 ∷ potentials_text p) refl ∙ arguments_back White set p whole near
@@ -68,7 +69,7 @@ name_back (Count White) known = refl
 name_back (Count Black) known = refl
 name_back (Frozen set) known = ap (option_map (λ (s : List Bool). Frozen s)) (set_back set known)
 name_back (Caps side set p) known =
-    let parts = and_parts (is_whole set) (are_near p) known in
+    let parts = and_parts (is_whole set) (are_near 8 p) known in
     caps_back side set p parts.0 parts.1
 name_back (Promo side set) known = promo_back side set known
 
@@ -112,7 +113,7 @@ record AreArguments (side : Colour) (text : List ℕ) (r : RuleLine) : Type 0 wh
   potentials : Duals
   text_is : text ≡ set_text set ++ 32 ∷ potentials_text potentials
   whole : is_whole set ≡ true
-  near : are_near potentials ≡ true
+  near : are_near 8 potentials ≡ true
   rule_is : Caps side set potentials ≡ r
 
 arguments_read : (side : Colour) (text : List ℕ) → Only (AreArguments side text) (set_and_potentials side text)
@@ -121,7 +122,7 @@ arguments_read side text r e =
     let f = followed 32 set_of (λ (s : List Bool). None) (λ (s : List Bool) (rest : List ℕ). option_map (λ (d : Duals). Caps side s d) (potentials_of rest)) text r (λ x. refl) e in
     let m = mapped_some (λ (d : Duals). Caps side f.value d) (potentials_of f.rest) r f.goes_on in
     let first = set_read f.front f.value f.good in
-    let second = potentials_read f.rest m.0 m.1 in
+    let second = duals_read 8 f.rest m.0 m.1 in
     record {
       set = f.value;
       potentials = m.0;
@@ -169,8 +170,8 @@ name_free (Count White) known = refl
 name_free (Count Black) known = refl
 name_free (Frozen set) known = set_free 10 set (omega arith)
 name_free (Caps side set p) known =
-    let parts = and_parts (is_whole set) (are_near p) known in
-    side_free side (set_text set ++ 32 ∷ potentials_text p) (free_append 10 (set_text set) (32 ∷ potentials_text p) (set_free 10 set (omega arith)) (potentials_free p parts.1))
+    let parts = and_parts (is_whole set) (are_near 8 p) known in
+    side_free side (set_text set ++ 32 ∷ potentials_text p) (free_append 10 (set_text set) (32 ∷ potentials_text p) (set_free 10 set (omega arith)) (duals_free 8 p parts.1))
 name_free (Promo side set) known = side_free side (set_text set) (set_free 10 set (omega arith))
 
 -- the three grammars, part by part

@@ -1,5 +1,5 @@
 -- How long the lines of a certificate are.
-use Rattle.std.proofs.Common.{◌≡◌, ◌≢◌, ℕ, ◌+◌, ◌*◌, ◌<◌, ◌≤◌, Bool, true, false, List, [], ◌∷◌, length, drop, nat_eq, Option, Some, None, refl, ap, arith, length-append}
+use Rattle.std.proofs.Common.{◌≡◌, ◌≢◌, ℕ, ◌+◌, ◌*◌, ◌<◌, ◌≤◌, Bool, true, false, List, [], ◌∷◌, length, drop, nat_eq, Option, Some, None, refl, ap, ◌∙◌, arith, length-append}
 use Rattle.std.specs.Prelude.{codes, ℤ}
 use Rattle.std.specs.Fmt.{signed_decimal}
 use Rattle.std.specs.List.{list_all, starts_with}
@@ -17,21 +17,35 @@ use Rattle.query_base.specs.declared.rule_lines.RuleLine.{RuleLine}
 use Rattle.query_base.specs.declared.rule_lines.RuleLine.TheVariants.{Kings, Ranks, Check, Rights, Count, Frozen, Caps, Promo}
 use Rattle.fen_text.specs.Fen.{fen_of_four}
 use Rattle.fen_text.proofs.OneText.{four_short}
-use Rattle.cert_text.specs.Arguments.{potentials_text, set_text}
-use Rattle.cert_text.specs.Certificate.{query_of}
+use Rattle.fen_text.specs.Sets.{is_whole, set_text}
+use Rattle.cert_text.specs.Arguments.{potentials_text}
+use Rattle.std.specs.Option.{option_map, option_or}
+use Rattle.board_base.specs.Board.{no_odds}
+use Rattle.fen_text.specs.ClockLines.{clock_line}
+use Rattle.fen_text.specs.OddsLines.{odds_line}
+use Rattle.fen_text.proofs.ClockTexts.{clock_read}
+use Rattle.fen_text.proofs.OddsTexts.{line_read}
+use Rattle.cert_text.specs.Certificate.{format_of, query_of}
+use Rattle.cert_text.specs.Heads.{after_claim, clock_step, fen_step, head_step}
+use Rattle.cert_text.specs.Written.{format_text}
+use Rattle.cert_text.specs.declared.heads.Format.{Format}
+use Rattle.cert_text.specs.declared.heads.Format.TheVariants.{One, Two}
+use Rattle.cert_text.specs.declared.heads.Head.{Head}
+use Rattle.cert_text.specs.declared.heads.Head.TheVariants.{FormatDue, ClaimDue, DemandDue, ClockOrFenDue, FenDue, RootDue}
+use Rattle.cert_text.proofs.HeadTexts.{format_text_read}
 use Rattle.cert_text.specs.ClaimLines.{claim_of, claim_text}
 use Rattle.cert_text.specs.Lines.{ended, said}
 use Rattle.cert_text.specs.Mute.{IsMute}
 use Rattle.cert_text.specs.NodeLines.{body_text, kid_body, root_body, rule_name}
-use Rattle.cert_text.specs.Writable.{are_near, fits_depth, is_near, is_rule, is_whole}
+use Rattle.cert_text.specs.Writable.{are_near, fits_depth, is_near, is_rule}
 use Rattle.cert_text.specs.declared.node_lines.BodyLine.{BodyLine}
 use Rattle.cert_text.specs.declared.node_lines.BodyLine.TheVariants.{Rule, Back, Expand}
-use Rattle.cert_text.proofs.Begun.{begun}
+use Rattle.fen_text.proofs.Begun.{begun}
 use Rattle.cert_text.proofs.ClaimTexts.{text_read}
-use Rattle.cert_text.proofs.HexTexts.{set_length}
+use Rattle.fen_text.proofs.HexTexts.{set_length}
 use Rattle.cert_text.proofs.NearNumbers.{within}
 use Rattle.cert_text.proofs.Spelled.{number_in}
-use Rattle.cert_text.proofs.SpelledLines.{kid_text_read, root_text_read, said_read, when}
+use Rattle.cert_text.proofs.SpelledLines.{kid_text_read, nothing_said, root_text_read, said_read, when}
 use Rattle.cert_text.proofs.WordTexts.{near_parts}
 use Rattle.cert_text.proofs.WrittenNumbers.{joined-both, signed_short, spaced_before, spaced_behind}
 
@@ -49,11 +63,11 @@ before_short (x ∷ xs) near =
     let parts = and_parts (is_near x) (list_all is_near xs) near in
     omega (arith, signed_short x (within x parts.0), before_short xs parts.1, length-append (signed_decimal x) (spaced_before xs))
 
-potentials_short : (d : Duals) → are_near d ≡ true → length (potentials_text d) ≤ 65
+pub duals_short : (width : ℕ) (d : Duals) → are_near width d ≡ true → length (potentials_text d) ≤ 8 * width + 1
 unfolding potentials_text
-potentials_short d near =
-    let n = near_parts d near in
-    omega (arith, ap length (joined-both d.u d.v), leb-true (length d.u) 8 n.u_few, eqb-true (length d.v) 8 n.v_size, behind_short d.u n.u, before_short d.v n.v, length-append (spaced_behind d.u) (47 ∷ spaced_before d.v))
+duals_short width d near =
+    let n = near_parts width d near in
+    omega (arith, ap length (joined-both d.u d.v), leb-true (length d.u) width n.u_few, eqb-true (length d.v) width n.v_size, behind_short d.u n.u, before_short d.v n.v, length-append (spaced_behind d.u) (47 ∷ spaced_before d.v))
 
 name_short : (r : RuleLine) → is_rule r ≡ true → length (rule_name r) ≤ 89
 name_short Kings known = omega arith
@@ -63,8 +77,8 @@ name_short Rights known = omega arith
 name_short (Count side) known = omega arith
 name_short (Frozen set) known = omega (arith, set_length set)
 name_short (Caps side set p) known =
-    let parts = and_parts (is_whole set) (are_near p) known in
-    omega (arith, set_length set, potentials_short p parts.1, length-append (set_text set) (32 ∷ potentials_text p))
+    let parts = and_parts (is_whole set) (are_near 8 p) known in
+    omega (arith, set_length set, duals_short 8 p parts.1, length-append (set_text set) (32 ∷ potentials_text p))
 name_short (Promo side set) known = omega (arith, set_length set)
 
 body_short : (depth : ℕ) (b : BodyLine) → fits_depth depth b ≡ true → number_in b ≤ 999999 → length (body_text b) ≤ 94
@@ -95,7 +109,7 @@ claim_short (Ep m) = omega (arith, move_short m)
 
 -- no text of a grammar has more than 102 bytes
 
-query_text_short : (text : List ℕ) (q : Asked) → query_of text ≡ Some q → length text ≤ 85
+pub query_text_short : (text : List ℕ) (q : Asked) → query_of text ≡ Some q → length text ≤ 85
 unfolding query_of
 query_text_short text q e =
     let parts = when (starts_with nat_eq text (codes "fen ")) (fen_of_four (drop 4 text)) q e in
@@ -115,31 +129,64 @@ kid_text_short depth text u b e =
     omega (arith, ap length read.text_is, length-append (unmove_text u) (32 ∷ body_text b), unmove_short u, body_short depth b read.fits read.few)
 
 -- the line of a grammar's short texts is short
-line_short : {A : Type 0} (grammar : List ℕ → Option A) (most : ℕ) (line : List ℕ) (x : A) → ((text : List ℕ) → grammar text ≡ Some x → length text ≤ most) → said grammar line ≡ Some x → length line ≤ most + 1
+pub line_short : {A : Type 0} (grammar : List ℕ → Option A) (most : ℕ) (line : List ℕ) (x : A) → ((text : List ℕ) → grammar text ≡ Some x → length text ≤ most) → said grammar line ≡ Some x → length line ≤ most + 1
 line_short grammar most line x short e =
     let s = said_read grammar line x e in
     omega (arith, short s.text s.stands, ap length s.line_is, length-append s.text (10 ∷ []))
 
--- a line that can't say anything says nothing
-nothing_said : {A : Type 0} (grammar : List ℕ → Option A) (line : List ℕ) → ((x : A) → said grammar line ≡ Some x → ⊥) → said grammar line ≡ None
-nothing_said grammar line never = elim (said grammar line) as (λ o. said grammar line ≡ o → o ≡ None) [ None ↦ λ e. refl | Some x ↦ λ e. absurd (never x e) ] refl
+format_short : (f : Format) → length (format_text f) ≤ 7
+format_short One = omega arith
+format_short Two = omega arith
+
+format_text_short : (text : List ℕ) (f : Format) → format_of text ≡ Some f → length text ≤ 7
+format_text_short text f e = omega (arith, ap length (format_text_read text f e), format_short f)
+
+pub odds_text_short : (text : List ℕ) (odds : List Bool) → odds_line text ≡ Some odds → length text ≤ 21
+odds_text_short text odds e = omega (arith, ap length (line_read text odds e).text_is, set_length odds)
+
+clock_text_short : (text : List ℕ) (n : ℕ) → clock_line text ≡ Some n → length text ≤ 10
+clock_text_short text n e =
+    let read = clock_read text n e in
+    let short = read.short in
+    omega (arith, ap length read.text_is, length-decimal-le 4 n (omega arith) (omega arith) (omega arith))
+
+no_fen_step : (claim : Claim) (odds : List Bool) (clock : Option ℕ) (line : List ℕ) → said query_of line ≡ None → fen_step claim odds clock line ≡ None
+no_fen_step claim odds clock line q = ap (option_map (λ x. RootDue claim (record x { odds = odds; clock = clock }))) q
+
+no_clock_step : (claim : Claim) (odds : List Bool) (line : List ℕ) → said clock_line line ≡ None → clock_step claim odds line ≡ None
+no_clock_step claim odds line k = ap (option_map (λ n. FenDue claim odds (Some n))) k
+
+-- a head goes on with no line that nothing is said by
+no_step : (line : List ℕ) → said format_of line ≡ None → said claim_of line ≡ None → said odds_line line ≡ None → said clock_line line ≡ None → said query_of line ≡ None → (due : Head) → head_step due line ≡ None
+no_step line f c o k q FormatDue = ap (option_map (λ x. ClaimDue x)) f
+no_step line f c o k q (ClaimDue format) = ap (option_map (after_claim format)) c
+no_step line f c o k q (DemandDue claim) =
+    ap (λ (x : Option (List Bool)). option_or (option_map (λ odds. ClockOrFenDue claim odds) x) (clock_step claim no_odds line)) o ∙ no_clock_step claim no_odds line k
+no_step line f c o k q (ClockOrFenDue claim odds) =
+    ap (λ (x : Option Head). option_or x (fen_step claim odds None line)) (no_clock_step claim odds line k) ∙ no_fen_step claim odds None line q
+no_step line f c o k q (FenDue claim odds clock) = no_fen_step claim odds clock line q
+no_step line f c o k q (RootDue claim query) = refl
 
 -- a line of more than 128 bytes
 pub long_mute : (line : List ℕ) → 128 < length line → IsMute line
 long_mute line long = record {
-  head = λ e. let size = ap length e in omega arith;
-  claim = nothing_said claim_of line (λ x e. let short = line_short claim_of 16 line x (λ text. claim_text_short text x) e in omega arith);
-  query = nothing_said query_of line (λ x e. let short = line_short query_of 85 line x (λ text. query_text_short text x) e in omega arith);
+  head = no_step line
+      (nothing_said format_of line (λ x e. let short = line_short format_of 7 line x (λ text. format_text_short text x) e in omega arith))
+      (nothing_said claim_of line (λ x e. let short = line_short claim_of 16 line x (λ text. claim_text_short text x) e in omega arith))
+      (nothing_said odds_line line (λ x e. let short = line_short odds_line 21 line x (λ text. odds_text_short text x) e in omega arith))
+      (nothing_said clock_line line (λ x e. let short = line_short clock_line 10 line x (λ text. clock_text_short text x) e in omega arith))
+      (nothing_said query_of line (λ x e. let short = line_short query_of 85 line x (λ text. query_text_short text x) e in omega arith));
   root = nothing_said root_body line (λ x e. let short = line_short root_body 99 line x (λ text. root_text_short text x) e in omega arith);
   kid = λ depth. nothing_said (kid_body depth) line (λ x e. let short = line_short (kid_body depth) 102 line x (λ text. kid_text_short depth text x.0 x.1) e in omega arith);
 }
 
 -- a line with no end
+unended_said : {A : Type 0} (grammar : List ℕ → Option A) (line : List ℕ) → ((text : List ℕ) → line ≢ ended text) → said grammar line ≡ None
+unended_said grammar line other = nothing_said grammar line (λ x e. let s = said_read grammar line x e in other s.text s.line_is)
+
 pub unended_mute : (line : List ℕ) → ((text : List ℕ) → line ≢ ended text) → IsMute line
 unended_mute line other = record {
-  head = other (codes "retro 1");
-  claim = nothing_said claim_of line (λ x e. let s = said_read claim_of line x e in other s.text s.line_is);
-  query = nothing_said query_of line (λ x e. let s = said_read query_of line x e in other s.text s.line_is);
-  root = nothing_said root_body line (λ x e. let s = said_read root_body line x e in other s.text s.line_is);
-  kid = λ depth. nothing_said (kid_body depth) line (λ x e. let s = said_read (kid_body depth) line x e in other s.text s.line_is);
+  head = no_step line (unended_said format_of line other) (unended_said claim_of line other) (unended_said odds_line line other) (unended_said clock_line line other) (unended_said query_of line other);
+  root = unended_said root_body line other;
+  kid = λ depth. unended_said (kid_body depth) line other;
 }

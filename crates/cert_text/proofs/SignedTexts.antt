@@ -10,10 +10,11 @@ use Rattle.std.specs.Option.{option_and_then}
 use Rattle.fen_text.specs.Fen.{is_digit}
 use Rattle.fen_text.specs.Parts.{Free}
 use Rattle.fen_text.proofs.NumberLemmas.{digits_free}
-use Rattle.cert_text.specs.Arguments.{negative, number, positive, signed}
+use Rattle.fen_text.specs.Numbers.{number}
+use Rattle.cert_text.specs.Arguments.{negative, positive, signed}
 use Rattle.cert_text.specs.Writable.{is_near}
-use Rattle.cert_text.proofs.Decimals.{model, number_back, number_read}
-use Rattle.cert_text.proofs.Begun.{begun}
+use Rattle.fen_text.proofs.Decimals.{model, number_back, number_read}
+use Rattle.fen_text.proofs.Begun.{begun}
 
 no_dash : (text : List ℕ) → list_all is_digit text ≡ true → starts_with nat_eq text (codes "-") ≡ false
 no_dash [] all = refl

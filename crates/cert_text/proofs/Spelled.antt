@@ -7,13 +7,13 @@ use Rattle.std.proofs.lemmas.Option.{cond_some, same_Some}
 use Rattle.std.specs.List.{starts_with}
 use Rattle.std.specs.Option.{option_map, option_and_then}
 use Rattle.query_base.specs.declared.rule_lines.RuleLine.{RuleLine}
-use Rattle.cert_text.specs.Arguments.{number}
+use Rattle.fen_text.specs.Numbers.{number}
 use Rattle.cert_text.specs.NodeLines.{rule_of, back_at, expand_at, body_at, body_text}
 use Rattle.cert_text.specs.Writable.{fits_depth, is_rule}
 use Rattle.cert_text.specs.declared.node_lines.BodyLine.{BodyLine}
 use Rattle.cert_text.specs.declared.node_lines.BodyLine.TheVariants.{Rule, Back, Expand}
-use Rattle.cert_text.proofs.Begun.{begun}
-use Rattle.cert_text.proofs.Decimals.{number_back, number_read}
+use Rattle.fen_text.proofs.Begun.{begun}
+use Rattle.fen_text.proofs.Decimals.{number_back, number_read}
 use Rattle.cert_text.proofs.RuleTexts.{Only, name_back, name_read, only_none}
 
 -- bodies

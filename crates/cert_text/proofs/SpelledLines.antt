@@ -20,7 +20,7 @@ use Rattle.cert_text.specs.declared.node_lines.NodeLine.{NodeLine}
 use Rattle.cert_text.proofs.KidLines.{labelled, kid_is}
 use Rattle.cert_text.proofs.Frees.{unmove_free}
 use Rattle.cert_text.proofs.OnBoard.{unmove_on_board}
-use Rattle.cert_text.proofs.Begun.{begun}
+use Rattle.fen_text.proofs.Begun.{begun}
 use Rattle.cert_text.proofs.Spelled.{body_back, body_read, number_in}
 pub use Rattle.cert_text.proofs.Tests.{when}
 
@@ -52,6 +52,10 @@ pub said_read : {A : Type 0} (grammar : List ℕ → Option A) (line : List ℕ)
 unfolding said
 said_read grammar line x e =
     option_and_then_some grammar (without_end line) x e (λ text here stands. record { text = text; line_is = ended_by line text here; stands = stands })
+
+-- a line that can't say anything says nothing
+pub nothing_said : {A : Type 0} (grammar : List ℕ → Option A) (line : List ℕ) → ((x : A) → said grammar line ≡ Some x → ⊥) → said grammar line ≡ None
+nothing_said grammar line never = elim (said grammar line) as (λ o. said grammar line ≡ o → o ≡ None) [ None ↦ λ e. refl | Some x ↦ λ e. absurd (never x e) ] refl
 
 -- the root's line
 

@@ -13,7 +13,8 @@ use Rattle.std.specs.Option.{option_map, option_and_then}
 use Rattle.board_base.specs.Potentials.{Duals, duals}
 use Rattle.fen_text.specs.Parts.{Free}
 use Rattle.fen_text.proofs.PartLemmas.{free_append, mapped_some}
-use Rattle.cert_text.specs.Arguments.{both_of, files_of, halves, is_slash, number, pawns_of, potentials_of, potentials_text, signed, signed_all, words}
+use Rattle.fen_text.specs.Numbers.{number}
+use Rattle.cert_text.specs.Arguments.{both_of, columns_of, duals_of, halves, is_slash, potentials_text, rows_of, signed, signed_all, words}
 use Rattle.cert_text.specs.Writable.{are_near, is_near}
 use Rattle.cert_text.proofs.SignedTexts.{signed_back, signed_free, signed_read}
 use Rattle.cert_text.proofs.Tests.{when}
@@ -104,12 +105,12 @@ all_back (x ∷ xs) near =
     stands_for (signed_decimal x) (map signed_decimal xs) x xs (signed_back x parts.0) (all_back xs parts.1)
 
 -- the potentials of words
-abbrev potentials_in : List (List ℕ) → Option Duals
-potentials_in ws = option_and_then (λ p. both_of p.0 p.1) (halves ws)
+abbrev duals_in : ℕ → List (List ℕ) → Option Duals
+duals_in width ws = option_and_then (λ p. both_of width p.0 p.1) (halves ws)
 
-pub in_words : (text : List ℕ) → potentials_of text ≡ potentials_in (words text)
-unfolding potentials_of
-in_words text = refl
+pub in_words : (width : ℕ) (text : List ℕ) → duals_of width text ≡ duals_in width (words text)
+unfolding duals_of
+in_words width text = refl
 
 -- halves
 
@@ -148,9 +149,9 @@ halves_read (w ∷ ws) p e = elim (cases_Bool (is_slash w)) [
 ]
 
 -- a word that is no / stops what begins so, if it does with any words behind it
-none_behind : (front : List (List ℕ)) (w : List ℕ) (o : Option (List (List ℕ) × List (List ℕ))) → ((a : List (List ℕ)) → pawns_of (front ++ w ∷ a) ≡ None) → option_and_then (λ (p : List (List ℕ) × List (List ℕ)). both_of (front ++ w ∷ p.0) p.1) o ≡ None
-none_behind front w None bad = refl
-none_behind front w (Some p) bad = ap (option_and_then (λ (u : List ℤ). option_map (λ (v : List ℤ). duals u v) (files_of p.1))) (bad p.0)
+none_behind : (width : ℕ) (front : List (List ℕ)) (w : List ℕ) (o : Option (List (List ℕ) × List (List ℕ))) → ((a : List (List ℕ)) → rows_of width (front ++ w ∷ a) ≡ None) → option_and_then (λ (p : List (List ℕ) × List (List ℕ)). both_of width (front ++ w ∷ p.0) p.1) o ≡ None
+none_behind width front w None bad = refl
+none_behind width front w (Some p) bad = ap (option_and_then (λ (u : List ℤ). option_map (λ (v : List ℤ). duals u v) (columns_of width p.1))) (bad p.0)
 
 map_map : {A B C : Type 0} (o : Option A) (g : A → B) (f : B → C) → option_map f (option_map g o) ≡ option_map (λ a. f (g a)) o
 map_map None g f = refl
@@ -167,42 +168,42 @@ then_mapped : {A B C : Type 0} (o : Option A) (g : A → B) (f : B → Option C)
 then_mapped None g f = refl
 then_mapped (Some a) g f = refl
 
-stopped : (front : List (List ℕ)) (w : List ℕ) (ws : List (List ℕ)) → are_plain front ≡ true → is_slash w ≡ false → ((a : List (List ℕ)) → pawns_of (front ++ w ∷ a) ≡ None) → potentials_in (front ++ w ∷ ws) ≡ None
-stopped front w ws plain other bad =
-    ap (option_and_then (λ (p : List (List ℕ) × List (List ℕ)). both_of p.0 p.1)) (plain_next front w ws plain other)
-    ∙ then_mapped (halves ws) (λ (p : List (List ℕ) × List (List ℕ)). (front ++ w ∷ p.0, p.1)) (λ (p : List (List ℕ) × List (List ℕ)). both_of p.0 p.1) ∙ none_behind front w (halves ws) bad
+stopped : (width : ℕ) (front : List (List ℕ)) (w : List ℕ) (ws : List (List ℕ)) → are_plain front ≡ true → is_slash w ≡ false → ((a : List (List ℕ)) → rows_of width (front ++ w ∷ a) ≡ None) → duals_in width (front ++ w ∷ ws) ≡ None
+stopped width front w ws plain other bad =
+    ap (option_and_then (λ (p : List (List ℕ) × List (List ℕ)). both_of width p.0 p.1)) (plain_next front w ws plain other)
+    ∙ then_mapped (halves ws) (λ (p : List (List ℕ) × List (List ℕ)). (front ++ w ∷ p.0, p.1)) (λ (p : List (List ℕ) × List (List ℕ)). both_of width p.0 p.1) ∙ none_behind width front w (halves ws) bad
 
--- reading the files
+-- reading the columns
 
--- how far the potentials of files were read
-pub record FilesSoFar (text : List ℕ) (i : ℕ) (rest : Option (Bor (List ℕ))) (v : List ℤ) : Type 0 where
+-- how far the potentials of columns were read
+pub record ColumnsSoFar (width : ℕ) (text : List ℕ) (i : ℕ) (rest : Option (Bor (List ℕ))) (v : List ℤ) : Type 0 where
   pub front : List (List ℕ)
   pub split : words text ≡ front ++ left rest
   pub size : length front ≡ i
-  pub v_size : length v ≡ 8
+  pub v_size : length v ≡ width
   pub read : signed_all front ≡ Some (take i v)
 
-pub files_begun : (text : List ℕ) (b : Bor (List ℕ)) (v : List ℤ) → b.now ≡ text → length v ≡ 8 → FilesSoFar text 0 (Some b) v
-files_begun text b v e size = record { front = []; split = ap words (sym e); size = refl; v_size = size; read = refl }
+pub columns_begun : (width : ℕ) (text : List ℕ) (b : Bor (List ℕ)) (v : List ℤ) → b.now ≡ text → length v ≡ width → ColumnsSoFar width text 0 (Some b) v
+columns_begun width text b v e size = record { front = []; split = ap words (sym e); size = refl; v_size = size; read = refl }
 
 same_none : (b : Bool) (o : Option (List ℤ)) → o ≡ None → cond b o None ≡ None
 same_none true o e = e
 same_none false o e = refl
 
-wrong_size : (ws : List (List ℕ)) → (length ws ≡ 8 → ⊥) → files_of ws ≡ None
-wrong_size ws other = cond-false (length ws == 8) (signed_all ws) None (ne_eqb (length ws) 8 other)
+wrong_size : (width : ℕ) (ws : List (List ℕ)) → (length ws ≡ width → ⊥) → columns_of width ws ≡ None
+wrong_size width ws other = cond-false (length ws == width) (signed_all ws) None (ne_eqb (length ws) width other)
 
-pub files_short : (text : List ℕ) (i : ℕ) (rest : Option (Bor (List ℕ))) (v : List ℤ) → rest ≡ None → i < 8 → FilesSoFar text i rest v → files_of (words text) ≡ None
-files_short text i rest v e low s =
+pub columns_short : (width : ℕ) (text : List ℕ) (i : ℕ) (rest : Option (Bor (List ℕ))) (v : List ℤ) → rest ≡ None → i < width → ColumnsSoFar width text i rest v → columns_of width (words text) ≡ None
+columns_short width text i rest v e low s =
     let size : length (words text) ≡ i = ap length (s.split ∙ ap (λ (o : Option (Bor (List ℕ))). s.front ++ left o) e ∙ append-nil s.front) ∙ s.size in
-    wrong_size (words text) (λ other. omega arith)
+    wrong_size width (words text) (λ other. omega arith)
 
-pub files_bad : (text : List ℕ) (i : ℕ) (rest : Option (Bor (List ℕ))) (v : List ℤ) (w : List ℕ) (ws : List (List ℕ)) → left rest ≡ w ∷ ws → signed w ≡ None → FilesSoFar text i rest v → files_of (words text) ≡ None
-files_bad text i rest v w ws here bad s =
-    same_none (length (words text) == 8) (signed_all (words text)) (ap signed_all (s.split ∙ ap (λ (l : List (List ℕ)). s.front ++ l) here) ∙ signed_stop s.front w ws bad)
+pub columns_bad : (width : ℕ) (text : List ℕ) (i : ℕ) (rest : Option (Bor (List ℕ))) (v : List ℤ) (w : List ℕ) (ws : List (List ℕ)) → left rest ≡ w ∷ ws → signed w ≡ None → ColumnsSoFar width text i rest v → columns_of width (words text) ≡ None
+columns_bad width text i rest v w ws here bad s =
+    same_none (length (words text) == width) (signed_all (words text)) (ap signed_all (s.split ∙ ap (λ (l : List (List ℕ)). s.front ++ l) here) ∙ signed_stop s.front w ws bad)
 
-pub files_next : (text : List ℕ) (i : ℕ) (rest after : Option (Bor (List ℕ))) (v : List ℤ) (w : List ℕ) (x : ℤ) → i < 8 → left rest ≡ w ∷ left after → signed w ≡ Some x → FilesSoFar text i rest v → FilesSoFar text (i + 1) after (set v i x)
-files_next text i rest after v w x low here good s =
+pub columns_next : (width : ℕ) (text : List ℕ) (i : ℕ) (rest after : Option (Bor (List ℕ))) (v : List ℤ) (w : List ℕ) (x : ℤ) → i < width → left rest ≡ w ∷ left after → signed w ≡ Some x → ColumnsSoFar width text i rest v → ColumnsSoFar width text (i + 1) after (set v i x)
+columns_next width text i rest after v w x low here good s =
     let v_size = s.v_size in
     record {
       front = s.front ++ w ∷ [];
@@ -212,124 +213,114 @@ files_next text i rest after v w x low here good s =
       read = signed_more s.front w (take i v) x s.read good ∙ ap (λ (l : List ℤ). Some l) (sym (take_more_set v i x (omega arith)));
     }
 
-pub files_long : (text : List ℕ) (i : ℕ) (rest : Option (Bor (List ℕ))) (v : List ℤ) (b : Bor (List ℕ)) → rest ≡ Some b → 8 ≤ i → FilesSoFar text i rest v → files_of (words text) ≡ None
-files_long text i rest v b e high s =
+pub columns_long : (width : ℕ) (text : List ℕ) (i : ℕ) (rest : Option (Bor (List ℕ))) (v : List ℤ) (b : Bor (List ℕ)) → rest ≡ Some b → width ≤ i → ColumnsSoFar width text i rest v → columns_of width (words text) ≡ None
+columns_long width text i rest v b e high s =
     let size : length (words text) ≡ length s.front + length (words b.now) = ap length (s.split ∙ ap (λ (o : Option (Bor (List ℕ))). s.front ++ left o) e) ∙ length-append s.front (words b.now) in
     let front = s.size in
-    wrong_size (words text) (λ other. omega (arith, some_words b.now))
+    wrong_size width (words text) (λ other. omega (arith, some_words b.now))
 
--- a word is left behind eight
-pub files_over : (text : List ℕ) (i : ℕ) (rest : Option (Bor (List ℕ))) (v : List ℤ) → is_some rest ≡ true → 8 ≤ i → FilesSoFar text i rest v → files_of (words text) ≡ None
-files_over text i None v some high s = absurd cc
-files_over text i (Some b) v some high s = files_long text i (Some b) v b refl high s
+-- a word is left behind so many
+pub columns_over : (width : ℕ) (text : List ℕ) (i : ℕ) (rest : Option (Bor (List ℕ))) (v : List ℤ) → is_some rest ≡ true → width ≤ i → ColumnsSoFar width text i rest v → columns_of width (words text) ≡ None
+columns_over width text i None v some high s = absurd cc
+columns_over width text i (Some b) v some high s = columns_long width text i (Some b) v b refl high s
 
-pub files_done : (text : List ℕ) (i : ℕ) (rest : Option (Bor (List ℕ))) (v : List ℤ) → rest ≡ None → i ≡ 8 → FilesSoFar text i rest v → files_of (words text) ≡ Some v
-files_done text i rest v e eight s =
+pub columns_done : (width : ℕ) (text : List ℕ) (i : ℕ) (rest : Option (Bor (List ℕ))) (v : List ℤ) → rest ≡ None → i ≡ width → ColumnsSoFar width text i rest v → columns_of width (words text) ≡ Some v
+columns_done width text i rest v e full s =
     let whole : words text ≡ s.front = s.split ∙ ap (λ (o : Option (Bor (List ℕ))). s.front ++ left o) e ∙ append-nil s.front in
     let v_size = s.v_size in
-    cond-true (length (words text) == 8) (signed_all (words text)) None (eq-eqb (length (words text)) 8 (ap length whole ∙ s.size ∙ eight))
+    cond-true (length (words text) == width) (signed_all (words text)) None (eq-eqb (length (words text)) width (ap length whole ∙ s.size ∙ full))
     ∙ ap signed_all whole ∙ s.read ∙ ap (λ (l : List ℤ). Some l) (take_all i v (omega arith))
 
--- reading the pawns
+-- reading the rows
 
-pub record PawnsSoFar (text : List ℕ) (n : ℕ) (rest : List ℕ) (u : List ℤ) : Type 0 where
+pub record RowsSoFar (width : ℕ) (text : List ℕ) (n : ℕ) (rest : List ℕ) (u : List ℤ) : Type 0 where
   pub front : List (List ℕ)
   pub split : words text ≡ front ++ words rest
   pub size : length front ≡ n
-  pub few : n ≤ 8
-  pub u_size : length u ≡ 8
+  pub few : n ≤ width
+  pub u_size : length u ≡ n
   pub plain : are_plain front ≡ true
-  pub read : signed_all front ≡ Some (take n u)
+  pub read : signed_all front ≡ Some u
 
-pub pawns_begun : (text : List ℕ) (u : List ℤ) → length u ≡ 8 → PawnsSoFar text 0 text u
-pawns_begun text u size = record { front = []; split = refl; size = refl; few = omega arith; u_size = size; plain = refl; read = refl }
+pub rows_begun : (width : ℕ) (text : List ℕ) → RowsSoFar width text 0 text []
+rows_begun width text = record { front = []; split = refl; size = refl; few = omega arith; u_size = refl; plain = refl; read = refl }
 
-split_at : (text : List ℕ) (n : ℕ) (rest : List ℕ) (u : List ℤ) (w : List ℕ) (ws : List (List ℕ)) (s : PawnsSoFar text n rest u) → words rest ≡ w ∷ ws → potentials_of text ≡ potentials_in (s.front ++ w ∷ ws)
-split_at text n rest u w ws s here = in_words text ∙ ap potentials_in (s.split ∙ ap (λ (l : List (List ℕ)). s.front ++ l) here)
+split_at : (width : ℕ) (text : List ℕ) (n : ℕ) (rest : List ℕ) (u : List ℤ) (w : List ℕ) (ws : List (List ℕ)) (s : RowsSoFar width text n rest u) → words rest ≡ w ∷ ws → duals_of width text ≡ duals_in width (s.front ++ w ∷ ws)
+split_at width text n rest u w ws s here = in_words width text ∙ ap (duals_in width) (s.split ∙ ap (λ (l : List (List ℕ)). s.front ++ l) here)
 
-at_slash : (text : List ℕ) (n : ℕ) (rest : List ℕ) (u : List ℤ) (w : List ℕ) (ws : List (List ℕ)) → words rest ≡ w ∷ ws → is_slash w ≡ true → PawnsSoFar text n rest u → potentials_of text ≡ option_map (λ (v : List ℤ). duals (take n u) v) (files_of ws)
-at_slash text n rest u w ws here slash s =
+at_slash : (width : ℕ) (text : List ℕ) (n : ℕ) (rest : List ℕ) (u : List ℤ) (w : List ℕ) (ws : List (List ℕ)) → words rest ≡ w ∷ ws → is_slash w ≡ true → RowsSoFar width text n rest u → duals_of width text ≡ option_map (λ (v : List ℤ). duals u v) (columns_of width ws)
+at_slash width text n rest u w ws here slash s =
     let few = s.few in
     let size = s.size in
-    split_at text n rest u w ws s here ∙ ap (option_and_then (λ (p : List (List ℕ) × List (List ℕ)). both_of p.0 p.1)) (halves_slash s.front w ws s.plain slash)
-    ∙ ap (option_and_then (λ (u : List ℤ). option_map (λ (v : List ℤ). duals u v) (files_of ws))) (cond-true (nat_le (length s.front) 8) (signed_all s.front) None (le-leb (length s.front) 8 (omega arith)) ∙ s.read)
+    split_at width text n rest u w ws s here ∙ ap (option_and_then (λ (p : List (List ℕ) × List (List ℕ)). both_of width p.0 p.1)) (halves_slash s.front w ws s.plain slash)
+    ∙ ap (option_and_then (λ (u : List ℤ). option_map (λ (v : List ℤ). duals u v) (columns_of width ws))) (cond-true (nat_le (length s.front) width) (signed_all s.front) None (le-leb (length s.front) width (omega arith)) ∙ s.read)
 
-pub pawns_slash : (text : List ℕ) (n : ℕ) (rest : List ℕ) (u : List ℤ) (w more : List ℕ) (o : Option (List ℤ)) → words rest ≡ w ∷ words more → is_slash w ≡ true → files_of (words more) ≡ o → PawnsSoFar text n rest u → potentials_of text ≡ option_map (λ (v : List ℤ). duals (take n u) v) o
-pawns_slash text n rest u w more o here slash files s =
-    at_slash text n rest u w (words more) here slash s ∙ ap (option_map (λ (v : List ℤ). duals (take n u) v)) files
+pub rows_slash : (width : ℕ) (text : List ℕ) (n : ℕ) (rest : List ℕ) (u : List ℤ) (w more : List ℕ) (o : Option (List ℤ)) → words rest ≡ w ∷ words more → is_slash w ≡ true → columns_of width (words more) ≡ o → RowsSoFar width text n rest u → duals_of width text ≡ option_map (λ (v : List ℤ). duals u v) o
+rows_slash width text n rest u w more o here slash columns s =
+    at_slash width text n rest u w (words more) here slash s ∙ ap (option_map (λ (v : List ℤ). duals u v)) columns
 
-pub pawns_many : (text : List ℕ) (n : ℕ) (rest : List ℕ) (u : List ℤ) (w : List ℕ) (ws : List (List ℕ)) → words rest ≡ w ∷ ws → is_slash w ≡ false → 8 ≤ n → PawnsSoFar text n rest u → potentials_of text ≡ None
-pawns_many text n rest u w ws here other high s =
+pub rows_many : (width : ℕ) (text : List ℕ) (n : ℕ) (rest : List ℕ) (u : List ℤ) (w : List ℕ) (ws : List (List ℕ)) → words rest ≡ w ∷ ws → is_slash w ≡ false → width ≤ n → RowsSoFar width text n rest u → duals_of width text ≡ None
+rows_many width text n rest u w ws here other high s =
     let size = s.size in
-    split_at text n rest u w ws s here
-    ∙ stopped s.front w ws s.plain other (λ a. cond-false (nat_le (length (s.front ++ w ∷ a)) 8) (signed_all (s.front ++ w ∷ a)) None (lt-leb (length (s.front ++ w ∷ a)) 8 (omega (arith, length-append s.front (w ∷ a)))))
+    split_at width text n rest u w ws s here
+    ∙ stopped width s.front w ws s.plain other (λ a. cond-false (nat_le (length (s.front ++ w ∷ a)) width) (signed_all (s.front ++ w ∷ a)) None (lt-leb (length (s.front ++ w ∷ a)) width (omega (arith, length-append s.front (w ∷ a)))))
 
-pub pawns_bad : (text : List ℕ) (n : ℕ) (rest : List ℕ) (u : List ℤ) (w : List ℕ) (ws : List (List ℕ)) → words rest ≡ w ∷ ws → is_slash w ≡ false → signed w ≡ None → PawnsSoFar text n rest u → potentials_of text ≡ None
-pawns_bad text n rest u w ws here other bad s =
-    split_at text n rest u w ws s here
-    ∙ stopped s.front w ws s.plain other (λ a. same_none (nat_le (length (s.front ++ w ∷ a)) 8) (signed_all (s.front ++ w ∷ a)) (signed_stop s.front w a bad))
+pub rows_bad : (width : ℕ) (text : List ℕ) (n : ℕ) (rest : List ℕ) (u : List ℤ) (w : List ℕ) (ws : List (List ℕ)) → words rest ≡ w ∷ ws → is_slash w ≡ false → signed w ≡ None → RowsSoFar width text n rest u → duals_of width text ≡ None
+rows_bad width text n rest u w ws here other bad s =
+    split_at width text n rest u w ws s here
+    ∙ stopped width s.front w ws s.plain other (λ a. same_none (nat_le (length (s.front ++ w ∷ a)) width) (signed_all (s.front ++ w ∷ a)) (signed_stop s.front w a bad))
 
-last_word : (front : List (List ℕ)) (w : List ℕ) (b : Bool) → is_slash w ≡ b → are_plain front ≡ true → potentials_in (front ++ w ∷ []) ≡ None
-last_word front w true slash plain =
-    ap (option_and_then (λ (p : List (List ℕ) × List (List ℕ)). both_of p.0 p.1)) (halves_slash front w [] plain slash) ∙ nothing_more (pawns_of front)
-last_word front w false other plain = ap (option_and_then (λ (p : List (List ℕ) × List (List ℕ)). both_of p.0 p.1)) (plain_next front w [] plain other)
+last_word : (width : ℕ) (front : List (List ℕ)) (w : List ℕ) (b : Bool) → 1 ≤ width → is_slash w ≡ b → are_plain front ≡ true → duals_in width (front ++ w ∷ []) ≡ None
+last_word width front w true some slash plain =
+    ap (option_and_then (λ (p : List (List ℕ) × List (List ℕ)). both_of width p.0 p.1)) (halves_slash front w [] plain slash)
+    ∙ ap (λ (o : Option (List ℤ)). option_and_then (λ (u : List ℤ). option_map (λ (v : List ℤ). duals u v) o) (rows_of width front)) (wrong_size width [] (λ none. omega arith)) ∙ nothing_more (rows_of width front)
+last_word width front w false some other plain = ap (option_and_then (λ (p : List (List ℕ) × List (List ℕ)). both_of width p.0 p.1)) (plain_next front w [] plain other)
 
-pub pawns_end : (text : List ℕ) (n : ℕ) (rest : List ℕ) (u : List ℤ) (w : List ℕ) → words rest ≡ w ∷ [] → PawnsSoFar text n rest u → potentials_of text ≡ None
-pawns_end text n rest u w here s = split_at text n rest u w [] s here ∙ last_word s.front w (is_slash w) refl s.plain
+pub rows_end : (width : ℕ) (text : List ℕ) (n : ℕ) (rest : List ℕ) (u : List ℤ) (w : List ℕ) → 1 ≤ width → words rest ≡ w ∷ [] → RowsSoFar width text n rest u → duals_of width text ≡ None
+rows_end width text n rest u w some here s = split_at width text n rest u w [] s here ∙ last_word width s.front w (is_slash w) some refl s.plain
 
-pub pawns_next : (text : List ℕ) (n : ℕ) (rest : List ℕ) (u : List ℤ) (w more : List ℕ) (x : ℤ) → words rest ≡ w ∷ words more → is_slash w ≡ false → n < 8 → signed w ≡ Some x → PawnsSoFar text n rest u → PawnsSoFar text (n + 1) more (set u n x)
-pawns_next text n rest u w more x here other low good s =
+pub rows_next : (width : ℕ) (text : List ℕ) (n : ℕ) (rest : List ℕ) (u : List ℤ) (w more : List ℕ) (x : ℤ) → words rest ≡ w ∷ words more → is_slash w ≡ false → n < width → signed w ≡ Some x → RowsSoFar width text n rest u → RowsSoFar width text (n + 1) more (u ++ x ∷ [])
+rows_next width text n rest u w more x here other low good s =
     let u_size = s.u_size in
     record {
       front = s.front ++ w ∷ [];
       split = s.split ∙ ap (λ (l : List (List ℕ)). s.front ++ l) here ∙ sym (append_assoc s.front (w ∷ []) (words more));
       size = length-append s.front (w ∷ []) ∙ ap (λ (k : ℕ). k + 1) s.size;
       few = omega arith;
-      u_size = length-set u n x ∙ s.u_size;
+      u_size = length-append u (x ∷ []) ∙ ap (λ (k : ℕ). k + 1) s.u_size;
       plain = list_all-append (λ (w : List ℕ). not (is_slash w)) s.front (w ∷ []) ∙ and_from _ _ s.plain (and_from _ _ (not_from_false (is_slash w) other) refl);
-      read = signed_more s.front w (take n u) x s.read good ∙ ap (λ (l : List ℤ). Some l) (sym (take_more_set u n x (omega arith)));
+      read = signed_more s.front w u x s.read good;
     }
-
--- the numbers that were read are near
-
-pub pawns_near : (text : List ℕ) (n : ℕ) (rest : List ℕ) (u : List ℤ) → PawnsSoFar text n rest u → list_all is_near (take n u) ≡ true
-pawns_near text n rest u s = (all_read s.front (take n u) s.read).near
-
-pub files_near : (ws : List (List ℕ)) (v : List ℤ) → files_of ws ≡ Some v → (length v ≡ 8) × (list_all is_near v ≡ true)
-files_near ws v e =
-    let files = when (length ws == 8) (signed_all ws) v e in
-    let vs = all_read ws v files.1 in
-    (sym (ap length vs.texts_are ∙ length-map v signed_decimal) ∙ eqb-true (length ws) 8 files.0, vs.near)
 
 -- texts
 
 -- a text is the one of potentials
-pub record IsTextOfPotentials (text : List ℕ) (d : Duals) : Type 0 where
+pub record IsTextOfDuals (width : ℕ) (text : List ℕ) (d : Duals) : Type 0 where
   pub text_is : text ≡ potentials_text d
-  pub near : are_near d ≡ true
+  pub near : are_near width d ≡ true
 
-both_read : (text : List ℕ) (a b : List (List ℕ)) (d : Duals) → words text ≡ a ++ codes "/" ∷ b → both_of a b ≡ Some d → IsTextOfPotentials text d
+both_read : (width : ℕ) (text : List ℕ) (a b : List (List ℕ)) (d : Duals) → words text ≡ a ++ codes "/" ∷ b → both_of width a b ≡ Some d → IsTextOfDuals width text d
 unfolding potentials_text
-both_read text a b d whole e =
-    option_and_then_some (λ (u : List ℤ). option_map (λ (v : List ℤ). duals u v) (files_of b)) (pawns_of a) d e (λ u first second.
-    let m = mapped_some (λ (v : List ℤ). duals u v) (files_of b) d second in
-    let pawns = when (nat_le (length a) 8) (signed_all a) u first in
-    let files = when (length b == 8) (signed_all b) m.0 m.1 in
-    let us = all_read a u pawns.1 in
-    let vs = all_read b m.0 files.1 in
+both_read width text a b d whole e =
+    option_and_then_some (λ (u : List ℤ). option_map (λ (v : List ℤ). duals u v) (columns_of width b)) (rows_of width a) d e (λ u first second.
+    let m = mapped_some (λ (v : List ℤ). duals u v) (columns_of width b) d second in
+    let rows = when (nat_le (length a) width) (signed_all a) u first in
+    let columns = when (length b == width) (signed_all b) m.0 m.1 in
+    let us = all_read a u rows.1 in
+    let vs = all_read b m.0 columns.1 in
     let u_size : length u ≡ length a = sym (ap length us.texts_are ∙ length-map u signed_decimal) in
     let v_size : length m.0 ≡ length b = sym (ap length vs.texts_are ∙ length-map m.0 signed_decimal) in
-    let eight = leb-true (length a) 8 pawns.0 in
+    let full = leb-true (length a) width rows.0 in
     record {
       text_is = sym (join_with_byte-slice_split 32 text) ∙ ap (join_with_byte 32) (whole ∙ ap (λ (l : List (List ℕ)). l ++ codes "/" ∷ b) us.texts_are ∙ ap (λ (l : List (List ℕ)). map signed_decimal u ++ codes "/" ∷ l) vs.texts_are)
           ∙ ap (λ (d : Duals). join_with_byte 32 (map signed_decimal d.u ++ codes "/" ∷ map signed_decimal d.v)) m.2;
-      near = ap are_near (sym m.2) ∙ and_from _ _ (and_from _ _ (and_from _ _ (le-leb (length u) 8 (omega arith)) (eq-eqb (length m.0) 8 (v_size ∙ eqb-true (length b) 8 files.0))) us.near) vs.near;
+      near = ap (are_near width) (sym m.2) ∙ and_from _ _ (and_from _ _ (and_from _ _ (le-leb (length u) width (omega arith)) (eq-eqb (length m.0) width (v_size ∙ eqb-true (length b) width columns.0))) us.near) vs.near;
     })
 
-pub potentials_read : (text : List ℕ) (d : Duals) → potentials_of text ≡ Some d → IsTextOfPotentials text d
-potentials_read text d e =
-    option_and_then_some (λ (p : List (List ℕ) × List (List ℕ)). both_of p.0 p.1) (halves (words text)) d (sym (in_words text) ∙ e) (λ p is stands.
-    both_read text p.0 p.1 d (halves_read (words text) p is).whole stands)
+pub duals_read : (width : ℕ) (text : List ℕ) (d : Duals) → duals_of width text ≡ Some d → IsTextOfDuals width text d
+duals_read width text d e =
+    option_and_then_some (λ (p : List (List ℕ) × List (List ℕ)). both_of width p.0 p.1) (halves (words text)) d (sym (in_words width text) ∙ e) (λ p is stands.
+    both_read width text p.0 p.1 d (halves_read (words text) p is).whole stands)
 
 abbrev are_free : ℕ → List (List ℕ) → Bool
 are_free c ws = list_all (λ w. list_all (λ b. not (b == c)) w) ws
@@ -372,21 +363,21 @@ texts_plain (x ∷ xs) near =
 abbrev all_words : Duals → List (List ℕ)
 all_words d = map signed_decimal d.u ++ codes "/" ∷ map signed_decimal d.v
 
-pub record AreNear (d : Duals) : Type 0 where
-  pub u_few : nat_le (length d.u) 8 ≡ true
-  pub v_size : (length d.v == 8) ≡ true
+pub record AreNear (width : ℕ) (d : Duals) : Type 0 where
+  pub u_few : nat_le (length d.u) width ≡ true
+  pub v_size : (length d.v == width) ≡ true
   pub u : list_all is_near d.u ≡ true
   pub v : list_all is_near d.v ≡ true
 
-pub near_parts : (d : Duals) → are_near d ≡ true → AreNear d
-near_parts d near =
+pub near_parts : (width : ℕ) (d : Duals) → are_near width d ≡ true → AreNear width d
+near_parts width d near =
     let last = and_parts _ (list_all is_near d.v) near in
     let third = and_parts _ (list_all is_near d.u) last.0 in
-    let first = and_parts (nat_le (length d.u) 8) (length d.v == 8) third.0 in
+    let first = and_parts (nat_le (length d.u) width) (length d.v == width) third.0 in
     record { u_few = first.0; v_size = first.1; u = third.1; v = last.1 }
 
-words_free : (c : ℕ) (d : Duals) → c < 45 → AreNear d → are_free c (all_words d) ≡ true
-words_free c d low near =
+words_free : (width : ℕ) (c : ℕ) (d : Duals) → c < 45 → AreNear width d → are_free c (all_words d) ≡ true
+words_free width c d low near =
     list_all-append (λ (w : List ℕ). list_all (λ b. not (b == c)) w) (map signed_decimal d.u) (codes "/" ∷ map signed_decimal d.v)
     ∙ and_from _ _ (texts_free c d.u low near.u) (and_from _ _ (and_from _ _ (ap not (ne_eqb 47 c (λ e. omega arith))) refl) (texts_free c d.v low near.v))
 
@@ -395,20 +386,20 @@ all_back_words [] free some = absurd (omega arith)
 all_back_words (w ∷ ws) free some = words_back w ws free
 
 -- the text of potentials stands for them
-pub potentials_back : (d : Duals) → are_near d ≡ true → potentials_of (potentials_text d) ≡ Some d
+pub duals_back : (width : ℕ) (d : Duals) → are_near width d ≡ true → duals_of width (potentials_text d) ≡ Some d
 unfolding potentials_text
-potentials_back d near =
-    let n = near_parts d near in
+duals_back width d near =
+    let n = near_parts width d near in
     let us : List (List ℕ) = map signed_decimal d.u in
     let vs : List (List ℕ) = map signed_decimal d.v in
     let some : 1 ≤ length (all_words d) = omega (arith, length-append us (codes "/" ∷ vs)) in
-    let few : nat_le (length us) 8 ≡ true = ap (λ (k : ℕ). nat_le k 8) (length-map d.u signed_decimal) ∙ n.u_few in
-    let eight : (length vs == 8) ≡ true = ap (λ (k : ℕ). k == 8) (length-map d.v signed_decimal) ∙ n.v_size in
-    in_words (join_with_byte 32 (all_words d)) ∙ ap potentials_in (all_back_words (all_words d) (words_free 32 d (omega arith) n) some)
-    ∙ ap (option_and_then (λ (p : List (List ℕ) × List (List ℕ)). both_of p.0 p.1)) (halves_slash us (codes "/") vs (texts_plain d.u n.u) refl)
-    ∙ ap (option_and_then (λ (u : List ℤ). option_map (λ (v : List ℤ). duals u v) (files_of vs))) (cond-true (nat_le (length us) 8) (signed_all us) None few ∙ all_back d.u n.u)
-    ∙ ap (option_map (λ (v : List ℤ). duals d.u v)) (cond-true (length vs == 8) (signed_all vs) None eight ∙ all_back d.v n.v)
+    let few : nat_le (length us) width ≡ true = ap (λ (k : ℕ). nat_le k width) (length-map d.u signed_decimal) ∙ n.u_few in
+    let full : (length vs == width) ≡ true = ap (λ (k : ℕ). k == width) (length-map d.v signed_decimal) ∙ n.v_size in
+    in_words width (join_with_byte 32 (all_words d)) ∙ ap (duals_in width) (all_back_words (all_words d) (words_free width 32 d (omega arith) n) some)
+    ∙ ap (option_and_then (λ (p : List (List ℕ) × List (List ℕ)). both_of width p.0 p.1)) (halves_slash us (codes "/") vs (texts_plain d.u n.u) refl)
+    ∙ ap (option_and_then (λ (u : List ℤ). option_map (λ (v : List ℤ). duals u v) (columns_of width vs))) (cond-true (nat_le (length us) width) (signed_all us) None few ∙ all_back d.u n.u)
+    ∙ ap (option_map (λ (v : List ℤ). duals d.u v)) (cond-true (length vs == width) (signed_all vs) None full ∙ all_back d.v n.v)
 
-pub potentials_free : (d : Duals) → are_near d ≡ true → Free 10 (potentials_text d)
+pub duals_free : (width : ℕ) (d : Duals) → are_near width d ≡ true → Free 10 (potentials_text d)
 unfolding potentials_text
-potentials_free d near = joined_free (all_words d) (words_free 10 d (omega arith) (near_parts d near))
+duals_free width d near = joined_free (all_words d) (words_free width 10 d (omega arith) (near_parts width d near))

@@ -49,16 +49,16 @@ before-more [] x = ap (λ (l : List ℕ). 32 ∷ l) (append-nil (signed_decimal 
 before-more (y ∷ xs) x =
     ap (λ (l : List ℕ). 32 ∷ (signed_decimal y ++ l)) (before-more xs x) ∙ ap (λ (l : List ℕ). 32 ∷ l) (sym (append_assoc (signed_decimal y) (spaced_before xs) (32 ∷ signed_decimal x)))
 
--- how far the numbers of pawns were written
-pub record PawnsWritten (u : List ℤ) (i : ℕ) (old now : List ℕ) : Type 0 where
+-- how far the numbers of rows were written
+pub record RowsWritten (u : List ℤ) (i : ℕ) (old now : List ℕ) : Type 0 where
   pub text : now ≡ old ++ spaced_behind (take i u)
   pub room : length now ≤ length old + 4 * i
 
-pub pawns_begun : (u : List ℤ) (old : List ℕ) → PawnsWritten u 0 old old
-pawns_begun u old = record { text = sym (append-nil old); room = omega arith }
+pub rows_begun : (u : List ℤ) (old : List ℕ) → RowsWritten u 0 old old
+rows_begun u old = record { text = sym (append-nil old); room = omega arith }
 
-pub pawns_next : (u : List ℤ) (i : ℕ) (old now next : List ℕ) (x : ℤ) → i < length u → x ≡ get_or u i (pos 0) → next ≡ now ++ signed_decimal x → length next ≤ length now + 3 → PawnsWritten u i old now → PawnsWritten u (i + 1) old (next ++ 32 ∷ [])
-pawns_next u i old now next x inside here e short w =
+pub rows_next : (u : List ℤ) (i : ℕ) (old now next : List ℕ) (x : ℤ) → i < length u → x ≡ get_or u i (pos 0) → next ≡ now ++ signed_decimal x → length next ≤ length now + 3 → RowsWritten u i old now → RowsWritten u (i + 1) old (next ++ 32 ∷ [])
+rows_next u i old now next x inside here e short w =
     let room = w.room in
     record {
       text = ap (λ (l : List ℕ). l ++ 32 ∷ []) (e ∙ ap (λ (l : List ℕ). l ++ signed_decimal x) w.text) ∙ append_assoc (old ++ spaced_behind (take i u)) (signed_decimal x) (32 ∷ []) ∙ append_assoc old (spaced_behind (take i u)) (signed_decimal x ++ 32 ∷ [])
@@ -66,16 +66,16 @@ pawns_next u i old now next x inside here e short w =
       room = omega (arith, length-append next (32 ∷ []));
     }
 
--- how far the numbers of files were written
-pub record FilesWritten (v : List ℤ) (i : ℕ) (old now : List ℕ) : Type 0 where
+-- how far the numbers of columns were written
+pub record ColumnsWritten (v : List ℤ) (i : ℕ) (old now : List ℕ) : Type 0 where
   pub text : now ≡ old ++ spaced_before (take i v)
   pub room : length now ≤ length old + 4 * i
 
-pub files_begun : (v : List ℤ) (old : List ℕ) → FilesWritten v 0 old old
-files_begun v old = record { text = sym (append-nil old); room = omega arith }
+pub columns_begun : (v : List ℤ) (old : List ℕ) → ColumnsWritten v 0 old old
+columns_begun v old = record { text = sym (append-nil old); room = omega arith }
 
-pub files_next : (v : List ℤ) (i : ℕ) (old now next : List ℕ) (x : ℤ) → i < length v → x ≡ get_or v i (pos 0) → next ≡ (now ++ 32 ∷ []) ++ signed_decimal x → length next ≤ length (now ++ 32 ∷ []) + 3 → FilesWritten v i old now → FilesWritten v (i + 1) old next
-files_next v i old now next x inside here e short w =
+pub columns_next : (v : List ℤ) (i : ℕ) (old now next : List ℕ) (x : ℤ) → i < length v → x ≡ get_or v i (pos 0) → next ≡ (now ++ 32 ∷ []) ++ signed_decimal x → length next ≤ length (now ++ 32 ∷ []) + 3 → ColumnsWritten v i old now → ColumnsWritten v (i + 1) old next
+columns_next v i old now next x inside here e short w =
     let room = w.room in
     record {
       text = e ∙ append_assoc now (32 ∷ []) (signed_decimal x) ∙ ap (λ (l : List ℕ). l ++ 32 ∷ signed_decimal x) w.text ∙ append_assoc old (spaced_before (take i v)) (32 ∷ signed_decimal x)
@@ -84,7 +84,7 @@ files_next v i old now next x inside here e short w =
     }
 
 -- both, with a / between them
-pub potentials_written : (d : Duals) (i j : ℕ) (old middle now : List ℕ) → length d.u ≤ i → length d.v ≤ j → PawnsWritten d.u i old middle → FilesWritten d.v j (middle ++ 47 ∷ []) now → now ≡ old ++ potentials_text d
+pub potentials_written : (d : Duals) (i j : ℕ) (old middle now : List ℕ) → length d.u ≤ i → length d.v ≤ j → RowsWritten d.u i old middle → ColumnsWritten d.v j (middle ++ 47 ∷ []) now → now ≡ old ++ potentials_text d
 unfolding potentials_text
 potentials_written d i j old middle now us vs pawns files =
     let first : middle ≡ old ++ spaced_behind d.u = pawns.text ∙ ap (λ (l : List ℤ). old ++ spaced_behind l) (take_all i d.u us) in

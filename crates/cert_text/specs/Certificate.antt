@@ -1,13 +1,20 @@
 -- The text of a certificate.
-use Rattle.std.specs.Prelude.{ℕ, suc, ◌≡◌, cond, nat_eq, List, [], ◌∷◌, ◌++◌, drop, codes, Option, Some, None}
+use Rattle.std.specs.Prelude.{ℕ, suc, ◌+◌, ◌≡◌, Bool, cond, nat_eq, List, [], ◌∷◌, ◌++◌, length, drop, codes, Option, Some, None}
 use Rattle.std.specs.List.{starts_with}
+use Rattle.std.specs.Option.{option_map}
+use Rattle.std.specs.Str.{bytes_eq}
+use Rattle.board_base.specs.Board.{no_odds}
 use Rattle.query_base.specs.Asked.{Asked}
 use Rattle.query_base.specs.declared.claims.Claim.{Claim}
+use Rattle.fen_text.specs.ClockLines.{clock_line, clock_text}
 use Rattle.fen_text.specs.Fen.{fen_of_four}
+use Rattle.fen_text.specs.OddsLines.{is_no_odds, odds_line, odds_text}
 use Rattle.cert_text.specs.Tree.{Tree, Forest, rule, back, expand, none, more, count}
 use Rattle.cert_text.specs.Lines.{cut, ended, said}
 use Rattle.cert_text.specs.ClaimLines.{claim_of}
 use Rattle.cert_text.specs.NodeLines.{root_body, kid_body}
+use Rattle.cert_text.specs.declared.heads.Format.{Format}
+use Rattle.cert_text.specs.declared.heads.Format.TheVariants.{One, Two}
 use Rattle.cert_text.specs.declared.node_lines.BodyLine.{BodyLine}
 use Rattle.cert_text.specs.declared.node_lines.BodyLine.TheVariants.{Rule, Back, Expand}
 
@@ -21,13 +28,60 @@ pub record Certificate : Type 0 where
   pub query : Asked
   pub root : Tree
 
--- the first line, which names the format
-abbrev pub head_line : List ℕ
-head_line = ended (codes "retro 1")
+-- the format that a text names: `retro 1` or `retro 2`
+unfoldable pub format_of : List ℕ → Option Format
+format_of text = cond (bytes_eq text (codes "retro 1")) (Some One) (cond (bytes_eq text (codes "retro 2")) (Some Two) None)
 
 -- the query of a text: `fen` and a FEN of four fields
 unfoldable pub query_of : List ℕ → Option Asked
 query_of text = cond (starts_with nat_eq text (codes "fen ")) (fen_of_four (drop 4 text)) None
+
+-- the clock that a line demands
+abbrev pub clock_demand : List ℕ → Option (Option ℕ)
+clock_demand text = option_map (λ n. Some n) (clock_line text)
+
+-- the format of a text with these lines for the demands that FEN has no word for: the second only where there are any
+abbrev pub format_for : Lines → Format
+format_for [] = One
+format_for (line ∷ lines) = Two
+
+-- one line that says the value, or no line, where it is the value that goes unsaid
+abbrev pub IsSaid : {A : Type 0} → (List ℕ → Option A) → A → Lines → A → Type 0
+IsSaid grammar unsaid [] value = value ≡ unsaid
+IsSaid grammar unsaid (line ∷ []) value = said grammar line ≡ Some value
+IsSaid grammar unsaid (line ∷ other ∷ lines) value = ⊥
+
+-- These lines, and no others, are the head of a certificate with this claim about this query: the format, the claim, the odds
+-- where there are any, then the clock where one is demanded, and the FEN.
+pub record AreHeadLines (lines : Lines) (claim : Claim) (q : Asked) : Type 0 where
+  pub format_line : List ℕ
+  pub claim_line : List ℕ
+  pub odds_lines : Lines
+  pub clock_lines : Lines
+  pub fen_line : List ℕ
+  pub parts : lines ≡ format_line ∷ claim_line ∷ ((odds_lines ++ clock_lines) ++ fen_line ∷ [])
+  pub format_is : said format_of format_line ≡ Some (format_for (odds_lines ++ clock_lines))
+  pub claim_is : said claim_of claim_line ≡ Some claim
+  pub odds_are : IsSaid odds_line no_odds odds_lines q.odds
+  pub clock_is : IsSaid clock_demand None clock_lines q.clock
+  pub query_is : said query_of fen_line ≡ Some (record q { odds = no_odds; clock = None })
+
+-- the line of the odds, where there are any
+abbrev pub lines_of_odds : List Bool → Lines
+lines_of_odds odds = cond (is_no_odds odds) [] (ended (odds_text odds) ∷ [])
+
+-- the line of the clock, where one is demanded
+abbrev pub lines_of_clock : Option ℕ → Lines
+lines_of_clock None = []
+lines_of_clock (Some n) = ended (clock_text n) ∷ []
+
+-- the lines of the demands that FEN has no word for: the odds, and then the clock
+abbrev pub demand_lines : Asked → Lines
+demand_lines q = lines_of_odds q.odds ++ lines_of_clock q.clock
+
+-- the number of the root's line, counted from 1
+abbrev pub root_at : Asked → ℕ
+root_at q = 4 + length (demand_lines q)
 
 -- what a node's own line says of it
 abbrev pub body_of : Tree → BodyLine
@@ -50,13 +104,11 @@ abbrev mutual
 
 -- these lines, and no others, are the text of the certificate
 pub record AreLinesOf (lines : Lines) (cert : Certificate) : Type 0 where
-  pub claim_line : List ℕ
-  pub fen_line : List ℕ
+  pub head : Lines
   pub root_line : List ℕ
   pub below : Lines
-  pub parts : lines ≡ head_line ∷ claim_line ∷ fen_line ∷ root_line ∷ below
-  pub claim : said claim_of claim_line ≡ Some cert.claim
-  pub query : said query_of fen_line ≡ Some cert.query
+  pub parts : lines ≡ head ++ root_line ∷ below
+  pub heading : AreHeadLines head cert.claim cert.query
   pub root : said root_body root_line ≡ Some (body_of cert.root)
   pub nodes : AreBelow cert.root 0 below
 

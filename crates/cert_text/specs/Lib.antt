@@ -7,6 +7,7 @@ pub mod NodeLines
 pub mod ClaimLines
 pub mod Certificate
 pub mod SeenCert
+pub mod Heads
 pub mod Mute
 pub mod Due
 pub mod TreeCode

@@ -11,8 +11,10 @@ use Rattle.query_base.specs.declared.rule_lines.RuleLine.{RuleLine}
 use Rattle.query_base.specs.declared.rule_lines.RuleLine.TheVariants.{Kings, Ranks, Check, Rights, Count, Frozen, Caps, Promo}
 use Rattle.fen_text.specs.Fen.{turn}
 use Rattle.fen_text.specs.Spelling.{turn_letter}
-use Rattle.cert_text.specs.Arguments.{number, potentials_of, potentials_text, set_of, set_text}
+use Rattle.fen_text.specs.Numbers.{number}
 use Rattle.fen_text.specs.Parts.{parted}
+use Rattle.fen_text.specs.Sets.{set_of, set_text}
+use Rattle.cert_text.specs.Arguments.{potentials_of, potentials_text}
 use Rattle.cert_text.specs.declared.node_lines.BodyLine.{BodyLine}
 use Rattle.cert_text.specs.declared.node_lines.BodyLine.TheVariants.{Rule, Back, Expand}
 use Rattle.cert_text.specs.declared.node_lines.NodeLine.{NodeLine}

@@ -8,9 +8,10 @@ use Rattle.query_base.specs.declared.claims.Claim.{Claim}
 use Rattle.cert_text.specs.Tree.{Tree, Forest, count}
 use Rattle.cert_text.specs.Lines.{said}
 use Rattle.cert_text.specs.NodeLines.{root_body, kid_body}
-use Rattle.cert_text.specs.Certificate.{Lines, head_line, query_of, body_of, AreBelow, AreKids}
-use Rattle.cert_text.specs.ClaimLines.{claim_of}
+use Rattle.cert_text.specs.Certificate.{Lines, body_of, AreBelow, AreKids}
 use Rattle.cert_text.specs.Due.{refused}
+use Rattle.cert_text.specs.Heads.{Leads}
+use Rattle.cert_text.specs.declared.heads.Head.TheVariants.{FormatDue, RootDue}
 use Rattle.cert_text.specs.declared.node_lines.BodyLine.{BodyLine}
 use Rattle.cert_text.specs.declared.node_lines.BodyLine.TheVariants.{Rule, Back, Expand}
 
@@ -38,15 +39,14 @@ IsRefused put depth lines line n = (due : List ℕ) → length due ≡ depth →
 abbrev pub SaysKid : ℕ → Lines → Unmove → BodyLine → Lines → Type 0
 SaysKid depth lines label body rest = (line : List ℕ) × (lines ≡ line ∷ rest) × (said (kid_body depth) line ≡ Some (label, body))
 
--- the lines begin with a certificate's first four lines, which say this
-pub record HasHeader (lines : Lines) (claim : Claim) (query : Asked) (body : BodyLine) (rest : Lines) : Type 0 where
-  pub claim_line : List ℕ
-  pub fen_line : List ℕ
+-- the lines begin with a certificate's head and its root's line, which say this; the line after these has this number
+pub record HasHeader (lines : Lines) (claim : Claim) (query : Asked) (body : BodyLine) (line : ℕ) (rest : Lines) : Type 0 where
+  pub front : Lines
   pub root_line : List ℕ
-  pub parts : lines ≡ head_line ∷ claim_line ∷ fen_line ∷ root_line ∷ rest
-  pub claim_is : said claim_of claim_line ≡ Some claim
-  pub query_is : said query_of fen_line ≡ Some query
+  pub parts : lines ≡ front ++ root_line ∷ rest
+  pub leads : Leads FormatDue front (RootDue claim query)
   pub body_is : said root_body root_line ≡ Some body
+  pub counted : line ≡ length front + 2
 
 -- only at a depth below 255 has a node children
 abbrev pub HasRoom : ℕ → BodyLine → Type 0

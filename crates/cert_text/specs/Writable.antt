@@ -1,7 +1,8 @@
 -- Inner: no public clause cites this file.
 -- Which claims and which trees have a text, and what is known of all that may stand in them.
-use Rattle.std.specs.Prelude.{ℕ, suc, ◌≡◌, Bool, true, ◌&&◌, ◌||◌, ◌==◌, nat_lt, nat_le, List, length, IsTrue, ℤ, nat_abs}
+use Rattle.std.specs.Prelude.{ℕ, suc, ◌≡◌, Bool, true, ◌&&◌, ◌||◌, ◌==◌, nat_lt, nat_le, length, IsTrue, ℤ, nat_abs}
 use Rattle.std.specs.List.{list_all}
+use Rattle.board_base.specs.Board.{AreOdds}
 use Rattle.board_base.specs.Potentials.{Duals}
 use Rattle.board_base.specs.Texts.{can_promote, can_capture}
 use Rattle.board_base.specs.declared.moves.Move.{Move}
@@ -10,7 +11,8 @@ use Rattle.query_base.specs.declared.claims.Claim.{Claim}
 use Rattle.query_base.specs.declared.claims.Claim.TheVariants.{Illegal, Last, Lost, Ep}
 use Rattle.query_base.specs.declared.rule_lines.RuleLine.{RuleLine}
 use Rattle.query_base.specs.declared.rule_lines.RuleLine.TheVariants.{Kings, Ranks, Check, Rights, Count, Frozen, Caps, Promo}
-use Rattle.query_base.specs.Asked.{Asked, is_of_other_side}
+use Rattle.query_base.specs.Asked.{Asked, IsShortClock, is_of_other_side}
+use Rattle.fen_text.specs.Sets.{is_whole}
 use Rattle.cert_text.specs.ClaimLines.{promotes_well}
 use Rattle.cert_text.specs.Tree.{Tree, Forest, rule, back, expand, none, more, count}
 use Rattle.cert_text.specs.declared.node_lines.BodyLine.{BodyLine}
@@ -31,17 +33,13 @@ stays_on_board (Ep m) = is_on_board m
 abbrev pub is_written : Claim → Bool
 is_written claim = stays_on_board claim && promotes_well claim
 
--- what is known of each set of squares: it has 64 truth values
-abbrev pub is_whole : List Bool → Bool
-is_whole set = length set == 64
-
 -- the number is from -64 to 64
 abbrev pub is_near : ℤ → Bool
 is_near x = nat_le (nat_abs x) 64
 
--- what is known of all potentials: at most eight pawns and exactly eight files, each with such a number
-abbrev pub are_near : Duals → Bool
-are_near d = nat_le (length d.u) 8 && (length d.v == 8) && list_all is_near d.u && list_all is_near d.v
+-- what is known of all potentials: at most so many rows and exactly so many columns, each with such a number
+abbrev pub are_near : ℕ → Duals → Bool
+are_near width d = nat_le (length d.u) width && (length d.v == width) && list_all is_near d.u && list_all is_near d.v
 
 -- what is known of each rule line
 abbrev pub is_rule : RuleLine → Bool
@@ -51,7 +49,7 @@ is_rule Check = true
 is_rule Rights = true
 is_rule (Count side) = true
 is_rule (Frozen set) = is_whole set
-is_rule (Caps side set p) = is_whole set && are_near p
+is_rule (Caps side set p) = is_whole set && are_near 8 p
 is_rule (Promo side set) = is_whole set
 
 -- the unmove has a text
@@ -76,7 +74,10 @@ abbrev mutual
   all_fit depth none = true
   all_fit depth (more label tree rest) = has_text label && fits depth tree && all_fit depth rest
 
--- what is known of each query: its board has 64 places, and the move that it demands is a double step of the side not to move
+-- What is known of each query: its board has 64 places, its odds are on homes of men who may be left out, the move that it
+-- demands is a double step of the side not to move, and the clock that it demands is at most 9,999.
 pub record IsQuery (q : Asked) : Type 0 where
   pub whole : length q.board ≡ 64
+  pub odds : AreOdds q.odds
   pub step : IsTrue (is_of_other_side q.turn q.only)
+  pub clock : IsShortClock q.clock

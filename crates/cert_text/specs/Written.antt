@@ -3,9 +3,13 @@
 use Rattle.std.specs.Prelude.{ℕ, List, [], ◌∷◌, ◌++◌, codes, IfSome, IsTrue, Option, Some, None}
 use Rattle.board_base.specs.Texts.{unmove_text}
 use Rattle.board_base.specs.declared.unmoves.Unmove.{Unmove}
+use Rattle.query_base.specs.Asked.{Asked}
+use Rattle.query_base.specs.declared.claims.Claim.{Claim}
+use Rattle.cert_text.specs.declared.heads.Format.{Format}
+use Rattle.cert_text.specs.declared.heads.Format.TheVariants.{One, Two}
 use Rattle.cert_text.specs.Tree.{Tree, Forest, rule, back, expand, none, more}
 use Rattle.cert_text.specs.Lines.{ended}
-use Rattle.cert_text.specs.Certificate.{Certificate, Lines, body_of, head_line}
+use Rattle.cert_text.specs.Certificate.{Certificate, Lines, body_of, demand_lines, format_for}
 use Rattle.cert_text.specs.ClaimLines.{claim_text}
 use Rattle.cert_text.specs.NodeLines.{kid_text, root_text}
 use Rattle.fen_text.specs.Spelling.{spelling}
@@ -32,6 +36,15 @@ abbrev mutual
   lines_of none = []
   lines_of (more label tree rest) = ended (kid_text label (body_of tree)) ∷ (lines_below tree ++ lines_of rest)
 
+-- the first line of a format
+abbrev pub format_text : Format → List ℕ
+format_text One = codes "retro 1"
+format_text Two = codes "retro 2"
+
+-- the lines of the head of a certificate about this query
+abbrev pub head_lines : Claim → Asked → Lines
+head_lines claim q = ended (format_text (format_for (demand_lines q))) ∷ ended (claim_text claim) ∷ (demand_lines q ++ ended (codes "fen " ++ spelling q) ∷ [])
+
 -- the lines of a certificate
 abbrev pub cert_lines : Certificate → Lines
-cert_lines cert = head_line ∷ ended (claim_text cert.claim) ∷ ended (codes "fen " ++ spelling cert.query) ∷ ended (root_text (body_of cert.root)) ∷ lines_below cert.root
+cert_lines cert = head_lines cert.claim cert.query ++ ended (root_text (body_of cert.root)) ∷ lines_below cert.root

@@ -1,32 +1,15 @@
-ghost use Rattle.std.specs.Prelude.{◌≡◌, ◌+◌, ◌<◌, ◌≤◌, ◌++◌, length};
+ghost use Rattle.std.specs.Prelude.{◌≡◌, ◌+◌, ◌*◌, ◌<◌, ◌≤◌, ◌++◌, length};
+ghost use Rattle.std.specs.List.{All};
 ghost use Rattle.std.specs.Fmt.{signed_decimal};
-ghost use Rattle.board_base.specs.Potentials.{ArePotentials, IsWithinLimit, duals};
-ghost use Rattle.cert_text.specs.Arguments.{hex_digit, potentials_text, set_text};
+ghost use Rattle.board_base.specs.Potentials.{IsWithinLimit, duals};
+ghost use Rattle.fen_text.specs.Sets.{set_text};
+ghost use Rattle.cert_text.specs.Arguments.{potentials_text};
 
 use crate::line_writing::push_all;
 use arrayvec::ArrayVec;
 use board_base::{Potentials, SquareSet};
+use fen_text::set_text;
 use itoa::Buffer;
-
-fn hex_digit(digit: u8) -> u8
-    requires { digit < 16 }
-    ensures { result ≡ hex_digit digit }
-{
-    if digit < 10 { b'0' + digit } else { digit + 87 }
-}
-
-/// The sixteen digits of a set.
-fn set_text(set: SquareSet) -> [u8; 16]
-    ensures { result ≡ set_text set }
-{
-    let mut text = [0; 16];
-    let mut bits = set.bits();
-    for place in (0..16usize).rev() {
-        text[place] = hex_digit((bits % 16) as u8);
-        bits = bits / 16;
-    }
-    text
-}
 
 /// Puts the text of a set after the others.
 pub(crate) fn push_set(set: SquareSet, out: &mut ArrayVec<u8, 128>)
@@ -38,8 +21,8 @@ pub(crate) fn push_set(set: SquareSet, out: &mut ArrayVec<u8, 128>)
 }
 
 /// Puts the text of a number from -64 to 64 after the others.
-fn push_signed(number: i8, out: &mut ArrayVec<u8, 128>)
-    requires room { length out.old.items + 3 ≤ 128 }
+fn push_signed<const N: usize>(number: i8, out: &mut ArrayVec<u8, N>)
+    requires room { length out.old.items + 3 ≤ N }
     requires near { IsWithinLimit number }
     ensures text { out.new.items ≡ out.old.items ++ signed_decimal number }
     ensures short { length out.new.items ≤ length out.old.items + 3 }
@@ -48,21 +31,23 @@ fn push_signed(number: i8, out: &mut ArrayVec<u8, 128>)
     push_all(buffer.format(number).as_bytes(), out);
 }
 
-/// Puts the numbers of the pawns, a `/` and the numbers of the files after the others, with a space between two.
-fn push_numbers(u: &[i8], v: &[i8], out: &mut ArrayVec<u8, 128>)
-    requires room { length out.old.items + 65 ≤ 128 }
-    requires numbers { ArePotentials (duals u.now v.now) }
+/// Puts the one text of potentials after what stands in `out`: the numbers of the rows, a `/` and the numbers of the columns, with a
+/// space between two. The numbers are from -64 to 64, and there is room.
+pub fn push_duals<const N: usize>(u: &[i8], v: &[i8], out: &mut ArrayVec<u8, N>)
+    requires room { length out.old.items + 4 * (length u.now + length v.now) + 1 ≤ N }
+    requires rows { All IsWithinLimit u.now }
+    requires columns { All IsWithinLimit v.now }
     ensures text { out.new.items ≡ out.old.items ++ potentials_text (duals u.now v.now) }
-    ensures short { length out.new.items ≤ length out.old.items + 65 }
+    ensures short { length out.new.items ≤ length out.old.items + 4 * (length u.now + length v.now) + 1 }
 {
-    for pawn in u {
-        push_signed(*pawn, out);
+    for row in u {
+        push_signed(*row, out);
         out.push(b' ');
     }
     out.push(b'/');
-    for file in v {
+    for column in v {
         out.push(b' ');
-        push_signed(*file, out);
+        push_signed(*column, out);
     }
 }
 
@@ -72,5 +57,5 @@ pub(crate) fn push_potentials(p: &Potentials, out: &mut ArrayVec<u8, 128>)
     ensures text { out.new.items ≡ out.old.items ++ potentials_text p.now }
     ensures short { length out.new.items ≤ length out.old.items + 65 }
 {
-    push_numbers(p.u(), p.v(), out);
+    push_duals(p.u(), p.v(), out);
 }

@@ -1,77 +1,14 @@
 ghost use Rattle.std.specs.Prelude.{◌≡◌, ◌≤◌, ◌<◌, IsTrue, SomeIff, MatchOption, None, Some, length, pos};
-ghost use Rattle.fen_text.specs.Fen.{number as digits};
-ghost use Rattle.board_base.specs.Potentials.{duals};
-ghost use Rattle.cert_text.specs.Arguments.{files_of, hex_value, is_hex, is_plain, is_slash, negative, number, positive, potentials_of, set_of, signed, words};
-ghost use Rattle.cert_text.specs.Writable.{are_near, is_whole};
+ghost use Rattle.fen_text.specs.Numbers.{number};
+ghost use Rattle.board_base.specs.Potentials.{ArePotentials, duals};
+ghost use Rattle.cert_text.specs.Arguments.{columns_of, duals_of, is_slash, negative, positive, potentials_of, signed, words};
+ghost use Rattle.fen_text.specs.Sets.{is_whole};
+ghost use Rattle.cert_text.specs.Writable.{are_near};
 
 use crate::lines::is_text;
+use arrayvec::ArrayVec;
 use board_base::{Potentials, Square, SquareSet};
-use fen_text::{read_decimal, split_part};
-
-/// The value of one to nine digits.
-fn read_digits(text: &[u8]) -> Option<u32>
-    ensures { result ≡ digits text.now }
-{
-    read_decimal(text).ok()
-}
-
-fn is_plain(text: &[u8]) -> bool
-    requires { 1 ≤ length text.now }
-    ensures { result ≡ is_plain text.now }
-{
-    text.len() == 1 || text[0] != b'0'
-}
-
-/// Reads a number of one to six digits.
-pub(crate) fn read_number(text: &[u8]) -> Option<u32>
-    ensures { result ≡ number text.now }
-{
-    if text.is_empty() {
-        return None;
-    }
-    if text.len() > 6 {
-        return None;
-    }
-    if !is_plain(text) {
-        return None;
-    }
-    read_digits(text)
-}
-
-fn is_hex(byte: u8) -> bool
-    ensures { result ≡ is_hex byte }
-{
-    (b'0' <= byte && byte <= b'9') || (b'a' <= byte && byte <= b'f')
-}
-
-fn hex_value(byte: u8) -> u8
-    requires { IsTrue (is_hex byte) }
-    ensures value { result ≡ hex_value byte }
-    ensures small { result < 16 }
-{
-    if b'0' <= byte && byte <= b'9' {
-        byte - b'0'
-    } else {
-        byte - 87
-    }
-}
-
-/// Reads a set of sixteen hexadecimal digits.
-pub(crate) fn read_set(text: &[u8]) -> Option<SquareSet>
-    ensures { result ≡ set_of text.now }
-{
-    if text.len() != 16 {
-        return None;
-    }
-    let mut bits: u64 = 0;
-    for (i, byte) in text.iter().enumerate() {
-        if !is_hex(*byte) {
-            return None;
-        }
-        bits = 16 * bits + hex_value(*byte) as u64;
-    }
-    Some(SquareSet::from_bits(bits))
-}
+use fen_text::{read_number, split_part};
 
 fn positive(number: u32) -> Option<i8>
     ensures { result ≡ positive number }
@@ -110,13 +47,13 @@ fn read_signed(text: &[u8]) -> Option<i8>
     }
 }
 
-/// Reads eight numbers with a space between two.
-fn read_files(text: &[u8]) -> Option<[i8; 8]>
-    ensures { result ≡ files_of (words text.now) }
+/// Reads so many numbers with a space between two.
+fn read_columns<const W: usize>(text: &[u8]) -> Option<[i8; W]>
+    ensures { result ≡ columns_of W (words text.now) }
 {
-    let mut v = [0; 8];
+    let mut v = [0; W];
     let mut rest = Some(text);
-    for i in 0..8usize {
+    for i in 0..W {
         let Some(left) = rest else {
             return None;
         };
@@ -139,33 +76,54 @@ fn is_slash(word: &[u8]) -> bool
     is_text(word, b"/")
 }
 
-/// Reads potentials: at most eight numbers, a `/`, and eight numbers, with a space between two.
-pub(crate) fn read_potentials(text: &[u8]) -> Option<Potentials>
-    ensures { result ≡ potentials_of text.now }
+/// Reads potentials, those of rows and those of columns: at most so many numbers, a `/`, and so many numbers, from -64 to 64, with a
+/// space between two. A number has no leading zero, and one below 0 has a `-`. None comes exactly where the text is none of these.
+pub fn read_duals<const W: usize>(text: &[u8]) -> Option<(ArrayVec<i8, W>, [i8; W])>
+    requires some { 1 ≤ W }
+    requires few { W < 256 }
+    ensures { MatchOption result (duals_of W text.now ≡ None) (λ d. duals_of W text.now ≡ Some (duals d.0.items d.1)) }
 {
-    let mut u = [0; 8];
+    let mut u = ArrayVec::new();
     let mut rest = text;
-    for n in 0..9usize {
+    for n in 0..W + 1 {
         let (word, after) = split_part(rest, b' ');
         let Some(more) = after else {
             return None;
         };
         if is_slash(word) {
-            return match read_files(more) {
-                Some(v) => Some(Potentials::known(&u[..n], &v)),
+            return match read_columns(more) {
+                Some(v) => Some((u, v)),
                 None => None,
             };
         }
-        if n == 8 {
+        if n == W {
             return None;
         }
         let Some(x) = read_signed(word) else {
             return None;
         };
-        u[n] = x;
+        u.push(x);
         rest = more;
     }
     None
+}
+
+/// These potentials, which are known to be in range.
+fn potentials_with(d: &(ArrayVec<i8, 8>, [i8; 8])) -> Potentials
+    requires { ArePotentials (duals d.now.0.items d.now.1) }
+    ensures { result ≡ duals d.now.0.items d.now.1 }
+{
+    Potentials::known(d.0.as_slice(), &d.1)
+}
+
+/// Reads potentials of at most eight pawns and of the eight files.
+pub(crate) fn read_potentials(text: &[u8]) -> Option<Potentials>
+    ensures { result ≡ potentials_of text.now }
+{
+    match read_duals::<8>(text) {
+        Some(d) => Some(potentials_with(&d)),
+        None => None,
+    }
 }
 
 /// Whether the set has 64 truth values, as each has.
@@ -178,7 +136,7 @@ pub(crate) fn is_whole(set: SquareSet) -> bool
 
 /// Whether the potentials are at most eight and exactly eight, and from -64 to 64, as all are.
 pub(crate) fn are_near(p: &Potentials) -> bool
-    ensures { result ≡ are_near p.now }
+    ensures { result ≡ are_near 8 p.now }
 {
     let _ = p.v();
     true

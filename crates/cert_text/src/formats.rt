@@ -120,6 +120,7 @@ fn is_plain(query: &Query) -> bool
     ensures known { IsQuery query.now }
 {
     query.board.is_whole();
+    query.odds.set();
     query.barred.is_none()
 }
 

@@ -1,12 +1,15 @@
-ghost use Rattle.std.specs.Prelude.{ℕ, ◌≡◌, ◌≢◌, ◌<◌, IsTrue, List, Some, length};
+ghost use Rattle.std.specs.Prelude.{ℕ, ◌≡◌, ◌≢◌, ◌+◌, ◌<◌, ◌↔◌, IsTrue, List, Some, length};
+ghost use Rattle.query_base.specs.Asked.{Asked};
 ghost use Rattle.query_base.specs.declared.claims.Claim.{Claim as AnyClaim};
 ghost use Rattle.cert_text.specs.ClaimLines.{claim_of, claim_text, promotes_well};
+ghost use Rattle.cert_text.specs.Heads.{Leads};
+ghost use Rattle.cert_text.specs.declared.heads.Head.TheVariants.{FormatDue, RootDue};
 ghost use Rattle.cert_text.specs.Lines.{cut, ended};
 ghost use Rattle.cert_text.specs.Mute.{IsMute};
 ghost use Rattle.cert_text.specs.NodeLines.{node_line, line_text};
 ghost use Rattle.cert_text.specs.declared.node_lines.NodeLine.{NodeLine as AnyLine};
 ghost use Rattle.cert_text.specs.Texts.{IsBadAt};
-ghost use Rattle.cert_text.specs.Certificate.{AreLinesOf, Certificate as AnyCertificate, IsTextOf};
+ghost use Rattle.cert_text.specs.Certificate.{AreHeadLines, AreLinesOf, Certificate as AnyCertificate, IsTextOf, Lines, root_at};
 
 /// What is read as the line of a node is the one text of that line. This does nothing when it runs.
 pub fn one_text_of_a_line()
@@ -17,6 +20,13 @@ pub fn one_text_of_a_line()
 pub fn one_text_of_a_claim()
     ensures text { (text : List ℕ) (claim : AnyClaim) → claim_of text ≡ Some claim → text ≡ claim_text claim }
     ensures promotion { (text : List ℕ) (claim : AnyClaim) → claim_of text ≡ Some claim → IsTrue (promotes_well claim) }
+{}
+
+/// Lines lead from the first of a head to the root exactly where they are the lines of a head, with the claim and the query that
+/// they say; and the root's line is the next. This does nothing when it runs.
+pub fn heads_lead_to_the_root()
+    ensures head { (lines : Lines) (claim : AnyClaim) (q : Asked) → Leads FormatDue lines (RootDue claim q) ↔ AreHeadLines lines claim q }
+    ensures root { (lines : Lines) (claim : AnyClaim) (q : Asked) → AreHeadLines lines claim q → length lines + 1 ≡ root_at q }
 {}
 
 /// A certificate has one text, and a text stands for one certificate. This does nothing when it runs.

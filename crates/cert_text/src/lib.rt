@@ -6,9 +6,11 @@ mod arguments;
 mod cert_writing;
 mod certificates;
 mod claims;
+mod clocks;
 mod faults;
 mod formats;
 mod headers;
+mod heads;
 mod laws;
 mod line_writing;
 mod lines;
@@ -16,16 +18,22 @@ mod node_lines;
 mod nodes;
 mod reading;
 
+pub use argument_writing::push_duals;
+pub use arguments::read_duals;
 pub use cert_writing::{body_line, write_cert};
 pub use certificates::Cert;
 pub use claims::{castle_letter, read_claim, write_claim};
+pub use clocks::Clock;
 pub use faults::CertFault;
 pub use formats::fits_format;
-pub use headers::{is_head_line, read_claim_line, read_fen_line, read_root_line};
+pub use headers::read_root_line;
+pub use heads::{Format, Head, read_fen_line, read_head_line, read_odds_line, root_line_of};
 pub use laws::{
-    no_long_lines, one_fault_each, one_text_each, one_text_of_a_claim, one_text_of_a_line,
+    heads_lead_to_the_root, no_long_lines, one_fault_each, one_text_each, one_text_of_a_claim,
+    one_text_of_a_line,
 };
 pub use line_writing::write_line;
+pub use lines::{first_line, without_end};
 pub use node_lines::{BodyLine, NodeLine, read_line};
 pub use nodes::{Body, Kid, Kids, Node};
 pub use reading::{read_cert, read_kid_line};

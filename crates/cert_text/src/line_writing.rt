@@ -12,8 +12,8 @@ use itoa::Buffer;
 use query_base::RuleLine;
 
 /// Puts these bytes, for which there is room, after the others.
-pub(crate) fn push_all(bytes: &[u8], out: &mut ArrayVec<u8, 128>)
-    requires { length out.old.items + length bytes.now ≤ 128 }
+pub(crate) fn push_all<const N: usize>(bytes: &[u8], out: &mut ArrayVec<u8, N>)
+    requires { length out.old.items + length bytes.now ≤ N }
     ensures text { out.new.items ≡ out.old.items ++ bytes.now }
     ensures longer { length out.new.items ≡ length out.old.items + length bytes.now }
 {

@@ -10,7 +10,7 @@ pub(crate) fn is_text(text: &[u8], other: &[u8]) -> bool
 }
 
 /// The first line of the bytes, with its end, and what follows it; nothing where there are no bytes.
-pub(crate) fn first_line(bytes: &[u8]) -> Option<(&[u8], &[u8])>
+pub fn first_line(bytes: &[u8]) -> Option<(&[u8], &[u8])>
     ensures { MatchOption result (cut bytes.now ≡ []) (λ parts. cut bytes.now ≡ parts.0.now ∷ cut parts.1.now) }
 {
     if bytes.is_empty() {
@@ -25,7 +25,7 @@ pub(crate) fn first_line(bytes: &[u8]) -> Option<(&[u8], &[u8])>
 }
 
 /// What stands before the line's end, if it has one.
-pub(crate) fn without_end(line: &[u8]) -> Option<&[u8]>
+pub fn without_end(line: &[u8]) -> Option<&[u8]>
     ensures { MatchOption result (without_end line.now ≡ None) (λ text. without_end line.now ≡ Some text.now) }
 {
     if line.ends_with(b"\n") {

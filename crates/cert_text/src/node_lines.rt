@@ -2,10 +2,10 @@ ghost use Rattle.std.specs.Prelude.{◌≡◌, ◌≤◌, ◌<◌, ◌==◌, con
 ghost use Rattle.fen_text.specs.Fen.{turn};
 ghost use Rattle.cert_text.specs.NodeLines.{back_at, body_at, caps_of, expand_at, kid_body, node_line, promo_of, root_body, rule_of, set_and_potentials};
 
-use crate::arguments::{read_number, read_potentials, read_set};
+use crate::arguments::read_potentials;
 use crate::lines::is_text;
 use board_base::{Colour, Unmove, read_unmove};
-use fen_text::{read_turn, split_part};
+use fen_text::{read_number, read_set, read_turn, split_part};
 use query_base::RuleLine;
 
 /// What the line of a node says of its body.

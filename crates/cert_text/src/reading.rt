@@ -150,10 +150,12 @@ fn read_kids(
 
 /// Reads a certificate, of at most 67,108,864 bytes. Each line ends with one `\n`, and nothing follows the last node's:
 ///
-/// 1. `retro 1`.
+/// 1. The line of the format: `retro 2` where odds are named or a clock is demanded, and else `retro 1`.
 /// 2. The line of the claim, as `read_claim` reads it.
-/// 3. `fen`, a space, and a FEN of four fields.
-/// 4. The root's line, and then the lines of the other nodes, as `read_line` reads them. After a node with `expand n` come its n
+/// 3. In format 2 alone the line of the odds, as `read_odds` reads it, if they are named, and then that of the clock, as `read_clock`
+///    reads it, if one is demanded: one of the two, or both.
+/// 4. `fen`, a space, and a FEN of four fields.
+/// 5. The root's line, and then the lines of the other nodes, as `read_line` reads them. After a node with `expand n` come its n
 ///    children, each with all that is below it; after another node comes nothing of its own. The labels may be any unmoves in any
 ///    order, and `back` may lead to any ancestor.
 ///
@@ -169,7 +171,7 @@ pub fn read_cert(alloc: Global, bytes: &[u8]) -> Result<Cert, CertFault>
         Ok(header) => header,
         Err(line) => return Err(CertFault::BadText { line }),
     };
-    match read_below(alloc, header.body, 0, header.rest, 5) {
+    match read_below(alloc, header.body, 0, header.rest, header.line) {
         Ok(below) => match first_line(below.rest) {
             Some(_) => Err(CertFault::BadText { line: below.line }),
             None => Ok(Cert {

@@ -8,7 +8,7 @@ use Rattle.std.proofs.Math.Seq.{take-add}
 use Rattle.std.specs.List.{list_all}
 use Rattle.std.specs.Option.{option_map}
 use Rattle.board_base.proofs.Equal.{none_is}
-use Rattle.board_base.specs.Board.{Places, file}
+use Rattle.board_base.specs.Board.{Places, file, no_odds}
 use Rattle.board_base.specs.Rights.{Rights}
 use Rattle.board_base.specs.declared.men.Colour.{Colour}
 use Rattle.board_base.specs.declared.men.Colour.TheVariants.{White, Black}
@@ -195,9 +195,9 @@ text_back b t r e size fits =
     ∙ parted_end 32 (en_passant t) (λ e. Some (asked b t r e, None)) (λ e. from_numbers (asked b t r e)) p4 (clean_en_passant t p4 (known _ _ g4))
     ∙ ap (λ (o : Option (Option Move)). o >>= (λ e. Some (asked b t r e, None))) g4
 
-pub whole : (q : Asked) → q.barred ≡ None → asked q.board q.turn q.held q.only ≡ q
-whole q e = λ i. record { board = q.board; turn = q.turn; held = q.held; only = q.only; barred = sym e i }
+pub whole : (q : Asked) → q.barred ≡ None → asked q.board q.turn q.held q.only ≡ record q { odds = no_odds; clock = None }
+whole q e = λ i. record { board = q.board; turn = q.turn; odds = no_odds; held = q.held; only = q.only; barred = sym e i; clock = None }
 
-pub read_back : (q : Asked) → length q.board ≡ 64 → q.barred ≡ None → IsTrue (is_of_other_side q.turn q.only) → fen (spelling q) ≡ Some (q, None)
+pub read_back : (q : Asked) → length q.board ≡ 64 → q.barred ≡ None → IsTrue (is_of_other_side q.turn q.only) → fen (spelling q) ≡ Some (record q { odds = no_odds; clock = None }, None)
 unfolding spelling
 read_back q size plain fits = text_back q.board q.turn q.held q.only size fits ∙ ap (λ (x : Asked). Some (x, None)) (whole q plain)

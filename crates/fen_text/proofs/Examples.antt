@@ -1,13 +1,16 @@
 -- Texts that are FEN, with what they ask for, and texts that aren't.
-use Rattle.std.proofs.Common.{◌≡◌, Bool, true, false, List, [], ◌∷◌, map, refl}
-use Rattle.std.specs.Prelude.{Option, Some, None, codes, is_some, slice_set}
+use Rattle.std.proofs.Common.{◌≡◌, true, false, [], ◌∷◌, map, refl}
+use Rattle.std.specs.Prelude.{Some, None, codes, is_some, slice_set}
 use Rattle.board_base.specs.Board.{Places, man, no_men}
 use Rattle.board_base.specs.Rights.{Rights}
 use Rattle.board_base.specs.declared.men.Colour.TheVariants.{White, Black}
 use Rattle.board_base.specs.declared.men.Kind.TheVariants.{King, Pawn, Rook}
 use Rattle.board_base.specs.declared.moves.Move.{Move}
+use Rattle.board_base.specs.Squares.{squares_of}
+use Rattle.fen_text.specs.OddsLines.{odds_line, odds_of}
 use Rattle.fen_text.specs.Parts.{parted}
 use Rattle.fen_text.specs.Ranks.{is_symbol, places_of, rank}
+use Rattle.fen_text.specs.Sets.{set_of}
 use Rattle.fen_text.specs.Fen.{asked, fen, from_en_passant, from_numbers, from_rights, from_turn, no_rights, number, placement, ranks, rights}
 
 -- kings on e1 and e8, White's rook on h1, and pawns on a2 and d5
@@ -43,3 +46,13 @@ bad_boards = refl
 bad_fields : map (λ text. is_some (fen text)) (codes "8/8/8/8/8/8/8/8 w QK -" ∷ codes "8/8/8/8/8/8/8/8 w - d3" ∷ codes "8/8/8/8/8/8/8/8 w - - 0" ∷ [] ∷ codes "8/8/8/8/8/8/8/8  w - -" ∷ []) ≡ false ∷ false ∷ false ∷ false ∷ false ∷ []
 unfolding fen from_turn from_rights from_en_passant from_numbers parted placement ranks rank is_symbol places_of rights number
 bad_fields = refl
+
+-- no square, e1, e4, a capital, fifteen digits
+bad_odds : map (λ text. is_some (odds_line text)) (codes "odds 0000000000000000" ∷ codes "odds 0000000000000010" ∷ codes "odds 0000000010000000" ∷ codes "odds 000000000000A000" ∷ codes "odds 000000000000100" ∷ []) ≡ false ∷ false ∷ false ∷ false ∷ false ∷ []
+unfolding odds_line odds_of set_of squares_of
+bad_odds = refl
+
+-- a2, and the queens' home squares
+good_odds : map (λ text. is_some (odds_line text)) (codes "odds 0000000000000100" ∷ codes "odds 0800000000000008" ∷ []) ≡ true ∷ true ∷ []
+unfolding odds_line odds_of set_of squares_of
+good_odds = refl

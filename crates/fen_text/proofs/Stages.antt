@@ -13,7 +13,7 @@ use Rattle.fen_text.specs.declared.faults.FenFault.{FenFault}
 use Rattle.fen_text.specs.Parts.{parted, Free, IsPart}
 use Rattle.fen_text.specs.Faults.{IsFault}
 use Rattle.fen_text.specs.FenFaults.{IsFenFault, spaces}
-use Rattle.fen_text.specs.Fen.{number, rights, placement, Position, from_numbers, from_en_passant, from_rights, from_turn}
+use Rattle.fen_text.specs.Fen.{asked, number, rights, placement, Position, from_numbers, from_en_passant, from_rights, from_turn}
 use Rattle.fen_text.proofs.PartLemmas.{Clean, Opens, free_take, begun_free, map_fault, part_fault, end_fault, more_fault}
 use Rattle.fen_text.proofs.PlacementLemmas.{clean_ranks}
 
@@ -56,7 +56,7 @@ pub opens_number : (q : Asked) → Opens {B = Position} (λ (h : ℕ) last. opti
 unfolding number
 opens_number q h = (48 ∷ [], refl)
 
-pub opens_numbers : (b : Places) (t : Colour) (r : Rights) → Opens (λ e. from_numbers (record { board = b; turn = t; held = r; only = e; barred = None }))
+pub opens_numbers : (b : Places) (t : Colour) (r : Rights) → Opens (λ e. from_numbers (asked b t r e))
 unfolding from_numbers parted number
 opens_numbers b t r e = (48 ∷ 32 ∷ 48 ∷ [], refl)
 

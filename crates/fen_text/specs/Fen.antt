@@ -3,7 +3,7 @@
 use Rattle.std.specs.Prelude.{ℕ, zero, suc, ◌+◌, ◌-◌, ◌*◌, Bool, true, false, cond, ◌&&◌, ◌==◌, not, nat_le, List, [], ◌∷◌, ◌++◌, length, slice_index_or, Option, Some, None}
 use Rattle.std.specs.List.{list_all, fold}
 use Rattle.std.specs.Option.{option_map}
-use Rattle.board_base.specs.Board.{Places}
+use Rattle.board_base.specs.Board.{Places, no_odds}
 use Rattle.board_base.specs.Play.{double_over}
 use Rattle.board_base.specs.Rights.{Rights}
 use Rattle.board_base.specs.declared.men.Colour.{Colour}
@@ -107,9 +107,9 @@ number text = cond (nat_le 1 (length text) && nat_le (length text) 9 && list_all
 abbrev pub Position : Type 0
 Position = Asked × Option (ℕ × ℕ)
 
--- what four fields ask for; no move is barred
+-- what four fields ask for, of games that begin from the whole array; no move is barred, and no clock is demanded
 abbrev pub asked : Places → Colour → Rights → Option Move → Asked
-asked b t r e = record { board = b; turn = t; held = r; only = e; barred = None }
+asked b t r e = record { board = b; turn = t; odds = no_odds; held = r; only = e; barred = None; clock = None }
 
 -- From a field on: fields five and six, or none; fields four to six; fields three to six; fields two to six.
 unfoldable pub from_numbers : Asked → List ℕ → Option Position

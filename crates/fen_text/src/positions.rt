@@ -1,12 +1,14 @@
-ghost use Rattle.std.specs.Prelude.{◌≡◌, ◌+◌, ◌<◌, ◌≤◌, ◌^◌, length, IfErr, IfOk, IfSome, None, Some};
-ghost use Rattle.fen_text.specs.Fen.{from_numbers, from_en_passant, from_rights, from_turn, fen, unnumbered, fen_of_four};
+ghost use Rattle.std.specs.Prelude.{◌≡◌, ◌+◌, ◌<◌, ◌≤◌, ◌^◌, length, IfErr, IfOk, IfSome, IsTrue, None, Some};
+ghost use Rattle.board_base.specs.Board.{no_odds};
+ghost use Rattle.query_base.specs.Asked.{is_of_other_side};
+ghost use Rattle.fen_text.specs.Fen.{asked, from_numbers, from_en_passant, from_rights, from_turn, fen, unnumbered, fen_of_four};
 ghost use Rattle.fen_text.specs.FenFaults.{Reads};
 
 use crate::faults::FenFault;
 use crate::fields::{read_decimal, read_en_passant, read_rights, read_turn};
 use crate::parts::split_part;
 use crate::placements::read_placement;
-use board_base::{Board, CastleSet, Colour};
+use board_base::{Board, CastleSet, Colour, Move, Odds};
 use query_base::Query;
 
 /// A fault in the first field of a text.
@@ -38,9 +40,13 @@ fn behind(len: usize, fault: FenFault) -> FenFault
 fn read_from_numbers(query: &Query, text: &[u8]) -> Result<(Query, Option<(u32, u32)>), FenFault>
     requires short { length text.now < 2 ^ 32 }
     requires plain { query.now.barred ≡ None }
+    requires whole { query.now.odds ≡ no_odds }
+    requires free { query.now.clock ≡ None }
     ensures read { Reads (from_numbers query.now) text.now result }
     ensures field { IfErr result (λ f. f.field ≤ 2) }
     ensures plain { IfOk result (λ p. p.0.barred ≡ None) }
+    ensures whole { IfOk result (λ p. p.0.odds ≡ no_odds) }
+    ensures free { IfOk result (λ p. p.0.clock ≡ None) }
 {
     let (part, rest) = split_part(text, b' ');
     let half = match read_decimal(part) {
@@ -56,6 +62,22 @@ fn read_from_numbers(query: &Query, text: &[u8]) -> Result<(Query, Option<(u32, 
     }
 }
 
+/// What four fields ask for.
+fn asked(board: &Board, turn: Colour, held: CastleSet, only: Option<Move>) -> Query
+    requires { IsTrue (is_of_other_side turn only) }
+    ensures { result ≡ asked board.now turn held only }
+{
+    Query {
+        board: *board,
+        turn,
+        odds: Odds::none(),
+        held,
+        only,
+        barred: None,
+        clock: None,
+    }
+}
+
 /// Fields four to six, or field four alone.
 fn read_from_en_passant(
     board: &Board,
@@ -67,19 +89,15 @@ fn read_from_en_passant(
     ensures read { Reads (from_en_passant board.now turn held) text.now result }
     ensures field { IfErr result (λ f. f.field ≤ 3) }
     ensures plain { IfOk result (λ p. p.0.barred ≡ None) }
+    ensures whole { IfOk result (λ p. p.0.odds ≡ no_odds) }
+    ensures free { IfOk result (λ p. p.0.clock ≡ None) }
 {
     let (part, rest) = split_part(text, b' ');
     let only = match read_en_passant(turn, part) {
         Ok(only) => only,
         Err(at) => return Err(here(at)),
     };
-    let query = Query {
-        board: *board,
-        turn,
-        held,
-        only,
-        barred: None,
-    };
+    let query = asked(board, turn, held, only);
     let Some(rest) = rest else {
         return Ok((query, None));
     };
@@ -99,6 +117,8 @@ fn read_from_rights(
     ensures read { Reads (from_rights board.now turn) text.now result }
     ensures field { IfErr result (λ f. f.field ≤ 4) }
     ensures plain { IfOk result (λ p. p.0.barred ≡ None) }
+    ensures whole { IfOk result (λ p. p.0.odds ≡ no_odds) }
+    ensures free { IfOk result (λ p. p.0.clock ≡ None) }
 {
     let (part, rest) = split_part(text, b' ');
     let held = match read_rights(part) {
@@ -120,6 +140,8 @@ fn read_from_turn(board: &Board, text: &[u8]) -> Result<(Query, Option<(u32, u32
     ensures read { Reads (from_turn board.now) text.now result }
     ensures field { IfErr result (λ f. f.field ≤ 5) }
     ensures plain { IfOk result (λ p. p.0.barred ≡ None) }
+    ensures whole { IfOk result (λ p. p.0.odds ≡ no_odds) }
+    ensures free { IfOk result (λ p. p.0.clock ≡ None) }
 {
     let (part, rest) = split_part(text, b' ');
     let turn = match read_turn(part) {
@@ -150,14 +172,16 @@ fn read_from_turn(board: &Board, text: &[u8]) -> Result<(Query, Option<(u32, u32
 /// 5. One to nine decimal digits: the plies since the last capture or move of a pawn.
 /// 6. One to nine decimal digits: the number of the move, which rises after Black's.
 ///
-/// `Ok` comes exactly where the text is so: the query, in which no move is barred, and the two numbers, from 0 to 999,999,999,
-/// where they are given. `Err` comes exactly otherwise, and says how far the text can be read. The text is shorter than 2^32
-/// bytes.
+/// `Ok` comes exactly where the text is so: the query, in which no move is barred and no odds are named, and the two numbers, from
+/// 0 to 999,999,999, where they are given. `Err` comes exactly otherwise, and says how far the text can be read. The text is
+/// shorter than 2^32 bytes.
 pub fn read_fen(text: &[u8]) -> Result<(Query, Option<(u32, u32)>), FenFault>
     requires { length text.now < 2 ^ 32 }
     ensures read { Reads fen text.now result }
     ensures field { IfErr result (λ f. f.field ≤ 6) }
     ensures plain { IfOk result (λ p. p.0.barred ≡ None) }
+    ensures whole { IfOk result (λ p. p.0.odds ≡ no_odds) }
+    ensures free { IfOk result (λ p. p.0.clock ≡ None) }
 {
     let (part, rest) = split_part(text, b' ');
     let board = match read_placement(part) {
@@ -178,9 +202,13 @@ const LONGEST: usize = 81;
 
 /// The query, if no numbers come with it.
 fn without_numbers(query: Query, numbers: Option<(u32, u32)>) -> Option<Query>
-    requires { query.barred ≡ None }
+    requires plain { query.barred ≡ None }
+    requires whole { query.odds ≡ no_odds }
+    requires free { query.clock ≡ None }
     ensures read { result ≡ unnumbered (Some (query, numbers)) }
     ensures plain { IfSome result (λ q. q.barred ≡ None) }
+    ensures whole { IfSome result (λ q. q.odds ≡ no_odds) }
+    ensures free { IfSome result (λ q. q.clock ≡ None) }
 {
     match numbers {
         None => Some(query),
@@ -188,11 +216,13 @@ fn without_numbers(query: Query, numbers: Option<(u32, u32)>) -> Option<Query>
     }
 }
 
-/// Reads the FEN of exactly four fields, as `read_fen` does. `Some` comes exactly where the text is one, and no move is barred
-/// then. The text may have any length.
+/// Reads the FEN of exactly four fields, as `read_fen` does. `Some` comes exactly where the text is one; no move is barred then,
+/// and no odds are named. The text may have any length.
 pub fn read_four_fields(text: &[u8]) -> Option<Query>
     ensures read { result ≡ fen_of_four text.now }
     ensures plain { IfSome result (λ q. q.barred ≡ None) }
+    ensures whole { IfSome result (λ q. q.odds ≡ no_odds) }
+    ensures free { IfSome result (λ q. q.clock ≡ None) }
 {
     if text.len() > LONGEST {
         return None;

@@ -1,5 +1,5 @@
 ghost use Rattle.std.specs.Prelude.{◌≡◌, ◌+◌, ◌*◌, ◌<◌, ◌≤◌, ◌++◌, ◌∷◌, [], length, slice_index_or, None, Some};
-ghost use Rattle.board_base.specs.Board.{at};
+ghost use Rattle.board_base.specs.Board.{at, no_odds};
 ghost use Rattle.fen_text.specs.Spelling.{symbol, run_text, rank_text, rank_of, ranks_text, turn_letter, letter_if, rights_text, en_passant_text, spelling};
 ghost use Rattle.fen_text.specs.Fen.{fen};
 
@@ -140,14 +140,15 @@ fn write_en_passant(turn: Colour, only: Option<Move>, out: &mut ArrayVec<u8, 128
     }
 }
 
-/// Writes the one text of the query that has four fields, at most 81 bytes. `read_fen` reads it as this query, and so does
-/// `read_four_fields`. `out` is empty before, and no move is barred in the query, for which FEN has no word.
+/// Writes the board, the side to move, the rights and the last move that are demanded: the one text of the query that has four
+/// fields, at most 81 bytes. `read_fen` reads it as this query with no odds, for which FEN has no word, and so does
+/// `read_four_fields`. `out` is empty before, and no move is barred in the query, for which FEN has no word either.
 pub fn write_fen(query: &Query, out: &mut ArrayVec<u8, 128>)
     requires empty { out.old.items ≡ [] }
     requires plain { query.now.barred ≡ None }
     ensures text { out.new.items ≡ spelling query.now }
     ensures short { length out.new.items ≤ 81 }
-    ensures read { fen out.new.items ≡ Some (query.now, None) }
+    ensures read { fen out.new.items ≡ Some (record query.now { odds = no_odds; clock = None }, None) }
 {
     query.board.is_whole();
     write_ranks(&query.board, out);

@@ -9,6 +9,9 @@ use Rattle.board_base.specs.declared.unmoves.Unmove.{Unmove}
 use Rattle.general_lemmas.proofs.Lists.{contains-cases, contains-none}
 use Rattle.play_rules.specs.Kings.{kings}
 use Rattle.query_base.specs.Asked.{Asked}
+use Rattle.board_base.specs.Game.{unmoved as keeps_its_men}
+use Rattle.board_base.proofs.EachCastle.{each-castle}
+use Rattle.board_base.proofs.Without.{are-no-odds}
 use Rattle.query_base.specs.Reach.{Reaches}
 use Rattle.query_base.specs.declared.claims.Claim.TheVariants.{Illegal}
 use Rattle.query_base.specs.declared.rule_lines.RuleLine.TheVariants.{Kings}
@@ -29,7 +32,7 @@ no_rights = record { white_short = false; white_long = false; black_short = fals
 
 -- a board without men
 abbrev nothing : Asked
-nothing = record { board = no_men; turn = White; held = no_rights; only = None; barred = None }
+nothing = record { board = no_men; turn = White; odds = no_odds; held = no_rights; only = None; barred = None; clock = None }
 
 kingless : kings White no_men ≡ 0
 kingless = refl
@@ -80,10 +83,10 @@ nothing_proved = record { claim_is = refl; query_is = refl; proves = nothing_clo
 
 -- the array from which games begin
 abbrev beginning : Asked
-beginning = record { board = array_of no_odds; turn = White; held = no_rights; only = None; barred = None }
+beginning = record { board = array_of no_odds; turn = White; odds = no_odds; held = no_rights; only = None; barred = None; clock = None }
 
 begun : Reaches [] beginning
-begun = reaches_nothing beginning refl refl refl
+begun = reaches_nothing beginning are-no-odds refl refl (λ x h. each-castle (keeps_its_men no_odds []) refl x) refl tt
 
 beginning_unshut : IsShut beginning [] → ⊥
 beginning_unshut (inl (line, supports)) = unreached beginning line supports [] begun

@@ -7,7 +7,7 @@ ghost use Rattle.retro_search.specs.Tidy.{HasRoomFor, IsKeptLow, Keeps};
 
 use crate::copying::copied;
 use crate::refutations::Refutation;
-use board_base::{CastleSet, Memory, Move};
+use board_base::Memory;
 use cert_text::Node;
 use indexmap::IndexMap;
 use query_base::Query;
@@ -43,37 +43,11 @@ pub struct Memo {
     pub on: bool,
 }
 
-/// Whether the sets have the same castlings.
-fn are_same_sets(a: CastleSet, b: CastleSet) -> bool
-    ensures { IsTrue result ↔ (a ≡ b) }
-{
-    a == b
-}
-
-/// Whether the moves are the same, or there are none.
-fn are_same_moves(a: &Option<Move>, b: &Option<Move>) -> bool
-    ensures { IsTrue result ↔ (a.now ≡ b.now) }
-{
-    a == b
-}
-
-/// Whether the queries are the same: they have the same board and side to move, and demand the same.
+/// Whether the queries are the same: they have the same board, side to move and odds, and demand the same.
 fn is_same(a: &Query, b: &Query) -> bool
     ensures { IsTrue result ↔ (a.now ≡ b.now) }
 {
-    if !a.board.is_same(&b.board) {
-        return false;
-    }
-    if a.turn != b.turn {
-        return false;
-    }
-    if !are_same_sets(a.held, b.held) {
-        return false;
-    }
-    if !are_same_moves(&a.only, &b.only) {
-        return false;
-    }
-    are_same_moves(&a.barred, &b.barred)
+    a == b
 }
 
 impl Memo {

@@ -67,6 +67,7 @@ fn are_known(query: &Query, claim: &Claim)
     ensures claim { IsTrue (stays_on_board claim.now) }
 {
     query.board.is_whole();
+    query.odds.set();
     match claim {
         Claim::Illegal | Claim::Lost(_) => {}
         Claim::Last(m) | Claim::Ep(m) => {

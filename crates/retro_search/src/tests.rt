@@ -1,6 +1,6 @@
 use crate::memos::Memo;
 use crate::shutting::shut;
-use board_base::{Board, CastleSet, Colour, Kind, Man, Square};
+use board_base::{Board, CastleSet, Colour, Kind, Man, Odds, Square};
 use query_base::Query;
 use std::test::Fail;
 
@@ -21,9 +21,11 @@ fn numbered(number: u32) -> Query {
     Query {
         board,
         turn: Colour::White,
+        odds: Odds::none(),
         held: CastleSet::none(),
         only: None,
         barred: None,
+        clock: None,
     }
 }
 

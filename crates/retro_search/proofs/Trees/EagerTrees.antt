@@ -71,12 +71,12 @@ mutual
       let more_few = eager_small-each rest q others depth ancestors above s.1 eager.1 each (λ u h. lone u (later u h)) (λ u h. ref u (later u h)) s.3 in
       omega (arith, own, more_few, s.4)
 
-own-move : (o : Option Move) → IfSome o (λ m. o ≡ Some m)
-own-move None = tt
-own-move (Some m) = refl
+own-demand : {A : Type 0} (o : Option A) → IfSome o (λ x. o ≡ Some x)
+own-demand None = tt
+own-demand (Some x) = refl
 
 covers-itself : (q : Asked) → Covers q q
-covers-itself q = record { board = refl; turn = refl; held = λ x h. h; only = own-move q.only; barred = own-move q.barred }
+covers-itself q = record { board = refl; turn = refl; odds = refl; held = λ x h. h; only = own-demand q.only; barred = own-demand q.barred; clock = own-demand q.clock }
 
 pub covered-by : (ancestors : List Asked) (q : Asked) → Contains ancestors q → IsCovered q ancestors
 covered-by ancestors q (k, inside, e) = (k, q, inside, e, covers-itself q)

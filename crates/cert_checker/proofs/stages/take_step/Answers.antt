@@ -1,11 +1,6 @@
-use Rattle.std.proofs.Common.{◌∙◌, reverse, sym}
+use Rattle.std.proofs.Common.{reverse}
 use Rattle.cert_checker.proofs.Counted.{counted_rest}
-use Rattle.cert_checker.proofs.Unbarred.{said_unbarred}
 use Rattle.cert_checker.proofs.stages.take_step.Goals as goal
-
-pub returns-in-Some-read_fen_line-clause-ready : goal.returns-in-Some-read_fen_line-clause-ready
-returns-in-Some-read_fen_line-clause-ready c =
-    said_unbarred c.args.line.now _ (sym c.read_fen_line.ensures ∙ c.in-Some-read_fen_line.is)
 
 pub returns-then-count_line-clause-rest : goal.returns-then-count_line-clause-rest
 returns-then-count_line-clause-rest c = λ lines a rest.

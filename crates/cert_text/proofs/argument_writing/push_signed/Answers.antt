@@ -9,7 +9,7 @@ few : (bytes : List ℕ) (x : ℤ) → bytes ≡ signed_decimal x → IsWithinLi
 few bytes x is near = omega (arith, ap length is, signed_short x near)
 
 pub push_all-requires : goal.push_all-requires
-push_all-requires c = omega (arith, c.requires.room, few c.as_bytes.result.now c.args.number (search rules) c.requires.near)
+push_all-requires g c = omega (arith, c.requires.room, few c.as_bytes.result.now c.args.number (search rules) c.requires.near)
 
 pub returns-clause-short : goal.returns-clause-short
-returns-clause-short c = omega (arith, c.push_all.ensures.longer, few c.as_bytes.result.now c.args.number (search rules) c.requires.near)
+returns-clause-short g c = omega (arith, c.push_all.ensures.longer, few c.as_bytes.result.now c.args.number (search rules) c.requires.near)

@@ -1,46 +1,24 @@
-use Rattle.std.proofs.Common.{sym, ◌∙◌}
-use Rattle.std.proofs.lemmas.Bool.{both_ways}
-use Rattle.std.proofs.lemmas.Slice.Eq.{bytes_eq-Decides}
-use Rattle.cert_text.specs.Certificate.{head_line}
-use Rattle.cert_text.proofs.Bad.{bad1, bad1-end, bad2, bad2-end, bad3, bad3-end, bad4, bad4-end}
+use Rattle.std.proofs.Common.{arith, sym}
+use Rattle.cert_text.proofs.HeadLines.{head_bad, head_ends, head_few, head_next, root_bad}
 use Rattle.cert_text.proofs.headers.read_header.Goals as goal
 
 pub returns-in_default-clause-bad : goal.returns-in_default-clause-bad
-returns-in_default-clause-bad c = rw c.in_default.ensures bad1-end
+returns-in_default-clause-bad c = head_ends _ _ _ _ c.lines.invariant c.in_default.ensures
 
-pub returns-then-not-is_text-clause-bad : goal.returns-then-not-is_text-clause-bad
-returns-then-not-is_text-clause-bad c =
-    rw c.in-Some.ensures (bad1 _ _ (λ e. both_ways _ (sym c.is_text.ensures ∙ c.if-not-is_text.true) ((bytes_eq-Decides c.in-Some.head.now head_line).1 e)))
+pub overflow_add-result : goal.overflow_add-result
+overflow_add-result c = let few = head_few _ _ _ _ c.lines.invariant in omega (arith, c.requires)
 
-pub returns-in_default-first_line-clause-bad : goal.returns-in_default-first_line-clause-bad
-returns-in_default-first_line-clause-bad c =
-    let h = (bytes_eq-Decides c.in-Some.head.now head_line).0 (sym c.is_text.ensures ∙ c.if-not-is_text.false) in
-    rw (c.in-Some.ensures, h, c.in_default-first_line.ensures) bad2-end
+pub returns-in-None-clause-bad : goal.returns-in-None-clause-bad
+returns-in-None-clause-bad c = root_bad _ _ _ c.in-Some.after.now _ _ _ _ c.lines.invariant c.in-RootDue.is c.in-Some.ensures (sym c.in-None.ensures)
 
-pub returns-in_default-read_claim_line-clause-bad : goal.returns-in_default-read_claim_line-clause-bad
-returns-in_default-read_claim_line-clause-bad c =
-    let h = (bytes_eq-Decides c.in-Some.head.now head_line).0 (sym c.is_text.ensures ∙ c.if-not-is_text.false) in
-    rw (c.in-Some.ensures, h, c.in-Some-first_line.ensures) (bad2 _ _ (sym c.in_default-read_claim_line.ensures))
+pub returns-in_default-read_head_line : goal.returns-in_default-read_head_line
+returns-in_default-read_head_line c = record {
+  ok = tt;
+  bad = head_bad _ _ _ c.in-Some.after.now _ _ c.lines.invariant c.in-Some.ensures c.in_default-due.not-RootDue (sym c.in_default-read_head_line.ensures);
+}
 
-pub returns-in_default-first_line-2-clause-bad : goal.returns-in_default-first_line-2-clause-bad
-returns-in_default-first_line-2-clause-bad c =
-    let h = (bytes_eq-Decides c.in-Some.head.now head_line).0 (sym c.is_text.ensures ∙ c.if-not-is_text.false) in
-    rw (c.in-Some.ensures, h, c.in-Some-first_line.ensures, c.in_default-first_line-2.ensures) (bad3-end _ _ (sym c.in-Some-read_claim_line.ensures))
+pub overflow_add-number : goal.overflow_add-number
+overflow_add-number c = let few = head_few _ _ _ _ c.lines.invariant in omega (arith, c.requires)
 
-pub returns-in_default-read_fen_line-clause-bad : goal.returns-in_default-read_fen_line-clause-bad
-returns-in_default-read_fen_line-clause-bad c =
-    let h = (bytes_eq-Decides c.in-Some.head.now head_line).0 (sym c.is_text.ensures ∙ c.if-not-is_text.false) in
-    rw (c.in-Some.ensures, h, c.in-Some-first_line.ensures, c.in-Some-first_line-2.ensures)
-    (bad3 _ _ _ _ (sym c.in-Some-read_claim_line.ensures) (sym c.in_default-read_fen_line.ensures))
-
-pub returns-in_default-first_line-3-clause-bad : goal.returns-in_default-first_line-3-clause-bad
-returns-in_default-first_line-3-clause-bad c =
-    let h = (bytes_eq-Decides c.in-Some.head.now head_line).0 (sym c.is_text.ensures ∙ c.if-not-is_text.false) in
-    rw (c.in-Some.ensures, h, c.in-Some-first_line.ensures, c.in-Some-first_line-2.ensures, c.in_default-first_line-3.ensures)
-    (bad4-end _ _ _ _ (sym c.in-Some-read_claim_line.ensures) (sym c.in-Some-read_fen_line.ensures))
-
-pub returns-in_default-read_root_line-clause-bad : goal.returns-in_default-read_root_line-clause-bad
-returns-in_default-read_root_line-clause-bad c =
-    let h = (bytes_eq-Decides c.in-Some.head.now head_line).0 (sym c.is_text.ensures ∙ c.if-not-is_text.false) in
-    rw (c.in-Some.ensures, h, c.in-Some-first_line.ensures, c.in-Some-first_line-2.ensures, c.in-Some-first_line-3.ensures)
-    (bad4 _ _ _ _ _ _ (sym c.in-Some-read_claim_line.ensures) (sym c.in-Some-read_fen_line.ensures) (sym c.in_default-read_root_line.ensures))
+pub lines-preserved : goal.lines-preserved
+lines-preserved c = head_next _ _ _ _ _ _ _ c.lines.invariant c.in-Some.ensures (sym c.in-Some-read_head_line.ensures)

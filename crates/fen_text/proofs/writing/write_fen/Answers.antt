@@ -1,4 +1,5 @@
 use Rattle.std.proofs.Common.{◌≡◌, ◌++◌, ◌∷◌, [], List, ℕ, ap, ◌∙◌, Some, None}
+use Rattle.board_base.specs.Board.{no_odds}
 use Rattle.query_base.specs.Asked.{Asked}
 use Rattle.fen_text.specs.Spelling.{spelling, ranks_text, rights_text, en_passant_text, turn_letter}
 use Rattle.fen_text.specs.Fen.{fen}
@@ -23,5 +24,5 @@ returns-clause-text c = written c ∙ ap spelling c.query.view_is
 
 pub returns-clause-read : goal.returns-clause-read
 returns-clause-read c =
-    ap fen (written c) ∙ text_back c.query.inside.board c.query.inside.turn c.query.inside.held c.query.inside.only c.is_whole.ensures c.query.invariant
-    ∙ ap (λ (x : Asked). Some (x, None)) (whole _ (ap (λ (x : Asked). x.barred) c.query.view_is ∙ c.requires.plain) ∙ c.query.view_is)
+    ap fen (written c) ∙ text_back c.query.inside.board c.query.inside.turn c.query.inside.held c.query.inside.only c.is_whole.ensures c.query.invariant.0
+    ∙ ap (λ (x : Asked). Some (x, None)) (whole (record { board = c.query.inside.board; turn = c.query.inside.turn; odds = c.query.inside.odds; held = c.query.inside.held; only = c.query.inside.only; barred = c.query.inside.barred; clock = c.query.inside.clock }) (ap (λ (x : Asked). x.barred) c.query.view_is ∙ c.requires.plain) ∙ ap (λ (x : Asked). record x { odds = no_odds; clock = None }) c.query.view_is)

@@ -1,0 +1,16 @@
+-- Numbers of one to six decimal digits with no leading zero.
+use Rattle.std.specs.Prelude.{ℕ, Bool, cond, ◌&&◌, ◌||◌, ◌==◌, not, nat_le, List, length, slice_index, Option, Some, None}
+use Rattle.std.specs.List.{list_all}
+use Rattle.fen_text.specs.Fen.{is_digit, value}
+
+-- the first digit is 0 only where there is no other
+abbrev pub is_plain : List ℕ → Bool
+is_plain text = (length text == 1) || not (slice_index text 0 == 48)
+
+-- one to six decimal digits, with no leading zero
+abbrev pub is_number : List ℕ → Bool
+is_number text = nat_le 1 (length text) && nat_le (length text) 6 && is_plain text && list_all is_digit text
+
+-- the number, from 0 to 999999, that a text stands for
+unfoldable pub number : List ℕ → Option ℕ
+number text = cond (is_number text) (Some (value text)) None

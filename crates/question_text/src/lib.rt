@@ -1,0 +1,10 @@
+//! The lines with which an input asks for a position: its odds and its half-move clock, where these are named, and a FEN.
+#![tactic(auto)]
+
+mod faults;
+mod input_lines;
+mod questions;
+
+pub use faults::InputFault;
+pub use input_lines::split_first_line;
+pub use questions::{Question, read_lone_question, read_question};
