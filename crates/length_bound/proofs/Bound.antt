@@ -1,6 +1,6 @@
 -- Potentials that the costs bound are a lower bound on the moves of a side.
 use Rattle.std.proofs.Common.{◌≡◌, ◌≢◌, ℕ, ◌+◌, ◌-◌, ◌/◌, ◌%◌, ◌<◌, ◌≤◌, ◌==◌, Bool, true, false, cond, ◌&&◌, not, inl, inr, List, [], ◌∷◌, length, map, slice_index, refl, ap, sym, ◌∙◌, subst, arith}
-use Rattle.std.specs.Prelude.{Option, Some, None, ℤ, pos, negsuc, ◌+ℤ◌, ◌≤ℤ◌, max, nat_lt, is_none, IsTrue}
+use Rattle.std.specs.Prelude.{Option, Some, None, ℤ, pos, negsuc, ◌+ℤ◌, ◌≤ℤ◌, max, nat_lt, IsTrue}
 use Rattle.std.specs.List.{sum_by, list_all, range_with_len}
 use Rattle.std.proofs.lemmas.Bool.{and_from, both_ways, cases_Bool, cond-true, cond-false, eqb-true, eqb-false, ltb-true, not-true, or_cases}
 use Rattle.std.proofs.lemmas.Int.{ints}
@@ -8,7 +8,7 @@ use Rattle.std.proofs.lemmas.List.{length-map}
 use Rattle.std.proofs.lemmas.List.Elements.{All-map, Contains-get_or}
 use Rattle.std.proofs.lemmas.List.FromFn.{get_or-map-range_with_len}
 use Rattle.std.proofs.lemmas.List.Sums.{sum_by-cons}
-use Rattle.board_base.specs.Board.{Places, no_odds, array_of, initial_array, at, is_of, is_empty, same_colour}
+use Rattle.board_base.specs.Board.{Places, array_of, initial_array, at, is_of, same_colour}
 use Rattle.board_base.specs.Play.{side}
 use Rattle.board_base.specs.Rights.{Rights, holds}
 use Rattle.board_base.specs.Game.{IsGame, board_after, turn_after, unmoved}
@@ -27,6 +27,7 @@ use Rattle.general_lemmas.proofs.Differing.{Has, contains-has, differ-apart, dif
 use Rattle.general_lemmas.proofs.SumsAmong.{sum-filter}
 use Rattle.men_account.proofs.Labelled.{labels-each_man, labels-apart, labels-colours}
 use Rattle.men_account.proofs.FilesLeft.{array-inside, array-of-initial}
+use Rattle.men_account.proofs.Paired.{label-of}
 use Rattle.men_account.proofs.PawnLaws.{man-of}
 use Rattle.query_base.specs.Asked.{Asked}
 use Rattle.query_base.specs.Reach.{Reaches}
@@ -72,10 +73,6 @@ record Stands (o : List Bool) (c : Colour) (board : Places) (labels : Labels) (s
   home : ℕ
   label : label_at labels s ≡ Some home
   began : is_of c (at (array_of o) home) ≡ true
-
-label-of : (place : Option Man) (label : Option ℕ) (man : Man) → place ≡ Some man → is_none label ≡ is_empty place → (l : ℕ) × (label ≡ Some l)
-label-of place None man there same = absurd (both_ways false refl (sym (ap is_empty there) ∙ sym same))
-label-of place (Some l) man there same = (l, refl)
 
 stands-after : (o : List Bool) (g : List Move) (c : Colour) → IsGame o g → (s : ℕ) → Has (men_squares c (board_after o g)) s → Stands o c (board_after o g) (labels_after o g) s
 unfolding men_squares
@@ -200,9 +197,9 @@ pub length-least : (o : List Bool) (g : List Move) (c : Colour) (held : Rights) 
 length-least o g c held u v game kept bound = length-from c (length g) (moves_shown c held u v) (turn_after g) refl (moves-least o g c held u v game kept bound)
 
 -- and every game that reaches a query
-pub reach-least : (q : Asked) (g : List Move) (c : Colour) (u v : List ℤ) → Reaches g q → IsSideBound no_odds c q.board u v → length_with c q.turn (moves_shown c q.held u v) ≤ length g
+pub reach-least : (q : Asked) (g : List Move) (c : Colour) (u v : List ℤ) → Reaches g q → IsSideBound q.odds c q.board u v → length_with c q.turn (moves_shown c q.held u v) ≤ length g
 reach-least q g c u v reaches bound =
-    rw (← reaches.turn) (length-least no_odds g c q.held u v reaches.game reaches.held (rw reaches.board bound))
+    rw (← reaches.turn) (length-least q.odds g c q.held u v reaches.game reaches.held (rw reaches.board bound))
 
 -- what the men of a side needed
 pub needed-most : (o : List Bool) (g : List Move) (c : Colour) → IsGame o g → side_cost o c (board_after o g) (labels_after o g) ≤ moves_of c (length g) + 2

@@ -9,3 +9,14 @@ pub mod Duals
 pub mod Squares
 pub mod Shown
 mod Examples
+mod Chains
+mod LengthGrammar
+mod NearDuals
+mod Fronts
+mod LineTexts
+mod LineSizes
+mod FrontReads
+mod Answering
+mod Written
+mod Longer
+mod OneLength

@@ -16,13 +16,13 @@ use Rattle.board_base.specs.declared.men.Man.{Man}
 use Rattle.board_base.specs.declared.moves.Move.{Move}
 use Rattle.board_base.specs.declared.castles.Castle.{Castle}
 use Rattle.board_base.proofs.KindsOfMen.{kind_is, colour_is, same_colour-self}
-use Rattle.board_base.proofs.CastleSquares.{rook_home-within}
 use Rattle.play_rules.proofs.Legality.{Legality, Manner, moves, steps, doubles, takes, passes, castles}
 use Rattle.play_rules.proofs.Kings.{within, castle-ends, two-castles}
 use Rattle.men_account.specs.Labels.{Labels, label_at, relabelled}
+use Rattle.men_account.proofs.FilesLeft.{led-inside}
 use Rattle.men_account.proofs.Captured.{same-side}
 use Rattle.men_account.proofs.Moved.{moved_from, moved_from-apart}
-use Rattle.men_account.proofs.Origins.{Origin, stays, goes, with_king, origin, Came, stayed, moved_here, with_the_king, before, promoted_man}
+use Rattle.men_account.proofs.Origins.{origin, Came, stayed, moved_here, with_the_king, before, no-promo, promoted_man}
 use Rattle.general_lemmas.proofs.SumsAmong.{value_at, sum-through, sum-both, at_only, only-there, sum-only}
 use Rattle.length_bound.specs.MoveCosts.{move_cost}
 use Rattle.length_bound.specs.SideBounds.{man_cost, side_cost}
@@ -39,10 +39,6 @@ becomes-from c t (Some k) pawn h =
 becomes : (board : Places) (c : Colour) (m : Move) → promotion_fits board c m ≡ true → Becomes c m.to m.promo
 unfolding promotion_fits
 becomes board c m fits = becomes-from c m.to m.promo (is_a Pawn (at board m.from)) fits
-
-no-promo : (promo : Option Kind) (pawn reaches : Bool) → pawn ≡ false → elim promo as (λ _. Bool) [ None ↦ not (pawn && reaches) | Some k ↦ pawn && reaches && is_officer k ] ≡ true → promo ≡ None
-no-promo None pawn reaches other h = refl
-no-promo (Some k) pawn reaches other h = absurd (both_ways _ other (and_parts _ _ (and_parts _ _ h).0).0)
 
 keeps-kind : (board : Places) (c : Colour) (m : Move) → is_a Pawn (at board m.from) ≡ false → promotion_fits board c m ≡ true → m.promo ≡ None
 unfolding promotion_fits
@@ -160,11 +156,6 @@ cost-each o c d board labels rights last m a b r len size legal adds s =
     let most = cost-came o c board labels m a b r was.square s l after adds own was.came in
     let e : value_at old led ≡ old was.square = ap (value_at old) was.led in
     omega (arith, most, e))
-
-led-inside : (m : Move) (castle : Option Castle) (s u : ℕ) → m.from < 64 → s < 64 → Origin m castle u s → u < 64
-led-inside m castle s u f small (stays same a b) = omega arith
-led-inside m castle s u f small (goes from to) = omega arith
-led-inside m castle s u f small (with_king x is from to) = omega (arith, rook_home-within x)
 
 -- in all
 pub side-adds : (o : List Bool) (c d : Colour) (board : Places) (labels : Labels) (rights : Castle → Bool) (last : Option Move) (m : Move) (a b r : ℕ) → length board ≡ 64 → length labels ≡ 64 → Legality board d rights last m → Adds o c board m a b r → side_cost o c (play board m) (relabelled board labels m) ≤ side_cost o c board labels + a + b

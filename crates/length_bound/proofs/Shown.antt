@@ -6,7 +6,7 @@ use Rattle.std.proofs.lemmas.Bool.{cases_lt}
 use Rattle.std.proofs.lemmas.Int.{ints}
 use Rattle.std.proofs.lemmas.List.{length-map}
 use Rattle.std.proofs.lemmas.List.Elements.{All-head, All-tail}
-use Rattle.board_base.specs.Board.{Places, at, no_odds}
+use Rattle.board_base.specs.Board.{Places, at}
 use Rattle.board_base.specs.Potentials.{IsWithinLimit}
 use Rattle.board_base.specs.declared.men.Colour.{Colour}
 use Rattle.board_base.specs.declared.moves.Move.{Move}
@@ -42,7 +42,7 @@ sum-small table u v (Some sum) h few within =
     omega (arith, ints, low, high, is, few)
 
 -- the length that is answered is that of every game
-pub answer-least : (q : Asked) (c : Colour) (u v : List ℤ) (answer : Option ℕ) → SomeIff answer (IsSideBound no_odds c q.board u v) (length_with c q.turn (moves_shown c q.held u v)) → IfSome answer (λ n. (g : List Move) → Reaches g q → n ≤ length g)
+pub answer-least : (q : Asked) (c : Colour) (u v : List ℤ) (answer : Option ℕ) → SomeIff answer (IsSideBound q.odds c q.board u v) (length_with c q.turn (moves_shown c q.held u v)) → IfSome answer (λ n. (g : List Move) → Reaches g q → n ≤ length g)
 answer-least q c u v None h = tt
 answer-least q c u v (Some n) h = λ g reaches. let most = reach-least q g c u v reaches h.0 in let is = h.1 in omega (arith, most, is)
 

@@ -2,5 +2,11 @@ pub mod MoveCosts
 pub mod SideBounds
 pub mod DirectSteps
 pub mod ManDuals
+pub mod LengthText
+pub mod LengthAnswers
+pub mod Longest
 pub mod Rows
 pub mod StoredManPotentials
+pub mod LengthReading
+pub mod LengthFronts
+pub mod LongerTexts

@@ -1,5 +1,5 @@
 ghost use Rattle.std.specs.Prelude.{ℕ, Bool, true, false, List, length, ◌≡◌, ◌+◌, ◌≤◌, ◌<◌, IsTrue, ℤ};
-ghost use Rattle.board_base.specs.Board.{no_men, no_odds, same_kind};
+ghost use Rattle.board_base.specs.Board.{no_men, same_kind};
 ghost use Rattle.board_base.specs.Attacks.{kind_attacks};
 ghost use Rattle.board_base.specs.Game.{IsGame, board_after, turn_after, unmoved};
 ghost use Rattle.board_base.specs.Play.{side};
@@ -40,5 +40,5 @@ pub fn men_need_moves()
 pub fn games_are_long()
     ensures moves { (o : List Bool) (g : List Move) (c : AColour) (held : Rights) (u v : List ℤ) → IsGame o g → ((x : Castle) → IsTrue (holds held x) → IsTrue (unmoved o g x)) → IsSideBound o c (board_after o g) u v → moves_shown c held u v ≤ moves_of c (length g) }
     ensures from_odds { (o : List Bool) (g : List Move) (c : AColour) (held : Rights) (u v : List ℤ) → IsGame o g → ((x : Castle) → IsTrue (holds held x) → IsTrue (unmoved o g x)) → IsSideBound o c (board_after o g) u v → length_with c (turn_after g) (moves_shown c held u v) ≤ length g }
-    ensures reached { (q : Asked) (g : List Move) (c : AColour) (u v : List ℤ) → Reaches g q → IsSideBound no_odds c q.board u v → length_with c q.turn (moves_shown c q.held u v) ≤ length g }
+    ensures reached { (q : Asked) (g : List Move) (c : AColour) (u v : List ℤ) → Reaches g q → IsSideBound q.odds c q.board u v → length_with c q.turn (moves_shown c q.held u v) ≤ length g }
 {}

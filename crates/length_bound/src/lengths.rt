@@ -1,5 +1,4 @@
 ghost use Rattle.std.specs.Prelude.{◌≡◌, ◌+◌, ◌-◌, ◌<◌, ◌≤◌, ◌↔◌, ◌+ℤ◌, ◌≤ℤ◌, pos, cond, List, length, SomeIff, IfSome, IsNone};
-ghost use Rattle.board_base.specs.Board.{no_odds};
 ghost use Rattle.board_base.specs.declared.moves.Move.{Move};
 ghost use Rattle.assignment.specs.Assignments.{least_cost, total};
 ghost use Rattle.query_base.specs.Reach.{Reaches};
@@ -47,7 +46,8 @@ fn moves_shown(side: Colour, held: CastleSet, sum: i32) -> u16
 /// The least length, in half-moves, of a game in which a side makes at least so many moves, with this side to move after it.
 fn length_with(side: Colour, turn: Colour, moves: u16) -> u16
     requires { moves ≤ 1024 }
-    ensures { result ≡ length_with side turn moves }
+    ensures value { result ≡ length_with side turn moves }
+    ensures small { result ≤ 2049 }
 {
     match side {
         Colour::White => match turn {
@@ -74,9 +74,10 @@ fn sum_of(board: &Board, side: Colour, odds: Odds, p: &ManPotentials) -> Option<
 
 /// The length that the potentials show; None exactly where the costs of the side's men don't bound them.
 fn length_shown(query: &Query, side: Colour, p: &ManPotentials) -> Option<u16>
-    ensures { SomeIff result (IsSideBound no_odds side query.now.board p.now.u p.now.v) (length_with side query.now.turn (moves_shown side query.now.held p.now.u p.now.v)) }
+    ensures value { SomeIff result (IsSideBound query.now.odds side query.now.board p.now.u p.now.v) (length_with side query.now.turn (moves_shown side query.now.held p.now.u p.now.v)) }
+    ensures small { IfSome result (λ n. n ≤ 2049) }
 {
-    match sum_of(&query.board, side, Odds::none(), p) {
+    match sum_of(&query.board, side, query.odds, p) {
         Some(sum) => Some(length_with(side, query.turn, moves_shown(side, query.held, sum))),
         None => None,
     }
@@ -84,10 +85,11 @@ fn length_shown(query: &Query, side: Colour, p: &ManPotentials) -> Option<u16>
 
 /// How long each game that reaches the query is at least, in half-moves, as potentials of a side's men show it: no game with fewer
 /// reaches the query. None exactly where there isn't one number `u` for each of the side's men, or where what the men need from the
-/// side's homes doesn't bound the potentials.
+/// side's homes doesn't bound the potentials. A length is at most 2049.
 pub fn length_of(query: &Query, side: Colour, p: &ManPotentials) -> Option<u16>
-    ensures answer { SomeIff result (IsSideBound no_odds side query.now.board p.now.u p.now.v) (length_with side query.now.turn (moves_shown side query.now.held p.now.u p.now.v)) }
+    ensures answer { SomeIff result (IsSideBound query.now.odds side query.now.board p.now.u p.now.v) (length_with side query.now.turn (moves_shown side query.now.held p.now.u p.now.v)) }
     ensures least { IfSome result (λ n. (g : List Move) → Reaches g query.now → n ≤ length g) }
+    ensures small { IfSome result (λ n. n ≤ 2049) }
 {
     length_shown(query, side, p)
 }
@@ -95,11 +97,11 @@ pub fn length_of(query: &Query, side: Colour, p: &ManPotentials) -> Option<u16>
 /// Potentials for which `length_of` isn't None, with the greatest sum: the least cost of giving each man of the side a home of his own.
 /// None exactly where the side has more than sixteen men.
 pub fn best(query: &Query, side: Colour) -> Option<ManPotentials>
-    ensures bounded { IfSome result (λ p. IsSideBound no_odds side query.now.board p.u p.v) }
-    ensures greatest { IfSome result (λ p. (total p.u +ℤ total p.v) ≡ pos (least_cost 16 (move_costs no_odds side query.now.board))) }
+    ensures bounded { IfSome result (λ p. IsSideBound query.now.odds side query.now.board p.u p.v) }
+    ensures greatest { IfSome result (λ p. (total p.u +ℤ total p.v) ≡ pos (least_cost 16 (move_costs query.now.odds side query.now.board))) }
     ensures none { IsNone result ↔ (16 < length (men_squares side query.now.board)) }
 {
-    match costs(&query.board, side, Odds::none()) {
+    match costs(&query.board, side, query.odds) {
         Some(costs) => {
             let solution = solve(costs.table());
             Some(ManPotentials::known(solution.u.as_slice(), &solution.v))

@@ -1,0 +1,141 @@
+ghost use Rattle.std.specs.Prelude.{◌≡◌, ◌≢◌, ◌+◌, ◌≤◌, ◌++◌, [], None, Some, codes, length};
+ghost use Rattle.std.specs.Fmt.{decimal};
+ghost use Rattle.board_base.specs.Board.{no_odds};
+ghost use Rattle.fen_text.specs.Fen.{fen};
+ghost use Rattle.fen_text.specs.OddsLines.{odds_line, odds_text};
+ghost use Rattle.fen_text.specs.Spelling.{spelling, turn_letter};
+ghost use Rattle.cert_text.specs.Lines.{cut, ended};
+ghost use Rattle.length_bound.specs.ManDuals.{AreManPotentials};
+ghost use Rattle.length_bound.specs.LengthText.{AreLengthLines};
+ghost use Rattle.length_bound.specs.LengthReading.{moves_text};
+
+use crate::man_potentials::ManPotentials;
+use arrayvec::ArrayVec;
+use board_base::{Colour, Odds};
+use cert_text::push_duals;
+use fen_text::{write_fen, write_odds};
+use itoa::Buffer;
+use query_base::Query;
+
+/// Puts bytes, for which there is room, after the others.
+fn push_text(bytes: &[u8], out: &mut ArrayVec<u8, 512>)
+    requires { length out.old.items + length bytes.now ≤ 512 }
+    ensures text { out.new.items ≡ out.old.items ++ bytes.now }
+    ensures longer { length out.new.items ≡ length out.old.items + length bytes.now }
+{
+    let _ = out.try_extend_from_slice(bytes);
+}
+
+/// Puts the line of odds after the others, if somebody is left out.
+fn push_odds(odds: Odds, out: &mut ArrayVec<u8, 512>)
+    requires { length out.old.items + 22 ≤ 512 }
+    ensures none { odds ≡ no_odds → out.new.items ≡ out.old.items }
+    ensures some { odds ≢ no_odds → out.new.items ≡ out.old.items ++ ended (odds_text odds) }
+    ensures read { odds ≢ no_odds → odds_line (odds_text odds) ≡ Some odds }
+    ensures short { length out.new.items ≤ length out.old.items + 22 }
+{
+    if odds.is_none() {
+        return;
+    }
+    let mut text: ArrayVec<u8, 32> = ArrayVec::new();
+    write_odds(odds, &mut text);
+    push_text(text.as_slice(), out);
+    out.push(b'\n');
+}
+
+/// Puts the line of the query's odds after the others, if somebody is left out.
+fn push_odds_of(query: &Query, out: &mut ArrayVec<u8, 512>)
+    requires { length out.old.items + 22 ≤ 512 }
+    ensures none { query.now.odds ≡ no_odds → out.new.items ≡ out.old.items }
+    ensures some { query.now.odds ≢ no_odds → out.new.items ≡ out.old.items ++ ended (odds_text query.now.odds) }
+    ensures read { query.now.odds ≢ no_odds → odds_line (odds_text query.now.odds) ≡ Some query.now.odds }
+    ensures short { length out.new.items ≤ length out.old.items + 22 }
+{
+    push_odds(query.odds, out);
+}
+
+/// Puts the line of the FEN after the others.
+fn push_fen(query: &Query, out: &mut ArrayVec<u8, 512>)
+    requires room { length out.old.items + 86 ≤ 512 }
+    requires plain { query.now.barred ≡ None }
+    requires free { query.now.clock ≡ None }
+    ensures text { out.new.items ≡ out.old.items ++ ended (codes "fen " ++ spelling query.now) }
+    ensures read { fen (spelling query.now) ≡ Some (record query.now { odds = no_odds }, None) }
+    ensures short { length out.new.items ≤ length out.old.items + 86 }
+{
+    let mut text: ArrayVec<u8, 128> = ArrayVec::new();
+    write_fen(query, &mut text);
+    push_text(b"fen ", out);
+    push_text(text.as_slice(), out);
+    out.push(b'\n');
+}
+
+/// Puts a number of at most four digits after the others.
+fn push_number(number: u16, out: &mut ArrayVec<u8, 512>)
+    requires room { length out.old.items + 4 ≤ 512 }
+    requires small { number ≤ 9999 }
+    ensures text { out.new.items ≡ out.old.items ++ decimal number }
+    ensures short { length out.new.items ≤ length out.old.items + 4 }
+{
+    let mut buffer = Buffer::new();
+    push_text(buffer.format(number).as_bytes(), out);
+}
+
+/// Puts the line of the number of half-moves after the others.
+fn push_at_least(number: u16, out: &mut ArrayVec<u8, 512>)
+    requires room { length out.old.items + 13 ≤ 512 }
+    requires small { number ≤ 9999 }
+    ensures text { out.new.items ≡ out.old.items ++ ended (codes "atleast " ++ decimal number) }
+    ensures short { length out.new.items ≤ length out.old.items + 13 }
+{
+    push_text(b"atleast ", out);
+    push_number(number, out);
+    out.push(b'\n');
+}
+
+fn letter(side: Colour) -> u8
+    ensures { result ≡ turn_letter side }
+{
+    match side {
+        Colour::White => b'w',
+        Colour::Black => b'b',
+    }
+}
+
+/// Puts the line of the potentials after the others.
+fn push_moves(side: Colour, p: &ManPotentials, out: &mut ArrayVec<u8, 512>)
+    requires { length out.old.items + 138 ≤ 512 }
+    ensures text { out.new.items ≡ out.old.items ++ ended (moves_text side p.now) }
+    ensures known { AreManPotentials p.now }
+    ensures short { length out.new.items ≤ length out.old.items + 138 }
+{
+    push_text(b"moves ", out);
+    out.push(letter(side));
+    out.push(b' ');
+    push_duals(p.u(), p.v(), out);
+    out.push(b'\n');
+}
+
+/// Writes the one text that says of the query that each game that reaches it has at least `n` half-moves, as these potentials of the
+/// side's men and homes show: at most 274 bytes. `check_length` reads it so. `out` is empty before, `n` is at most 9999, and the
+/// query bars no move and demands no clock. It takes no memory.
+pub fn write_length(
+    query: &Query,
+    side: Colour,
+    p: &ManPotentials,
+    n: u16,
+    out: &mut ArrayVec<u8, 512>,
+)
+    requires empty { out.old.items ≡ [] }
+    requires small { n ≤ 9999 }
+    requires plain { query.now.barred ≡ None }
+    requires free { query.now.clock ≡ None }
+    ensures text { AreLengthLines (cut out.new.items) (record { query = query.now; at_least = n; side = side; potentials = p.now }) }
+    ensures short { length out.new.items ≤ 274 }
+{
+    push_text(b"retro length 1\n", out);
+    push_odds_of(query, out);
+    push_fen(query, out);
+    push_at_least(n, out);
+    push_moves(side, p, out);
+}
