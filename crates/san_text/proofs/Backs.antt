@@ -5,6 +5,7 @@ use Rattle.std.specs.Prelude.{Option, Some, None, nat_le, is_some}
 use Rattle.board_base.specs.Texts.{◌>>=◌, square_at, square_text}
 use Rattle.board_base.specs.declared.men.Kind.{Kind}
 use Rattle.board_base.specs.declared.men.Kind.TheVariants.{Pawn, Knight, Bishop, Rook, Queen, King}
+use Rattle.san_text.specs.Forms.{CanBecome}
 use Rattle.san_text.specs.Grammar.{is_end, target_of, file_of, rank_of, first, after, file_head, after_file, rank_head, after_rank, takes_head, after_takes, piece_goes, piece_of, piece_letter, promotion_of, pawn_goes, pawn_end, pawn_of, man_of, san_of}
 use Rattle.san_text.specs.Spelling.{capital, file_text, rank_text, takes_text, promotion_text, said_text}
 use Rattle.san_text.specs.Small.{IsSmall}
@@ -148,7 +149,7 @@ piece_back k f r x t mark small_f small_r low ends =
 abbrev pub piece_text : Kind → Option ℕ → Option ℕ → Bool → ℕ → List ℕ → List ℕ
 piece_text k f r x t mark = said_text (piece_goes k f r x t) ++ mark
 
-joined : (k : Kind) (f r : Option ℕ) (x : Bool) (t : ℕ) (mark : List ℕ) → piece_text k f r x t mark ≡ capital k ++ (file_text f ++ (rank_text r ++ (takes_text x ++ (square_text t ++ mark))))
+pub joined : (k : Kind) (f r : Option ℕ) (x : Bool) (t : ℕ) (mark : List ℕ) → piece_text k f r x t mark ≡ capital k ++ (file_text f ++ (rank_text r ++ (takes_text x ++ (square_text t ++ mark))))
 joined k f r x t mark = end (capital k) f r x
   where
     end : (letter : List ℕ) (f r : Option ℕ) (x : Bool) → ((letter ++ file_text f ++ rank_text r) ++ (takes_text x ++ square_text t ++ [])) ++ mark ≡ letter ++ (file_text f ++ (rank_text r ++ (takes_text x ++ (square_text t ++ mark))))
@@ -176,12 +177,6 @@ said_piece Queen f r x t mark piece small_f small_r low ends = ap san_of (joined
 said_piece King f r x t mark piece small_f small_r low ends = ap san_of (joined King f r x t mark) ∙ piece_back King f r x t mark small_f small_r low ends
 
 -- what a pawn becomes is read again
-abbrev pub CanBecome : Option Kind → Type 0
-CanBecome None = Unit {0}
-CanBecome (Some Pawn) = ⊥
-CanBecome (Some King) = ⊥
-CanBecome (Some k) = Unit {0}
-
 promotion_back : (promo : Option Kind) (mark : List ℕ) → CanBecome promo → is_end mark ≡ true → promotion_of (promotion_text promo ++ mark) ≡ Some promo
 promotion_back None [] can ends = refl
 promotion_back None (c ∷ []) can ends = cond-true _ _ None ends
@@ -221,7 +216,7 @@ by_file f rest low =
     cond-false _ _ _ (other (97 + f) 79 (λ e. absurd (omega arith)))
     ∙ ap (λ (o : Option Kind). man_of o (97 + f) rest) (no_letter f low)
 
-pawn_joined : (file : Option ℕ) (t : ℕ) (promo : Option Kind) (mark : List ℕ) → said_text (pawn_goes file t promo) ++ mark ≡ file_text file ++ takes_text (is_some file) ++ square_text t ++ promotion_text promo ++ mark
+pub pawn_joined : (file : Option ℕ) (t : ℕ) (promo : Option Kind) (mark : List ℕ) → said_text (pawn_goes file t promo) ++ mark ≡ file_text file ++ takes_text (is_some file) ++ square_text t ++ promotion_text promo ++ mark
 pawn_joined None t promo mark = refl
 pawn_joined (Some f) t promo mark = refl
 

@@ -1,6 +1,7 @@
 mod Search
 mod Candidates
 mod Backs
+mod Forms
 mod Written
 mod Pawns
 mod Rivals
@@ -9,3 +10,7 @@ mod Spelled
 mod Leading
 mod Told
 mod Examples
+mod Blanks
+mod Onward
+mod Respelled
+mod Only

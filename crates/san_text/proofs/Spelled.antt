@@ -15,13 +15,14 @@ use Rattle.play_rules.specs.States.{Position, legal_at}
 use Rattle.play_rules.proofs.Legality.{legality}
 use Rattle.san_text.specs.Grammar.{is_end, san_of}
 use Rattle.san_text.specs.Fits.{IsOnly, fits_said, fits_text, captures}
+use Rattle.san_text.specs.Forms.{CanBecome}
 use Rattle.san_text.specs.Small.{IsSmall}
 use Rattle.san_text.specs.Spelling.{said_text, mark_text, mark_of, next, named, named_as, named_kind, kind_at, origin_of, spelling}
 use Rattle.san_text.specs.declared.grammar.San.{San}
 use Rattle.san_text.specs.declared.grammar.San.TheVariants.{Goes}
 use Rattle.san_text.specs.declared.marks.Mark.{Mark}
 use Rattle.san_text.specs.declared.marks.Mark.TheVariants.{Quiet, Check, Mate}
-use Rattle.san_text.proofs.Backs.{IsPiece, CanBecome, said_piece, said_pawn, said_short, said_long}
+use Rattle.san_text.proofs.Backs.{IsPiece, said_piece, said_pawn, said_short, said_long}
 use Rattle.san_text.proofs.Candidates.{from_inside, no_pawn}
 use Rattle.san_text.proofs.Fitted.{kind_there, named_only}
 use Rattle.san_text.proofs.Written.{origin_small}

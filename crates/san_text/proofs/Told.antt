@@ -3,10 +3,7 @@ use Rattle.std.proofs.Common.{◌≡◌, ◌<◌, ◌≤◌, ◌+◌, ◌==◌, 
 use Rattle.std.proofs.lemmas.Bool.{and_parts, eqb-true, or_cases, cond-true, cond-false}
 use Rattle.std.proofs.lemmas.List.{map-append, append-nil, flat_map_more, length-map, length-append, length-take-le}
 use Rattle.std.specs.Prelude.{Option, Some, None}
-use Rattle.std.specs.List.{flat_map, slice_split}
-use Rattle.std.proofs.lemmas.List.Splits.{length-slice_split}
-use Rattle.std.proofs.lemmas.List.Sums.{length-filter, count_by-le-length}
-use Rattle.game_text.specs.Words.{words, is_blank}
+use Rattle.std.specs.List.{flat_map}
 use Rattle.general_lemmas.proofs.Splits.{split_at}
 use Rattle.san_text.specs.Grammar.{san_of}
 use Rattle.san_text.specs.Words.{word_of, is_result, without_result, moves_said, Say, FirstBad}
@@ -36,14 +33,8 @@ few_said words said s =
     let moves : length (flat_map moves_said s.told) ≡ length said = ap length s.said_are in
     omega (arith, same, moves, few_moves s.told)
 
--- a text has no more words than bytes and one
-pub few_words : (text : List ℕ) → length (words text) ≤ length text + 1
-few_words text =
-    let kept_words : length (words text) ≤ length (slice_split is_blank text) = rw length-filter (count_by-le-length _ (slice_split is_blank text)) in
-    omega (arith, kept_words, length-slice_split is_blank text, count_by-le-length is_blank text)
-
 -- a result is no word of the grammar
-no_result : (text : List ℕ) → is_result text ≡ true → word_of text ≡ None
+pub no_result : (text : List ℕ) → is_result text ≡ true → word_of text ≡ None
 unfolding san_of
 no_result [] h = cc
 no_result (a ∷ []) h = subst (λ (n : ℕ). word_of (n ∷ []) ≡ None) (sym (eqb-true a 42 h)) refl

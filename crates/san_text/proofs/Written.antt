@@ -10,9 +10,10 @@ use Rattle.board_base.specs.declared.men.Kind.TheVariants.{Pawn, Knight, Bishop,
 use Rattle.board_base.specs.declared.moves.Move.{Move}
 use Rattle.board_base.specs.declared.castles.Castle.{Castle}
 use Rattle.board_base.specs.declared.castles.Castle.TheVariants.{WhiteShort, WhiteLong, BlackShort, BlackLong}
-use Rattle.play_rules.specs.States.{Position, Follows}
+use Rattle.play_rules.specs.States.{Position, Follows, crossed_by}
 use Rattle.san_text.specs.Fits.{captures}
-use Rattle.san_text.specs.Small.{IsSmall, IsSmallSaid}
+use Rattle.san_text.specs.Small.{IsSmall}
+use Rattle.san_text.specs.Spellable.{IsSmallSaid}
 use Rattle.san_text.specs.Spelling.{told, origin_of, named, named_as, kind_at, next, kept}
 
 abbrev pub AreSmall : Option ℕ × Option ℕ → Type 0
@@ -50,8 +51,8 @@ named_small p m low = named_as_small (castling p.board m) p m low
 abbrev rights_of : Bool → Bool → Bool → Bool → Rights
 rights_of a b c d = record { white_short = a; white_long = b; black_short = c; black_long = d }
 
-abbrev position_of : Places → Colour → Rights → Option ℕ → Position
-position_of board turn rights ep = record { board = board; turn = turn; rights = rights; ep = ep }
+abbrev position_of : Places → Colour → Rights → Option ℕ → ℕ → Position
+position_of board turn rights ep clock = record { board = board; turn = turn; rights = rights; ep = ep; clock = clock }
 
 -- the state that follows a move
 pub next_is : (p : Position) (m : Move) (q : Position) → Follows p m q → q ≡ next p m
@@ -62,7 +63,8 @@ next_is p m q f =
     ∙ ap (λ (b : Bool). rights_of r.white_short b q.rights.black_short q.rights.black_long) (f.rights_are WhiteLong)
     ∙ ap (λ (b : Bool). rights_of r.white_short r.white_long b q.rights.black_long) (f.rights_are BlackShort)
     ∙ ap (λ (b : Bool). rights_of r.white_short r.white_long r.black_short b) (f.rights_are BlackLong) in
-    ap (λ (b : Places). position_of b q.turn q.rights q.ep) f.board_is
-    ∙ ap (λ (c : Colour). position_of (play p.board m) c q.rights q.ep) f.turn_is
-    ∙ ap (λ (s : Rights). position_of (play p.board m) (opponent p.turn) s q.ep) rights
-    ∙ ap (λ (e : Option ℕ). position_of (play p.board m) (opponent p.turn) r e) f.ep_is
+    ap (λ (b : Places). position_of b q.turn q.rights q.ep q.clock) f.board_is
+    ∙ ap (λ (c : Colour). position_of (play p.board m) c q.rights q.ep q.clock) f.turn_is
+    ∙ ap (λ (s : Rights). position_of (play p.board m) (opponent p.turn) s q.ep q.clock) rights
+    ∙ ap (λ (e : Option ℕ). position_of (play p.board m) (opponent p.turn) r e q.clock) f.ep_is
+    ∙ ap (λ (k : ℕ). position_of (play p.board m) (opponent p.turn) r (crossed_by (play p.board m) (opponent p.turn) (Some m)) k) f.clock_is

@@ -1,8 +1,13 @@
 pub mod Grammar
-pub mod Fits
+pub mod Small
 pub mod Spelling
+pub mod Forms
+pub mod Fits
 pub mod Words
 pub mod Games
+pub mod SpelledGames
+pub mod FromArray
 pub mod Candidates
-pub mod Small
+pub mod Spellable
 pub mod Plies
+pub mod Pieces

@@ -13,6 +13,7 @@ use Rattle.board_base.specs.declared.men.Kind.TheVariants.{Pawn, Knight, Bishop,
 use Rattle.board_base.specs.declared.moves.Move.{Move}
 use Rattle.board_base.specs.declared.castles.Castle.{Castle}
 use Rattle.board_base.specs.declared.castles.Castle.TheVariants.{WhiteShort, WhiteLong, BlackShort, BlackLong}
+use Rattle.play_rules.specs.Clocks.{counted, resets}
 use Rattle.play_rules.specs.States.{Position, legal_at, crossed_by}
 use Rattle.play_rules.specs.Listed.{move_of, moves_between}
 use Rattle.san_text.specs.Fits.{captures}
@@ -158,13 +159,14 @@ kept rights m = record {
   black_long = rights.black_long && not (touches m BlackLong);
 }
 
--- the state after a move, the only one that follows by it
+-- The state after a move: it `Follows` by the move, and no other does, so it is what `step` gives (`one_state_follows`).
 abbrev pub next : Position → Move → Position
 next p m = record {
   board = play p.board m;
   turn = opponent p.turn;
   rights = kept p.rights m;
   ep = crossed_by (play p.board m) (opponent p.turn) (Some m);
+  clock = cond (resets p.board m) 0 (counted (p.clock + 1));
 }
 
 -- the one text of a legal move: what is said of it, and whether it gives check or mate

@@ -1,8 +1,14 @@
-ghost use Rattle.std.specs.Prelude.{◌≡◌, ◌≤◌, ◌+◌, ◌++◌, length, vec_len, IfOk, IfErr, MatchResult};
+ghost use Rattle.std.specs.Prelude.{ℕ, ◌≡◌, ◌≤◌, ◌+◌, ◌++◌, Bool, List, length, vec_len, IfOk, IfErr, MatchResult};
+ghost use Rattle.board_base.specs.Game.{IsGame};
+ghost use Rattle.board_base.specs.declared.moves.Move.{Move as AMove};
+ghost use Rattle.play_rules.specs.States.{Follows, Position, StandsFor};
 ghost use Rattle.game_text.specs.Words.{is_blank};
 ghost use Rattle.san_text.specs.Words.{Say, moves_said};
 ghost use Rattle.san_text.specs.Games.{game_words, IsGameText, IsGameFault};
 ghost use Rattle.san_text.specs.Plies.{IsWordFault};
+ghost use Rattle.san_text.specs.FromArray.{Tells, TellsNone};
+ghost use Rattle.san_text.specs.Spelling.{next};
+ghost use Rattle.san_text.specs.declared.games.SanGameFault.{SanGameFault as AFault};
 ghost use Rattle.san_text.specs.declared.games.SanGameFault.TheVariants.{Memory};
 
 use crate::grammar::San;
@@ -84,8 +90,25 @@ fn read_words(alloc: Global, bytes: &[u8]) -> Result<Vec<San>, SanGameFault>
 /// and names the first such ply. Want of memory is a free answer: `Memory` may take the place of all.
 pub fn read_san_game(alloc: Global, start: State, bytes: &[u8]) -> Result<Vec<Move>, SanGameFault>
     requires { length bytes.now ≤ 67_108_864 }
-    ensures { MatchResult result (λ v. IsGameText start bytes.now v.items) (λ e. IsGameFault e start bytes.now) }
+    ensures here { MatchResult result (λ v. IsGameText start bytes.now v.items) (λ e. IsGameFault e start bytes.now) }
+    ensures few { IfOk result (λ v. vec_len v ≤ length bytes.now + 1) }
+    ensures in_games { (o : List Bool) (g : List AMove) → IsGame o g → StandsFor start o g → IfOk result (λ v. IsGame o (g ++ v.items)) }
 {
     let said = read_words(alloc, bytes)?;
     played(alloc, start, &said)
 }
+
+/// From the array on a text tells one list of moves at most, and none where it has a fault. So `read_san_game` reads what
+/// `write_san_game` wrote of some moves as these moves, whatever want of memory allows.
+
+pub fn one_game_each()
+    ensures one { (o : List Bool) (text : List ℕ) (g h : List AMove) → Tells o text g → Tells o text h → g ≡ h }
+    ensures sound { (o : List Bool) (text : List ℕ) (g : List AMove) (fault : AFault) → Tells o text g → TellsNone o text fault → fault ≡ Memory }
+{}
+
+/// The state after a move, in which spellings and games go on, is the one that `step` gives: it follows by the move, and no other does.
+#[tactic(auto, using(crate::proofs::Onward::next_follows))]
+pub fn one_state_follows()
+    ensures follows { (p : Position) (m : AMove) → Follows p m (next p m) }
+    ensures alone { (p q : Position) (m : AMove) → Follows p m q → q ≡ next p m }
+{}

@@ -1,4 +1,6 @@
-ghost use Rattle.std.specs.Prelude.{◌≡◌};
+ghost use Rattle.std.specs.Prelude.{ℕ, ◌≡◌, List, Some};
+ghost use Rattle.san_text.specs.Forms.{IsForm, SaysSo};
+ghost use Rattle.san_text.specs.declared.grammar.San.{San as ASan};
 ghost use Rattle.board_base.specs.Texts.{square_at};
 ghost use Rattle.san_text.specs.Grammar.{is_end, target_of, file_of, rank_of, file_head, rank_head, takes_head, after_file, after_rank, after_takes, piece_of, promoted_of, promotion_of, pawn_end, pawn_of, castling_end, castling_of, san_of, piece_letter};
 
@@ -275,3 +277,10 @@ pub fn read_grammar(text: &[u8]) -> Option<San>
         }
     }
 }
+
+/// The grammar by its forms: a text is read as what its parts say in their order, before one sign of check or mate or none, and each
+/// text of such parts is read as what they say.
+pub fn texts_have_forms()
+    ensures read { (text : List ℕ) (said : ASan) → san_of text ≡ Some said → IsForm said × SaysSo text said }
+    ensures back { (text : List ℕ) (said : ASan) → IsForm said → SaysSo text said → san_of text ≡ Some said }
+{}

@@ -12,11 +12,14 @@ mod marks;
 mod naming;
 mod playing;
 mod reading;
+mod spelling;
 #[cfg(test)]
 mod tests;
 mod words;
 mod writing;
 
-pub use games::{SanGameFault, read_san_game};
+pub use games::{SanGameFault, one_game_each, one_state_follows, read_san_game};
+pub use grammar::texts_have_forms;
 pub use reading::{SanFault, read_san};
+pub use spelling::{SpellFault, write_san_game};
 pub use writing::write_san;

@@ -22,7 +22,7 @@ fn at_ply(cause: SanFault, ply: u32) -> SanGameFault
 }
 
 /// The state after a legal move.
-fn after(state: &State, m: &Move) -> State
+pub fn after(state: &State, m: &Move) -> State
     requires { IsTrue (legal_at state.now m.now) }
     ensures { result ≡ next state.now m.now }
 {

@@ -1,6 +1,6 @@
 //! Printed games and published examples, spelled and read.
 
-use crate::{SanFault, SanGameFault, read_san, read_san_game, write_san};
+use crate::{SanFault, SanGameFault, read_san, read_san_game, write_san, write_san_game};
 use arrayvec::ArrayVec;
 use board_base::{Board, CastleSet, Colour, Kind, Man, Move, Square, read_move};
 use play_rules::{State, is_legal, step};
@@ -181,6 +181,15 @@ fn reads_the_text_of_a_game(rt: HostRuntime) -> Result<(), Fail> {
     let moves = read_san_game(rt.alloc(), State::start(), text)?;
     assert_eq!(rt; moves.len(), 33);
     assert_eq!(rt; moves.last().copied(), read_move(b"d1d8"));
+    Ok(())
+}
+
+#[test]
+fn spells_the_text_of_a_game(rt: HostRuntime) -> Result<(), Fail> {
+    let text = b"1. f3 e5 2. g4 Qh4#";
+    let moves = read_san_game(rt.alloc(), State::start(), text)?;
+    let spelled = write_san_game(rt.alloc(), State::start(), &moves)?;
+    assert_eq!(rt; spelled.as_slice(), text.as_slice());
     Ok(())
 }
 

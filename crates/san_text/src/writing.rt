@@ -3,7 +3,8 @@ ghost use Rattle.board_base.specs.Texts.{square_text};
 ghost use Rattle.play_rules.specs.States.{legal_at};
 ghost use Rattle.san_text.specs.Fits.{IsOnly, fits_text};
 ghost use Rattle.san_text.specs.Spelling.{capital, file_text, rank_text, takes_text, promotion_text, origin_text, end_text, going_text, said_text, mark_text, mark_of, spelling};
-ghost use Rattle.san_text.specs.Small.{IsSmall, IsSmallSaid};
+ghost use Rattle.san_text.specs.Small.{IsSmall};
+ghost use Rattle.san_text.specs.Spellable.{IsSmallSaid};
 
 use crate::grammar::{Going, San};
 use crate::marks::{Mark, mark_of};

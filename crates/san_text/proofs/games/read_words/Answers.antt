@@ -6,7 +6,8 @@ use Rattle.std.proofs.lemmas.List.{map-append, length-append}
 use Rattle.game_text.specs.Words.{words, is_blank}
 use Rattle.san_text.specs.Words.{Say, FirstBad, without_result}
 use Rattle.san_text.specs.Games.{game_words}
-use Rattle.san_text.proofs.Told.{HasRead, bad_result, bad_word, few_read, few_words, read_all, read_more}
+use Rattle.game_text.proofs.WordLemmas.{few_words}
+use Rattle.san_text.proofs.Told.{HasRead, bad_result, bad_word, few_read, read_all, read_more}
 use Rattle.san_text.proofs.games.read_words.Given as given
 use Rattle.san_text.proofs.games.read_words.Goals as goal
 

@@ -1,6 +1,6 @@
 use Rattle.std.proofs.Common.{◌≡◌, ◌++◌, ℕ, List, length, rules, ap, sym, ◌∙◌, subst}
 use Rattle.play_rules.specs.States.{Position}
-use Rattle.san_text.specs.Small.{IsSmallSaid}
+use Rattle.san_text.specs.Spellable.{IsSmallSaid}
 use Rattle.san_text.specs.Spelling.{spelling, said_text, mark_text, mark_of, named}
 use Rattle.san_text.specs.declared.marks.Mark.{Mark}
 use Rattle.san_text.proofs.Candidates.{from_inside}
