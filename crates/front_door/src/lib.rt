@@ -48,6 +48,8 @@ impl Termination for Ended {
 const USAGE: &str = "usage:
   retractor check < CERTIFICATE                whether the certificate proves its claim
   retractor play < FEN-AND-MOVES               whether the moves are a legal game that reaches the position
+  retractor san < FEN-AND-GAME                 whether the game in algebraic notation reaches the position
+  retractor spell < MOVES                      the game in algebraic notation
   retractor unmoves < FEN                      each move that may have been the last, and the position before it
   retractor solve DEPTH NODES < CLAIM-AND-FEN  a certificate of the claim, or a game against it
   retractor verdict DEPTH NODES < FEN          what the conventions say of castling and en passant

@@ -4,19 +4,23 @@ use Rattle.board_base.specs.declared.moves.Move.{Move}
 use Rattle.query_base.specs.Asked.{Asked}
 use Rattle.query_base.specs.declared.claims.Claim.{Claim}
 use Rattle.cert_text.specs.Certificate.{Lines}
+use Rattle.cert_text.specs.Lines.{cut}
 use Rattle.cert_checker.specs.Answers.{Answer, accepted, bad_text, fault}
 use Rattle.retro_top.specs.Answers.{AnswersAs}
 use Rattle.retro_top.specs.Checks.{Tells}
-use Rattle.retro_top.specs.Plays.{AnswersGame, AnswersMoves}
+use Rattle.retro_top.specs.Plays.{AnswersEnd, AnswersGame, AnswersMoves}
+use Rattle.retro_top.specs.Sans.{AnswersSanGame}
+use Rattle.retro_top.specs.Spells.{AnswersSpelling}
 use Rattle.codex_verdict.specs.declared.kinds.Right.{Right}
-use Rattle.retro_top.specs.Questions.{AnswersAlone, after_first}
+use Rattle.question_text.specs.Questions.{after_question}
+use Rattle.retro_top.specs.Questions.{AnswersAlone}
 use Rattle.retro_top.specs.Solves.{AnswersClaim}
 use Rattle.retro_top.specs.Retractions.{ListsUnmoves}
 use Rattle.retro_top.specs.Statuses.{IsAnswer}
 use Rattle.retro_top.specs.Trees.{AnswersTreeOf}
 use Rattle.retro_top.specs.Verdicts.{AnswersPosition, AnswersRights}
 use Rattle.retro_top.specs.declared.commands.Command.{Command}
-use Rattle.retro_top.specs.declared.commands.Command.TheVariants.{Check, Play, Unmoves, Solve, Verdict, Tree, Sample}
+use Rattle.retro_top.specs.declared.commands.Command.TheVariants.{Check, Play, San, Spell, Unmoves, Solve, Verdict, Tree, Sample}
 use Rattle.retro_top.specs.declared.statuses.Status.{Status}
 use Rattle.retro_top.specs.declared.statuses.Status.TheVariants.{Done, Refused, Undecided, Spent, Countered, BadInput}
 
@@ -28,16 +32,33 @@ told-answered lines (accepted claim q) ending text tells = as-answer Done ending
 told-answered lines (bad_text n) ending text tells = as-answer Refused ending tells.0 tt
 told-answered lines (fault n f) ending text tells = as-answer Refused ending tells.0 tt
 
+end-answered : (q : Asked) (g : List Move) (ending : Status) (text : List ℕ) → AnswersEnd q g ending text → IsAnswer ending
+end-answered q g Done text answers = tt
+end-answered q g Refused text answers = tt
+end-answered q g _ text answers = absurd answers
+
 moves-answered : (q : Asked) (g : List Move) (ending : Status) (text : List ℕ) → AnswersMoves q g ending text → IsAnswer ending
-moves-answered q g Done text answers = tt
-moves-answered q g Refused text answers = tt
-moves-answered q g _ text answers = absurd answers
+moves-answered q g ending text answers = elim answers [
+  | inl end ↦ end-answered q g ending text end
+  | inr first ↦ as-answer Refused ending first.2 tt
+]
 
 game-answered : (q : Asked) (bytes : List ℕ) (ending : Status) (text : List ℕ) → AnswersGame q bytes ending text → IsAnswer ending
 game-answered q bytes ending text answers = elim answers [
   | inl told ↦ moves-answered q told.0 ending text told.2
   | inr bad ↦ as-answer Refused ending bad.2 tt
 ]
+
+notation-answered : (q : Asked) (bytes : List ℕ) (ending : Status) (text : List ℕ) → AnswersSanGame q bytes ending text → IsAnswer ending
+notation-answered q bytes ending text answers = elim answers [
+  | inl told ↦ end-answered q told.0 ending text told.2
+  | inr bad ↦ as-answer Refused ending bad.2 tt
+]
+
+spelling-answered : (g : List Move) (ending : Status) (text : List ℕ) → AnswersSpelling g ending text → IsAnswer ending
+spelling-answered g Done text answers = tt
+spelling-answered g Refused text answers = tt
+spelling-answered g _ text answers = absurd answers
 
 claim-answered : (depth nodes : ℕ) (claim : Claim) (q : Asked) (ending : Status) (text : List ℕ) → AnswersClaim depth nodes claim q ending text → IsAnswer ending
 claim-answered depth nodes claim q Done text answers = tt
@@ -64,10 +85,18 @@ alone-answered Said law input ending text answers = elim answers [
 
 -- a command's own answer has the status of an answer
 pub answered : (command : Command) (input : List ℕ) (ending : Status) (text : List ℕ) → AnswersAs command input ending text → IsAnswer ending
-answered Check input ending text answers = told-answered _ answers.0 ending text answers.2
+answered Check input ending text answers = told-answered (cut input) answers.0 ending text answers.2
 answered Play input ending text answers = elim answers [
-  | inl asked ↦ game-answered asked.0 (after_first input) ending text asked.2
+  | inl asked ↦ game-answered asked.0 (after_question input) ending text asked.2
   | inr none ↦ as-answer BadInput ending none.2 tt
+]
+answered San input ending text answers = elim answers [
+  | inl asked ↦ notation-answered asked.0 (after_question input) ending text asked.2
+  | inr none ↦ as-answer BadInput ending none.2 tt
+]
+answered Spell input ending text answers = elim answers [
+  | inl told ↦ spelling-answered told.0 ending text told.2
+  | inr bad ↦ as-answer Refused ending bad.2 tt
 ]
 answered Unmoves input ending text answers = alone-answered ListsUnmoves (λ q other lines said. as-answer Done other said.0 tt) input ending text answers
 answered (Solve depth nodes) input ending text answers = elim answers [

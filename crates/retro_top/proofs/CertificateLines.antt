@@ -1,20 +1,21 @@
 -- The lines of a certificate that has a text.
-use Rattle.std.proofs.Common.{◌≡◌, ℕ, zero, suc, ◌+◌, ◌<◌, ◌≤◌, ◌^◌, List, ◌++◌, ap, subst, arith}
+use Rattle.std.proofs.Common.{◌≡◌, ℕ, zero, suc, ◌+◌, ◌<◌, ◌≤◌, ◌^◌, List, ◌∷◌, ◌++◌, ap, subst, arith}
 use Rattle.std.proofs.lemmas.Option.{same_Some}
 use Rattle.std.specs.List.{concat}
+use Rattle.std.proofs.lemmas.List.Folds.{concat-append}
 use Rattle.std.specs.Option.{option_map}
 use Rattle.std.specs.Prelude.{Option, Some, None, codes}
 use Rattle.std.specs.Io.KnownBytes.{Appends}
 use Rattle.board_base.specs.declared.unmoves.Unmove.{Unmove}
 use Rattle.fen_text.proofs.PartLemmas.{mapped_some}
 use Rattle.fen_text.specs.Spelling.{spelling}
-use Rattle.cert_text.specs.Certificate.{AreBelow, AreKids, Certificate, Lines, body_of, head_line}
+use Rattle.cert_text.specs.Certificate.{AreBelow, AreKids, Certificate, Lines, body_of}
 use Rattle.cert_text.specs.ClaimLines.{claim_text}
 use Rattle.cert_text.specs.Lines.{ended, said}
 use Rattle.cert_text.specs.NodeLines.{IsLine, kid_body, kid_text, root_body, root_text}
 use Rattle.cert_text.specs.Sizes.{rest_of}
 use Rattle.cert_text.specs.Tree.{Forest, Tree, count, kid_at, more, none}
-use Rattle.cert_text.specs.Written.{cert_lines, lines_below, lines_of}
+use Rattle.cert_text.specs.Written.{cert_lines, head_lines, lines_below, lines_of}
 use Rattle.cert_text.specs.declared.node_lines.BodyLine.{BodyLine}
 use Rattle.cert_text.specs.declared.node_lines.BodyLine.TheVariants.{Expand}
 use Rattle.cert_text.specs.declared.node_lines.NodeLine.{NodeLine}
@@ -69,27 +70,21 @@ at-child a b f g text kids i label t e so_far = subst (StillToCome a b f g text)
 pub kids-end : (a b : Option (List ℕ)) (f g : ℕ) (text : List ℕ) (kids : Forest) (i : ℕ) → count kids ≤ i → StillToCome a b f g text (concat (lines_of (rest_of kids i))) → Appends a b text
 kids-end a b f g text kids i past so_far = all_written a b f g text (subst (λ (k : Forest). StillToCome a b f g text (concat (lines_of k))) (rest-end kids i past) so_far)
 
--- what follows the third line of a certificate, its second and its first
-
-abbrev pub after_fen : Certificate → List ℕ
-after_fen cert = ended (root_text (body_of cert.root)) ++ concat (lines_below cert.root)
-
-abbrev pub after_claim : Certificate → List ℕ
-after_claim cert = ended (codes "fen " ++ spelling cert.query) ++ after_fen cert
-
+-- what follows the head of a certificate
 abbrev pub after_head : Certificate → List ℕ
-after_head cert = ended (claim_text cert.claim) ++ after_claim cert
+after_head cert = ended (root_text (body_of cert.root)) ++ concat (lines_below cert.root)
 
--- the lines of a certificate that are written one after another
+-- a certificate is its head and what follows it
+pub head-first : (cert : Certificate) → concat (cert_lines cert) ≡ concat (head_lines cert.claim cert.query) ++ after_head cert
+head-first cert = concat-append (head_lines cert.claim cert.query) (ended (root_text (body_of cert.root)) ∷ lines_below cert.root)
 
-pub head-written : (cert : Certificate) (a b : Option (List ℕ)) (f g : ℕ) → Appends a b head_line → g ≡ f → StillToCome a b f g (concat (cert_lines cert)) (after_head cert)
-head-written cert a b f g taken same = piece_written a a b f f g (concat (cert_lines cert)) head_line (after_head cert) (nothing_written a f (concat (cert_lines cert))) taken same
+-- the head and the root's line are written one after another
 
-pub claim-written : (cert : Certificate) (a b c : Option (List ℕ)) (f g h : ℕ) → StillToCome a b f g (concat (cert_lines cert)) (after_head cert) → Appends b c (ended (claim_text cert.claim)) → h ≡ g → StillToCome a c f h (concat (cert_lines cert)) (after_claim cert)
-claim-written cert a b c f g h = piece_written a b c f g h (concat (cert_lines cert)) (ended (claim_text cert.claim)) (after_claim cert)
+pub begun : (cert : Certificate) (a : Option (List ℕ)) (f : ℕ) → StillToCome a a f f (concat (cert_lines cert)) (concat (head_lines cert.claim cert.query) ++ after_head cert)
+begun cert a f = subst (StillToCome a a f f (concat (cert_lines cert))) (head-first cert) (nothing_written a f (concat (cert_lines cert)))
 
-pub fen-written : (cert : Certificate) (a b c : Option (List ℕ)) (f g h : ℕ) → StillToCome a b f g (concat (cert_lines cert)) (after_claim cert) → Appends b c (ended (codes "fen " ++ spelling cert.query)) → h ≡ g → StillToCome a c f h (concat (cert_lines cert)) (after_fen cert)
-fen-written cert a b c f g h = piece_written a b c f g h (concat (cert_lines cert)) (ended (codes "fen " ++ spelling cert.query)) (after_fen cert)
+pub head-written : (cert : Certificate) (a b : Option (List ℕ)) (f g : ℕ) → Appends a b (concat (head_lines cert.claim cert.query)) → g ≡ f → StillToCome a b f g (concat (cert_lines cert)) (after_head cert)
+head-written cert a b f g taken same = piece_written a a b f f g (concat (cert_lines cert)) (concat (head_lines cert.claim cert.query)) (after_head cert) (begun cert a f) taken same
 
-pub root-written : (cert : Certificate) (a b c : Option (List ℕ)) (f g h : ℕ) → StillToCome a b f g (concat (cert_lines cert)) (after_fen cert) → Appends b c (ended (root_text (body_of cert.root))) → h ≡ g → StillToCome a c f h (concat (cert_lines cert)) (concat (lines_below cert.root))
+pub root-written : (cert : Certificate) (a b c : Option (List ℕ)) (f g h : ℕ) → StillToCome a b f g (concat (cert_lines cert)) (after_head cert) → Appends b c (ended (root_text (body_of cert.root))) → h ≡ g → StillToCome a c f h (concat (cert_lines cert)) (concat (lines_below cert.root))
 root-written cert a b c f g h = piece_written a b c f g h (concat (cert_lines cert)) (ended (root_text (body_of cert.root))) (concat (lines_below cert.root))

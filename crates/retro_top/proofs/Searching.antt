@@ -6,7 +6,7 @@ use Rattle.codex_verdict.specs.Rights.{AreRights, claim_of}
 use Rattle.codex_verdict.specs.declared.kinds.Right.{Right}
 use Rattle.tree_browser.specs.Trees.{HasMoreLines, IsTreeText}
 use Rattle.retro_top.specs.Answers.{Decides}
-use Rattle.retro_top.specs.Questions.{AsksAlone}
+use Rattle.question_text.specs.Questions.{AsksAlone}
 use Rattle.retro_top.specs.Solves.{IsCheap}
 use Rattle.retro_top.specs.Trees.{AnswersTree, AnswersTreeOf, AsksForFewLines, AsksForMoreLines}
 use Rattle.retro_top.specs.Verdicts.{AnswersPosition, AnswersRights, AnswersVerdict, AsksForCheap, Each, IsSettled, verdicts_text}

@@ -13,7 +13,7 @@ use Rattle.retro_top.specs.Solves.{AnswersClaim, AnswersSolve, IsCheap, countere
 use Rattle.retro_top.specs.Statements.{States}
 use Rattle.retro_top.specs.declared.statuses.Status.{Status}
 use Rattle.retro_top.specs.declared.statuses.Status.TheVariants.{Done, Undecided, Spent, Countered}
-use Rattle.retro_top.proofs.Asking.{stated, states-some}
+use Rattle.retro_top.proofs.Stated.{stated, states-some}
 
 claim-unspent : (depth nodes : ℕ) (claim : Claim) (q : Asked) (ending : Status) (text : List ℕ) → AnswersClaim depth nodes claim q ending text → IsCheap depth nodes claim q → IsUnspent ending
 claim-unspent depth nodes claim q Done text answers cheap = tt

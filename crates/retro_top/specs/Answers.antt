@@ -4,6 +4,8 @@ use Rattle.std.specs.Global.{Global}
 use Rattle.std.specs.Io.KnownBytes.{Appends, Consumes, IsAtEnd, Keeps}
 use Rattle.retro_ports.specs.Causes.{Rose}
 use Rattle.retro_ports.specs.Ends.{TakesPrefix}
+use Rattle.board_base.specs.Board.{no_odds}
+use Rattle.board_base.specs.Game.{IsGame}
 use Rattle.board_base.specs.declared.moves.Move.{Move}
 use Rattle.query_base.specs.Asked.{Asked}
 use Rattle.query_base.specs.Reach.{Contradicts, Holds, Reaches}
@@ -12,6 +14,7 @@ use Rattle.query_base.specs.declared.claims.Claim.{Claim}
 use Rattle.cert_text.specs.Lines.{cut}
 use Rattle.cert_text.specs.Certificate.{Certificate, IsTextOf}
 use Rattle.game_text.specs.Words.{words, AreTextsOf}
+use Rattle.san_text.specs.FromArray.{Tells}
 use Rattle.cert_checker.specs.Proving.{ProvesClaim}
 use Rattle.retro_search.specs.Refutable.{IsRefutable}
 use Rattle.codex_verdict.specs.Rights.{AreRights, claim_of}
@@ -19,7 +22,9 @@ use Rattle.codex_verdict.specs.declared.kinds.Right.{Right}
 use Rattle.retro_top.specs.Commands.{Call}
 use Rattle.retro_top.specs.Checks.{AnswersCheck, accepted_line}
 use Rattle.retro_top.specs.Plays.{AnswersPlay}
-use Rattle.retro_top.specs.Questions.{Asks, AsksAlone, AsksForOne, after_first}
+use Rattle.retro_top.specs.Sans.{AnswersSan}
+use Rattle.retro_top.specs.Spells.{AnswersSpell}
+use Rattle.question_text.specs.Questions.{Asks, AsksAlone, AsksForOne, after_question}
 use Rattle.retro_top.specs.Retractions.{AnswersUnmoves}
 use Rattle.retro_top.specs.Samples.{AnswersSample}
 use Rattle.retro_top.specs.Statements.{States}
@@ -29,12 +34,14 @@ use Rattle.retro_top.specs.Verdicts.{AnswersVerdict, AsksForCheap, Each, verdict
 use Rattle.retro_top.specs.declared.statuses.Status.{Status}
 use Rattle.retro_top.specs.declared.statuses.Status.TheVariants.{Done, Undecided, Countered, Memory}
 use Rattle.retro_top.specs.declared.commands.Command.{Command}
-use Rattle.retro_top.specs.declared.commands.Command.TheVariants.{Check, Play, Unmoves, Solve, Verdict, Tree, Sample}
+use Rattle.retro_top.specs.declared.commands.Command.TheVariants.{Check, Play, San, Spell, Unmoves, Solve, Verdict, Tree, Sample}
 
 -- the status and the text with which a command answers an input
 abbrev pub AnswersAs : Command → List ℕ → Status → List ℕ → Type 0
 AnswersAs Check input status text = AnswersCheck input status text
 AnswersAs Play input status text = AnswersPlay input status text
+AnswersAs San input status text = AnswersSan input status text
+AnswersAs Spell input status text = AnswersSpell input status text
 AnswersAs Unmoves input status text = AnswersUnmoves input status text
 AnswersAs (Solve depth nodes) input status text = AnswersSolve depth nodes input status text
 AnswersAs (Verdict depth nodes) input status text = AnswersVerdict depth nodes input status text
@@ -71,7 +78,7 @@ ReadsFor words limit old new holds = (command : Command) × Call words command �
 -- that proves the claim, and no game contradicts it.
 abbrev pub Accepts : List ℕ → Option (List ℕ) → Option (List ℕ) → Type 0
 Accepts input old new =
-    (cert : Certificate) × IsTextOf input cert × ProvesClaim cert × Appends old new (accepted_line (cut input)) × Holds cert.claim cert.query
+    (cert : Certificate) × IsTextOf input cert × ProvesClaim cert × Appends old new (accepted_line cert.claim cert.query) × Holds cert.claim cert.query
 
 -- the bytes are the text of a certificate that proves its claim
 abbrev pub ProvesSome : List ℕ → Type 0
@@ -93,9 +100,18 @@ abbrev pub HasMemory : Command → Status → Type 0
 HasMemory Check status = Unit {0}
 HasMemory command status = status ≡ Memory → ⊥
 
--- the input's words after its first line are the moves of a legal game, which reaches the query of that line
+-- the input's words after the lines of its query are the moves of a legal game, which reaches that query
 abbrev pub TellsGame : List ℕ → Type 0
-TellsGame input = (q : Asked) × (g : List Move) × Asks input q × AreTextsOf (words (after_first input)) g × Reaches g q
+TellsGame input = (q : Asked) × (g : List Move) × Asks input q × AreTextsOf (words (after_question input)) g × Reaches g q
+
+-- The input's words after the lines of its query are those of a game in algebraic notation: each names the only legal move that fits
+-- it, and the game reaches that query.
+abbrev pub TellsNotation : List ℕ → Type 0
+TellsNotation input = (q : Asked) × (g : List Move) × Asks input q × Tells q.odds (after_question input) g × Reaches g q
+
+-- the input's words are the moves of a legal game from the full array
+abbrev pub TellsMoves : List ℕ → Type 0
+TellsMoves input = (g : List Move) × AreTextsOf (words input) g × IsGame no_odds g
 
 -- the input states a claim whose target is refutable at the depth
 abbrev pub StatesRefutable : ℕ → List ℕ → Type 0
@@ -110,6 +126,8 @@ StatesCheap depth nodes input =
 abbrev pub Succeeds : Command → List ℕ → Type 0
 Succeeds Check input = ProvesSome input
 Succeeds Play input = TellsGame input
+Succeeds San input = TellsNotation input
+Succeeds Spell input = TellsMoves input
 Succeeds Unmoves input = AsksForOne input
 Succeeds (Solve depth nodes) input = StatesRefutable depth input
 Succeeds (Verdict depth nodes) input = AsksForOne input
@@ -122,14 +140,13 @@ MustSucceed (Solve depth nodes) input = StatesRefutable depth input × StatesChe
 MustSucceed (Verdict depth nodes) input = AsksForCheap depth nodes input
 MustSucceed command input = Succeeds command input
 
--- What was taken grew by the text of a certificate of the claim of the input's first line about the query of its second, which
+-- What was taken grew by the text of a certificate of the claim of the input's first line about the query of the others, which
 -- proves it. No game contradicts it.
 abbrev pub WritesProof : List ℕ → Option (List ℕ) → Option (List ℕ) → Type 0
 WritesProof input old new =
     (cert : Certificate) × (text : List ℕ) × States input cert.claim cert.query × IsTextOf text cert × ProvesClaim cert × Appends old new text × Holds cert.claim cert.query
 
--- What was taken grew by one line, with a legal game that reaches the query of the input's second line and contradicts the claim of
--- its first.
+-- What was taken grew by one line, with a legal game that reaches the query that the input states a claim about, and contradicts this.
 abbrev pub WritesGameAgainst : List ℕ → Option (List ℕ) → Option (List ℕ) → Type 0
 WritesGameAgainst input old new =
     (claim : Claim) × (q : Asked) × (game : List Move) × States input claim q × Contradicts game claim q × Appends old new (countered_line game)

@@ -1,8 +1,14 @@
 -- What `check` answers.
-use Rattle.std.specs.Prelude.{ℕ, ◌≡◌, List, [], ◌∷◌, ◌++◌, drop, codes, unwrap_or}
+use Rattle.std.specs.Prelude.{ℕ, ◌≡◌, Bool, cond, List, [], ◌∷◌, ◌++◌, codes, Option, Some, None}
 use Rattle.std.specs.Fmt.{decimal}
 use Rattle.board_base.specs.Texts.{unmove_text}
-use Rattle.cert_text.specs.Lines.{cut, ended, without_end}
+use Rattle.query_base.specs.Asked.{Asked}
+use Rattle.query_base.specs.declared.claims.Claim.{Claim}
+use Rattle.fen_text.specs.OddsLines.{is_no_odds, odds_text}
+use Rattle.fen_text.specs.ClockLines.{clock_text}
+use Rattle.fen_text.specs.Spelling.{spelling}
+use Rattle.cert_text.specs.ClaimLines.{claim_words}
+use Rattle.cert_text.specs.Lines.{cut, ended}
 use Rattle.cert_text.specs.Certificate.{Lines}
 use Rattle.cert_checker.specs.Walk.{Fault, unlisted, unsupported}
 use Rattle.cert_checker.specs.Answers.{Answer, Answers, bad_text, fault, accepted}
@@ -12,10 +18,18 @@ use Rattle.retro_top.specs.declared.statuses.Status.{Status}
 use Rattle.retro_top.specs.declared.statuses.Status.TheVariants.{Done}
 use Rattle.retro_top.specs.declared.statuses.Status.TheVariants as status
 
--- the line `accepted` with what the second line says after `claim `, and the third after `fen `
-abbrev pub accepted_line : Lines → List ℕ
-accepted_line (head ∷ claim ∷ fen ∷ rest) = codes "accepted " ++ unwrap_or (without_end (drop 6 claim)) [] ++ 32 ∷ drop 4 fen
-accepted_line lines = []
+-- after a FEN, the odds, if there are any
+abbrev pub odds_words : List Bool → List ℕ
+odds_words o = cond (is_no_odds o) [] (32 ∷ odds_text o)
+
+-- after these, the clock, if one is demanded
+abbrev pub clock_words : Option ℕ → List ℕ
+clock_words None = []
+clock_words (Some n) = 32 ∷ clock_text n
+
+-- the line `accepted` with the claim, the FEN, the odds and the clock
+abbrev pub accepted_line : Claim → Asked → List ℕ
+accepted_line claim q = ended (codes "accepted " ++ claim_words claim ++ 32 ∷ (spelling q ++ odds_words q.odds ++ clock_words q.clock))
 
 -- why a node does not prove its query, in a word
 abbrev pub why_word : Why → List ℕ
@@ -35,7 +49,7 @@ fault_words (unsupported w) = codes "unsupported " ++ why_word w
 
 -- the status and the text that tell an answer to these lines
 abbrev pub Tells : Lines → Answer → Status → List ℕ → Type 0
-Tells lines (accepted claim query) ending text = (ending ≡ Done) × (text ≡ accepted_line lines)
+Tells lines (accepted claim query) ending text = (ending ≡ Done) × (text ≡ accepted_line claim query)
 Tells lines (bad_text n) ending text = (ending ≡ status.Refused) × (text ≡ refusal_line n (codes "text"))
 Tells lines (fault n f) ending text = (ending ≡ status.Refused) × (text ≡ refusal_line n (fault_words f))
 

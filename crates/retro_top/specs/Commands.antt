@@ -3,12 +3,14 @@ use Rattle.std.specs.Prelude.{ℕ, ◌≡◌, ◌≤◌, ◌<◌, ◌^◌, List,
 use Rattle.std.specs.Global.{Global}
 use Rattle.std.specs.Fmt.{decimal}
 use Rattle.retro_top.specs.declared.commands.Command.{Command}
-use Rattle.retro_top.specs.declared.commands.Command.TheVariants.{Check, Play, Unmoves, Solve, Verdict, Tree, Sample}
+use Rattle.retro_top.specs.declared.commands.Command.TheVariants.{Check, Play, San, Spell, Unmoves, Solve, Verdict, Tree, Sample}
 
 -- the words, as bytes, by which each command is called
 abbrev pub words_of : Command → List (List ℕ)
 words_of Check = codes "check" ∷ []
 words_of Play = codes "play" ∷ []
+words_of San = codes "san" ∷ []
+words_of Spell = codes "spell" ∷ []
 words_of Unmoves = codes "unmoves" ∷ []
 words_of (Solve depth nodes) = codes "solve" ∷ decimal depth ∷ decimal nodes ∷ []
 words_of (Verdict depth nodes) = codes "verdict" ∷ decimal depth ∷ decimal nodes ∷ []

@@ -1,7 +1,6 @@
 -- What `play` answers.
 use Rattle.std.specs.Prelude.{ℕ, ◌≡◌, ◌⊎◌, List, ◌++◌, codes}
 use Rattle.std.specs.Fmt.{decimal}
-use Rattle.board_base.specs.Board.{no_odds}
 use Rattle.board_base.specs.Game.{IsGame}
 use Rattle.board_base.specs.declared.moves.Move.{Move}
 use Rattle.query_base.specs.Asked.{Asked}
@@ -9,23 +8,26 @@ use Rattle.query_base.specs.Reach.{Reaches}
 use Rattle.game_text.specs.Words.{words, AreTextsOf, FirstBad}
 use Rattle.game_text.specs.Replay.{FirstIllegal}
 use Rattle.cert_text.specs.Lines.{ended}
-use Rattle.retro_top.specs.Questions.{Asks, IsNoQuestion, after_first, no_question_line}
-use Rattle.retro_top.specs.declared.questions.NoQuestion.{NoQuestion}
+use Rattle.retro_top.specs.Questions.{AnswersAsked}
 use Rattle.retro_top.specs.declared.statuses.Status.{Status}
-use Rattle.retro_top.specs.declared.statuses.Status.TheVariants.{Refused, BadInput}
+use Rattle.retro_top.specs.declared.statuses.Status.TheVariants.{Refused}
 use Rattle.retro_top.specs.declared.statuses.Status.TheVariants as status
 
 -- the line of these words and a number
 abbrev pub number_line : List ℕ → ℕ → List ℕ
 number_line front n = ended (front ++ decimal n)
 
+-- what is said of a legal game that is to reach the query
+abbrev pub AnswersEnd : Asked → List Move → Status → List ℕ → Type 0
+AnswersEnd q g status.Done text = Reaches g q × (text ≡ ended (codes "legal"))
+AnswersEnd q g status.Refused text = IsGame q.odds g × (Reaches g q → ⊥) × (text ≡ ended (codes "refused end"))
+AnswersEnd q g _ text = ⊥
+
 -- what is said of moves that are to be a legal game that reaches the query
 abbrev pub AnswersMoves : Asked → List Move → Status → List ℕ → Type 0
-AnswersMoves q g status.Done text = Reaches g q × (text ≡ ended (codes "legal"))
-AnswersMoves q g status.Refused text =
-    ((n : ℕ) × FirstIllegal no_odds g n × (text ≡ number_line (codes "refused ply ") n))
-    ⊎ (IsGame no_odds g × (Reaches g q → ⊥) × (text ≡ ended (codes "refused end")))
-AnswersMoves q g _ text = ⊥
+AnswersMoves q g status text =
+    AnswersEnd q g status text
+    ⊎ ((n : ℕ) × FirstIllegal q.odds g n × (status ≡ Refused) × (text ≡ number_line (codes "refused ply ") n))
 
 -- what is said of the words of a game that is to reach the query
 abbrev pub AnswersGame : Asked → List ℕ → Status → List ℕ → Type 0
@@ -35,6 +37,4 @@ AnswersGame q bytes status text =
 
 -- the status and the text with which `play` answers these bytes
 abbrev pub AnswersPlay : List ℕ → Status → List ℕ → Type 0
-AnswersPlay input status text =
-    ((q : Asked) × Asks input q × AnswersGame q (after_first input) status text)
-    ⊎ ((why : NoQuestion) × IsNoQuestion input why × (status ≡ BadInput) × (text ≡ no_question_line why))
+AnswersPlay input status text = AnswersAsked AnswersGame input status text

@@ -29,6 +29,6 @@ unmoves_text q = unmoves_lines q (unmoves q) ++ ended (codes "total " ++ decimal
 abbrev pub ListsUnmoves : Asked → Status → List ℕ → Type 0
 ListsUnmoves q status text = (status ≡ Done) × (text ≡ unmoves_text q)
 
--- the status and the text with which `unmoves` answers these bytes, which are to be one line
+-- the status and the text with which `unmoves` answers these bytes, which are to be the lines of a query
 abbrev pub AnswersUnmoves : List ℕ → Status → List ℕ → Type 0
 AnswersUnmoves input status text = AnswersAlone ListsUnmoves input status text

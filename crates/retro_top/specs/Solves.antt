@@ -14,8 +14,9 @@ use Rattle.retro_search.specs.Costs.{IsCost}
 use Rattle.retro_search.specs.Lone.{IsLoneSearch, IsMemoCost}
 use Rattle.retro_search.specs.Answers.{IsCounter, IsProofOf, IsUndecided}
 use Rattle.retro_top.specs.Plays.{number_line}
-use Rattle.retro_top.specs.Statements.{IsNoStatement, States, no_statement_line}
-use Rattle.retro_top.specs.declared.statements.NoStatement.{NoStatement}
+use Rattle.retro_top.specs.Questions.{fault_line}
+use Rattle.retro_top.specs.Statements.{IsNoStatement, States}
+use Rattle.question_text.specs.declared.faults.InputFault.{InputFault}
 use Rattle.retro_top.specs.declared.statuses.Status.{Status}
 use Rattle.retro_top.specs.declared.statuses.Status.TheVariants.{BadInput}
 use Rattle.retro_top.specs.declared.statuses.Status.TheVariants as status
@@ -87,4 +88,4 @@ AnswersClaim depth nodes claim q _ text = ⊥
 abbrev pub AnswersSolve : ℕ → ℕ → List ℕ → Status → List ℕ → Type 0
 AnswersSolve depth nodes input status text =
     ((claim : Claim) × (q : Asked) × States input claim q × AnswersClaim depth nodes claim q status text)
-    ⊎ ((why : NoStatement) × IsNoStatement input why × (status ≡ BadInput) × (text ≡ no_statement_line why))
+    ⊎ ((why : InputFault) × IsNoStatement input why × (status ≡ BadInput) × (text ≡ fault_line why))

@@ -9,7 +9,8 @@ use Rattle.retro_search.specs.Refutable.{IsRefutable}
 use Rattle.codex_verdict.specs.Rights.{AreRights, claim_of}
 use Rattle.codex_verdict.specs.Verdicts.{verdict_text}
 use Rattle.codex_verdict.specs.declared.kinds.Right.{Right}
-use Rattle.retro_top.specs.Questions.{AnswersAlone, AsksAlone}
+use Rattle.question_text.specs.Questions.{AsksAlone}
+use Rattle.retro_top.specs.Questions.{AnswersAlone}
 use Rattle.retro_top.specs.Solves.{IsCheap, IsDear, spent_line}
 use Rattle.retro_top.specs.declared.statuses.Status.{Status}
 use Rattle.retro_top.specs.declared.statuses.Status.TheVariants as status
@@ -54,11 +55,11 @@ abbrev pub AnswersPosition : ℕ → ℕ → Asked → Status → List ℕ → T
 AnswersPosition depth nodes q ending text =
     (rights : List Right) × AreRights q.board q.turn rights × AnswersRights depth nodes q rights ending text
 
--- the status and the text with which `verdict` answers these bytes, which are to be one line
+-- the status and the text with which `verdict` answers these bytes, which are to be the lines of a query
 abbrev pub AnswersVerdict : ℕ → ℕ → List ℕ → Status → List ℕ → Type 0
 AnswersVerdict depth nodes input ending text = AnswersAlone (AnswersPosition depth nodes) input ending text
 
--- the input is one line, which asks for a query, and the target of each right's claim has a cost of at most so many nodes
+-- the input is the lines of a query, and the target of each right's claim has a cost of at most so many nodes
 abbrev pub AsksForCheap : ℕ → ℕ → List ℕ → Type 0
 AsksForCheap depth nodes input =
     (q : Asked) × AsksAlone input q × ((rights : List Right) → AreRights q.board q.turn rights → (right : Right) → Contains rights right → IsCheap depth nodes (claim_of right) q)

@@ -23,6 +23,10 @@ pub enum Command {
     Check,
     /// Whether words are a legal game that reaches a position.
     Play,
+    /// Whether words of algebraic notation are a legal game that reaches a position.
+    San,
+    /// The text of a legal game in algebraic notation.
+    Spell,
     /// Which moves may have been the last before a position, and what stood before each.
     Unmoves,
     /// A certificate that proves a claim, or a game that contradicts it.
@@ -64,6 +68,8 @@ pub(crate) fn reads(command: Command) -> bool
     match command {
         Command::Check
         | Command::Play
+        | Command::San
+        | Command::Spell
         | Command::Unmoves
         | Command::Solve { .. }
         | Command::Verdict { .. }
@@ -113,6 +119,10 @@ fn read_one(word: &String) -> Option<Command>
         Some(Command::Check)
     } else if is_word(word, b"play") {
         Some(Command::Play)
+    } else if is_word(word, b"san") {
+        Some(Command::San)
+    } else if is_word(word, b"spell") {
+        Some(Command::Spell)
     } else if is_word(word, b"unmoves") {
         Some(Command::Unmoves)
     } else {

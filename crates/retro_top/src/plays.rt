@@ -2,20 +2,23 @@ ghost use Rattle.std.specs.Prelude.{◌≡◌, ◌≤◌, ◌<◌, ◌^◌, IfOk
 ghost use Rattle.board_base.specs.Game.{last_move};
 ghost use Rattle.retro_top.specs.Plays.{AnswersPlay, AnswersGame, AnswersMoves, number_line};
 
-use crate::questions::{read_question, write_no_question};
+use crate::questions::write_fault;
 use crate::statuses::Status;
 use board_base::Move;
-use game_text::{GameFault, read_game, replay};
+use game_text::{GameFault, read_game, replay_from};
 use query_base::{Query, matches_end};
+use question_text::read_question;
 use std::alloc::{AllocError, Global};
 
-fn write_word(alloc: Global, word: u32) -> Result<Vec<u8>, AllocError>
+/// The line that names the first word that isn't one of a game.
+pub fn write_word(alloc: Global, word: u32) -> Result<Vec<u8>, AllocError>
     ensures { IfOk result (λ v. v.items ≡ number_line (codes "refused word ") word) }
 {
     Ok(format!(in alloc; "refused word {word}\n")?.into_bytes())
 }
 
-fn write_ply(alloc: Global, ply: u32) -> Result<Vec<u8>, AllocError>
+/// The line that names the first ply that isn't legal.
+pub fn write_ply(alloc: Global, ply: u32) -> Result<Vec<u8>, AllocError>
     ensures { IfOk result (λ v. v.items ≡ number_line (codes "refused ply ") ply) }
 {
     Ok(format!(in alloc; "refused ply {ply}\n")?.into_bytes())
@@ -28,7 +31,7 @@ fn last_of(moves: &[Move]) -> Option<Move>
 }
 
 /// What is said of these moves as a game that is to reach the query.
-fn answer_moves(
+pub fn answer_moves(
     alloc: Global,
     query: &Query,
     moves: &[Move],
@@ -36,7 +39,7 @@ fn answer_moves(
     requires { length moves.now < 2 ^ 32 }
     ensures { IfOk result (λ a. AnswersMoves query.now moves.now a.0 a.1.items) }
 {
-    let state = match replay(moves) {
+    let state = match replay_from(query.odds, moves) {
         Ok(state) => state,
         Err(illegal) => {
             let refused = write_ply(alloc, illegal.ply)?;
@@ -75,7 +78,7 @@ pub fn play(alloc: Global, input: &[u8]) -> Result<(Status, Vec<u8>), AllocError
     match read_question(input) {
         Ok(question) => answer_game(alloc, &question.query, question.rest),
         Err(why) => {
-            let no_question = write_no_question(alloc, why)?;
+            let no_question = write_fault(alloc, why)?;
             Ok((Status::BadInput, no_question))
         }
     }

@@ -10,7 +10,7 @@ ghost use Rattle.unmove_gen.specs.Listed.{unmoves};
 ghost use Rattle.retro_top.specs.Retractions.{AnswersUnmoves, unmove_line, unmoves_text};
 ghost use Rattle.retro_top.specs.Told.{IsWritable, bytes_of};
 
-use crate::questions::{read_lone_question, write_no_lone_question};
+use crate::questions::write_fault;
 use crate::statuses::Status;
 use crate::texts::Text;
 use crate::told::put;
@@ -19,12 +19,13 @@ use board_base::{Unmove, write_unmove};
 use fen_text::write_fen;
 use itoa::Buffer;
 use query_base::Query;
+use question_text::read_lone_question;
 use retro_ports::{Failed, Sink, write_all};
 use std::alloc::{AllocError, Global};
 use unmove_gen::{Unmoves, few_unmoves, pred, unmoves_have_texts};
 
 /// The line of an unmove of the query.
-fn unmove_line(query: &Query, u: &Unmove) -> ArrayVec<u8, 128>
+fn unmove_line(query: &Query, u: &Unmove) -> ArrayVec<u8, 160>
     requires listed { Contains (unmoves query.now) u.now }
     requires promotion { IsTrue (can_promote u.now.mv.promo) }
     requires capture { IsTrue (can_capture u.now.mv.promo u.now.captured u.now.ep) }
@@ -34,7 +35,7 @@ fn unmove_line(query: &Query, u: &Unmove) -> ArrayVec<u8, 128>
     write_unmove(u, &mut name);
     let mut fen: ArrayVec<u8, 128> = ArrayVec::new();
     write_fen(&pred(query, u), &mut fen);
-    let mut line: ArrayVec<u8, 128> = ArrayVec::new();
+    let mut line: ArrayVec<u8, 160> = ArrayVec::new();
     put(&mut line, name.as_slice());
     line.push(b' ');
     put(&mut line, fen.as_slice());
@@ -43,10 +44,10 @@ fn unmove_line(query: &Query, u: &Unmove) -> ArrayVec<u8, 128>
 }
 
 /// The line that tells how many unmoves there are.
-fn total_line(total: u32) -> ArrayVec<u8, 128>
+fn total_line(total: u32) -> ArrayVec<u8, 160>
     ensures { result.items ≡ ended (codes "total " ++ decimal total) }
 {
-    let mut line: ArrayVec<u8, 128> = ArrayVec::new();
+    let mut line: ArrayVec<u8, 160> = ArrayVec::new();
     let mut digits = Buffer::new();
     put(&mut line, b"total ");
     put(&mut line, digits.format(total).as_bytes());
@@ -72,8 +73,8 @@ pub fn write_retractions<K: Sink>(sink: &mut K, query: &Query) -> Result<(), Fai
     write_all(sink, total_line(total).as_slice())
 }
 
-/// The status and the text with which `unmoves` answers these bytes. It takes memory only where they aren't a line that asks for a
-/// query.
+/// The status and the text with which `unmoves` answers these bytes. It takes memory only where they aren't the lines of
+/// a query.
 pub fn list_unmoves(alloc: Global, input: &[u8]) -> Result<(Status, Text), AllocError>
     requires { length input.now ≤ 67_108_864 }
     ensures answer { IfOk result (λ a. AnswersUnmoves input.now a.0 (bytes_of a.1)) }
@@ -82,7 +83,7 @@ pub fn list_unmoves(alloc: Global, input: &[u8]) -> Result<(Status, Text), Alloc
     match read_lone_question(input) {
         Ok(query) => Ok((Status::Done, Text::Retractions(query))),
         Err(why) => {
-            let no_question = write_no_lone_question(alloc, why)?;
+            let no_question = write_fault(alloc, why)?;
             Ok((Status::BadInput, Text::Lines(no_question)))
         }
     }

@@ -6,7 +6,8 @@ ghost use Rattle.retro_top.specs.Commands.{AreLimits};
 ghost use Rattle.retro_top.specs.Solves.{AnswersClaim, AnswersSolve, countered_line, spent_line, undecided_line};
 ghost use Rattle.retro_top.specs.Told.{IsSpelled, IsWritable, bytes_of};
 
-use crate::statements::{Statement, read_statement, write_no_statement};
+use crate::questions::write_fault;
+use crate::statements::{Statement, read_statement};
 use crate::statuses::Status;
 use crate::texts::Text;
 use arrayvec::ArrayVec;
@@ -121,7 +122,7 @@ pub fn search(
     match read_statement(input) {
         Ok(statement) => answer_claim(alloc, &statement, depth, nodes),
         Err(why) => {
-            let no_statement = write_no_statement(alloc, why)?;
+            let no_statement = write_fault(alloc, why)?;
             Ok((Status::BadInput, Text::Lines(no_statement)))
         }
     }

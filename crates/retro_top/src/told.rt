@@ -6,17 +6,18 @@ ghost use Rattle.board_base.specs.Texts.{can_capture, can_promote, unmove_text};
 ghost use Rattle.cert_text.specs.ClaimLines.{claim_words, promotes_well};
 ghost use Rattle.cert_text.specs.Lines.{ended};
 ghost use Rattle.fen_text.specs.Spelling.{spelling};
-ghost use Rattle.retro_top.specs.Checks.{refusal_line};
+ghost use Rattle.query_base.specs.Asked.{IsShortClock};
+ghost use Rattle.retro_top.specs.Checks.{accepted_line, clock_words, odds_words, refusal_line};
 
 use arrayvec::ArrayVec;
-use board_base::{Unmove, write_unmove};
+use board_base::{Odds, Unmove, write_unmove};
 use cert_text::write_claim;
-use fen_text::write_fen;
+use fen_text::{write_clock, write_fen, write_odds};
 use itoa::Buffer;
 use query_base::{Claim, Query};
 
-pub(crate) fn put(line: &mut ArrayVec<u8, 128>, text: &[u8])
-    requires { array_vec_len line.old + length text.now ≤ 128 }
+pub(crate) fn put(line: &mut ArrayVec<u8, 160>, text: &[u8])
+    requires { array_vec_len line.old + length text.now ≤ 160 }
     ensures items { line.new.items ≡ line.old.items ++ text.now }
     ensures len { array_vec_len line.new ≡ array_vec_len line.old + length text.now }
 {
@@ -31,31 +32,64 @@ fn words_of_claim(text: &[u8]) -> &[u8]
     &text[6..]
 }
 
+/// Adds a space and the odds, if there are any.
+fn put_odds(line: &mut ArrayVec<u8, 160>, odds: Odds)
+    requires { array_vec_len line.old ≤ 137 }
+    ensures items { line.new.items ≡ line.old.items ++ odds_words odds }
+    ensures len { array_vec_len line.new ≤ array_vec_len line.old + 22 }
+{
+    if odds.is_none() {
+        return;
+    }
+    let mut text: ArrayVec<u8, 32> = ArrayVec::new();
+    write_odds(odds, &mut text);
+    line.push(b' ');
+    put(line, text.as_slice());
+}
+
+/// Adds a space and the clock, if one is demanded.
+fn put_clock(line: &mut ArrayVec<u8, 160>, clock: Option<u16>)
+    requires room { array_vec_len line.old ≤ 148 }
+    requires short { IsShortClock clock }
+    ensures items { line.new.items ≡ line.old.items ++ clock_words clock }
+    ensures len { array_vec_len line.new ≤ array_vec_len line.old + 11 }
+{
+    let Some(n) = clock else {
+        return;
+    };
+    let mut text: ArrayVec<u8, 32> = ArrayVec::new();
+    write_clock(n, &mut text);
+    line.push(b' ');
+    put(line, text.as_slice());
+}
+
 /// The line that tells that a claim about a query is accepted.
-pub(crate) fn accepted(claim: &Claim, query: &Query) -> ArrayVec<u8, 128>
+pub(crate) fn accepted(claim: &Claim, query: &Query) -> ArrayVec<u8, 160>
     requires plain { query.now.barred ≡ None }
     requires promotion { IsTrue (promotes_well claim.now) }
-    ensures { result.items ≡ codes "accepted " ++ claim_words claim.now ++ 32 ∷ ended (spelling query.now) }
+    ensures { result.items ≡ accepted_line claim.now query.now }
 {
     let mut text: ArrayVec<u8, 128> = ArrayVec::new();
     write_claim(claim, &mut text);
     let mut fen: ArrayVec<u8, 128> = ArrayVec::new();
     write_fen(query, &mut fen);
-    let mut line: ArrayVec<u8, 128> = ArrayVec::new();
+    let mut line: ArrayVec<u8, 160> = ArrayVec::new();
     put(&mut line, b"accepted ");
     put(&mut line, words_of_claim(text.as_slice()));
     line.push(b' ');
     put(&mut line, fen.as_slice());
+    put_odds(&mut line, query.odds);
+    put_clock(&mut line, query.clock);
     line.push(b'\n');
     line
 }
 
 /// The line that tells what is wrong with the line of this number.
-pub(crate) fn refusal(number: u32, what: &[u8]) -> ArrayVec<u8, 128>
+pub(crate) fn refusal(number: u32, what: &[u8]) -> ArrayVec<u8, 160>
     requires { length what.now ≤ 40 }
     ensures { result.items ≡ refusal_line number what.now }
 {
-    let mut line: ArrayVec<u8, 128> = ArrayVec::new();
+    let mut line: ArrayVec<u8, 160> = ArrayVec::new();
     let mut digits = Buffer::new();
     put(&mut line, b"refused line ");
     put(&mut line, digits.format(number).as_bytes());
@@ -66,14 +100,14 @@ pub(crate) fn refusal(number: u32, what: &[u8]) -> ArrayVec<u8, 128>
 }
 
 /// The line that tells that the unmove is the label of no child.
-pub(crate) fn unlisted(number: u32, u: &Unmove) -> ArrayVec<u8, 128>
+pub(crate) fn unlisted(number: u32, u: &Unmove) -> ArrayVec<u8, 160>
     requires promotion { IsTrue (can_promote u.now.mv.promo) }
     requires capture { IsTrue (can_capture u.now.mv.promo u.now.captured u.now.ep) }
     ensures { result.items ≡ refusal_line number (codes "unlisted " ++ unmove_text u.now) }
 {
     let mut name: ArrayVec<u8, 8> = ArrayVec::new();
     write_unmove(u, &mut name);
-    let mut what: ArrayVec<u8, 128> = ArrayVec::new();
+    let mut what: ArrayVec<u8, 160> = ArrayVec::new();
     put(&mut what, b"unlisted ");
     put(&mut what, name.as_slice());
     refusal(number, what.as_slice())

@@ -2,10 +2,11 @@ ghost use Rattle.std.specs.Prelude.{◌≡◌, ◌≤◌, IfOk, None, length};
 ghost use Rattle.retro_top.specs.Commands.{AreLimits};
 ghost use Rattle.retro_top.specs.Trees.{AnswersTree, AnswersTreeOf};
 
-use crate::questions::{read_lone_question, write_no_lone_question};
+use crate::questions::write_fault;
 use crate::solves::write_spent;
 use crate::statuses::Status;
 use query_base::Query;
+use question_text::read_lone_question;
 use std::alloc::{AllocError, Global};
 use tree_browser::{TreeFault, tree_text};
 
@@ -45,7 +46,7 @@ pub fn browse(
     match read_lone_question(input) {
         Ok(query) => answer_query(alloc, &query, depth, nodes),
         Err(why) => {
-            let no_question = write_no_lone_question(alloc, why)?;
+            let no_question = write_fault(alloc, why)?;
             Ok((Status::BadInput, no_question))
         }
     }

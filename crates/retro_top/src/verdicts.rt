@@ -7,12 +7,13 @@ ghost use Rattle.retro_top.specs.Solves.{IsDear};
 ghost use Rattle.retro_top.specs.Verdicts.{AnswersPosition, AnswersVerdict, Each, IsSettled, verdicts_text};
 ghost use Rattle.retro_top.specs.Told.{HasDearRight};
 
-use crate::questions::{read_lone_question, write_no_lone_question};
+use crate::questions::write_fault;
 use crate::solves::write_spent;
 use crate::statuses::Status;
 use arrayvec::ArrayVec;
 use codex_verdict::{Right, claim_of, rights, verdict_line};
 use query_base::Query;
+use question_text::read_lone_question;
 use retro_search::{Found, solve};
 use std::alloc::{AllocError, Global};
 
@@ -134,7 +135,7 @@ pub fn judge(
     match read_lone_question(input) {
         Ok(query) => answer_position(alloc, &query, depth, nodes),
         Err(why) => {
-            let no_question = write_no_lone_question(alloc, why)?;
+            let no_question = write_fault(alloc, why)?;
             Ok((Status::BadInput, no_question))
         }
     }

@@ -4,7 +4,6 @@ use Rattle.cert_checker.specs.Answers.{accepted, bad_text, fault}
 use Rattle.cert_checker.specs.Walk.{unlisted, unsupported}
 use Rattle.retro_top.specs.Checks.{refusal_line}
 use Rattle.retro_top.specs.declared.statuses.Status.TheVariants.{Done, Refused}
-use Rattle.retro_top.proofs.Accepted.{accepted-told}
 use Rattle.retro_top.proofs.Inputs.{told}
 use Rattle.retro_top.proofs.checks.check.Goals as goal
 
@@ -28,7 +27,7 @@ pub returns-in-Ok-clause-answer : goal.returns-in-Ok-clause-answer
 returns-in-Ok-clause-answer g c =
     let claim = c.in-Ok.found.claim in
     let query = c.in-Ok.found.query in
-    told _ _ _ (accepted claim query) Done _ c.in-Ok.ensures.answer (λ lines answers. (refl, c.accepted.ensures ∙ accepted-told lines claim query answers))
+    told _ _ _ (accepted claim query) Done _ c.in-Ok.ensures.answer (λ lines answers. (refl, c.accepted.ensures))
 
 pub returns-in-Err-BadText-clause-answer : goal.returns-in-Err-BadText-clause-answer
 returns-in-Err-BadText-clause-answer g c =
