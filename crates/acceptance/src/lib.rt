@@ -6,11 +6,15 @@ mod certificates;
 #[cfg(test)]
 mod claims;
 #[cfg(test)]
+mod demands;
+#[cfg(test)]
 mod driving;
 #[cfg(test)]
 mod extremes;
 #[cfg(test)]
 mod faults;
+#[cfg(test)]
+mod formats;
 #[cfg(test)]
 mod perft;
 #[cfg(test)]

@@ -1,7 +1,9 @@
 //! Retractions: lists whose items are known, and games whose every move is among the retractions of the position after it.
 
+ghost use Rattle.query_base.specs.Asked.{IsShortClock};
+
 use crate::driving::{WHOLE, run_on};
-use board_base::{CastleSet, Kind, Move, Unmove, is_a};
+use board_base::{Kind, Move, Odds, SquareSet, Unmove, is_a};
 use game_text::read_game;
 use play_rules::{State, step};
 use query_base::Query;
@@ -112,9 +114,22 @@ fn unmove_of(state: &State, m: &Move) -> Unmove {
     }
 }
 
-/// Each move of the game is a retraction of the position after it, and its predecessor is the position before.
-fn assert_retractions(rt: &impl Abort, moves: &[Move]) {
-    let mut state = State::start();
+/// The state's clock, as a query demands it.
+fn clock_of(state: &State) -> Option<u16>
+    ensures { IsShortClock result }
+{
+    let clock = state.clock();
+    if clock <= 9_999 {
+        Some(clock as u16)
+    } else {
+        None
+    }
+}
+
+/// Each move of the game at these odds is a retraction of the position after it, and its predecessor is the position before, whose clock
+/// is told where the move didn't set it to 0.
+fn assert_retractions(rt: &impl Abort, odds: Odds, moves: &[Move]) {
+    let mut state = State::start_of(odds);
     for m in moves {
         let u = unmove_of(&state, m);
         let after = step(&state, m);
@@ -125,9 +140,11 @@ fn assert_retractions(rt: &impl Abort, moves: &[Move]) {
         let query = Query {
             board: *next.board(),
             turn: next.turn(),
+            odds,
             held: next.rights(),
             only: None,
             barred: None,
+            clock: clock_of(&next),
         };
         let listed = is_unmove(&query, &u);
         assert!(rt; listed);
@@ -135,6 +152,9 @@ fn assert_retractions(rt: &impl Abort, moves: &[Move]) {
             let before = pred(&query, &u);
             assert!(rt; before.board == *state.board());
             assert!(rt; before.turn == state.turn());
+            assert!(rt; before.odds == odds);
+            assert_eq!(rt; before.clock.is_none(), next.clock() == 0);
+            assert!(rt; before.clock.is_none() || before.clock == clock_of(&state));
             assert!(rt; u.ep == before.only.is_some());
         }
         state = next;
@@ -149,7 +169,30 @@ fn takes_games_back(rt: HostRuntime) -> Result<(), Fail> {
         let Ok(moves) = read else {
             return Ok(());
         };
-        assert_retractions(&rt, &moves);
+        assert_retractions(&rt, Odds::none(), &moves);
+    }
+    Ok(())
+}
+
+/// A game without the knight of b1, and one without the rook of a1 and the pawn of f7, in which White castles on the other side and a pawn
+/// is captured en passant.
+const AT_ODDS: [(u64, &[u8]); 2] = [
+    (
+        1 << 1,
+        b"e2e4 e7e5 g1f3 b8c6 f1c4 g8f6 d2d4 e5d4 e1g1 f6e4 f1e1 d7d5 c4d5 d8d5 c1g5 c8e6 f3d4 c6d4 d1d4 d5d4 e1e4 d4e4",
+    ),
+    (
+        1 | 1 << 53,
+        b"e2e4 e7e6 e4e5 d7d5 e5d6 f8d6 g1f3 g8f6 f1d3 e8g8 e1g1",
+    ),
+];
+
+#[test]
+fn takes_games_at_odds_back(rt: HostRuntime) -> Result<(), Fail> {
+    for (bits, game) in AT_ODDS {
+        let odds = Odds::new(SquareSet::from_bits(bits)).ok_or("homes")?;
+        let moves = read_game(rt.alloc(), game)?;
+        assert_retractions(&rt, odds, &moves);
     }
     Ok(())
 }

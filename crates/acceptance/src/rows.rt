@@ -7,6 +7,10 @@ const CHECK: &[&str] = &["check"];
 
 const PLAY: &[&str] = &["play"];
 
+const SAN: &[&str] = &["san"];
+
+const SPELL: &[&str] = &["spell"];
+
 /// No kings: the whole certificate has 64 bytes.
 pub(crate) const NO_KINGS: Row = Row {
     words: CHECK,
@@ -203,6 +207,132 @@ pub(crate) const PLAYS: [Row; 13] = [
         input: b"4k3/8/8/8/8/8/8/R3K2R w QK -\n",
         status: Status::BadInput,
         text: b"bad fen field 3 byte 25\n",
+    },
+];
+
+pub(crate) const SANS: [Row; 13] = [
+    Row {
+        words: SAN,
+        input: b"rnbqk2r/ppppppbp/5np1/8/8/5NP1/PPPPPPBP/RNBQ1RK1 b kq - 3 4\n1. Nf3 Nf6 2. g3 g6 3. Bg2 Bg7 4. O-O *\n",
+        status: Status::Done,
+        text: b"legal\n",
+    },
+    Row {
+        words: SAN,
+        input: b"rnbqk2r/ppppppbp/5np1/8/8/5NP1/PPPPPPBP/RNBQ1RK1 b kq - 3 4\nNf3 a6 d3 a5 Nd2\n",
+        status: Status::Refused,
+        text: b"refused ply 5 many\n",
+    },
+    Row {
+        words: SAN,
+        input: b"rnbqk2r/ppppppbp/5np1/8/8/5NP1/PPPPPPBP/RNBQ1RK1 b kq - 3 4\nNf3 a6 d3 a5 Nbd2\n",
+        status: Status::Refused,
+        text: b"refused end\n",
+    },
+    Row {
+        words: SAN,
+        input: b"rnbqk2r/ppppppbp/5np1/8/8/5NP1/PPPPPPBP/RNBQ1RK1 b kq - 3 4\nNd2\n",
+        status: Status::Refused,
+        text: b"refused ply 1 none\n",
+    },
+    Row {
+        words: SAN,
+        input: b"rnbqk2r/ppppppbp/5np1/8/8/5NP1/PPPPPPBP/RNBQ1RK1 b kq - 3 4\nnf3\n",
+        status: Status::Refused,
+        text: b"refused word 1\n",
+    },
+    // A bad word goes before a ply that names no move.
+    Row {
+        words: SAN,
+        input: b"rnbqkbnr/pppppppp/8/8/8/8/PPPPPPPP/RNBQKBNR w KQkq -\n1. e5 1-0 e5",
+        status: Status::Refused,
+        text: b"refused word 3\n",
+    },
+    // Without a line feed the game is empty.
+    Row {
+        words: SAN,
+        input: b"rnbqkbnr/pppppppp/8/8/8/8/PPPPPPPP/RNBQKBNR w KQkq -",
+        status: Status::Done,
+        text: b"legal\n",
+    },
+    // A result alone is a game of no moves.
+    Row {
+        words: SAN,
+        input: b"rnbqkbnr/pppppppp/8/8/8/8/PPPPPPPP/RNBQKBNR w KQkq -\r\n1/2-1/2",
+        status: Status::Done,
+        text: b"legal\n",
+    },
+    // The double step that the fourth field demands was the last move.
+    Row {
+        words: SAN,
+        input: b"rnbqkbnr/pppppppp/8/8/4P3/8/PPPP1PPP/RNBQKBNR b KQkq e3 0 1\n1.e4",
+        status: Status::Done,
+        text: b"legal\n",
+    },
+    Row {
+        words: SAN,
+        input: b"",
+        status: Status::BadInput,
+        text: b"bad line 1\n",
+    },
+    Row {
+        words: SAN,
+        input: b"rnbqkbnr/pppppppp/8/8/8/8/PPPPPPPP/RNBQKBNR x KQkq -\n1. e4",
+        status: Status::BadInput,
+        text: b"bad fen field 2 byte 44\n",
+    },
+    // Without the knight of b1: each text is fitted to games at these odds.
+    Row {
+        words: SAN,
+        input: b"odds 0000000000000002\nrnbqkbnr/pppppppp/8/8/4P3/8/PPPP1PPP/R1BQKBNR b KQkq -\n1. e4",
+        status: Status::Done,
+        text: b"legal\n",
+    },
+    Row {
+        words: SAN,
+        input: b"odds 0000000000000002\nrnbqkbnr/pppppppp/8/8/4P3/8/PPPP1PPP/R1BQKBNR b KQkq -\n1. Nc3",
+        status: Status::Refused,
+        text: b"refused ply 1 none\n",
+    },
+];
+
+pub(crate) const SPELLS: [Row; 6] = [
+    Row {
+        words: SPELL,
+        input: b"g1f3 g8f6 g2g3 g7g6 f1g2 f8g7 e1g1\n",
+        status: Status::Done,
+        text: b"1. Nf3 Nf6 2. g3 g6 3. Bg2 Bg7 4. O-O\n",
+    },
+    Row {
+        words: SPELL,
+        input: b"",
+        status: Status::Done,
+        text: b"\n",
+    },
+    Row {
+        words: SPELL,
+        input: b" \r\n\n",
+        status: Status::Done,
+        text: b"\n",
+    },
+    Row {
+        words: SPELL,
+        input: b"e2e4 e7e5 f1c4 b8c6 d1h5 g8f6 h5f7",
+        status: Status::Done,
+        text: b"1. e4 e5 2. Bc4 Nc6 3. Qh5 Nf6 4. Qxf7#\n",
+    },
+    // A word that is no move text comes before a move that isn't legal.
+    Row {
+        words: SPELL,
+        input: b"e2e5 e4",
+        status: Status::Refused,
+        text: b"refused word 2\n",
+    },
+    Row {
+        words: SPELL,
+        input: b"e2e4 e7e5 e4e5",
+        status: Status::Refused,
+        text: b"refused ply 3\n",
     },
 ];
 

@@ -1,7 +1,7 @@
 //! What `run` answers: the rows of each command, and other words.
 
 use crate::driving::{Row, WHOLE, assert_answers, run_on};
-use crate::rows::{CHECKS, NO_COMMANDS, PLAYS, UNMOVES};
+use crate::rows::{CHECKS, NO_COMMANDS, PLAYS, SANS, SPELLS, UNMOVES};
 use retro_top::Status;
 use std::test::Fail;
 
@@ -14,6 +14,13 @@ fn answers_checks(rt: HostRuntime) -> Result<(), Fail> {
 #[test]
 fn answers_plays(rt: HostRuntime) -> Result<(), Fail> {
     assert_answers(&rt, &PLAYS)?;
+    Ok(())
+}
+
+#[test]
+fn answers_games_in_algebraic_notation(rt: HostRuntime) -> Result<(), Fail> {
+    assert_answers(&rt, &SANS)?;
+    assert_answers(&rt, &SPELLS)?;
     Ok(())
 }
 

@@ -39,6 +39,29 @@ fn reads_a_certificate(rt: HostRuntime) -> Result<(), Fail> {
     Ok(())
 }
 
+/// Odds and clock stand in lines of their own; format 1 has neither.
+#[test]
+fn reads_odds_and_clocks(rt: HostRuntime) -> Result<(), Fail> {
+    for (head, bits, clock) in [
+        ("retro 1\nclaim illegal\n", 0, None),
+        ("retro 2\nclaim illegal\nodds 0000000000000002\n", 2, None),
+        ("retro 2\nclaim illegal\nclock 0\n", 0, Some(0)),
+        (
+            "retro 2\nclaim illegal\nodds 8000000000000001\nclock 9999\n",
+            0x8000_0000_0000_0001,
+            Some(9_999),
+        ),
+    ] {
+        let text = format!(in rt.alloc(); "{head}fen 8/8/8/8/8/8/8/8 w - -\nroot rule kings\n")?;
+        let cert = read(rt.alloc(), text.as_bytes())?;
+        assert!(rt; fits_format(&cert));
+        let query = cert.query;
+        assert_eq!(rt; query.odds.set().bits(), bits);
+        assert!(rt; query.clock == clock);
+    }
+    Ok(())
+}
+
 /// What follows the first three lines, and the line at which the text goes bad.
 const FAULTS: [(&str, u32); 11] = [
     ("", 4),
@@ -65,6 +88,31 @@ fn names_the_line_that_is_bad(rt: HostRuntime) -> Result<(), Fail> {
         (b"retro 1\r\n", 1),
         (b"retro 1\n", 2),
         (b"retro 1\nclaim illegal \n", 2),
+        (b"retro 3\n", 1),
+        (b"retro 2\nclaim illegal \n", 2),
+        (b"retro 2\nclaim illegal\n", 3),
+        (b"retro 2\nclaim illegal\nfen 8/8/8/8/8/8/8/8 w - -\n", 3),
+        (b"retro 2\nclaim illegal\nodds 0000000000000000\n", 3),
+        (b"retro 2\nclaim illegal\nodds 0000000000000010\n", 3),
+        (b"retro 2\nclaim illegal\nodds 0000000000000002\n", 4),
+        (
+            b"retro 2\nclaim illegal\nodds 0000000000000002\nodds 0000000000000002\n",
+            4,
+        ),
+        (b"retro 2\nclaim illegal\nclock 10000\n", 3),
+        (
+            b"retro 2\nclaim illegal\nclock 0\nodds 0000000000000002\n",
+            4,
+        ),
+        (
+            b"retro 2\nclaim illegal\nodds 0000000000000002\nclock 0\nclock 0\n",
+            5,
+        ),
+        (
+            b"retro 2\nclaim illegal\nodds 0000000000000002\nclock 0\nfen 8/8/8/8/8/8/8/8 w - -\n",
+            6,
+        ),
+        (b"retro 1\nclaim illegal\nodds 0000000000000002\n", 3),
         (
             b"retro 1\nclaim illegal\nfen 8/8/8/8/8/8/8/8 w - - 0 1\n",
             3,

@@ -32,9 +32,18 @@ fn grow(text: &mut String, line: &str, leaves: &str) -> Result<(), AllocError> {
     Ok(())
 }
 
-/// The certificate of a claim about the two kings, the bishop and three pawns, in which the node on line 18 leads back so many steps.
-fn going_round(alloc: Global, claim: &str, steps: u8) -> Result<String, AllocError> {
-    let mut text = format!(in alloc; "retro 1\nclaim {claim}\nfen k7/pp6/8/8/8/8/6PP/6KB w - -\n")?;
+/// The certificate of a claim about the two kings, the bishop and four pawns, in which the node behind this tree leads back so many steps.
+/// Its head has this format, and these lines of odds and clock.
+fn going_round(
+    alloc: Global,
+    claim: &str,
+    format: u8,
+    demands: &str,
+    steps: u8,
+) -> Result<String, AllocError> {
+    let mut text = format!(in alloc;
+        "retro {format}\nclaim {claim}\n{demands}fen k7/pp6/8/8/8/8/6PP/6KB w - -\n"
+    )?;
     for (line, leaves) in GOING_ROUND {
         grow(&mut text, line, leaves)?;
     }
@@ -57,12 +66,64 @@ fn leads_back_to_what_covers(rt: HostRuntime) -> Result<(), Fail> {
         ("illegal", 5, Some(Refused::BadText { line: 18 })),
         ("last h8h7", 4, Some(uncovered)),
     ] {
-        let text = going_round(rt.alloc(), claim, steps)?;
+        let text = going_round(rt.alloc(), claim, 1, "", steps)?;
         assert!(rt;
             is_answered(rt.alloc(), text.as_bytes(), refused)?,
             "{claim}, {steps}"
         );
     }
+    Ok(())
+}
+
+/// At odds of a knight the same tree proves the same, one line further down.
+#[test]
+fn leads_back_at_odds(rt: HostRuntime) -> Result<(), Fail> {
+    let uncovered = Refused::Unsupported {
+        line: 19,
+        why: Why::Back,
+    };
+    for (claim, steps, refused) in [
+        ("illegal", 4, None),
+        ("illegal", 3, Some(uncovered)),
+        ("illegal", 5, Some(Refused::BadText { line: 19 })),
+        ("last h8h7", 4, Some(uncovered)),
+    ] {
+        let text = going_round(rt.alloc(), claim, 2, "odds 0000000000000002\n", steps)?;
+        assert!(rt;
+            is_answered(rt.alloc(), text.as_bytes(), refused)?,
+            "{claim}, {steps}"
+        );
+    }
+    Ok(())
+}
+
+/// The tree in which no move was a pawn's or a capture. The clock of its fourth node below the root is four less than that of the root,
+/// which doesn't cover it for that, though all else is the same.
+const QUIET_ROUND: &str = "\
+retro 2
+claim illegal
+clock 7
+fen k7/pp6/8/8/8/8/6PP/6KB w - -
+root expand 1
+b8a8 expand 2
+f1g1 expand 3
+c7b8 rule frozen 0000000000004080
+a8b8 expand 4
+e1f1 rule frozen 0000000000004080
+g1f1 back 4
+e2f1 rule frozen 0000000000004080
+f2f1 rule frozen 0000000000004080
+c8b8 rule frozen 0000000000004080
+f2g1 rule frozen 0000000000004080
+";
+
+#[test]
+fn leads_back_to_no_other_clock(rt: HostRuntime) -> Result<(), Fail> {
+    let refused = Refused::Unsupported {
+        line: 11,
+        why: Why::Back,
+    };
+    assert!(rt; is_answered(rt.alloc(), QUIET_ROUND.as_bytes(), Some(refused))?);
     Ok(())
 }
 

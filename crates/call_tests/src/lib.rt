@@ -10,13 +10,19 @@ mod claims;
 #[cfg(test)]
 mod deep_certificates;
 #[cfg(test)]
+mod demands;
+#[cfg(test)]
 mod fens;
 #[cfg(test)]
 mod first_faults;
 #[cfg(test)]
 mod games;
 #[cfg(test)]
+mod lines;
+#[cfg(test)]
 mod men;
+#[cfg(test)]
+mod notation;
 #[cfg(test)]
 mod odds;
 #[cfg(test)]

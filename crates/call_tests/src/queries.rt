@@ -1,6 +1,6 @@
 //! What queries on boards that are written out are answered: their targets, their rule lines and their retractions.
 
-use board_base::{Board, Castle, CastleSet, Colour, Kind, Man, Move, Square, Unmove};
+use board_base::{Board, Castle, CastleSet, Colour, Kind, Man, Move, Odds, Square, Unmove};
 use query_base::{Claim, Query, RuleLine, covers, target};
 use static_rules::{rights_have_homes, supports};
 use std::test::Fail;
@@ -11,9 +11,11 @@ fn targets_ask_more(rt: HostRuntime) -> Result<(), Fail> {
     let query = Query {
         board: Board::array(),
         turn: Colour::White,
+        odds: Odds::none(),
         held: CastleSet::none(),
         only: None,
         barred: None,
+        clock: None,
     };
     let m = Move {
         from: Square::known(12),
@@ -35,9 +37,11 @@ fn finds_each_reason(rt: HostRuntime) {
     let array = Query {
         board: Board::array(),
         turn: Colour::White,
+        odds: Odds::none(),
         held: CastleSet::all(),
         only: None,
         barred: None,
+        clock: None,
     };
     let mut no_rook = array;
     no_rook.board.put(Square::known(7), None);
@@ -98,9 +102,11 @@ fn after_a_pawn_move() -> Query {
     Query {
         board,
         turn: Colour::Black,
+        odds: Odds::none(),
         held: CastleSet::none().with(Castle::WhiteShort),
         only: None,
         barred: None,
+        clock: None,
     }
 }
 

@@ -19,11 +19,24 @@ fn written_again(alloc: Global, bytes: &[u8]) -> Result<Vec<u8>, Fail> {
 }
 
 /// The certificates that stand as examples.
-const EXAMPLES: [&str; 4] = [
+const EXAMPLES: [&str; 8] = [
     "retro 1\nclaim illegal\nfen rnbqkbnr/pppppppp/8/8/8/8/PPPPPPPP/RNBQKBNR w KQkq -\nroot rule kings\n",
     "retro 1\nclaim illegal\nfen 4k3/8/8/3p4/8/8/P7/4K2R w K d6\nroot expand 1\nd7d5 expand 0\n",
     "retro 1\nclaim illegal\nfen 4k3/8/8/8/8/P7/PPPPPPPP/4K3 w - -\nroot rule count w\n",
     "retro 1\nclaim illegal\nfen 8/8/8/8/8/8/8/8 w - -\nroot rule kings\n",
+    "retro 1\nclaim ep a5b6\nfen kbN5/n1p5/B1N5/PpK5/8/8/8/8 w - -\nroot expand 5\nb7a8 expand 0\nb7a8xn expand 0\nb7a8xb expand 0\nb7a8xr expand 0\nb7a8xq expand 0\n",
+    "retro 1\nclaim lost K\nfen nk6/brpp2p1/brp4p/1p6/8/8/8/4K2R w - -\nroot expand 6\nh7h6 expand 0\nc8b8 expand 0\nc8b8xn rule frozen 034f070200000090\nc8b8xb rule frozen 034f070200000090\nc8b8xr expand 0\nc8b8xq expand 0\n",
+    "retro 1\nclaim lost q\nfen r3k3/p1p5/Q3K3/8/8/8/8/8 w - -\nroot expand 0\n",
+    "retro 1\nclaim last f3g3\nfen B1Q5/4p1p1/7p/1P3r1q/1P6/P5K1/P2P4/7k b - -\nroot expand 9\na7a8b rule caps w 0050000000000900 5 2 5 4 4 5 / -5 -4 -3 -2 -1 0 0 0\nb7a8bxn rule caps w 0050000000000900 5 2 5 4 4 4 / -5 -4 -3 -2 -1 0 0 0\nb7a8bxb rule caps w 0050000000000900 5 2 5 4 4 4 / -5 -4 -3 -2 -1 0 0 0\nb7a8bxr rule caps w 0050000000000900 5 2 5 4 4 4 / -5 -4 -3 -2 -1 0 0 0\nb7a8bxq rule caps w 0050000000000900 5 2 5 4 4 4 / -5 -4 -3 -2 -1 0 0 0\nb7c8qxn rule caps w 0050000000000900 5 2 5 4 4 4 / -5 -4 -3 -2 -1 0 0 0\nb7c8qxb rule caps w 0050000000000900 5 2 5 4 4 4 / -5 -4 -3 -2 -1 0 0 0\nb7c8qxr rule caps w 0050000000000900 5 2 5 4 4 4 / -5 -4 -3 -2 -1 0 0 0\nb7c8qxq rule caps w 0050000000000900 5 2 5 4 4 4 / -5 -4 -3 -2 -1 0 0 0\n",
+];
+
+/// Certificates at odds, with a clock, and with both.
+const FORMAT_2: [&str; 5] = [
+    "retro 2\nclaim illegal\nodds 0000000000000100\nfen 4k3/8/8/8/8/8/P7/4K3 w - -\nroot rule frozen 0000000000000100\n",
+    "retro 2\nclaim lost K\nodds 0000000000000080\nfen 4k3/8/8/8/8/8/8/4K2R w - -\nroot rule rights\n",
+    "retro 2\nclaim illegal\nclock 0\nfen rnbqkbnr/pppppppp/8/8/8/5N2/PPPPPPPP/RNBQKB1R b KQkq -\nroot expand 0\n",
+    "retro 2\nclaim last e2e4\nodds efff00000000ffef\nclock 9999\nfen 8/8/8/8/8/8/8/8 w - -\nroot rule kings\n",
+    "retro 2\nclaim ep e5d6\nodds 0000000000000001\nclock 10\nfen 4k3/8/8/3p4/8/8/P7/4K2R w K d6\nroot expand 1\nd7d5 back 1\n",
 ];
 
 /// A tree with each rule line, with steps back of one and of two, and with labels of each kind.
@@ -51,6 +64,10 @@ f2f3 rule caps b 00000000000000ff -12 / 0 0 0 0 0 0 0 0
 #[test]
 fn writes_certificates_as_they_were_read(rt: HostRuntime) -> Result<(), Fail> {
     for text in EXAMPLES {
+        let written = written_again(rt.alloc(), text.as_bytes())?;
+        assert_eq!(rt; written.as_slice(), text.as_bytes());
+    }
+    for text in FORMAT_2 {
         let written = written_again(rt.alloc(), text.as_bytes())?;
         assert_eq!(rt; written.as_slice(), text.as_bytes());
     }

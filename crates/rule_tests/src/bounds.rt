@@ -1,6 +1,6 @@
 //! The rules on promoted men and on captures by pawns, on written boards.
 
-use board_base::{Colour, Potentials, SquareSet};
+use board_base::{Colour, Odds, Potentials, SquareSet};
 use fen_text::read_four_fields;
 use query_base::RuleLine;
 use static_rules::supports;
@@ -62,6 +62,57 @@ fn tells_captures(rt: HostRuntime) -> Result<(), Fail> {
         let p = Potentials::new(&u, &v).ok_or("in range")?;
         let rule = RuleLine::Caps(Colour::White, SquareSet::from_bits(bits), p);
         assert_eq!(rt; supports(&query, &rule), answer);
+    }
+    Ok(())
+}
+
+/// Text, odds, the last u, and whether the rule on White's captures supports it so, with no set, u = 0 but for the last, and v = 0; and
+/// whether it does at no odds. The pawn of b3 can have come from b2, unless nobody began there; and Black is missing a knight, unless it
+/// began without him.
+#[test]
+fn tells_captures_at_odds(rt: HostRuntime) -> Result<(), Fail> {
+    let from_a2 = "rnbqkbnr/pppppppp/8/8/8/1P6/2PPPPPP/RNBQKBNR w KQkq -";
+    let no_knight = "r1bqkbnr/pppppppp/8/8/8/1P6/2PPPPPP/RNBQKBNR w KQkq -";
+    let rows: [(&str, u64, i8, bool); 6] = [
+        (from_a2, 1 << 9, 1, true),
+        (from_a2, 1 << 9, 2, false),
+        (from_a2, 1 << 8, 1, false),
+        (no_knight, 1 << 9, 1, false),
+        (no_knight, 1 << 9 | 1 << 57, 1, true),
+        (no_knight, 1 << 57, 1, false),
+    ];
+    for (text, bits, last, answer) in rows {
+        let mut query = read_four_fields(text.as_bytes()).ok_or("unread")?;
+        let u = [0, 0, 0, 0, 0, 0, last];
+        let p = Potentials::new(&u, &[0; 8]).ok_or("in range")?;
+        let rule = RuleLine::Caps(Colour::White, SquareSet::from_bits(0), p);
+        assert!(rt; !supports(&query, &rule));
+        query.odds = Odds::new(SquareSet::from_bits(bits)).ok_or("homes")?;
+        assert_eq!(rt; supports(&query, &rule), answer, "{bits}");
+    }
+    Ok(())
+}
+
+/// Text, odds, set, and whether the rule on White's promoted men supports it, which it doesn't at no odds. A bishop stands on
+/// c1 or f1; at odds of that bishop he isn't the one of the array, and where another pawn was left out, seven are as many as there were.
+#[test]
+fn tells_promoted_men_at_odds(rt: HostRuntime) -> Result<(), Fail> {
+    let array = "rnbqkbnr/pppppppp/8/8/8/8/PPPPPPPP/RNBQKBNR w KQkq -";
+    let seven = "rnbqkbnr/pppppppp/8/8/8/8/PPPP1PPP/RNBQKBNR w KQkq -";
+    let rows: [(&str, u64, u64, bool); 6] = [
+        (array, 1 << 2, 0, true),
+        (array, 1 << 2, ABOUT_C1, true),
+        (array, 1 << 5, 0, true),
+        (seven, 1 << 2, 0, false),
+        (seven, 1 << 2 | 1 << 12, 0, true),
+        (seven, 1 << 58, 0, false),
+    ];
+    for (text, bits, set, answer) in rows {
+        let mut query = read_four_fields(text.as_bytes()).ok_or("unread")?;
+        let rule = RuleLine::Promo(Colour::White, SquareSet::from_bits(set));
+        assert!(rt; !supports(&query, &rule));
+        query.odds = Odds::new(SquareSet::from_bits(bits)).ok_or("homes")?;
+        assert_eq!(rt; supports(&query, &rule), answer, "{bits}");
     }
     Ok(())
 }

@@ -7,6 +7,8 @@ mod bounds;
 #[cfg(test)]
 mod cages;
 #[cfg(test)]
+mod length_texts;
+#[cfg(test)]
 mod lengths;
 #[cfg(test)]
 mod origins;
