@@ -7,10 +7,12 @@ fuzz.py PROGRAM --again FOLDER     runs the cases again that were found and kept
 What is looked for: a death by a signal; a run over ten seconds; a status that the command hasn't, or that bad words, failing reads and
 writes, or too long an input don't allow; something written at a status that writes nothing; an answer that hasn't the form of its
 status; a certificate of `solve` that `check` doesn't accept; a game of `solve` that `play` doesn't call legal; a verdict that `solve`
-doesn't bear out; and two runs that differ. Each finding goes into a file of FOLDER, with the words, the input and what was wrong.
+doesn't bear out; a legal game that `spell` doesn't spell or `san` doesn't read; a length of `length` that `atleast` doesn't accept; and two
+runs that differ. Each finding goes into a file of FOLDER, with the words, the input and what was wrong.
 The same seed gives the same cases, with any number of jobs. The exit status is 1 where something was found.
 """
 import argparse
+import functools
 import json
 import multiprocessing
 import os
@@ -21,36 +23,49 @@ import subprocess
 import sys
 import time
 
-from fuzz_cases import LIMIT, Case, Maker, mutated
+from fuzz_cases import LIMIT, Case, Maker, mutated, parted
 
 SECONDS = 10
 CHUNK = 250
 STATUSES = {"check": (0, 1), "play": (0, 1, 6), "unmoves": (0, 6), "solve": (0, 2, 3, 4, 6), "verdict": (0, 3, 6), "tree": (0, 3, 6), "sample": (0,)}
+# Commands that an older program may lack.
+FURTHER = {"san": (0, 1, 6), "spell": (0, 1), "length": (0, 2, 6), "atleast": (0, 1)}
 RANGES = {"solve": [(0, 64), (1, 500_000)], "sample": [(0, 2**64 - 1), (1, 1000), (1, 200)]}
 RANGES["verdict"] = RANGES["tree"] = RANGES["solve"]
-LAST_LINE = {"play": 1, "unmoves": 2, "solve": 3, "verdict": 2, "tree": 2}
+LAST_LINE = {"play": 3, "san": 3, "unmoves": 4, "solve": 5, "verdict": 4, "tree": 4, "length": 3}
 
 MOVE = r"[a-h][1-8][a-h][1-8][nbrq]?"
 UNMOVE = rf"(?:{MOVE}(?:x[pnbrq])?|[a-h][1-8][a-h][1-8]ep)"
 FEN = r"[1-8PNBRQKpnbrqk]{1,8}(?:/[1-8PNBRQKpnbrqk]{1,8}){7} [wb] (?:-|K?Q?k?q?) (?:-|[a-h][36])"
 CLAIM = rf"(?:illegal|last {MOVE}|lost [KQkq]|ep [a-h][1-8][a-h][1-8])"
 NODE = r"(?:rule [^\n]+|back [1-9]\d*|expand \d+)"
+ODDS = r"odds [0-9a-f]{16}"
+CLOCK = r"clock (?:0|[1-9]\d{0,3})"
+SAN = r"(?:O-O(?:-O)?|[NBRQK][a-h]?[1-8]?x?[a-h][1-8]|(?:[a-h]x)?[a-h][1-8](?:=[NBRQ])?)[+#]?"
 FORMS = {
-    ("check", 0): rf"accepted {CLAIM} {FEN}\n",
+    ("check", 0): rf"accepted {CLAIM} {FEN}(?: {ODDS})?(?: {CLOCK})?\n",
     ("check", 1): rf"refused line [1-9]\d* (?:text|unlisted {UNMOVE}|unsupported (?:rule|back|array|stray))\n",
     ("play", 0): r"legal\n",
     ("play", 1): r"refused (?:(?:word|ply) [1-9]\d*|end)\n",
     ("unmoves", 0): rf"(?:{UNMOVE} {FEN}\n)*total \d+\n",
-    ("solve", 0): rf"retro 1\nclaim {CLAIM}\nfen {FEN}\nroot {NODE}\n(?:{UNMOVE} {NODE}\n)*",
+    ("solve", 0): rf"retro (?:1|2(?=\n[^\n]+\n[oc]))\nclaim {CLAIM}\n(?:{ODDS}\n)?(?:{CLOCK}\n)?fen {FEN}\nroot {NODE}\n(?:{UNMOVE} {NODE}\n)*",
     ("solve", 2): rf"undecided(?: {UNMOVE})*\n",
     ("solve", 4): rf"countered(?: {MOVE})*\n",
     ("verdict", 0): rf"no rights\n|(?:[KQkq] (?:not permitted|undisproved to \d+)\n|{MOVE} (?:permitted|unproved to \d+)\n)+",
     ("tree", 0): rf"root [^\n]+\n(?:(?:  )+{UNMOVE} [^\n]+\n)*",
     ("sample", 0): r"games [1-9]\d* plies \d+ unmoves \d+ missing 0\n",
+    ("san", 0): r"legal\n",
+    ("san", 1): r"refused (?:word [1-9]\d*|ply [1-9]\d* (?:none|many)|end)\n",
+    ("spell", 0): rf"(?:1\. {SAN}(?: (?:[1-9]\d*\. )?{SAN})*)?\n",
+    ("spell", 1): r"refused (?:word|ply) [1-9]\d*\n",
+    ("length", 0): rf"retro length 1\n(?:{ODDS}\n)?fen {FEN}\natleast \d+\nmoves [wb](?: -?\d+){{0,16}} /(?: -?\d+){{16}}\n",
+    ("length", 2): r"undecided\n",
+    ("atleast", 0): rf"accepted atleast \d+ {FEN}(?: {ODDS})?\n",
+    ("atleast", 1): r"refused (?:line [1-9]\d* text|unsupported)\n",
 }
 FORMS = {key: re.compile(form) for key, form in FORMS.items()}
 SPENT = re.compile(r"spent \d+\n")
-BAD = re.compile(r"bad line ([1-3])\n|bad fen field [1-9]\d* byte \d+\n")
+BAD = re.compile(r"bad line ([1-5])\n|bad fen field [1-9]\d* byte \d+\n")
 NOTE = re.compile(r"closed|array|end|(?:back|expand) \d+")
 
 
@@ -107,6 +122,14 @@ class Program:
         return self.run(Case([word.encode() for word in words], text))
 
 
+@functools.cache
+def learn(path):
+    """Adds the commands that the program knows beside the first seven."""
+    for name, statuses in FURTHER.items():
+        if Program(path).answers([name], b"")[0] != 5:
+            STATUSES[name] = statuses
+
+
 def due(case, command):
     """The statuses that the case can end with."""
     if command is None:
@@ -155,8 +178,10 @@ def misformed(case, command, status, out):
 
 
 def wrong_accepted(case, text):
-    lines = case.input.decode("ascii").split("\n")
-    return None if text == f"accepted {lines[1][6:]} {lines[2][4:]}\n" else "another claim or position than the certificate's"
+    _, claim, *lines = case.input.decode("ascii").split("\n")
+    at = next(at for at, line in enumerate(lines) if line.startswith("fen "))
+    said = " ".join([claim[6:], lines[at][4:], *lines[:at]])
+    return None if text == f"accepted {said}\n" else "another claim or position than the certificate's"
 
 
 def wrong_total(case, text):
@@ -212,11 +237,17 @@ NUMBERS = {
 }
 
 
+def stated(case):
+    """The claim of `solve`, the lines of odds and clock, and the FEN."""
+    claim, _, rest = case.input.decode().replace("\r\n", "\n").partition("\n")
+    return claim, *parted(rest)[:2]
+
+
 def unproved(program, case, out, rng):
     """What is wrong with a certificate of `solve`. One that is mutated may be refused, in the form of a refusal."""
-    claim, fen = (line.rstrip("\r") for line in case.input.decode().split("\n")[:2])
-    lines = out.decode().split("\n")
-    if lines[1] != claim or lines[2] != "fen " + " ".join(fen.split(" ")[:4]):
+    claim, demands, fen = stated(case)
+    head = f"retro {2 if demands else 1}\n{claim}\n{demands}fen {' '.join(fen.split(' ')[:4])}\n"
+    if not out.decode().startswith(head):
         return "a certificate of another claim or position"
     if program.answers(["check"], out)[0] != 0:
         return "a certificate that isn't accepted"
@@ -228,7 +259,7 @@ def unproved(program, case, out, rng):
 
 def uncountered(program, case, out):
     """What is wrong with a game of `solve`: it reaches the position, with the right that is said to be lost, or by another last move."""
-    claim, fen = (line.rstrip("\r") for line in case.input.decode().split("\n")[:2])
+    claim, demands, fen = stated(case)
     moves = out.decode().split()[1:]
     kind, _, what = claim.partition(" ")[2].partition(" ")
     fields = fen.split(" ")
@@ -236,8 +267,25 @@ def uncountered(program, case, out):
         fields[2] = "".join(letter for letter in "KQkq" if letter in fields[2] + what)
     if kind == "last" and moves[-1:] == [what]:
         return "a game that ends with the claimed move"
-    status, answer, _ = program.answers(["play"], f"{' '.join(fields)}\n{' '.join(moves)}\n".encode())
+    status, answer, _ = program.answers(["play"], f"{demands}{' '.join(fields)}\n{' '.join(moves)}\n".encode())
     return None if (status, answer) == (0, b"legal\n") else "a game that isn't legal or doesn't reach the target"
+
+
+def misspelled(program, case):
+    """What is wrong with the spelling of a game from the whole array that `play` calls legal: `san` calls it legal too."""
+    demands, fen, moves = parted(case.input.decode().replace("\r\n", "\n"))
+    if "spell" not in STATUSES or "san" not in STATUSES or "odds" in demands:
+        return None
+    status, spelled, _ = program.answers(["spell"], moves.encode())
+    if status != 0:
+        return "a legal game that isn't spelled"
+    answer = program.answers(["san"], f"{demands}{fen}\n".encode() + spelled)[:2]
+    return None if answer == (0, b"legal\n") else "a spelled game that isn't legal"
+
+
+def unreckoned(program, out):
+    """What is wrong with a text of `length`."""
+    return None if program.answers(["atleast"], out)[0] == 0 else "a length that isn't accepted"
 
 
 def unborne(program, case, out, rng):
@@ -265,6 +313,10 @@ def wrong(program, case, rng):
             found = uncountered(program, case, out)
         elif (command, status) == ("verdict", 0):
             found = unborne(program, case, out, rng)
+        elif (command, status) == ("play", 0):
+            found = misspelled(program, case)
+        elif (command, status) == ("length", 0):
+            found = unreckoned(program, out)
     if not found and rng.randrange(100) == 0 and program.run(case) != ended:
         found = "a second run that differs"
     return found, ended
@@ -291,6 +343,7 @@ def keep(folder, seed, number, case, found, ended):
 def work(task):
     """Tries some cases, and tells how many, how many runs it took and what was found."""
     path, folder, seed, numbers = task
+    learn(path)
     program, maker, findings = Program(path), Maker(), []
     for number in numbers:
         case = maker.case(seed, number)
@@ -304,6 +357,7 @@ def work(task):
 def again(program, folder):
     """Runs the kept cases of a folder, and tells how many are still wrong."""
     left = 0
+    learn(program)
     for path in sorted(folder.glob("*.json")):
         said = json.loads(path.read_text())
         seed, number = said["seed"], said["number"]

@@ -34,6 +34,9 @@ FENS = [
     "QQQQQQQQ/QQQQQQQQ/QQQQQQQQ/QQQQQQQQ/qqqqqqqq/qqqqqqqq/qqqqqqqq/qqqqqqqq w - -",
     "r3k2r/pp1bnppp/1qn1p3/2ppP3/3P4/2PB1N2/PP3PPP/RNBQK2R w KQkq -",
 ]
+# Men whose absence changes something: a knight, a rook, pawns, a queen, nearly all; and sets that are no odds.
+ODDS = ["0000000000000002", "0000000000000080", "0000000000000100", "0800000000000000", "0020000000000001", "efff00000000ffef",
+        "0000000000000010", "0000000000010000", "0000000000000000"]
 # Each with the position that it reaches.
 GAMES = [
     ("rnbqkbnr/pppppppp/8/8/8/8/PPPPPPPP/RNBQKBNR w KQkq -", ""),
@@ -43,6 +46,12 @@ GAMES = [
     ("rnbq1rk1/ppp1bppp/3p1n2/8/8/5N2/PPPPBPPP/RNBQ1RK1 b - -", "e2e4 g8f6 e4e5 d7d5 e5d6 e7d6 f1e2 f8e7 g1f3 e8g8 e1g1"),
     ("Q2qkbnr/2pppppp/2n5/8/8/8/1PPPPPPP/RNBQKBNR b KQk -", "a2a4 b7b5 a4b5 a7a6 b5a6 c8b7 a6b7 b8c6 b7a8q"),
     ("rnb1kbnr/pppp1ppp/8/4p3/6Pq/5P2/PPPPP2P/RNBQKBNR w KQkq -", "f2f3 e7e5 g2g4 d8h4"),
+]
+# The same with odds or a clock.
+DEMANDING = [
+    ("odds 0000000000000002\n", "rnbqkbnr/pppppppp/8/8/8/8/PPPPPPPP/R1BQKBNR w KQkq -", ""),
+    ("odds 0000000000000080\nclock 0\n", "rnbqkbnr/pppppppp/8/8/4P3/8/PPPP1PPP/RNBQKBN1 b Qkq e3 0 1", "e2e4"),
+    ("clock 1\n", "rnbqkbnr/pppppppp/8/8/8/5N2/PPPPPPPP/RNBQKB1R b KQkq -", "g1f3"),
 ]
 CERTIFICATES = [
     ("illegal", FENS[18], ["root rule caps w 000a000000000000 1 0 0 0 0 0 0 1 / 0 -1 0 0 0 0 0 0"]),
@@ -54,12 +63,33 @@ CERTIFICATES = [
     ("illegal", "4k3/8/8/8/8/8/8/P3K3 w - -", ["root rule ranks"]),
     ("illegal", FENS[5], ["root expand 1"] + ["a1a2 expand 1"] * 254 + ["a1a2 expand 0"]),
 ]
+# Certificates of format 2: claim, lines of odds and clock, FEN, nodes.
+FORMAT_2 = [
+    ("illegal", "odds 0000000000000100\n", "4k3/8/8/8/8/8/P7/4K3 w - -", ["root rule frozen 0000000000000100"]),
+    ("illegal", "odds 0000000000000100\n", "4k3/8/8/8/8/1P6/1PPPPPPP/4K3 w - -", ["root rule count w"]),
+    ("lost K", "odds 0000000000000080\n", "4k3/8/8/8/8/8/8/4K2R w - -", ["root rule rights"]),
+    ("illegal", "clock 1\n", FENS[7], ["root expand 0"]),
+    ("illegal", "odds 0000000000000002\nclock 1\n", FENS[7], ["root expand 0"]),
+    ("ep e5d6", "clock 0\n", "rnbqkbnr/ppp1pppp/8/2KpP3/8/8/PPPP1PPP/RNBQ1BNR w kq -", ["root expand 0"]),
+]
+LENGTHS = [
+    (FENS[4], 7, "w", "0 0 0 0 0 0 1 0 1 0 0 0 0 0 0 0 / 0 0 0 0 0 0 0 0 0 0 0 0 0 0 0 0"),
+    (FENS[0], 0, "b", "0 0 0 0 0 0 0 0 0 0 0 0 0 0 0 0 / 0 0 0 0 0 0 0 0 0 0 0 0 0 0 0 0"),
+]
+SANS = [
+    (FENS[3], "1. e4 e5 2.Nf3 Nc6 *"),
+    ("rnbqk2r/ppppppbp/5np1/8/8/5NP1/PPPPPPBP/RNBQ1RK1 b kq -", "1. Nf3 Nf6 2. g3 g6 3. Bg2 Bg7 4. O-O"),
+    ("rnb1kbnr/pppp1ppp/8/4p3/6Pq/5P2/PPPPP2P/RNBQKBNR w KQkq -", "f3 e5 g4 Qh4# 0-1"),
+    ("Q2qkbnr/2pppppp/2n5/8/8/8/1PPPPPPP/RNBQKBNR b KQk -", "a4 b5 axb5 a6 bxa6 Bb7 axb7 Nc6 bxa8=Q"),
+]
+SAN_WORDS = ["Nf3", "Nbd2", "R1e2", "e4", "exd5", "e8=Q", "O-O", "O-O-O", "Qh4#", "Bb5+", "1.", "1...", "1.e4", "*", "1-0", "1/2-1/2", "nf3", "0-0", "e9"]
 BODIES = [b"rule kings", b"rule ranks", b"rule check", b"rule rights", b"rule count w", b"rule count b", b"rule frozen 0000000000004080",
           b"rule promo b 0000000000000000", b"rule caps w 0000000000000000 / 0 0 0 0 0 0 0 0", b"back 1", b"back 2", b"expand 0", b"expand 1"]
 TOKENS = [b"0", b"1", b"2", b"00", b"01", b"-0", b"+1", b"-1", b"8", b"64", b"65", b"-64", b"-65", b"255", b"256", b"999999", b"1000000", b"500000",
           b"500001", b"4294967296", b"18446744073709551615", b"18446744073709551616", b"", b"-", b"/", b"w", b"b", b"K", b"KQkq", b"QK", b"e3", b"d6",
           b"e2e4", b"e7e8q", b"d7d8nxr", b"c5d6ep", b"e9e5", b"e1g1", b"retro", b"claim", b"fen", b"root", b"rule", b"back", b"expand", b"illegal",
-          b"last", b"lost", b"ep", b"000000000000000", b"000000000000000A", b"ffffffffffffffff"]
+          b"last", b"lost", b"ep", b"000000000000000", b"000000000000000A", b"ffffffffffffffff", b"odds", b"clock", b"0000000000000002", b"0000000000000010", b"9999", b"10000",
+          b"length", b"atleast", b"moves"]
 BYTES = b" \n\r\t-/+0123456789abcdefghKQkqPNBRpnbrwx\x00\x7f\x80\xff"
 MEN = "PNBRQKpnbrqk"
 
@@ -95,6 +125,16 @@ def men_of(placement):
     return men
 
 
+def parted(text):
+    """The lines of odds and clock, the FEN line, and what follows it."""
+    lines = ""
+    while text.startswith(("odds ", "clock ")):
+        line, _, text = text.partition("\n")
+        lines += line + "\n"
+    fen, _, rest = text.partition("\n")
+    return lines, fen, rest
+
+
 def square(rng):
     return rng.choice("abcdefgh") + rng.choice("12345678")
 
@@ -108,12 +148,24 @@ class Maker:
 
     def __init__(self):
         read = lambda kind: [path.read_bytes() for path in sorted(EXAMPLES.glob(f"*.{kind}"))]
-        claims = [text.decode().split("\n") for text in read("claim")]
-        self.claims = [(claim, fen) for claim, fen, *_ in claims]
-        self.fens = FENS + [fen for _, fen in self.claims]
-        header = "retro 1\nclaim {}\nfen {}\n{}\n"
-        self.certs = read("cert") + [header.format(claim, fen, "\n".join(nodes)).encode() for claim, fen, nodes in CERTIFICATES]
-        self.games = [tuple(text.decode().split("\n", 1)) for text in read("game")] + GAMES
+        claims = [text.decode().split("\n", 1) for text in read("claim")]
+        self.claims = [(claim, *parted(rest)[:2]) for claim, rest in claims]
+        self.fens = FENS + [fen for _, _, fen in self.claims]
+        plain, demanding = "retro 1\nclaim {}\nfen {}\n{}\n", "retro 2\nclaim {}\n{}fen {}\n{}\n"
+        self.certs = read("cert") + [plain.format(claim, fen, "\n".join(nodes)).encode() for claim, fen, nodes in CERTIFICATES]
+        self.certs += [demanding.format(claim, lines, fen, "\n".join(nodes)).encode() for claim, lines, fen, nodes in FORMAT_2]
+        self.games = [parted(text.decode()) for text in read("game")] + [("", *game) for game in GAMES] + DEMANDING
+
+    def demands(self, rng):
+        """Lines of odds and of a clock, or none; a few are bad, twice or in the wrong order."""
+        odds = f"odds {rng.choice(ODDS[:6] if rng.random() < 0.9 else ODDS)}\n" if rng.random() < 0.25 else ""
+        clock = f"clock {rng.choice([0, 0, 1, 1, 2, 3, 9, 9999, rng.randrange(10_100)])}\n" if rng.random() < 0.25 else ""
+        if rng.random() < 0.03:
+            return clock + odds
+        return odds * 2 + clock * 2 if rng.random() < 0.03 else odds + clock
+
+    def position(self, rng):
+        return f"{self.demands(rng)}{self.fen(rng)}\n"
 
     def fen(self, rng):
         """A FEN of the grammar: a good one, in most cases with some men moved, taken away or added."""
@@ -150,15 +202,15 @@ class Maker:
         return "claim illegal"
 
     def statement(self, rng):
-        claim, fen = rng.choice(self.claims)
+        claim, lines, fen = rng.choice(self.claims)
         if rng.random() < 0.8:
             claim = self.claim(rng)
         if rng.random() < 0.8:
-            fen = self.fen(rng)
-        return f"{claim}\n{fen}\n".encode()
+            lines, fen = self.demands(rng), self.fen(rng)
+        return f"{claim}\n{lines}{fen}\n".encode()
 
     def game(self, rng):
-        fen, text = rng.choice(self.games)
+        lines, fen, text = rng.choice(self.games)
         moves = text.split()
         for _ in range(rng.choice([0, 0, 0, 1, 4]) if moves else 0):
             moves[rng.randrange(len(moves))] = move(rng)
@@ -166,30 +218,61 @@ class Maker:
             moves = moves[: rng.randrange(len(moves) + 1)]
         if rng.random() < 0.2:
             fen = self.fen(rng)
-        return f"{fen}\n{rng.choice([' ', chr(10)]).join(moves)}\n".encode()
+        if rng.random() < 0.1:
+            lines = self.demands(rng)
+        return f"{lines}{fen}\n{rng.choice([' ', chr(10)]).join(moves)}\n".encode()
+
+    def moves(self, rng):
+        """A game alone, for `spell`."""
+        return parted(self.game(rng).decode())[2].encode()
+
+    def notation(self, rng):
+        """A position and a game in algebraic notation."""
+        fen, text = rng.choice(SANS)
+        words = text.split()
+        for _ in range(rng.choice([0, 0, 0, 1, 3])):
+            words[rng.randrange(len(words))] = rng.choice(SAN_WORDS)
+        lines = self.demands(rng) if rng.random() < 0.2 else ""
+        return f"{lines}{self.fen(rng) if rng.random() < 0.1 else fen}\n{' '.join(words)}\n".encode()
+
+    def length(self, rng):
+        """Potentials of a side's men, for `atleast`."""
+        fen, number, side, potentials = rng.choice(LENGTHS)
+        words = potentials.split()
+        for _ in range(rng.choice([0, 0, 1, 2])):
+            words[rng.randrange(len(words))] = str(rng.choice([-64, -1, 0, 1, 2, 64]))
+        odds = f"odds {rng.choice(ODDS)}\n" if rng.random() < 0.2 else ""
+        number = rng.choice([number, number, number + 1, 0, 9999, 10_000])
+        return f"retro length 1\n{odds}fen {' '.join(fen.split(' ')[:4])}\natleast {number}\nmoves {side} {' '.join(words)}\n".encode()
 
     def certificate(self, rng):
         lines = rng.choice(self.certs).split(b"\n")
+        head = next(at for at, line in enumerate(lines) if line.startswith(b"fen ")) + 1
         if rng.random() < 0.5:
-            at = rng.randrange(3, len(lines) - 1)
+            at = rng.randrange(head, len(lines) - 1)
             label = lines[at].split(b" ")[0] if rng.random() < 0.8 else move(rng).encode()
             lines[at] = label + b" " + rng.choice(BODIES)
         if rng.random() < 0.2:
-            lines[2] = b"fen " + " ".join(self.fen(rng).split(" ")[:4]).encode()
+            lines[head - 1] = b"fen " + " ".join(self.fen(rng).split(" ")[:4]).encode()
+        if rng.random() < 0.2:
+            demands = self.demands(rng).encode()
+            lines[: head - 1] = [b"retro 2" if demands else b"retro 1", lines[1], *demands.split(b"\n")[:-1]]
         return b"\n".join(lines)
 
     def case(self, seed, number):
         rng = random.Random(f"{seed} {number}")
         if rng.randrange(20_000) == 0:
             return Case([rng.choice([b"check", b"play", b"unmoves"])], b"x" * (LIMIT + rng.choice([0, 1, 2])))
-        command = rng.choice([b"check", b"check", b"check", b"play", b"play", b"unmoves", b"solve", b"solve", b"solve", b"verdict", b"tree", b"sample"])
+        command = rng.choice([b"check", b"check", b"check", b"check", b"play", b"play", b"unmoves", b"solve", b"solve", b"solve", b"verdict", b"tree",
+                              b"sample", b"san", b"spell", b"length", b"atleast"])
         words = [command]
         if command in (b"solve", b"verdict", b"tree"):
             words += [b"%d" % rng.choice([0, 1, 1, 2, 2, 3, 4, 9, 64]), b"%d" % rng.choice([1, 2, 5, 10, 30, 100, 100])]
         if command == b"sample":
             words += [b"%d" % rng.choice([0, 1, rng.randrange(2**64), 2**64 - 1]), b"%d" % rng.randint(1, 3), b"%d" % rng.randint(1, 6)]
-        makers = {b"check": self.certificate, b"play": self.game, b"solve": self.statement}
-        text = makers.get(command, lambda rng: self.fen(rng).encode() + b"\n")(rng)
+        makers = {b"check": self.certificate, b"play": self.game, b"solve": self.statement, b"san": self.notation, b"spell": self.moves,
+                  b"atleast": self.length}
+        text = makers.get(command, lambda rng: self.position(rng).encode())(rng)
         for _ in range(rng.choice([0, 0, 0, 0, 0, 1, 1, 2, 5])):
             text = mutated(rng, text)
         if rng.random() < 0.08:
