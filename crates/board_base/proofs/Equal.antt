@@ -24,13 +24,13 @@ the_is c k (Some m) h =
     let parts = and_parts _ _ h in
     ap (λ (d : Colour). Some (record m { colour = d })) (sym (colour_is c m.colour parts.0)) ∙ ap (λ (j : Kind). man c j) (sym (kind_is k m.kind parts.1))
 
-promo_is : (a b : Option Kind) → same_promo a b ≡ true → a ≡ b
+pub promo_is : (a b : Option Kind) → same_promo a b ≡ true → a ≡ b
 promo_is None None h = refl
 promo_is None (Some k) h = cc
 promo_is (Some j) None h = cc
 promo_is (Some j) (Some k) h = ap Some (kind_is j k h)
 
-promo_self : (a : Option Kind) → same_promo a a ≡ true
+pub promo_self : (a : Option Kind) → same_promo a a ≡ true
 promo_self None = refl
 promo_self (Some k) = same_kind-self k
 

@@ -1,10 +1,8 @@
 -- What the loop over a source's reads keeps.
-use Rattle.std.proofs.Common.{◌≡◌, ℕ, ◌+◌, ◌≤◌, List, ◌++◌, length, sym, subst, length-append}
+use Rattle.std.proofs.Common.{◌≡◌, ℕ, ◌≤◌, List, length, sym, subst}
 use Rattle.std.specs.Prelude.{Option, Some, Result, Ok, Err, IfOk}
 use Rattle.std.proofs.lemmas.Option.{same_Some}
 use Rattle.std.specs.Io.KnownBytes.{Consumes}
-use Rattle.std.proofs.KnownBytes.{Consumes-trans}
-use Rattle.retro_ports.specs.Ends.{ReadSome}
 use Rattle.query_base.specs.Asked.{Asked}
 use Rattle.query_base.specs.Reach.{Holds}
 use Rattle.query_base.specs.declared.claims.Claim.{Claim}
@@ -22,11 +20,6 @@ pub record FedSoFar (before now : Option (List ℕ)) (faults_before faults_now :
   pub read : Consumes before now bytes
   pub stands : StandsFor k bytes
   pub no_fault : faults_now ≡ faults_before
-
--- one more read, of which nothing is kept
-pub read_past : (a b c : Option (List ℕ)) (bytes more : List ℕ) (P : ℕ → Type 0) → Consumes a b bytes → Consumes b c more → P (length bytes + length more) → ReadSome a c P
-read_past a b c bytes more P so-far read count =
-    (bytes ++ more, Consumes-trans a b c bytes more so-far read, subst P (sym (length-append bytes more)) count)
 
 -- no game contradicts what is accepted
 

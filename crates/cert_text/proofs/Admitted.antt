@@ -9,7 +9,7 @@ use Rattle.cert_text.specs.Certificate.{Certificate, HasText}
 use Rattle.cert_text.specs.Writable.{is_written, IsQuery, fits, all_fit, has_text}
 use Rattle.cert_text.proofs.Forests.{rest-more, rest-end}
 use Rattle.cert_text.proofs.CertTexts as texts
-use Rattle.cert_text.proofs.Tests.{both_true}
+use Rattle.general_lemmas.proofs.Truth.{both_true}
 
 at_kid : (f : Forest) (i depth : ℕ) (u : Unmove) (t : Tree) → kid_at f i ≡ Some (u, t) → all_fit depth (rest_of f i) ≡ (has_text u && fits depth t && all_fit depth (rest_of f (suc i)))
 at_kid f i depth u t e = ap (all_fit depth) (rest-more f i u t e)

@@ -1,14 +1,13 @@
 -- How long the lines of a certificate are.
-use Rattle.std.proofs.Common.{◌≡◌, ◌≢◌, ℕ, ◌+◌, ◌*◌, ◌<◌, ◌≤◌, Bool, true, false, List, [], ◌∷◌, length, drop, nat_eq, Option, Some, None, refl, ap, ◌∙◌, arith, length-append}
+use Rattle.std.proofs.Common.{◌≡◌, ◌≢◌, ℕ, ◌+◌, ◌*◌, ◌<◌, ◌≤◌, Bool, true, List, [], ◌∷◌, length, drop, nat_eq, Option, Some, None, refl, ap, ◌∙◌, arith, length-append}
 use Rattle.std.specs.Prelude.{codes, ℤ}
 use Rattle.std.specs.Fmt.{signed_decimal}
 use Rattle.std.specs.List.{list_all, starts_with}
 use Rattle.std.proofs.lemmas.Bool.{and_parts, eqb-true, leb-true}
 use Rattle.std.proofs.lemmas.Fmt.{length-decimal-le}
 use Rattle.board_base.specs.Potentials.{Duals}
-use Rattle.board_base.specs.Texts.{capture_text, move_text, promo_text, unmove_text}
-use Rattle.board_base.specs.declared.men.Kind.{Kind}
-use Rattle.board_base.specs.declared.moves.Move.{Move}
+use Rattle.board_base.specs.Texts.{unmove_text}
+use Rattle.board_base.proofs.TextLemmas.{move_short, unmove_short}
 use Rattle.board_base.specs.declared.unmoves.Unmove.{Unmove}
 use Rattle.query_base.specs.Asked.{Asked}
 use Rattle.query_base.specs.declared.claims.Claim.{Claim}
@@ -85,21 +84,6 @@ body_short : (depth : ℕ) (b : BodyLine) → fits_depth depth b ≡ true → nu
 body_short depth (Rule r) fits few = omega (arith, name_short r fits)
 body_short depth (Back k) fits few = omega (arith, length-decimal-le 6 k (omega arith) (omega arith) (omega arith))
 body_short depth (Expand n) fits few = omega (arith, length-decimal-le 6 n (omega arith) (omega arith) (omega arith))
-
-promo_short : (p : Option Kind) → length (promo_text p) ≤ 1
-promo_short None = omega arith
-promo_short (Some k) = omega arith
-
-capture_short : (captured : Option Kind) (ep : Bool) → length (capture_text captured ep) ≤ 2
-capture_short captured true = omega arith
-capture_short None false = omega arith
-capture_short (Some k) false = omega arith
-
-move_short : (m : Move) → length (move_text m) ≤ 5
-move_short m = omega (arith, promo_short m.promo)
-
-unmove_short : (u : Unmove) → length (unmove_text u) ≤ 7
-unmove_short u = omega (arith, length-append (move_text u.mv) (capture_text u.captured u.ep), capture_short u.captured u.ep, move_short u.mv)
 
 claim_short : (claim : Claim) → length (claim_text claim) ≤ 16
 claim_short Illegal = omega arith

@@ -15,7 +15,7 @@ use Rattle.board_base.specs.declared.men.Kind.{Kind}
 use Rattle.board_base.specs.declared.men.Kind.TheVariants.{Pawn, Knight, Bishop, Rook, Queen, King}
 use Rattle.board_base.specs.declared.moves.Move.{Move}
 use Rattle.board_base.specs.declared.unmoves.Unmove.{Unmove}
-use Rattle.board_base.proofs.Equal.{move_is, move_self}
+use Rattle.board_base.proofs.Equal.{move_is, move_self, promo_self}
 use Rattle.general_lemmas.proofs.Lists.{contains-cases, contains-none, filter-contains}
 use Rattle.query_base.specs.Asked.{Asked}
 use Rattle.unmove_gen.specs.Listed.{unmoves}
@@ -25,7 +25,7 @@ use Rattle.unmove_gen.proofs.Spelled.{captures_spelled}
 use Rattle.line_claims.specs.Due.{excluded, is_other, parts_of_steps, siblings}
 use Rattle.line_claims.specs.Listing.{AreListed}
 use Rattle.line_claims.proofs.Listings.{listed-first, listed-rest}
-use Rattle.line_claims.proofs.Others.{kinds_self, truths_self}
+use Rattle.line_claims.proofs.Others.{truths_self}
 
 -- numbers in order
 
@@ -157,7 +157,7 @@ nothing false = refl
 
 no_other : (u : Unmove) → is_other u u ≡ false
 no_other u =
-    ap (λ (b : Bool). is_move (Some u.mv) u.mv && not b) (and_from (same_promo u.captured u.captured) (beq u.ep u.ep) (kinds_self u.captured) (truths_self u.ep))
+    ap (λ (b : Bool). is_move (Some u.mv) u.mv && not b) (and_from (same_promo u.captured u.captured) (beq u.ep u.ep) (promo_self u.captured) (truths_self u.ep))
     ∙ nothing (is_move (Some u.mv) u.mv)
 
 siblings_few : (q : Asked) (u : Unmove) → Contains (unmoves q) u → length (siblings q u) ≤ 6

@@ -16,6 +16,7 @@ use Rattle.board_base.specs.declared.men.Kind.{Kind}
 use Rattle.board_base.specs.declared.men.Kind.TheVariants.{Pawn, Knight, Bishop, Rook, Queen, King}
 use Rattle.board_base.specs.declared.unmoves.Unmove.{Unmove}
 use Rattle.board_base.proofs.OneText.{unmove_read}
+use Rattle.board_base.proofs.TextLemmas.{unmove_short}
 use Rattle.fen_text.specs.Parts.{Free}
 use Rattle.fen_text.proofs.Begun.{begun}
 use Rattle.fen_text.proofs.PartLemmas.{bound_some, free_append, mapped_some, parted_end, parted_known, parted_next}
@@ -222,26 +223,11 @@ after_first us i u is =
 
 -- how long lines are
 
-short_promo : (p : Option Kind) → length (promo_text p) ≤ 1
-short_promo None = omega arith
-short_promo (Some k) = omega arith
-
-short_capture : (captured : Option Kind) (ep : Bool) → length (capture_text captured ep) ≤ 2
-short_capture captured true = omega arith
-short_capture None false = omega arith
-short_capture (Some k) false = omega arith
-
-short_unmove : (u : Unmove) → length (unmove_text u) ≤ 7
-short_unmove u =
-    let promo = short_promo u.mv.promo in
-    let capture = short_capture u.captured u.ep in
-    omega (arith, length-append (move_text u.mv) (capture_text u.captured u.ep), length-append (square_text u.mv.from ++ square_text u.mv.to) (promo_text u.mv.promo))
-
 short_steps : (us : List Unmove) → 1 ≤ length us → length (steps_text us) + 1 ≤ 8 * length us
 short_steps [] some = absurd (omega arith)
-short_steps (u ∷ []) some = let one = short_unmove u in omega arith
+short_steps (u ∷ []) some = let one = unmove_short u in omega arith
 short_steps (u ∷ v ∷ us) some =
-    let one = short_unmove u in
+    let one = unmove_short u in
     let rest = short_steps (v ∷ us) (omega arith) in
     omega (arith, length-append (unmove_text u) (32 ∷ steps_text (v ∷ us)))
 

@@ -7,20 +7,8 @@ use Rattle.board_base.specs.Legal.{is_move, same_promo}
 use Rattle.board_base.specs.declared.men.Kind.{Kind}
 use Rattle.board_base.specs.declared.moves.Move.{Move}
 use Rattle.board_base.specs.declared.unmoves.Unmove.{Unmove}
-use Rattle.board_base.proofs.Equal.{move_is, move_self}
+use Rattle.board_base.proofs.Equal.{move_self, promo_is}
 use Rattle.line_claims.specs.Due.{is_other}
-
--- kinds are compared as promotions are
-as_promoted : Option Kind → Move
-as_promoted k = record { from = 0; to = 0; promo = k }
-
-pub kinds_equal : (a b : Option Kind) → same_promo a b ≡ true → a ≡ b
-unfolding as_promoted
-kinds_equal a b h = ap (λ (m : Move). m.promo) (move_is (as_promoted a) (as_promoted b) h)
-
-pub kinds_self : (a : Option Kind) → same_promo a a ≡ true
-unfolding as_promoted
-kinds_self a = move_self (as_promoted a)
 
 pub truths_equal : (a b : Bool) → beq a b ≡ true → a ≡ b
 truths_equal true true h = refl
@@ -41,6 +29,6 @@ pub same_or_other : (u v : Unmove) → v.mv ≡ u.mv → (v ≡ u) ⊎ (is_other
 same_or_other u v m = elim (cases_Bool (same_promo u.captured v.captured && beq u.ep v.ep)) [
   | inl same ↦
       let parts = and_parts _ _ same in
-      inl (unmoves_equal v u m (sym (kinds_equal _ _ parts.0)) (sym (truths_equal _ _ parts.1)))
+      inl (unmoves_equal v u m (sym (promo_is _ _ parts.0)) (sym (truths_equal _ _ parts.1)))
   | inr differs ↦ inr (and_from _ _ (ap (is_move (Some u.mv)) m ∙ move_self u.mv) (ap not differs))
 ]

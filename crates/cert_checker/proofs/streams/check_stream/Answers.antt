@@ -1,7 +1,8 @@
 use Rattle.std.proofs.Common.{◌≡◌, ℕ, take, arith}
 use Rattle.std.proofs.lemmas.List.{length-take}
 use Rattle.cert_text.specs.Lines.{cut}
-use Rattle.cert_checker.proofs.Feeding.{read_past, streamed_holds}
+use Rattle.cert_checker.proofs.Feeding.{streamed_holds}
+use Rattle.retro_ports.proofs.Loops.{read_past}
 use Rattle.cert_checker.proofs.streams.check_stream.Goals as goal
 
 pub returns-in-Ok-clause-too_long : goal.returns-in-Ok-clause-too_long
