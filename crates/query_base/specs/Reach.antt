@@ -16,10 +16,11 @@ use Rattle.query_base.specs.declared.claims.Claim.TheVariants.{Illegal, Last, Lo
 abbrev pub EndsWith : List Move → Move → Type 0
 EndsWith g m = last_move g ≡ Some m
 
--- The game begins from the array without the men on the squares of the query's odds, homes of men who may be left out. It ends with the query's board and side to move. The king and the rook of each castling
--- that is held have not moved (article 3.8.2.1), and the rook was not captured. If a last move is demanded, the game ends with it,
--- and a pawn stands on its target; if a move is barred, the game has no move or ends with another. If a clock is
--- demanded, so many moves were made since the last of a pawn or with a capture (article 9.3).
+-- The game begins from the array without the men on the squares of the query's odds, homes of men who may be left out. It
+-- ends with the query's board and side to move. The king and the rook of each castling that is held have not moved
+-- (article 3.8.2.1), and the rook was not captured. If a last move is demanded, the game ends with it, and a pawn stands on
+-- its target; if a move is barred, the game has no move or ends with another. If a clock is demanded, so many moves were
+-- made since the last of a pawn or with a capture (article 9.3).
 pub record Reaches (g : List Move) (q : Asked) : Type 0 where
   pub odds : AreOdds q.odds
   pub game : IsGame q.odds g

@@ -8,8 +8,8 @@ pub enum Claim {
     Illegal,
     /// The game ends with this move. A game that reaches the query and ends with another move, or has no move, contradicts it.
     Last(Move),
-    /// The right to this castling is lost: its king or its rook has moved (article 3.8.2.1), or that rook has been captured. A
-    /// game that reaches the query with both of them unmoved contradicts it.
+    /// The right to this castling is lost: its king or its rook has moved (article 3.8.2.1), or that rook has been captured or
+    /// was left out by the odds. A game that reaches the query with both of them unmoved contradicts it.
     Lost(Castle),
     /// After the game this move is a legal capture en passant (article 3.7.3). A game that reaches the query and after which it
     /// isn't, contradicts it.

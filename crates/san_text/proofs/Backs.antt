@@ -1,10 +1,11 @@
 -- The text of what is said of a move is read as that.
-use Rattle.std.proofs.Common.{◌≡◌, ◌<◌, ◌+◌, ◌-◌, ◌*◌, ◌/◌, ◌%◌, ◌==◌, ℕ, Bool, true, false, cond, ◌&&◌, List, [], ◌∷◌, ◌++◌, refl, ap, ◌∙◌, arith, option_map}
+use Rattle.std.proofs.Common.{◌≡◌, ◌<◌, ◌+◌, ◌-◌, ◌/◌, ◌%◌, ◌==◌, ℕ, Bool, true, false, cond, ◌&&◌, List, [], ◌∷◌, ◌++◌, refl, ap, ◌∙◌, arith, option_map}
 use Rattle.std.proofs.lemmas.Bool.{and_from, le-leb, cond-true, cond-false, false_from_ne_true, leb-true, eqb-true}
 use Rattle.std.specs.Prelude.{Option, Some, None, nat_le, is_some}
 use Rattle.board_base.specs.Texts.{◌>>=◌, square_at, square_text}
 use Rattle.board_base.specs.declared.men.Kind.{Kind}
 use Rattle.board_base.specs.declared.men.Kind.TheVariants.{Pawn, Knight, Bishop, Rook, Queen, King}
+use Rattle.board_base.proofs.TextLemmas.{square_back}
 use Rattle.san_text.specs.Forms.{CanBecome}
 use Rattle.san_text.specs.Grammar.{is_end, target_of, file_of, rank_of, first, after, file_head, after_file, rank_head, after_rank, takes_head, after_takes, piece_goes, piece_of, piece_letter, promotion_of, pawn_goes, pawn_end, pawn_of, man_of, san_of}
 use Rattle.san_text.specs.Spelling.{capital, file_text, rank_text, takes_text, promotion_text, said_text}
@@ -54,12 +55,6 @@ file_no_rank f = cond-false _ _ None (and_no _ _ (high (97 + f) 56 (omega arith)
 
 rank_no_file : (r : ℕ) → r < 8 → file_of (49 + r) ≡ None
 rank_no_file r low = cond-false _ _ None (no_and _ _ (high 97 (49 + r) (omega arith)))
-
-square_back : (s : ℕ) → s < 64 → square_at (97 + s % 8) (49 + s / 8) ≡ Some s
-square_back s low =
-    let low_rank : s / 8 < 8 = omega arith in
-    cond-true _ (Some (8 * (49 + s / 8 - 49) + (97 + s % 8 - 97))) None (and_from _ _ (and_from _ _ (and_from _ _ (le-leb 97 (97 + s % 8) (omega arith)) (le-leb (97 + s % 8) 104 (omega arith))) (le-leb 49 (49 + s / 8) (omega arith))) (le-leb (49 + s / 8) 56 (omega arith)))
-    ∙ ap (λ (n : ℕ). Some n) (let e : 8 * (49 + s / 8 - 49) + (97 + s % 8 - 97) ≡ s = omega arith in e)
 
 -- two letters are no square
 two_letters : (a f : ℕ) → square_at a (97 + f) ≡ None

@@ -1,15 +1,15 @@
 -- What a text fits is the candidate from its square.
-use Rattle.std.proofs.Common.{◌≡◌, ◌<◌, ℕ, ◌==◌, Bool, true, false, ◌&&◌, not, length, refl, sym, ap}
+use Rattle.std.proofs.Common.{◌≡◌, ◌<◌, ℕ, ◌==◌, Bool, true, false, ◌&&◌, not, length, refl, sym}
 use Rattle.std.proofs.lemmas.Bool.{and_parts, eqb-true}
 use Rattle.std.specs.Prelude.{Option, Some, None}
 use Rattle.board_base.specs.Board.{at, is_a, is_of, rank}
-use Rattle.board_base.specs.Legal.{promotion_fits, same_promo, is_officer, last_rank}
+use Rattle.board_base.specs.Legal.{promotion_fits, is_officer, last_rank}
 use Rattle.board_base.specs.declared.men.Kind.{Kind}
 use Rattle.board_base.specs.declared.men.Kind.TheVariants.{Pawn, King}
 use Rattle.board_base.specs.declared.moves.Move.{Move}
 use Rattle.board_base.specs.declared.castles.Castle.{Castle}
-use Rattle.board_base.proofs.Equal.{moves_equal}
-use Rattle.board_base.proofs.KindsOfMen.{kind_is, another_kind}
+use Rattle.board_base.proofs.Equal.{moves_equal, promo_is}
+use Rattle.board_base.proofs.KindsOfMen.{another_kind}
 use Rattle.play_rules.specs.States.{Position, legal_at}
 use Rattle.play_rules.specs.Listed.{move_of}
 use Rattle.play_rules.proofs.Legality.{legality}
@@ -20,12 +20,6 @@ use Rattle.san_text.specs.Fits.{fits, castles_by, short_of, long_of}
 use Rattle.san_text.specs.declared.grammar.San.{San}
 use Rattle.san_text.specs.declared.grammar.San.TheVariants.{Short, Long, Goes}
 use Rattle.san_text.proofs.Search.{AreCandidates}
-
-pub promo_is : (a b : Option Kind) → same_promo a b ≡ true → a ≡ b
-promo_is None None h = refl
-promo_is (Some j) (Some k) h = ap (λ (i : Kind). Some i) (kind_is j k h)
-promo_is None (Some k) h = cc
-promo_is (Some k) None h = cc
 
 -- a man that is no pawn isn't promoted
 pub no_pawn : (promo : Option Kind) (pawn reaches : Bool) → pawn ≡ false → elim promo as (λ _. Bool) [ None ↦ not (pawn && reaches) | Some k ↦ pawn && reaches && is_officer k ] ≡ true → promo ≡ None

@@ -14,6 +14,7 @@ use Rattle.board_base.specs.declared.men.Kind.TheVariants.{Pawn, Knight, Bishop,
 use Rattle.board_base.specs.declared.moves.Move.{Move}
 use Rattle.board_base.specs.declared.castles.Castle.{Castle}
 use Rattle.board_base.specs.declared.castles.Castle.TheVariants.{WhiteShort, WhiteLong, BlackShort, BlackLong}
+use Rattle.board_base.proofs.Equal.{promo_is}
 use Rattle.board_base.proofs.KindsOfMen.{same_kind-self}
 use Rattle.play_rules.specs.States.{Position, legal_at}
 use Rattle.play_rules.specs.Listed.{move_of}
@@ -21,7 +22,7 @@ use Rattle.play_rules.proofs.Legality.{legality}
 use Rattle.play_rules.proofs.Kings.{Ends, castle-ends, two-castles}
 use Rattle.san_text.specs.Fits.{fits, agrees, castles_by, short_of, long_of, allows, same_truth, captures, IsOnly}
 use Rattle.san_text.specs.Spelling.{named, named_as, named_castle, kind_of, kind_at, origin_of, is_rival}
-use Rattle.san_text.proofs.Candidates.{made_of, castled, from_inside, promo_is}
+use Rattle.san_text.proofs.Candidates.{made_of, castled, from_inside}
 use Rattle.san_text.proofs.Pawns.{way_of, one_pawn}
 use Rattle.san_text.proofs.Rivals.{piece_alone, origin_allows}
 

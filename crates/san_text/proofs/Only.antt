@@ -20,6 +20,7 @@ use Rattle.san_text.specs.declared.reading.SanFault.TheVariants as fault
 use Rattle.san_text.specs.declared.games.SanGameFault.{SanGameFault}
 use Rattle.san_text.specs.declared.games.SanGameFault.TheVariants.{BadText, NoMove, Many, Memory}
 use Rattle.san_text.specs.declared.words.Word.{Word}
+use Rattle.san_text.proofs.Written.{position_of, rights_of}
 
 same_told : {A : Type 0} (xs ys : List A) → map (λ x. Some x) xs ≡ map (λ x. Some x) ys → xs ≡ ys
 same_told {A} [] [] e = refl
@@ -89,12 +90,6 @@ no_fault p text g (Many n) tells is =
     let same : tells.said ≡ is.said = one_said _ tells.said is.said tells.says is.says in
     absurd (never_first fault.Many p is.said n g tells.played.end is.first (subst (λ (l : List San). LeadTo p l g tells.played.end) same tells.played.leads))
 no_fault p text g Memory tells is = refl
-
-abbrev rights_of : Bool → Bool → Bool → Bool → Rights
-rights_of a b c d = record { white_short = a; white_long = b; black_short = c; black_long = d }
-
-abbrev position_of : Places → Colour → Rights → Option ℕ → ℕ → Position
-position_of board turn rights ep clock = record { board = board; turn = turn; rights = rights; ep = ep; clock = clock }
 
 same_rights : (r s : Rights) → ((x : _) → holds r x ≡ holds s x) → r ≡ s
 same_rights r s same =

@@ -48,10 +48,10 @@ pub named_small : (p : Position) (m : Move) → m.from < 64 → IsSmallSaid (nam
 unfolding named
 named_small p m low = named_as_small (castling p.board m) p m low
 
-abbrev rights_of : Bool → Bool → Bool → Bool → Rights
+abbrev pub rights_of : Bool → Bool → Bool → Bool → Rights
 rights_of a b c d = record { white_short = a; white_long = b; black_short = c; black_long = d }
 
-abbrev position_of : Places → Colour → Rights → Option ℕ → ℕ → Position
+abbrev pub position_of : Places → Colour → Rights → Option ℕ → ℕ → Position
 position_of board turn rights ep clock = record { board = board; turn = turn; rights = rights; ep = ep; clock = clock }
 
 -- the state that follows a move

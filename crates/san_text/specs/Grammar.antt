@@ -41,6 +41,7 @@ after (Some x) (b ∷ rest) = rest
 abbrev pub file_head : List ℕ → Option ℕ
 file_head text = cond (is_some (target_of text)) None (first file_of text)
 
+-- what follows the file with which a text begins, if one does
 abbrev pub after_file : List ℕ → List ℕ
 after_file text = after (file_head text) text
 
@@ -48,6 +49,7 @@ after_file text = after (file_head text) text
 abbrev pub rank_head : List ℕ → Option ℕ
 rank_head text = first rank_of text
 
+-- what follows the rank with which a text begins, if one does
 abbrev pub after_rank : List ℕ → List ℕ
 after_rank text = after (rank_head text) text
 
@@ -56,6 +58,7 @@ abbrev pub takes_head : List ℕ → Bool
 takes_head [] = false
 takes_head (b ∷ rest) = b == 120
 
+-- what follows the x with which a text begins, if one does
 abbrev pub after_takes : List ℕ → List ℕ
 after_takes [] = []
 after_takes (b ∷ rest) = cond (b == 120) rest (b ∷ rest)

@@ -103,6 +103,7 @@ abbrev pub kind_of : Option Man → Kind
 kind_of None = Pawn
 kind_of (Some m) = m.kind
 
+-- the kind of the man on a square of a board
 abbrev pub kind_at : Places → ℕ → Kind
 kind_at board s = kind_of (at board s)
 
@@ -117,6 +118,7 @@ named_castle BlackLong = Long
 abbrev pub named_from : Position → Kind → Option ℕ × Option ℕ → Move → San
 named_from p k from m = Goes (record { kind = k; file = from.0; rank = from.1; takes = captures p.board m; to = m.to; promo = m.promo })
 
+-- what is said of a move of a man of this kind, with as much of its origin as tells it from its rivals
 abbrev pub named_kind : Position → Kind → Move → San
 named_kind p k m = named_from p k (origin_of p k m) m
 
@@ -124,6 +126,7 @@ named_kind p k m = named_from p k (origin_of p k m) m
 abbrev pub named_going : Position → Move → San
 named_going p m = named_kind p (kind_at p.board m.from) m
 
+-- what is said of a move: its castling, if it is one, and else who goes where
 abbrev pub named_as : Option Castle → Position → Move → San
 named_as None p m = named_going p m
 named_as (Some x) p m = named_castle x

@@ -8,6 +8,7 @@ use Rattle.san_text.specs.declared.grammar.San.{San}
 use Rattle.san_text.specs.declared.words.Word.{Word}
 use Rattle.san_text.specs.declared.words.Word.TheVariants.{Number, Move}
 
+-- the byte of a digit 0 to 9
 abbrev pub is_digit : ℕ → Bool
 is_digit b = nat_le 48 b && nat_le b 57
 
