@@ -1,11 +1,10 @@
 -- The first bytes of a source, as they are read.
-use Rattle.std.proofs.Common.{◌≡◌, ℕ, zero, suc, ◌+◌, ◌-◌, ◌≤◌, List, [], ◌∷◌, ◌++◌, length, take, sym, ap, ◌∙◌, subst, arith, length-append, take_all, inl, inr}
+use Rattle.std.proofs.Common.{◌≡◌, ℕ, zero, suc, ◌+◌, ◌-◌, ◌≤◌, List, [], ◌∷◌, ◌++◌, length, take, sym, ap, ◌∙◌, arith, length-append, take_all, inl, inr}
 use Rattle.std.specs.Prelude.{Option, min}
 use Rattle.std.specs.Io.KnownBytes.{Consumes}
 use Rattle.std.proofs.KnownBytes.{Consumes-trans}
 use Rattle.std.proofs.lemmas.List.{length-take-le, take-append-le, take-take}
 use Rattle.std.proofs.lemmas.Bool.{cases_lt}
-use Rattle.retro_ports.specs.Ends.{ReadSome}
 
 -- as many bytes as there is room for
 take_room : (room : ℕ) (front piece : List ℕ) → length front ≤ room → take room (front ++ piece) ≡ front ++ take (room - length front) piece
@@ -45,11 +44,6 @@ pub record FrontSoFar (before now : Option (List ℕ)) (faults_before faults_now
   pub read : Consumes before now bytes
   pub kept : front ≡ take 512 bytes
   pub no_fault : faults_now ≡ faults_before
-
--- one more read, of which nothing is kept
-pub read_past : (a b c : Option (List ℕ)) (bytes more : List ℕ) (P : ℕ → Type 0) → Consumes a b bytes → Consumes b c more → P (length bytes + length more) → ReadSome a c P
-read_past a b c bytes more P so-far read count =
-    (bytes ++ more, Consumes-trans a b c bytes more so-far read, subst P (sym (length-append bytes more)) count)
 
 -- a piece more
 pub front_next : (a b c : Option (List ℕ)) (f g h fed n : ℕ) (front new piece : List ℕ) → FrontSoFar a b f g fed front → Consumes b c piece → h ≡ g → n ≡ length piece → fed + n ≤ 67108864 → new ≡ take 512 (front ++ piece) → FrontSoFar a c f h (fed + n) new

@@ -18,5 +18,5 @@ mod LineSizes
 mod FrontReads
 mod Answering
 mod Written
-mod Longer
+pub mod Longer
 mod OneLength

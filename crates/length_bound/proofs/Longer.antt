@@ -1,14 +1,16 @@
 -- The side whose men show a query's games to be longer.
-use Rattle.std.proofs.Common.{◌≡◌, ℕ, ◌-◌, ◌<◌, ◌≤◌, Bool, true, false, cond, length, inl, inr, refl, sym, ap, ◌∙◌, nat_le, nat_lt}
+use Rattle.std.proofs.Common.{◌≡◌, ℕ, ◌-◌, ◌<◌, ◌≤◌, Bool, true, false, cond, length, inl, inr, refl, sym, ap, ◌∙◌, subst, arith, nat_le, nat_lt}
 use Rattle.std.specs.Prelude.{List, Option, Some, None, IfSome, IsNone, MatchOption, ◌↔◌, ℤ, pos, ◌+ℤ◌}
 use Rattle.std.specs.Option.{option_map}
 use Rattle.std.proofs.lemmas.Bool.{cases_lt, cond-true, cond-false, le-leb, lt-leb}
+use Rattle.std.proofs.lemmas.Option.{same_Some}
 use Rattle.board_base.specs.declared.men.Colour.{Colour}
 use Rattle.board_base.specs.declared.men.Colour.TheVariants.{White, Black}
 use Rattle.assignment.specs.Assignments.{least_cost, total}
 use Rattle.query_base.specs.Asked.{Asked}
 use Rattle.length_bound.specs.SideBounds.{at_least_0, holds_some, length_with, men_squares, move_costs, moves_shown}
 use Rattle.length_bound.specs.Longest.{IsBest, longer_side, side_length}
+use Rattle.length_bound.specs.LengthAnswers.{IsShown}
 use Rattle.length_bound.specs.LongerTexts.{IsBestOf, longer_text}
 use Rattle.length_bound.specs.declared.texts.LengthText.{LengthText}
 
@@ -32,6 +34,33 @@ some_shown c q u v n few sum is =
     let low : length (men_squares c q.board) ≤ 16 = elim (cases_lt 16 (length (men_squares c q.board))) [ inl many ↦ absurd (few many) | inr low ↦ low ] in
     cond-true (nat_le (length (men_squares c q.board)) 16) _ None (le-leb (length (men_squares c q.board)) 16 low)
     ∙ ap (λ (k : ℕ). Some k) (sym (is ∙ ap (λ (s : ℤ). length_with c q.turn (at_least_0 s - cond (holds_some c q.held) 0 2)) sum))
+
+-- a side of which some length is shown
+pub some_men : (c : Colour) (q : Asked) (n : ℕ) → side_length c q ≡ Some n → length (men_squares c q.board) ≤ 16
+some_men c q n some = elim (cases_lt 16 (length (men_squares c q.board))) [
+  | inl many ↦ absurd (let none = sym (none_shown c q many) ∙ some in cc)
+  | inr few ↦ few
+]
+
+-- what the length is of which a side shows some
+length_shown : (c : Colour) (q : Asked) (n : ℕ) → side_length c q ≡ Some n → n ≡ length_with c q.turn (least_cost 16 (move_costs q.odds c q.board) - cond (holds_some c q.held) 0 2)
+unfolding side_length
+length_shown c q n some = elim (cases_lt 16 (length (men_squares c q.board))) [
+  | inl many ↦ absurd (let none = sym (cond-false (nat_le (length (men_squares c q.board)) 16) _ None (lt-leb (length (men_squares c q.board)) 16 many)) ∙ some in cc)
+  | inr few ↦ same_Some _ _ (sym some ∙ cond-true (nat_le (length (men_squares c q.board)) 16) _ None (le-leb (length (men_squares c q.board)) 16 few))
+]
+
+-- potentials with the greatest sum show the length that they are best for
+pub best-shown : (q : Asked) (text : LengthText) → IsBest q text → IsShown text
+best-shown q text best = subst (λ (r : Asked). IsShown (record text { query = r })) (sym best.query) (record {
+  bound = best.bound;
+  long =
+      let sum : moves_shown text.side q.held text.potentials.u text.potentials.v ≡ least_cost 16 (move_costs q.odds text.side q.board) - cond (holds_some text.side q.held) 0 2 =
+      ap (λ (s : ℤ). at_least_0 s - cond (holds_some text.side q.held) 0 2) best.greatest in
+      let same : text.at_least ≡ length_with text.side q.turn (moves_shown text.side q.held text.potentials.u text.potentials.v) =
+      length_shown text.side q text.at_least best.at_least ∙ ap (length_with text.side q.turn) (sym sum) in
+      omega (arith, same);
+})
 
 -- of one side or of both
 

@@ -1,5 +1,5 @@
 -- What is said has one text, a text says one thing, and there is one answer to it.
-use Rattle.std.proofs.Common.{◌≡◌, ℕ, Bool, List, [], ◌∷◌, ◌++◌, length, Some, refl, sym, ap, ◌∙◌, subst, arith}
+use Rattle.std.proofs.Common.{◌≡◌, ℕ, Bool, List, [], ◌∷◌, ◌++◌, length, Some, None, refl, sym, ap, ◌∙◌, subst, arith}
 use Rattle.std.proofs.lemmas.Option.{same_Some}
 use Rattle.board_base.specs.Board.{no_odds}
 use Rattle.board_base.specs.Potentials.{Duals}
@@ -85,6 +85,10 @@ one_said lines s t p q =
     let number : s.at_least ≡ t.at_least = same_Some s.at_least t.at_least (sym p.at_least ∙ ap (said at_least_of) same.second ∙ q.at_least) in
     let shown : (s.side, s.potentials) ≡ (t.side, t.potentials) = same_Some (s.side, s.potentials) (t.side, t.potentials) (sym p.moves ∙ ap (said shown_by) same.third ∙ q.moves) in
     λ i. record { query = query i; at_least = number i; side = (shown i).0; potentials = (shown i).1 }
+
+-- FEN has no word for a barred move
+pub no_bar : (lines : Lines) (text : LengthText) → AreLengthLines lines text → text.query.barred ≡ None
+no_bar lines text p = (query_read p.fen_line (record text.query { odds = no_odds }) p.query).plain
 
 -- one answer
 

@@ -23,7 +23,7 @@ pub use costs::move_cost;
 pub use laws::{games_are_long, men_need_moves, steps_add_one};
 pub use lengths::{best, length_of};
 pub use man_potentials::ManPotentials;
-pub use text_laws::{one_length_answer, one_length_text_each};
+pub use text_laws::{one_length_answer, one_length_text_each, shown_lengths_hold};
 pub use texts::LengthText;
 pub use walks::steps;
 pub use writing::write_length;

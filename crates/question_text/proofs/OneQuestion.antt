@@ -9,6 +9,7 @@ use Rattle.fen_text.specs.Ranks.{rank}
 use Rattle.fen_text.specs.Fen.{fen, placement, ranks}
 use Rattle.question_text.specs.InputLines.{first_line}
 use Rattle.question_text.specs.Questions.{Agree, Asks, AsksAlone, HasBadLine, IsNoLoneQuestion, IsNoQuestion, from_fen}
+use Rattle.question_text.specs.Positions.{AsksWithoutClock, IsLonePosition, IsNoLonePosition}
 use Rattle.question_text.specs.declared.faults.InputFault.{InputFault}
 use Rattle.question_text.specs.declared.faults.InputFault.TheVariants.{BadLine, BadFen}
 
@@ -54,3 +55,15 @@ pub alone-some : (input : List ℕ) (q : Asked) (why : InputFault) → AsksAlone
 alone-some input q (BadLine n) alone (inl bad) = bad-line input q n alone.begins bad
 alone-some input q (BadLine n) alone (inr more) = more.2 alone.no_more
 alone-some input q (BadFen fault) alone none = bad-fen input q alone.begins none.is_fault.place.unknown
+
+-- what an input without a clock asks is one query, or none
+
+pub position-one : (input : List ℕ) (q r : Asked) → AsksWithoutClock input q → AsksWithoutClock input r → q ≡ r
+position-one input q r a b =
+    same-demands q r (same_Some _ _ (sym a.odds ∙ b.odds)) (a.clock ∙ sym b.clock) (ap (λ (x : Position). x.0) (same_Some _ _ (sym a.position ∙ b.position)))
+
+pub position-some : (input : List ℕ) (q : Asked) (why : InputFault) → IsLonePosition input q → IsNoLonePosition input why → ⊥
+position-some input q (BadLine n) alone (inl bad) = never q.odds (sym bad.0 ∙ alone.begins.odds)
+position-some input q (BadLine n) alone (inr (inl none)) = never _ (sym no-line ∙ ap (λ (l : List ℕ). fen (first_line l)) (sym none.2) ∙ alone.begins.position)
+position-some input q (BadLine n) alone (inr (inr more)) = more.2 alone.no_more
+position-some input q (BadFen fault) alone none = never _ (sym none.is_fault.place.unknown ∙ alone.begins.position)

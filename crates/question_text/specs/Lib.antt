@@ -1,3 +1,4 @@
 pub mod InputLines
 pub mod Questions
+pub mod Positions
 pub mod Heads

@@ -3,8 +3,10 @@
 
 mod faults;
 mod input_lines;
+mod positions;
 mod questions;
 
 pub use faults::InputFault;
 pub use input_lines::split_first_line;
+pub use positions::read_lone_position;
 pub use questions::{Question, read_lone_question, read_question};

@@ -35,7 +35,7 @@ fn begins_as_clock(line: &[u8]) -> bool
 
 /// The odds that the input's first line names, how many lines that takes, and what follows; None where the line that begins with
 /// `odds ` is no odds line.
-fn take_odds(input: &[u8]) -> Option<(Odds, u32, &[u8])>
+pub(crate) fn take_odds(input: &[u8]) -> Option<(Odds, u32, &[u8])>
     ensures odds { MatchOption result (odds_named input.now ≡ None) (λ front. odds_named input.now ≡ Some front.0) }
     ensures lines { IfSome result (λ front. front.1 ≡ before_clock input.now) }
     ensures rest { IfSome result (λ front. front.2.now ≡ after_odds input.now) }
@@ -93,7 +93,7 @@ fn demanding(query: Query, odds: Odds, clock: Option<u16>) -> Query
 
 /// The query of the input's first line, a FEN of four or six fields, at these odds and with this clock, and what follows it. So many
 /// lines stand before it.
-fn read_position(
+pub(crate) fn read_position(
     odds: Odds,
     clock: Option<u16>,
     before: u32,

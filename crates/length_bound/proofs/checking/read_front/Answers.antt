@@ -1,6 +1,7 @@
 use Rattle.std.proofs.Common.{◌≡◌, ◌++◌, ℕ, List, take, drop, ap, ◌∙◌, arith}
 use Rattle.std.proofs.lemmas.List.{length-take, take-append-le}
-use Rattle.length_bound.proofs.FrontReads.{front_next, read_past}
+use Rattle.length_bound.proofs.FrontReads.{front_next}
+use Rattle.retro_ports.proofs.Loops.{read_past}
 use Rattle.length_bound.proofs.checking.read_front.Goals as goal
 
 pub returns-in-Ok-clause-too_long : goal.returns-in-Ok-clause-too_long
