@@ -1,0 +1,4 @@
+pub mod DossierAnswers
+pub mod DossierReading
+pub mod Remaining
+pub mod StageAnswers

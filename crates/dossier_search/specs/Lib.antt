@@ -1,0 +1,4 @@
+pub mod ReachedParts
+pub mod Answers
+pub mod PartAnswers
+pub mod Begun

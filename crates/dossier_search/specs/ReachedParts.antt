@@ -1,0 +1,45 @@
+-- A part that a search comes to, since each part before it is refutable.
+use Rattle.std.specs.Prelude.{ℕ, ◌+◌, ◌≡◌, ◌<◌, List, [], ◌∷◌, ◌++◌, length}
+use Rattle.std.specs.List.{All}
+use Rattle.query_base.specs.Asked.{Asked}
+use Rattle.query_base.specs.Targets.{target}
+use Rattle.query_base.specs.declared.claims.Claim.{Claim}
+use Rattle.line_claims.specs.Due.{parts_due}
+use Rattle.line_claims.specs.Listing.{HasParts}
+use Rattle.line_claims.specs.declared.claims.LineClaim.{LineClaim}
+use Rattle.retro_search.specs.Costs.{IsCost}
+use Rattle.retro_search.specs.Lone.{IsLoneSearch, IsMemoCost}
+use Rattle.retro_search.specs.Refutable.{IsRefutable}
+
+-- what a game reaches exactly where it contradicts the part
+abbrev pub part_target : Claim × Asked → Asked
+part_target part = target part.1 part.0
+
+-- the part's target is refutable at the depth
+abbrev pub IsPartRefutable : ℕ → Claim × Asked → Type 0
+IsPartRefutable depth part = IsRefutable (part_target part) depth []
+
+-- The part with this number, counted from 1, is as P says, and each part before it is refutable at the depth.
+pub record IsReachedPart (depth : ℕ) (P : Claim × Asked → Type 0) (claim : LineClaim) (q : Asked) (number : ℕ) : Type 0 where
+  pub before : List (Claim × Asked)
+  pub part : Claim × Asked
+  pub after : List (Claim × Asked)
+  pub listed : HasParts claim q
+  pub whole : parts_due claim q ≡ before ++ part ∷ after
+  pub place : number ≡ length before + 1
+  pub refuted : All (IsPartRefutable depth) before
+  pub here : P part
+
+-- the part with this number is the first that isn't refutable at the depth
+abbrev pub IsFirstOpenPart : ℕ → LineClaim → Asked → ℕ → Type 0
+IsFirstOpenPart depth claim q number = IsReachedPart depth (λ part. IsPartRefutable depth part → ⊥) claim q number
+
+-- The part costs more than so many nodes; and where its target is refutable, no query of its tree is covered by one above it, and
+-- its cost isn't large, so does it with refutations kept.
+pub record IsDear (depth nodes : ℕ) (part : Claim × Asked) : Type 0 where
+  pub cost : (n : ℕ) → IsCost (part_target part) depth [] n → nodes < n
+  pub memo_cost : (n k : ℕ) → IsLoneSearch (part_target part) depth n → IsMemoCost (part_target part) depth k → nodes < k
+
+-- the part with this number is dear, and each part before it is refutable at the depth
+abbrev pub IsDearPart : ℕ → ℕ → LineClaim → Asked → ℕ → Type 0
+IsDearPart depth nodes claim q number = IsReachedPart depth (IsDear depth nodes) claim q number

@@ -1,0 +1,12 @@
+/// What a search for a dossier comes to. Steps and parts are counted from 1.
+#[derive(Drop)]
+pub enum Dossier {
+    /// The text of the dossier, which proves the claim.
+    Written(Vec<u8>),
+    /// This step is the first that isn't listed, so no parts are due.
+    Unlisted { step: u8 },
+    /// The target of this part isn't refutable at the depth; each part before it is proved.
+    Undecided { part: u32 },
+    /// The search of this part visited as many queries as it was allowed to, and its target costs more; each part before it is proved.
+    Spent { part: u32 },
+}

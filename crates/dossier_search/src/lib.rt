@@ -1,0 +1,10 @@
+//! A bounded search for dossiers: each part due of a claim of several steps is proved by a certificate, or the first that isn't is
+//! named.
+#![tactic(auto)]
+
+mod dossiers;
+mod lines;
+mod parts;
+
+pub use dossiers::Dossier;
+pub use lines::solve_line;

@@ -1,0 +1,7 @@
+mod Examples
+pub mod CountTexts
+pub mod HeadTexts
+pub mod HeadReads
+pub mod OneHead
+pub mod PartTexts
+pub mod Proofs

@@ -1,0 +1,3 @@
+pub mod Dossiers
+pub mod Proving
+pub mod HeadReading
