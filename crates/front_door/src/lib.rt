@@ -54,6 +54,10 @@ const USAGE: &str = "usage:
   retractor solve DEPTH NODES < CLAIM-AND-FEN  a certificate of the claim, or a game against it
   retractor verdict DEPTH NODES < FEN          what the conventions say of castling and en passant
   retractor tree DEPTH NODES < FEN             the moves that may lead to the position, as a tree
+  retractor length < FEN                       how many half-moves each game to the position has at least
+  retractor atleast < LENGTH                   whether the text of a length shows it
+  retractor line < DOSSIER                     whether the dossier proves its claim of several steps
+  retractor dossier DEPTH NODES < CLAIM-AND-FEN  a dossier of the claim of several steps
   retractor sample START GAMES PLIES           what is counted of games that are made from a number";
 
 /// What a user is told where no answer, or a part of one, was written.

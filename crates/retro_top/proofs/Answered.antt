@@ -12,15 +12,26 @@ use Rattle.retro_top.specs.Plays.{AnswersEnd, AnswersGame, AnswersMoves}
 use Rattle.retro_top.specs.Sans.{AnswersSanGame}
 use Rattle.retro_top.specs.Spells.{AnswersSpelling}
 use Rattle.codex_verdict.specs.declared.kinds.Right.{Right}
-use Rattle.question_text.specs.Questions.{after_question}
-use Rattle.retro_top.specs.Questions.{AnswersAlone}
+use Rattle.line_claims.specs.declared.claims.LineClaim.{LineClaim}
+use Rattle.dossier_checker.specs.DossierAnswers.{DossierAnswer}
+use Rattle.dossier_checker.specs.DossierAnswers as dossiers
+use Rattle.length_bound.specs.LengthAnswers.{LengthAnswer}
+use Rattle.length_bound.specs.LengthAnswers as bounds
+use Rattle.question_text.specs.Positions.{IsLonePosition, IsNoLonePosition}
+use Rattle.question_text.specs.Questions.{AsksAlone, IsNoLoneQuestion, after_question}
+use Rattle.question_text.specs.declared.faults.InputFault.{InputFault}
+use Rattle.retro_top.specs.AtLeasts.{TellsBound}
+use Rattle.retro_top.specs.Dossiers.{AnswersLineClaim}
+use Rattle.retro_top.specs.LineChecks.{TellsDossier}
+use Rattle.retro_top.specs.Lengths.{AnswersLengthOf}
+use Rattle.retro_top.specs.Questions.{AnswersOne}
 use Rattle.retro_top.specs.Solves.{AnswersClaim}
 use Rattle.retro_top.specs.Retractions.{ListsUnmoves}
 use Rattle.retro_top.specs.Statuses.{IsAnswer}
 use Rattle.retro_top.specs.Trees.{AnswersTreeOf}
 use Rattle.retro_top.specs.Verdicts.{AnswersPosition, AnswersRights}
 use Rattle.retro_top.specs.declared.commands.Command.{Command}
-use Rattle.retro_top.specs.declared.commands.Command.TheVariants.{Check, Play, San, Spell, Unmoves, Solve, Verdict, Tree, Sample}
+use Rattle.retro_top.specs.declared.commands.Command.TheVariants.{Check, Play, San, Spell, Unmoves, Solve, Verdict, Tree, Length, AtLeast, Line, Dossier, Sample}
 use Rattle.retro_top.specs.declared.statuses.Status.{Status}
 use Rattle.retro_top.specs.declared.statuses.Status.TheVariants.{Done, Refused, Undecided, Spent, Countered, BadInput}
 
@@ -77,8 +88,34 @@ tree-answered depth nodes q Done text answers = tt
 tree-answered depth nodes q Spent text answers = tt
 tree-answered depth nodes q _ text answers = absurd answers
 
-alone-answered : (Said : Asked → Status → List ℕ → Type 0) → ((q : Asked) (ending : Status) (text : List ℕ) → Said q ending text → IsAnswer ending) → (input : List ℕ) (ending : Status) (text : List ℕ) → AnswersAlone Said input ending text → IsAnswer ending
-alone-answered Said law input ending text answers = elim answers [
+length-answered : (q : Asked) (ending : Status) (text : List ℕ) → AnswersLengthOf q ending text → IsAnswer ending
+length-answered q Done text answers = tt
+length-answered q Undecided text answers = tt
+length-answered q _ text answers = absurd answers
+
+bound-answered : (answer : LengthAnswer) (ending : Status) (text : List ℕ) → TellsBound answer ending text → IsAnswer ending
+bound-answered (bounds.at_least n q) ending text tells = as-answer Done ending tells.0 tt
+bound-answered (bounds.bad_text n) ending text tells = as-answer Refused ending tells.0 tt
+bound-answered bounds.unsupported ending text tells = as-answer Refused ending tells.0 tt
+
+dossier-answered : (answer : DossierAnswer) (ending : Status) (text : List ℕ) → TellsDossier answer ending text → IsAnswer ending
+dossier-answered dossiers.no_head ending text tells = as-answer Refused ending tells.0 tt
+dossier-answered (dossiers.unlisted_step i) ending text tells = as-answer Refused ending tells.0 tt
+dossier-answered (dossiers.no_part p) ending text tells = as-answer Refused ending tells.0 tt
+dossier-answered (dossiers.bad_text_in p n) ending text tells = as-answer Refused ending tells.0 tt
+dossier-answered (dossiers.fault_in p n f) ending text tells = as-answer Refused ending tells.0 tt
+dossier-answered (dossiers.other_part p) ending text tells = as-answer Refused ending tells.0 tt
+dossier-answered (dossiers.line_accepted claim q) ending text tells = as-answer Done ending tells.0 tt
+
+line_claim-answered : (depth nodes : ℕ) (claim : LineClaim) (q : Asked) (ending : Status) (text : List ℕ) → AnswersLineClaim depth nodes claim q ending text → IsAnswer ending
+line_claim-answered depth nodes claim q Done text answers = tt
+line_claim-answered depth nodes claim q Refused text answers = tt
+line_claim-answered depth nodes claim q Undecided text answers = tt
+line_claim-answered depth nodes claim q Spent text answers = tt
+line_claim-answered depth nodes claim q _ text answers = absurd answers
+
+one-answered : (AsksFor : Asked → Type 0) (HasFault : InputFault → Type 0) (Said : Asked → Status → List ℕ → Type 0) → ((q : Asked) (ending : Status) (text : List ℕ) → Said q ending text → IsAnswer ending) → (ending : Status) (text : List ℕ) → AnswersOne AsksFor HasFault Said ending text → IsAnswer ending
+one-answered AsksFor HasFault Said law ending text answers = elim answers [
   | inl asked ↦ law asked.0 ending text asked.2
   | inr none ↦ as-answer BadInput ending none.2 tt
 ]
@@ -98,12 +135,19 @@ answered Spell input ending text answers = elim answers [
   | inl told ↦ spelling-answered told.0 ending text told.2
   | inr bad ↦ as-answer Refused ending bad.2 tt
 ]
-answered Unmoves input ending text answers = alone-answered ListsUnmoves (λ q other lines said. as-answer Done other said.0 tt) input ending text answers
+answered Unmoves input ending text answers = one-answered (AsksAlone input) (IsNoLoneQuestion input) ListsUnmoves (λ q other lines said. as-answer Done other said.0 tt) ending text answers
 answered (Solve depth nodes) input ending text answers = elim answers [
   | inl said ↦ claim-answered depth nodes said.0 said.1 ending text said.3
   | inr none ↦ as-answer BadInput ending none.2 tt
 ]
 answered (Verdict depth nodes) input ending text answers =
-    alone-answered (AnswersPosition depth nodes) (λ q other lines said. rights-answered depth nodes q said.0 other lines said.2) input ending text answers
-answered (Tree depth nodes) input ending text answers = alone-answered (AnswersTreeOf depth nodes) (tree-answered depth nodes) input ending text answers
+    one-answered (AsksAlone input) (IsNoLoneQuestion input) (AnswersPosition depth nodes) (λ q other lines said. rights-answered depth nodes q said.0 other lines said.2) ending text answers
+answered (Tree depth nodes) input ending text answers = one-answered (AsksAlone input) (IsNoLoneQuestion input) (AnswersTreeOf depth nodes) (tree-answered depth nodes) ending text answers
+answered Length input ending text answers = one-answered (IsLonePosition input) (IsNoLonePosition input) AnswersLengthOf length-answered ending text answers
+answered AtLeast input ending text answers = bound-answered answers.0 ending text answers.2
+answered Line input ending text answers = dossier-answered answers.0 ending text answers.2
+answered (Dossier depth nodes) input ending text answers = elim answers [
+  | inl said ↦ line_claim-answered depth nodes said.0 said.1 ending text said.3
+  | inr none ↦ as-answer BadInput ending none.2 tt
+]
 answered (Sample start games plies) input ending text answers = as-answer Done ending answers.done tt

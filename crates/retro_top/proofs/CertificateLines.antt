@@ -4,13 +4,11 @@ use Rattle.std.proofs.lemmas.Option.{same_Some}
 use Rattle.std.specs.List.{concat}
 use Rattle.std.proofs.lemmas.List.Folds.{concat-append}
 use Rattle.std.specs.Option.{option_map}
-use Rattle.std.specs.Prelude.{Option, Some, None, codes}
+use Rattle.std.specs.Prelude.{Option, Some, None}
 use Rattle.std.specs.Io.KnownBytes.{Appends}
 use Rattle.board_base.specs.declared.unmoves.Unmove.{Unmove}
 use Rattle.fen_text.proofs.PartLemmas.{mapped_some}
-use Rattle.fen_text.specs.Spelling.{spelling}
 use Rattle.cert_text.specs.Certificate.{AreBelow, AreKids, Certificate, Lines, body_of}
-use Rattle.cert_text.specs.ClaimLines.{claim_text}
 use Rattle.cert_text.specs.Lines.{ended, said}
 use Rattle.cert_text.specs.NodeLines.{IsLine, kid_body, kid_text, root_body, root_text}
 use Rattle.cert_text.specs.Sizes.{rest_of}

@@ -1,13 +1,12 @@
 -- A command succeeds only with the inputs that it asks for, and with those it does.
 use Rattle.std.proofs.Common.{◌≡◌, ℕ, List, sym, subst}
 use Rattle.std.specs.Prelude.{Option, Some, None, IfSome}
-use Rattle.query_base.specs.Asked.{Asked}
 use Rattle.retro_top.specs.Answers.{AnswersAs, IsUnspent, MustSucceed, ReadsBy, Succeeds, Suffices}
 use Rattle.retro_top.specs.Retractions.{ListsUnmoves}
 use Rattle.retro_top.specs.Trees.{AnswersTreeOf}
 use Rattle.retro_top.specs.Verdicts.{AnswersPosition}
 use Rattle.retro_top.specs.declared.commands.Command.{Command}
-use Rattle.retro_top.specs.declared.commands.Command.TheVariants.{Check, Play, San, Spell, Unmoves, Solve, Verdict, Tree, Sample}
+use Rattle.retro_top.specs.declared.commands.Command.TheVariants.{Check, Play, San, Spell, Unmoves, Solve, Verdict, Tree, Length, AtLeast, Line, Dossier, Sample}
 use Rattle.retro_top.specs.declared.statuses.Status.{Status}
 use Rattle.retro_top.specs.declared.statuses.Status.TheVariants.{Done}
 use Rattle.retro_top.proofs.Gaming.{NoGameFault, OneGame, done-game, done-moves, done-notation, play-done, san-done, spell-done}
@@ -15,38 +14,49 @@ use Rattle.retro_top.proofs.Input.{of_left}
 use Rattle.retro_top.proofs.Asking.{done-alone, said-alone}
 use Rattle.retro_top.proofs.Searching.{OneTextEach, cheap-done, few-done}
 use Rattle.retro_top.proofs.Solving.{cheap-unspent, done-refutable, refutable-done}
+use Rattle.retro_top.proofs.LineProofs.{AcceptedAreDossiers, OneDossier, done-line, done-provable, line-done, making-done, making-unspent}
+use Rattle.retro_top.proofs.Lengthy.{OneLength, done-length, done-shown, length-done, shown-done}
 use Rattle.retro_top.proofs.Headline.{OneAnswer, CertificatesProve, done-proved, proves-done}
 
 -- with an input with which the command must succeed it does
-pub succeeds-done : OneAnswer → OneTextEach → OneGame → NoGameFault → (command : Command) (input : List ℕ) (ending : Status) (text : List ℕ) → AnswersAs command input ending text → MustSucceed command input → ending ≡ Done
-succeeds-done law one game sound Check input ending text answers good = proves-done law input text ending answers good
-succeeds-done law one game sound Play input ending text answers good = play-done input ending text answers good
-succeeds-done law one game sound San input ending text answers good = san-done game sound input ending text answers good
-succeeds-done law one game sound Spell input ending text answers good = spell-done input ending text answers good
-succeeds-done law one game sound Unmoves input ending text answers good = let said = said-alone ListsUnmoves (λ q. Unit {0}) input good.0 ending text answers good.1 tt in said.2.0
-succeeds-done law one game sound (Solve depth nodes) input ending text answers good = refutable-done depth nodes input ending text answers good.0 good.1
-succeeds-done law one game sound (Verdict depth nodes) input ending text answers good = cheap-done depth nodes input ending text answers good
-succeeds-done law one game sound (Tree depth nodes) input ending text answers good = few-done one depth nodes input ending text answers good
-succeeds-done law one game sound (Sample start games plies) input ending text answers good = answers.done
+pub succeeds-done : OneAnswer → OneLength → OneDossier → AcceptedAreDossiers → OneTextEach → OneGame → NoGameFault → (command : Command) (input : List ℕ) (ending : Status) (text : List ℕ) → AnswersAs command input ending text → MustSucceed command input → ending ≡ Done
+succeeds-done law length dossier accepted one game sound Check input ending text answers good = proves-done law input text ending answers good
+succeeds-done law length dossier accepted one game sound Play input ending text answers good = play-done input ending text answers good
+succeeds-done law length dossier accepted one game sound San input ending text answers good = san-done game sound input ending text answers good
+succeeds-done law length dossier accepted one game sound Spell input ending text answers good = spell-done input ending text answers good
+succeeds-done law length dossier accepted one game sound Unmoves input ending text answers good = let said = said-alone ListsUnmoves (λ q. Unit {0}) input good.0 ending text answers good.1 tt in said.2.0
+succeeds-done law length dossier accepted one game sound (Solve depth nodes) input ending text answers good = refutable-done depth nodes input ending text answers good.0 good.1
+succeeds-done law length dossier accepted one game sound (Verdict depth nodes) input ending text answers good = cheap-done depth nodes input ending text answers good
+succeeds-done law length dossier accepted one game sound (Tree depth nodes) input ending text answers good = few-done one depth nodes input ending text answers good
+succeeds-done law length dossier accepted one game sound Length input ending text answers good = length-done input ending text answers good
+succeeds-done law length dossier accepted one game sound AtLeast input ending text answers good = shown-done length input ending text answers good
+succeeds-done law length dossier accepted one game sound Line input ending text answers good = line-done dossier accepted input ending text answers good
+succeeds-done law length dossier accepted one game sound (Dossier depth nodes) input ending text answers good = making-done depth nodes input ending text answers good.0 good.1
+succeeds-done law length dossier accepted one game sound (Sample start games plies) input ending text answers good = answers.done
 
 -- where the nodes suffice, no search is spent
 pub suffices-unspent : OneTextEach → (command : Command) (input : List ℕ) (ending : Status) (text : List ℕ) → AnswersAs command input ending text → Suffices command input → IsUnspent ending
 suffices-unspent one (Solve depth nodes) input ending text answers enough = cheap-unspent depth nodes input ending text answers enough
 suffices-unspent one (Verdict depth nodes) input ending text answers enough = subst IsUnspent (sym (cheap-done depth nodes input ending text answers enough)) tt
 suffices-unspent one (Tree depth nodes) input ending text answers enough = subst IsUnspent (sym (few-done one depth nodes input ending text answers enough)) tt
+suffices-unspent one (Dossier depth nodes) input ending text answers enough = making-unspent depth nodes input ending text answers enough
 suffices-unspent one _ input ending text answers enough = absurd enough
 
 -- where the command succeeds, its input is such a one
-pub done-succeeds : CertificatesProve → (command : Command) (input text : List ℕ) → AnswersAs command input Done text → Succeeds command input
-done-succeeds law Check input text answers = let proved = done-proved law input text answers in (proved.cert, proved.is_text, proved.proves)
-done-succeeds law Play input text answers = done-game input text answers
-done-succeeds law San input text answers = done-notation input text answers
-done-succeeds law Spell input text answers = done-moves input text answers
-done-succeeds law Unmoves input text answers = let alone = done-alone ListsUnmoves input text answers in (alone.0, alone.1)
-done-succeeds law (Solve depth nodes) input text answers = done-refutable depth nodes input text answers
-done-succeeds law (Verdict depth nodes) input text answers = let alone = done-alone (AnswersPosition depth nodes) input text answers in (alone.0, alone.1)
-done-succeeds law (Tree depth nodes) input text answers = let alone = done-alone (AnswersTreeOf depth nodes) input text answers in (alone.0, alone.2.0, text, alone.1, alone.2.1, alone.2.2)
-done-succeeds law (Sample start games plies) input text answers = tt
+pub done-succeeds : CertificatesProve → AcceptedAreDossiers → (command : Command) (input text : List ℕ) → AnswersAs command input Done text → Succeeds command input
+done-succeeds law accepted Check input text answers = let proved = done-proved law input text answers in (proved.cert, proved.is_text, proved.proves)
+done-succeeds law accepted Play input text answers = done-game input text answers
+done-succeeds law accepted San input text answers = done-notation input text answers
+done-succeeds law accepted Spell input text answers = done-moves input text answers
+done-succeeds law accepted Unmoves input text answers = let alone = done-alone ListsUnmoves input text answers in (alone.0, alone.1)
+done-succeeds law accepted (Solve depth nodes) input text answers = done-refutable depth nodes input text answers
+done-succeeds law accepted (Verdict depth nodes) input text answers = let alone = done-alone (AnswersPosition depth nodes) input text answers in (alone.0, alone.1)
+done-succeeds law accepted (Tree depth nodes) input text answers = let alone = done-alone (AnswersTreeOf depth nodes) input text answers in (alone.0, alone.2.0, text, alone.1, alone.2.1, alone.2.2)
+done-succeeds law accepted Length input text answers = done-length input text answers
+done-succeeds law accepted AtLeast input text answers = done-shown input text answers
+done-succeeds law accepted Line input text answers = done-line accepted input text answers
+done-succeeds law accepted (Dossier depth nodes) input text answers = done-provable depth nodes input text answers
+done-succeeds law accepted (Sample start games plies) input text answers = tt
 
 whatever : (left : Option (List ℕ)) → IfSome left (λ input. Unit {0})
 whatever None = tt

@@ -19,22 +19,33 @@ use Rattle.cert_checker.specs.Proving.{ProvesClaim}
 use Rattle.retro_search.specs.Refutable.{IsRefutable}
 use Rattle.codex_verdict.specs.Rights.{AreRights, claim_of}
 use Rattle.codex_verdict.specs.declared.kinds.Right.{Right}
-use Rattle.retro_top.specs.Commands.{Call}
+use Rattle.retro_top.specs.Commands.{Call, TakesMemory}
 use Rattle.retro_top.specs.Checks.{AnswersCheck, accepted_line}
 use Rattle.retro_top.specs.Plays.{AnswersPlay}
 use Rattle.retro_top.specs.Sans.{AnswersSan}
 use Rattle.retro_top.specs.Spells.{AnswersSpell}
+use Rattle.line_claims.specs.Holding.{HoldsLine}
+use Rattle.line_claims.specs.declared.claims.LineClaim.{LineClaim}
+use Rattle.dossier_text.specs.Proving.{IsDossier}
+use Rattle.length_bound.specs.LengthAnswers.{IsShown}
+use Rattle.length_bound.specs.LengthText.{AreLengthLines}
+use Rattle.length_bound.specs.declared.texts.LengthText.{LengthText}
+use Rattle.question_text.specs.Positions.{IsLonePosition}
 use Rattle.question_text.specs.Questions.{Asks, AsksAlone, AsksForOne, after_question}
 use Rattle.retro_top.specs.Retractions.{AnswersUnmoves}
 use Rattle.retro_top.specs.Samples.{AnswersSample}
-use Rattle.retro_top.specs.Statements.{States}
+use Rattle.retro_top.specs.Statements.{States, StatesLine}
 use Rattle.retro_top.specs.Solves.{AnswersSolve, IsCheap, countered_line}
 use Rattle.retro_top.specs.Trees.{AnswersTree, AsksForFewLines}
+use Rattle.retro_top.specs.Lengths.{AnswersHowLong, AsksForLength, TellsLength}
+use Rattle.retro_top.specs.Dossiers.{AnswersMaking, StatesCheapLine, StatesProvable}
+use Rattle.retro_top.specs.LineChecks.{AnswersLine, ProvesLine, accepted_steps_line}
+use Rattle.retro_top.specs.AtLeasts.{AnswersAtLeast, ShowsLength, bound_line}
 use Rattle.retro_top.specs.Verdicts.{AnswersVerdict, AsksForCheap, Each, verdicts_text}
 use Rattle.retro_top.specs.declared.statuses.Status.{Status}
 use Rattle.retro_top.specs.declared.statuses.Status.TheVariants.{Done, Undecided, Countered, Memory}
 use Rattle.retro_top.specs.declared.commands.Command.{Command}
-use Rattle.retro_top.specs.declared.commands.Command.TheVariants.{Check, Play, San, Spell, Unmoves, Solve, Verdict, Tree, Sample}
+use Rattle.retro_top.specs.declared.commands.Command.TheVariants.{Check, Play, San, Spell, Unmoves, Solve, Verdict, Tree, Length, AtLeast, Line, Dossier, Sample}
 
 -- the status and the text with which a command answers an input
 abbrev pub AnswersAs : Command → List ℕ → Status → List ℕ → Type 0
@@ -46,6 +57,10 @@ AnswersAs Unmoves input status text = AnswersUnmoves input status text
 AnswersAs (Solve depth nodes) input status text = AnswersSolve depth nodes input status text
 AnswersAs (Verdict depth nodes) input status text = AnswersVerdict depth nodes input status text
 AnswersAs (Tree depth nodes) input status text = AnswersTree depth nodes input status text
+AnswersAs Length input status text = AnswersHowLong input status text
+AnswersAs AtLeast input status text = AnswersAtLeast input status text
+AnswersAs Line input status text = AnswersLine input status text
+AnswersAs (Dossier depth nodes) input status text = AnswersMaking depth nodes input status text
 AnswersAs (Sample start games plies) input status text = AnswersSample start games plies status text
 
 -- the status and the text with which the words answer an input
@@ -97,8 +112,7 @@ Unhindered command limit left source_old source_new sink_old sink_new holds =
 
 -- memory isn't wanting, where the command takes any
 abbrev pub HasMemory : Command → Status → Type 0
-HasMemory Check status = Unit {0}
-HasMemory command status = status ≡ Memory → ⊥
+HasMemory command status = TakesMemory command → status ≡ Memory → ⊥
 
 -- the input's words after the lines of its query are the moves of a legal game, which reaches that query
 abbrev pub TellsGame : List ℕ → Type 0
@@ -132,11 +146,16 @@ Succeeds Unmoves input = AsksForOne input
 Succeeds (Solve depth nodes) input = StatesRefutable depth input
 Succeeds (Verdict depth nodes) input = AsksForOne input
 Succeeds (Tree depth nodes) input = AsksForFewLines depth nodes input
+Succeeds Length input = AsksForLength input
+Succeeds AtLeast input = ShowsLength input
+Succeeds Line input = ProvesLine input
+Succeeds (Dossier depth nodes) input = StatesProvable depth input
 Succeeds (Sample start games plies) input = Unit {0}
 
 -- with such an input the command succeeds: a search, where the nodes suffice
 abbrev pub MustSucceed : Command → List ℕ → Type 0
 MustSucceed (Solve depth nodes) input = StatesRefutable depth input × StatesCheap depth nodes input
+MustSucceed (Dossier depth nodes) input = StatesProvable depth input × StatesCheapLine depth nodes input
 MustSucceed (Verdict depth nodes) input = AsksForCheap depth nodes input
 MustSucceed command input = Succeeds command input
 
@@ -162,14 +181,42 @@ abbrev pub WritesVerdicts : ℕ → List ℕ → Option (List ℕ) → Option (L
 WritesVerdicts depth input old new =
     (q : Asked) × (rights : List Right) × (settled : List Bool) × AsksAlone input q × AreRights q.board q.turn rights × Appends old new (verdicts_text depth rights settled) × Each (Decides q) rights settled
 
+-- each game that reaches the query has at least so many half-moves
+abbrev pub BoundsGames : Asked → ℕ → Type 0
+BoundsGames q n = (g : List Move) → Reaches g q → n ≤ length g
+
+-- What was taken grew by the text of a length of the games that reach the input's query, and each has at least as many half-moves.
+abbrev pub WritesLength : List ℕ → Option (List ℕ) → Option (List ℕ) → Type 0
+WritesLength input old new =
+    (q : Asked) × (text : List ℕ) × (told : TellsLength q text) × IsLonePosition input q × Appends old new text × BoundsGames q told.said.at_least
+
+-- What was taken grew by one line, with the number and the position that the input carries. The input is the text of a length that its
+-- potentials show, and each game that reaches the position has at least so many half-moves.
+abbrev pub WritesBound : List ℕ → Option (List ℕ) → Option (List ℕ) → Type 0
+WritesBound input old new =
+    (text : LengthText) × AreLengthLines (cut input) text × IsShown text × Appends old new (bound_line text.at_least text.query) × BoundsGames text.query text.at_least
+
+-- What was taken grew by one line, with the claim and the position that the input carries. The input is a dossier that proves the
+-- claim of several steps, and it holds.
+abbrev pub AcceptsLine : List ℕ → Option (List ℕ) → Option (List ℕ) → Type 0
+AcceptsLine input old new =
+    (claim : LineClaim) × (q : Asked) × IsDossier input claim q × Appends old new (accepted_steps_line claim q) × HoldsLine claim q
+
+-- What was taken grew by a dossier of the claim of several steps of the input's first line about the query of the others, and the
+-- claim holds.
+abbrev pub WritesDossier : List ℕ → Option (List ℕ) → Option (List ℕ) → Type 0
+WritesDossier input old new =
+    (claim : LineClaim) × (q : Asked) × (text : List ℕ) × StatesLine input claim q × IsDossier text claim q × Appends old new text × HoldsLine claim q
+
 -- the nodes suffice for what the command searches with this input
 abbrev pub Suffices : Command → List ℕ → Type 0
 Suffices (Solve depth nodes) input = StatesCheap depth nodes input
 Suffices (Verdict depth nodes) input = AsksForCheap depth nodes input
+Suffices (Dossier depth nodes) input = StatesCheapLine depth nodes input
 Suffices (Tree depth nodes) input = AsksForFewLines depth nodes input
 Suffices command input = ⊥
 
--- the search came to its end: with a certificate, verdicts or a tree, with an open line, or with a game
+-- the search came to its end: with a certificate, a dossier, verdicts or a tree, with an open line or part, or with a game
 abbrev pub IsUnspent : Status → Type 0
 IsUnspent Done = Unit {0}
 IsUnspent Undecided = Unit {0}

@@ -3,7 +3,7 @@ use Rattle.std.specs.Prelude.{ℕ, ◌≡◌, ◌≤◌, ◌<◌, ◌^◌, List,
 use Rattle.std.specs.Global.{Global}
 use Rattle.std.specs.Fmt.{decimal}
 use Rattle.retro_top.specs.declared.commands.Command.{Command}
-use Rattle.retro_top.specs.declared.commands.Command.TheVariants.{Check, Play, San, Spell, Unmoves, Solve, Verdict, Tree, Sample}
+use Rattle.retro_top.specs.declared.commands.Command.TheVariants.{Check, Play, San, Spell, Unmoves, Solve, Verdict, Tree, Length, AtLeast, Line, Dossier, Sample}
 
 -- the words, as bytes, by which each command is called
 abbrev pub words_of : Command → List (List ℕ)
@@ -15,6 +15,10 @@ words_of Unmoves = codes "unmoves" ∷ []
 words_of (Solve depth nodes) = codes "solve" ∷ decimal depth ∷ decimal nodes ∷ []
 words_of (Verdict depth nodes) = codes "verdict" ∷ decimal depth ∷ decimal nodes ∷ []
 words_of (Tree depth nodes) = codes "tree" ∷ decimal depth ∷ decimal nodes ∷ []
+words_of Length = codes "length" ∷ []
+words_of AtLeast = codes "atleast" ∷ []
+words_of Line = codes "line" ∷ []
+words_of (Dossier depth nodes) = codes "dossier" ∷ decimal depth ∷ decimal nodes ∷ []
 words_of (Sample start games plies) = codes "sample" ∷ decimal start ∷ decimal games ∷ decimal plies ∷ []
 
 -- a search goes back at most 64 moves, and visits at least one query and at most 500,000
@@ -36,6 +40,7 @@ abbrev pub IsInRange : Command → Type 0
 IsInRange (Solve depth nodes) = AreLimits depth nodes
 IsInRange (Verdict depth nodes) = AreLimits depth nodes
 IsInRange (Tree depth nodes) = AreLimits depth nodes
+IsInRange (Dossier depth nodes) = AreLimits depth nodes
 IsInRange (Sample start games plies) = AreSampleNumbers start games plies
 IsInRange command = Unit {0}
 
@@ -56,3 +61,10 @@ Reads command = Unit {0}
 -- the words call a command that reads its input
 abbrev pub CallReader : List (String Global) → Type 0
 CallReader words = (command : Command) × Call words command × Reads command
+
+-- the command takes memory: each but `check`, `atleast` and `line` does
+abbrev pub TakesMemory : Command → Type 0
+TakesMemory Check = ⊥
+TakesMemory AtLeast = ⊥
+TakesMemory Line = ⊥
+TakesMemory command = Unit {0}

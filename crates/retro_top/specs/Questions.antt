@@ -3,6 +3,7 @@ use Rattle.std.specs.Prelude.{ℕ, ◌≡◌, ◌⊎◌, List, ◌++◌, codes}
 use Rattle.std.specs.Fmt.{decimal}
 use Rattle.query_base.specs.Asked.{Asked}
 use Rattle.cert_text.specs.Lines.{ended}
+use Rattle.question_text.specs.Positions.{IsLonePosition, IsNoLonePosition}
 use Rattle.question_text.specs.Questions.{Asks, AsksAlone, IsNoLoneQuestion, IsNoQuestion, after_question}
 use Rattle.question_text.specs.declared.faults.InputFault.{InputFault}
 use Rattle.question_text.specs.declared.faults.InputFault.TheVariants.{BadLine, BadFen}
@@ -21,9 +22,17 @@ AnswersAsked Holds input status text =
     ((q : Asked) × Asks input q × Holds q (after_question input) status text)
     ⊎ ((why : InputFault) × IsNoQuestion input why × (status ≡ BadInput) × (text ≡ fault_line why))
 
--- The status and the text that answer an input which is to be the lines of a query: where it is, this holds of the query, the status
--- and the text, and else the text says why it isn't.
+-- The status and the text that answer an input which is to ask one query: where it does, this holds of the query, the status and the
+-- text, and else the text says why it doesn't.
+abbrev pub AnswersOne : (Asked → Type 0) → (InputFault → Type 0) → (Asked → Status → List ℕ → Type 0) → Status → List ℕ → Type 0
+AnswersOne AsksFor HasFault Holds status text =
+    ((q : Asked) × AsksFor q × Holds q status text)
+    ⊎ ((why : InputFault) × HasFault why × (status ≡ BadInput) × (text ≡ fault_line why))
+
+-- what answers an input which is to be the lines of a query
 abbrev pub AnswersAlone : (Asked → Status → List ℕ → Type 0) → List ℕ → Status → List ℕ → Type 0
-AnswersAlone Holds input status text =
-    ((q : Asked) × AsksAlone input q × Holds q status text)
-    ⊎ ((why : InputFault) × IsNoLoneQuestion input why × (status ≡ BadInput) × (text ≡ fault_line why))
+AnswersAlone Holds input status text = AnswersOne (AsksAlone input) (IsNoLoneQuestion input) Holds status text
+
+-- what answers an input which is to be the lines of a query without a clock
+abbrev pub AnswersPlain : (Asked → Status → List ℕ → Type 0) → List ℕ → Status → List ℕ → Type 0
+AnswersPlain Holds input status text = AnswersOne (IsLonePosition input) (IsNoLonePosition input) Holds status text

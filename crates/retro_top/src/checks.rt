@@ -13,7 +13,7 @@ use cert_checker::{
 };
 use retro_ports::{ReadAllFault, Source};
 
-fn word(why: Why) -> &'static [u8]
+pub(crate) fn word(why: Why) -> &'static [u8]
     ensures { result.now ≡ codes "unsupported " ++ why_word why }
 {
     match why {
@@ -25,7 +25,7 @@ fn word(why: Why) -> &'static [u8]
 }
 
 /// The status and the line with which `check` answers what the source gives, of at most 67,108,864 bytes. It takes no memory.
-pub fn check<S: Source>(src: &mut S) -> Result<(Status, ArrayVec<u8, 160>), ReadAllFault>
+pub fn check<S: Source>(src: &mut S) -> Result<(Status, ArrayVec<u8, 512>), ReadAllFault>
     ensures answer { IfOk result (λ a. ReadsAll 67_108_864 (S.left src.old) (S.left src.new) (λ input. AnswersCheck input a.0 a.1.items)) }
     ensures remembers { result ≢ Err ReadAllFault.Memory }
     ensures too_long { result ≡ Err ReadAllFault.TooLong → ReadSome (S.left src.old) (S.left src.new) (λ n. n ≡ 67_108_865) }

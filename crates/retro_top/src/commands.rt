@@ -50,6 +50,19 @@ pub enum Command {
         /// How many lines the tree has at most, from 1 to 500,000.
         nodes: u32,
     },
+    /// How many half-moves each game that leads to a position has at least, and potentials that show it.
+    Length,
+    /// Whether the potentials of a length show it.
+    AtLeast,
+    /// Whether a dossier proves its claim of several steps.
+    Line,
+    /// A dossier of a claim of several steps.
+    Dossier {
+        /// How many moves are taken back at most for each part, from 0 to 64.
+        depth: u8,
+        /// How many queries are visited at most for each part, from 1 to 500,000.
+        nodes: u32,
+    },
     /// What is counted of games that are made from a number.
     Sample {
         /// The number from which the moves are drawn.
@@ -73,7 +86,11 @@ pub(crate) fn reads(command: Command) -> bool
         | Command::Unmoves
         | Command::Solve { .. }
         | Command::Verdict { .. }
-        | Command::Tree { .. } => true,
+        | Command::Tree { .. }
+        | Command::Length
+        | Command::AtLeast
+        | Command::Line
+        | Command::Dossier { .. } => true,
         Command::Sample { .. } => false,
     }
 }
@@ -125,6 +142,12 @@ fn read_one(word: &String) -> Option<Command>
         Some(Command::Spell)
     } else if is_word(word, b"unmoves") {
         Some(Command::Unmoves)
+    } else if is_word(word, b"length") {
+        Some(Command::Length)
+    } else if is_word(word, b"atleast") {
+        Some(Command::AtLeast)
+    } else if is_word(word, b"line") {
+        Some(Command::Line)
     } else {
         None
     }
@@ -143,6 +166,8 @@ fn read_three(word: &String, depth: &String, nodes: &String) -> Option<Command>
         Some(Command::Verdict { depth, nodes })
     } else if is_word(word, b"tree") {
         Some(Command::Tree { depth, nodes })
+    } else if is_word(word, b"dossier") {
+        Some(Command::Dossier { depth, nodes })
     } else {
         None
     }

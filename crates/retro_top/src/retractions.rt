@@ -25,7 +25,7 @@ use std::alloc::{AllocError, Global};
 use unmove_gen::{Unmoves, few_unmoves, pred, unmoves_have_texts};
 
 /// The line of an unmove of the query.
-fn unmove_line(query: &Query, u: &Unmove) -> ArrayVec<u8, 160>
+fn unmove_line(query: &Query, u: &Unmove) -> ArrayVec<u8, 512>
     requires listed { Contains (unmoves query.now) u.now }
     requires promotion { IsTrue (can_promote u.now.mv.promo) }
     requires capture { IsTrue (can_capture u.now.mv.promo u.now.captured u.now.ep) }
@@ -35,7 +35,7 @@ fn unmove_line(query: &Query, u: &Unmove) -> ArrayVec<u8, 160>
     write_unmove(u, &mut name);
     let mut fen: ArrayVec<u8, 128> = ArrayVec::new();
     write_fen(&pred(query, u), &mut fen);
-    let mut line: ArrayVec<u8, 160> = ArrayVec::new();
+    let mut line: ArrayVec<u8, 512> = ArrayVec::new();
     put(&mut line, name.as_slice());
     line.push(b' ');
     put(&mut line, fen.as_slice());
@@ -44,10 +44,10 @@ fn unmove_line(query: &Query, u: &Unmove) -> ArrayVec<u8, 160>
 }
 
 /// The line that tells how many unmoves there are.
-fn total_line(total: u32) -> ArrayVec<u8, 160>
+fn total_line(total: u32) -> ArrayVec<u8, 512>
     ensures { result.items ≡ ended (codes "total " ++ decimal total) }
 {
-    let mut line: ArrayVec<u8, 160> = ArrayVec::new();
+    let mut line: ArrayVec<u8, 512> = ArrayVec::new();
     let mut digits = Buffer::new();
     put(&mut line, b"total ");
     put(&mut line, digits.format(total).as_bytes());

@@ -16,7 +16,7 @@ use retro_ports::{Failed, Sink, write_all};
 #[derive(Drop)]
 pub enum Text {
     /// One line, made with no memory.
-    Line(ArrayVec<u8, 160>),
+    Line(ArrayVec<u8, 512>),
     /// As much as memory holds.
     Lines(Vec<u8>),
     /// The unmoves of the query, and their number.
