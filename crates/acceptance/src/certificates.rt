@@ -1,7 +1,8 @@
 //! Certificates whose reasons are trees, run through `check`.
 
-use crate::driving::{Row, WHOLE, assert_answers, run_on};
+use crate::driving::assert_answers;
 use retro_top::Status;
+use run_driver::{Row, WHOLE, run_on};
 use std::alloc::{AllocError, Global};
 use std::test::Fail;
 

@@ -1,7 +1,8 @@
 //! Certificates of claims about the last move, a castling that is lost and a capture en passant, run through `check`.
 
-use crate::driving::{Row, assert_answers};
+use crate::driving::assert_answers;
 use retro_top::Status;
+use run_driver::Row;
 use std::test::Fail;
 
 const CHECK: &[&str] = &["check"];

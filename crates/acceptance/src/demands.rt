@@ -1,7 +1,8 @@
 //! Positions of games at odds and with a half-move clock, through each command that asks for a position.
 
-use crate::driving::{Row, WHOLE, assert_answers, run_on};
+use crate::driving::assert_answers;
 use retro_top::Status;
+use run_driver::{Row, WHOLE, run_on};
 use std::alloc::{AllocError, Global};
 use std::process::Abort;
 use std::test::Fail;

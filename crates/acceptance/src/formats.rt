@@ -1,7 +1,8 @@
 //! Certificates of format 2, which name odds, a half-move clock or both, run through `check`.
 
-use crate::driving::{Row, WHOLE, assert_answers, run_on};
+use crate::driving::assert_answers;
 use retro_top::Status;
+use run_driver::{Row, WHOLE, run_on};
 use std::test::Fail;
 
 const CHECK: &[&str] = &["check"];

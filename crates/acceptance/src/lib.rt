@@ -10,17 +10,11 @@ mod demands;
 #[cfg(test)]
 mod driving;
 #[cfg(test)]
-mod extremes;
-#[cfg(test)]
-mod faults;
-#[cfg(test)]
 mod formats;
 #[cfg(test)]
 mod perft;
 #[cfg(test)]
 mod positions;
-#[cfg(test)]
-mod refused_memory;
 #[cfg(test)]
 mod retractions;
 #[cfg(test)]
@@ -29,5 +23,3 @@ mod rows;
 mod runs;
 #[cfg(test)]
 mod searches;
-#[cfg(test)]
-mod wide_certificates;

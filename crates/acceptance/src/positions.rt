@@ -1,7 +1,8 @@
 //! What `verdict` and `tree` say of positions, and `sample` of games, with answers that come from outside.
 
-use crate::driving::{Ports, Row, WHOLE, assert_answers, run_on};
+use crate::driving::assert_answers;
 use retro_top::Status;
+use run_driver::{Ports, Row, WHOLE, run_on};
 use std::test::Fail;
 
 /// Black's king can't have moved last, and no rook of White's has come to h1 if it never moved.

@@ -2,12 +2,12 @@
 
 ghost use Rattle.query_base.specs.Asked.{IsShortClock};
 
-use crate::driving::{WHOLE, run_on};
 use board_base::{Kind, Move, Odds, SquareSet, Unmove, is_a};
 use game_text::read_game;
 use play_rules::{State, step};
 use query_base::Query;
 use retro_top::Status;
+use run_driver::{WHOLE, run_on};
 use std::process::Abort;
 use std::test::Fail;
 use unmove_gen::{is_unmove, pred};

@@ -1,8 +1,9 @@
 //! What `run` answers: the rows of each command, and other words.
 
-use crate::driving::{Row, WHOLE, assert_answers, run_on};
+use crate::driving::assert_answers;
 use crate::rows::{CHECKS, NO_COMMANDS, PLAYS, SANS, SPELLS, UNMOVES};
 use retro_top::Status;
+use run_driver::{Row, WHOLE, run_on};
 use std::test::Fail;
 
 #[test]

@@ -1,7 +1,8 @@
 //! Claims that are solved, with certificates, open lines and games that come from outside.
 
-use crate::driving::{Row, WHOLE, assert_answers, run_on};
+use crate::driving::assert_answers;
 use retro_top::Status;
+use run_driver::{Row, WHOLE, run_on};
 use std::test::Fail;
 
 /// No kings.

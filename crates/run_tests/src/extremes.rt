@@ -1,7 +1,7 @@
 //! Boards full of queens, and trees as deep as they may be.
 
-use crate::driving::{Row, WHOLE, run_on};
 use retro_top::Status;
+use run_driver::{Row, WHOLE, run_on};
 use std::test::Fail;
 
 const CHECK: &[&str] = &["check"];

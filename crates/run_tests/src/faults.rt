@@ -1,9 +1,8 @@
 //! Runs in which a read or a write fails: nothing is written then, or the front of the answer.
 
-use crate::driving::{Ports, Row, run_on};
-use crate::rows::{BLOCKED_PAWN, CAPTURES, DOUBLE_STEP, NO_KINGS};
 use retro_ports::MemSink;
 use retro_top::Status;
+use run_driver::{BLOCKED_PAWN, CAPTURES, DOUBLE_STEP, NO_KINGS, Ports, Row, run_on};
 use std::alloc::Global;
 use std::process::Abort;
 use std::test::Fail;

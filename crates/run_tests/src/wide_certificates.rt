@@ -2,10 +2,10 @@
 
 ghost use Rattle.std.specs.Prelude.{None};
 
-use crate::driving::words_of;
 use cert_checker::{StreamRefused, Why, check_stream};
 use retro_ports::{Failed, MemSink, Source};
 use retro_top::{Status, run};
+use run_driver::words_of;
 use std::alloc::Global;
 use std::process::Abort;
 use std::test::Fail;

@@ -2,9 +2,8 @@
 //! with and without a refusal, so these tests pass also where `rt try --test --fail-alloc N` refuses the Nth allocation of each. Where the
 //! words, the input or the sink can't be had, a test ends.
 
-use crate::driving::{Row, WHOLE, run_on};
-use crate::rows::{BLOCKED_PAWN, CAPTURES, DOUBLE_STEP, NO_KINGS};
 use retro_top::Status;
+use run_driver::{BLOCKED_PAWN, CAPTURES, DOUBLE_STEP, NO_KINGS, Row, WHOLE, run_on};
 use std::alloc::Global;
 use std::process::Abort;
 use std::test::Fail;

@@ -1,0 +1,70 @@
+use retro_ports::{MemSink, MemSource};
+use retro_top::{Status, run};
+use std::alloc::{AllocError, Global};
+
+/// Words and an input, with the status and the text that answer them.
+#[derive(Clone, Copy)]
+pub struct Row {
+    pub words: &'static [&'static str],
+    pub input: &'static [u8],
+    pub status: Status,
+    pub text: &'static [u8],
+}
+
+/// What a source and a sink do.
+#[derive(Clone, Copy)]
+pub struct Ports {
+    /// The most bytes that a read gives, at least one.
+    pub most_read: usize,
+    /// The most bytes that a write takes, at least one.
+    pub most_written: usize,
+    /// The read that fails, counted from 0.
+    pub failing_read: Option<u32>,
+    /// The write that fails, counted from 0.
+    pub failing_write: Option<u32>,
+}
+
+/// No call fails, and the whole input comes in one piece, if it is of at most 64 KiB.
+pub const WHOLE: Ports = Ports {
+    most_read: 65_536,
+    most_written: 65_536,
+    failing_read: None,
+    failing_write: None,
+};
+
+pub fn words_of(alloc: Global, words: &[&str]) -> Result<Vec<String>, AllocError> {
+    let mut all = Vec::new(alloc);
+    for word in words {
+        all.push(String::from_str(alloc, word)?)?;
+    }
+    Ok(all)
+}
+
+/// A list of one number, or none.
+fn at_most_one(alloc: Global, number: Option<u32>) -> Result<Vec<u32>, AllocError> {
+    let mut numbers = Vec::new(alloc);
+    if let Some(number) = number {
+        numbers.push(number)?;
+    }
+    Ok(numbers)
+}
+
+/// The status and the sink of a run with these words on this input.
+pub fn run_on(
+    alloc: Global,
+    words: &[&str],
+    input: &[u8],
+    ports: Ports,
+) -> Result<(Status, MemSink), AllocError> {
+    let words = words_of(alloc, words)?;
+    let bytes = Vec::from_slice(alloc, input)?;
+    let failing_reads = at_most_one(alloc, ports.failing_read)?;
+    let mut source = MemSource::new(bytes, failing_reads, ports.most_read.max(1));
+    let failing_writes = at_most_one(alloc, ports.failing_write)?;
+    let most_written = ports.most_written.max(1);
+    let Ok(mut sink) = MemSink::new(alloc, 1_048_576, failing_writes, most_written) else {
+        return Err(AllocError);
+    };
+    let status = run(alloc, &words, &mut source, &mut sink);
+    Ok((status, sink))
+}

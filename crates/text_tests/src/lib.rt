@@ -1,0 +1,15 @@
+//! Tests of texts: what FENs, lines, games, notation and certificates that are written out are read as, and what is written.
+#![tactic(auto)]
+
+#[cfg(test)]
+mod certificate_texts;
+#[cfg(test)]
+mod fens;
+#[cfg(test)]
+mod games;
+#[cfg(test)]
+mod lines;
+#[cfg(test)]
+mod notation;
+#[cfg(test)]
+mod written_certificates;
