@@ -7,8 +7,8 @@ fuzz.py PROGRAM --again FOLDER     runs the cases again that were found and kept
 What is looked for: a death by a signal; a run over ten seconds; a status that the command hasn't, or that bad words, failing reads and
 writes, or too long an input don't allow; something written at a status that writes nothing; an answer that hasn't the form of its
 status; a certificate of `solve` that `check` doesn't accept; a game of `solve` that `play` doesn't call legal; a verdict that `solve`
-doesn't bear out; a legal game that `spell` doesn't spell or `san` doesn't read; a length of `length` that `atleast` doesn't accept; and two
-runs that differ. Each finding goes into a file of FOLDER, with the words, the input and what was wrong.
+doesn't bear out; a legal game that `spell` doesn't spell or `san` doesn't read; a length of `length` that `atleast` doesn't accept, a
+dossier of `dossier` that `line` doesn't accept; and two runs that differ. Each finding goes into a file of FOLDER, with the words, the input and what was wrong.
 The same seed gives the same cases, with any number of jobs. The exit status is 1 where something was found.
 """
 import argparse
@@ -29,10 +29,10 @@ SECONDS = 10
 CHUNK = 250
 STATUSES = {"check": (0, 1), "play": (0, 1, 6), "unmoves": (0, 6), "solve": (0, 2, 3, 4, 6), "verdict": (0, 3, 6), "tree": (0, 3, 6), "sample": (0,)}
 # Commands that an older program may lack.
-FURTHER = {"san": (0, 1, 6), "spell": (0, 1), "length": (0, 2, 6), "atleast": (0, 1)}
+FURTHER = {"san": (0, 1, 6), "spell": (0, 1), "length": (0, 2, 6), "atleast": (0, 1), "line": (0, 1), "dossier": (0, 1, 2, 3, 6)}
 RANGES = {"solve": [(0, 64), (1, 500_000)], "sample": [(0, 2**64 - 1), (1, 1000), (1, 200)]}
-RANGES["verdict"] = RANGES["tree"] = RANGES["solve"]
-LAST_LINE = {"play": 3, "san": 3, "unmoves": 4, "solve": 5, "verdict": 4, "tree": 4, "length": 3}
+RANGES["verdict"] = RANGES["tree"] = RANGES["dossier"] = RANGES["solve"]
+LAST_LINE = {"play": 3, "san": 3, "unmoves": 4, "solve": 5, "verdict": 4, "tree": 4, "length": 3, "dossier": 5}
 
 MOVE = r"[a-h][1-8][a-h][1-8][nbrq]?"
 UNMOVE = rf"(?:{MOVE}(?:x[pnbrq])?|[a-h][1-8][a-h][1-8]ep)"
@@ -41,10 +41,12 @@ CLAIM = rf"(?:illegal|last {MOVE}|lost [KQkq]|ep [a-h][1-8][a-h][1-8])"
 NODE = r"(?:rule [^\n]+|back [1-9]\d*|expand \d+)"
 ODDS = r"odds [0-9a-f]{16}"
 CLOCK = r"clock (?:0|[1-9]\d{0,3})"
+STEPS = rf"(?:notboth [KQkq] [KQkq]|line {UNMOVE}(?: {UNMOVE}){{0,15}})"
+FAULT = rf"(?:text|unlisted {UNMOVE}|unsupported (?:rule|back|array|stray))"
 SAN = r"(?:O-O(?:-O)?|[NBRQK][a-h]?[1-8]?x?[a-h][1-8]|(?:[a-h]x)?[a-h][1-8](?:=[NBRQ])?)[+#]?"
 FORMS = {
     ("check", 0): rf"accepted {CLAIM} {FEN}(?: {ODDS})?(?: {CLOCK})?\n",
-    ("check", 1): rf"refused line [1-9]\d* (?:text|unlisted {UNMOVE}|unsupported (?:rule|back|array|stray))\n",
+    ("check", 1): rf"refused line [1-9]\d* {FAULT}\n",
     ("play", 0): r"legal\n",
     ("play", 1): r"refused (?:(?:word|ply) [1-9]\d*|end)\n",
     ("unmoves", 0): rf"(?:{UNMOVE} {FEN}\n)*total \d+\n",
@@ -62,6 +64,11 @@ FORMS = {
     ("length", 2): r"undecided\n",
     ("atleast", 0): rf"accepted atleast \d+ {FEN}(?: {ODDS})?\n",
     ("atleast", 1): r"refused (?:line [1-9]\d* text|unsupported)\n",
+    ("line", 0): rf"accepted {STEPS} {FEN}(?: {ODDS})?(?: {CLOCK})?\n",
+    ("line", 1): rf"refused (?:head|step [1-9]\d* unlisted|part [1-9]\d* (?:text|other|line [1-9]\d* {FAULT}))\n",
+    ("dossier", 0): rf"retro line 1\nclaim {STEPS}\n(?:{ODDS}\n)?(?:{CLOCK}\n)?fen {FEN}\n(?:part [1-9]\d*\nretro [12]\n(?:(?!part )[^\n]+\n)+)+",
+    ("dossier", 1): r"refused step [1-9]\d* unlisted\n",
+    ("dossier", 2): r"undecided part [1-9]\d*\n",
 }
 FORMS = {key: re.compile(form) for key, form in FORMS.items()}
 SPENT = re.compile(r"spent \d+\n")
@@ -126,7 +133,7 @@ class Program:
 def learn(path):
     """Adds the commands that the program knows beside the first seven."""
     for name, statuses in FURTHER.items():
-        if Program(path).answers([name], b"")[0] != 5:
+        if Program(path).answers([name, *["1" for _ in RANGES.get(name, [])]], b"")[0] != 5:
             STATUSES[name] = statuses
 
 
@@ -181,7 +188,7 @@ def wrong_accepted(case, text):
     _, claim, *lines = case.input.decode("ascii").split("\n")
     at = next(at for at, line in enumerate(lines) if line.startswith("fen "))
     said = " ".join([claim[6:], lines[at][4:], *lines[:at]])
-    return None if text == f"accepted {said}\n" else "another claim or position than the certificate's"
+    return None if text == f"accepted {said}\n" else "another claim or position than the input's"
 
 
 def wrong_total(case, text):
@@ -229,6 +236,7 @@ def wrong_summary(case, text):
 
 NUMBERS = {
     ("check", 0): wrong_accepted,
+    ("line", 0): wrong_accepted,
     ("unmoves", 0): wrong_total,
     ("solve", 2): wrong_length,
     ("verdict", 0): wrong_depth,
@@ -238,23 +246,25 @@ NUMBERS = {
 
 
 def stated(case):
-    """The claim of `solve`, the lines of odds and clock, and the FEN."""
+    """The claim of `solve` or `dossier`, the lines of odds and clock, and the FEN."""
     claim, _, rest = case.input.decode().replace("\r\n", "\n").partition("\n")
     return claim, *parted(rest)[:2]
 
 
 def unproved(program, case, out, rng):
-    """What is wrong with a certificate of `solve`. One that is mutated may be refused, in the form of a refusal."""
+    """What is wrong with a certificate of `solve` or a dossier. One that is mutated may be refused, in the form of a refusal."""
     claim, demands, fen = stated(case)
-    head = f"retro {2 if demands else 1}\n{claim}\n{demands}fen {' '.join(fen.split(' ')[:4])}\n"
+    checker = "check" if case.words[0] == b"solve" else "line"
+    form = "line 1" if checker == "line" else 2 if demands else 1
+    head = f"retro {form}\n{claim}\n{demands}fen {' '.join(fen.split(' ')[:4])}\n"
     if not out.decode().startswith(head):
-        return "a certificate of another claim or position"
-    if program.answers(["check"], out)[0] != 0:
-        return "a certificate that isn't accepted"
-    other = Case([b"check"], mutated(rng, out))
+        return "a text of another claim or position"
+    if program.answers([checker], out)[0] != 0:
+        return "a text that isn't accepted"
+    other = Case([checker.encode()], mutated(rng, out))
     status, answer, said = program.run(other)
-    wrong = misbehaves(other, "check", status, answer, said) or misformed(other, "check", status, answer)
-    return wrong and f"{wrong}, in a mutated certificate: {other.input.decode('latin-1')!r}"
+    wrong = misbehaves(other, checker, status, answer, said) or misformed(other, checker, status, answer)
+    return wrong and f"{wrong}, in a mutated text: {other.input.decode('latin-1')!r}"
 
 
 def uncountered(program, case, out):
@@ -307,7 +317,7 @@ def wrong(program, case, rng):
     status, out, _ = ended
     found = misbehaves(case, command, *ended) or misformed(case, command, status, out)
     if not found and not case.fails:
-        if (command, status) == ("solve", 0):
+        if (command, status) in (("solve", 0), ("dossier", 0)):
             found = unproved(program, case, out, rng)
         elif (command, status) == ("solve", 4):
             found = uncountered(program, case, out)

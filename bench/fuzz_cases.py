@@ -76,6 +76,20 @@ LENGTHS = [
     (FENS[4], 7, "w", "0 0 0 0 0 0 1 0 1 0 0 0 0 0 0 0 / 0 0 0 0 0 0 0 0 0 0 0 0 0 0 0 0"),
     (FENS[0], 0, "b", "0 0 0 0 0 0 0 0 0 0 0 0 0 0 0 0 / 0 0 0 0 0 0 0 0 0 0 0 0 0 0 0 0"),
 ]
+# Claims of several steps and positions.
+LINE_CLAIMS = [
+    ("claim line d7d5", "kN6/pp6/2P1P3/2KpP3/8/8/8/8 w - -"),
+    ("claim notboth K k", "4k2r/8/8/8/8/8/P7/4K2R b - -"),
+    ("claim notboth k q", "r3k2r/p1p1p2p/4K3/8/8/4Q3/8/8 w - -"),
+    ("claim line d7e8 d1e1 e8d7 e1d1", "4k3/8/8/8/8/8/8/4K3 w - -"),
+    ("claim line d7d5 a2a3", "4k3/8/8/3p4/8/P7/8/4K2R w K d6"),
+    ("claim line a1a8n", "N3k3/8/8/8/8/8/8/4K2R b K -"),
+]
+DOSSIERS = [
+    b"retro line 1\nclaim notboth K k\nfen 4k2r/8/8/8/8/8/P7/4K2R b - -\npart 70\nretro 1\nclaim illegal\nfen 4k2r/8/8/8/8/8/P7/4K2R b Kk -\nroot expand 0\n",
+    b"retro line 1\nclaim line d7d5\nfen kN6/pp6/2P1P3/2KpP3/8/8/8/8 w - -\npart 76\nretro 1\nclaim last d7d5\nfen kN6/pp6/2P1P3/2KpP3/8/8/8/8 w - -\nroot expand 0\n",
+    b"retro line 1\nclaim notboth K Q\nodds 0000000000000080\nfen 4k3/8/8/8/8/8/8/4K2R w - -\n",
+]
 SANS = [
     (FENS[3], "1. e4 e5 2.Nf3 Nc6 *"),
     ("rnbqk2r/ppppppbp/5np1/8/8/5NP1/PPPPPPBP/RNBQ1RK1 b kq -", "1. Nf3 Nf6 2. g3 g6 3. Bg2 Bg7 4. O-O"),
@@ -89,7 +103,7 @@ TOKENS = [b"0", b"1", b"2", b"00", b"01", b"-0", b"+1", b"-1", b"8", b"64", b"65
           b"500001", b"4294967296", b"18446744073709551615", b"18446744073709551616", b"", b"-", b"/", b"w", b"b", b"K", b"KQkq", b"QK", b"e3", b"d6",
           b"e2e4", b"e7e8q", b"d7d8nxr", b"c5d6ep", b"e9e5", b"e1g1", b"retro", b"claim", b"fen", b"root", b"rule", b"back", b"expand", b"illegal",
           b"last", b"lost", b"ep", b"000000000000000", b"000000000000000A", b"ffffffffffffffff", b"odds", b"clock", b"0000000000000002", b"0000000000000010", b"9999", b"10000",
-          b"length", b"atleast", b"moves"]
+          b"length", b"atleast", b"moves", b"line", b"part", b"notboth", b"67108864", b"67108865"]
 BYTES = b" \n\r\t-/+0123456789abcdefghKQkqPNBRpnbrwx\x00\x7f\x80\xff"
 MEN = "PNBRQKpnbrqk"
 
@@ -209,6 +223,29 @@ class Maker:
             lines, fen = self.demands(rng), self.fen(rng)
         return f"{claim}\n{lines}{fen}\n".encode()
 
+    def line_claim(self, rng):
+        """A claim of several steps, and a position, for `dossier`."""
+        claim, fen = rng.choice(LINE_CLAIMS)
+        if rng.random() < 0.3:
+            claim = "claim notboth " + " ".join(sorted(rng.sample("KQkq", 2), key="KQkq".index))
+        elif rng.random() < 0.2:
+            claim = f"claim line {' '.join(move(rng) for _ in range(rng.choice([1, 2, 16, 17])))}"
+        if rng.random() < 0.4:
+            fen = self.fen(rng)
+        return f"{claim}\n{self.demands(rng) if rng.random() < 0.3 else ''}{fen}\n".encode()
+
+    def dossier(self, rng):
+        """A dossier, or one with another part, a part more or less, or another number of bytes."""
+        head, *parts = rng.choice(DOSSIERS).split(b"part ")
+        if rng.random() < 0.3:
+            part = rng.choice(self.certs)
+            parts[rng.randrange(len(parts) + 1):] = [b"%d\n%s" % (len(part) + rng.choice([0, 0, 0, 1, -1]), part)]
+        if rng.random() < 0.1:
+            parts *= 2
+        if rng.random() < 0.1:
+            head = head.replace(b"fen ", self.demands(rng).encode() + b"fen ", 1)
+        return b"part ".join([head, *parts])
+
     def game(self, rng):
         lines, fen, text = rng.choice(self.games)
         moves = text.split()
@@ -264,14 +301,14 @@ class Maker:
         if rng.randrange(20_000) == 0:
             return Case([rng.choice([b"check", b"play", b"unmoves"])], b"x" * (LIMIT + rng.choice([0, 1, 2])))
         command = rng.choice([b"check", b"check", b"check", b"check", b"play", b"play", b"unmoves", b"solve", b"solve", b"solve", b"verdict", b"tree",
-                              b"sample", b"san", b"spell", b"length", b"atleast"])
+                              b"sample", b"san", b"spell", b"length", b"atleast", b"line", b"line", b"dossier"])
         words = [command]
-        if command in (b"solve", b"verdict", b"tree"):
+        if command in (b"solve", b"verdict", b"tree", b"dossier"):
             words += [b"%d" % rng.choice([0, 1, 1, 2, 2, 3, 4, 9, 64]), b"%d" % rng.choice([1, 2, 5, 10, 30, 100, 100])]
         if command == b"sample":
             words += [b"%d" % rng.choice([0, 1, rng.randrange(2**64), 2**64 - 1]), b"%d" % rng.randint(1, 3), b"%d" % rng.randint(1, 6)]
         makers = {b"check": self.certificate, b"play": self.game, b"solve": self.statement, b"san": self.notation, b"spell": self.moves,
-                  b"atleast": self.length}
+                  b"atleast": self.length, b"line": self.dossier, b"dossier": self.line_claim}
         text = makers.get(command, lambda rng: self.position(rng).encode())(rng)
         for _ in range(rng.choice([0, 0, 0, 0, 0, 1, 1, 2, 5])):
             text = mutated(rng, text)

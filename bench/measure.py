@@ -4,6 +4,7 @@
 measure.py play PROGRAM     `PROGRAM play` on games of 200,000 and 1,000,000 plies, knights going to and fro
 measure.py search PROGRAM   `PROGRAM solve` on examples/, in time and by valgrind in machine instructions, and `PROGRAM check` of what it writes
 measure.py visits PROGRAM   how many positions `PROGRAM solve` visits there, and how many it would visit if it kept no refutations
+measure.py texts PROGRAM    `PROGRAM length` and `PROGRAM dossier` on examples/, and the checks of what they write, in machine instructions
 measure.py stream PROGRAM   `PROGRAM check` on certificates of stray labels: machine instructions a byte, time and memory on 64 MiB
 measure.py moves            `legal_moves` on four middle-game positions: builds legal_moves.program over a copy of the crates
 measure.py pawns            `least` and `bound` on eight pawns, in machine instructions, by valgrind: builds pawns.program likewise
@@ -131,6 +132,14 @@ def instructions(words, text=b""):
     return int(re.search(rb"Collected : (\d+)", done.stderr)[1])
 
 
+def texts(program):
+    wheeler = (HERE.parent / "examples" / "wheeler-1887.game").read_bytes().splitlines(keepends=True)[0]
+    three = (HERE.parent / "examples" / "loyd-1891-three-moves.claim").read_bytes()
+    for words, text, checker in ((["length"], wheeler, "atleast"), (["dossier", "1", "100"], three, "line")):
+        made = subprocess.run([program, *words], input=text, stdout=subprocess.PIPE, check=True).stdout
+        print(f"{words[0]} {instructions([program, *words], text):,} instructions, {checker} {instructions([program, checker], made):,}")
+
+
 def strays(lines):
     """A certificate of so many nodes with stray labels, below as few others as may be."""
     whole, rest = divmod(lines, MOST_CHILDREN)
@@ -190,6 +199,8 @@ def main():
         search(sys.argv[2])
     elif sys.argv[1:2] == ["visits"] and len(sys.argv) == 3:
         visits(sys.argv[2])
+    elif sys.argv[1:2] == ["texts"] and len(sys.argv) == 3:
+        texts(sys.argv[2])
     elif sys.argv[1:2] == ["stream"] and len(sys.argv) == 3:
         stream(sys.argv[2])
     elif sys.argv[1:] == ["moves"]:

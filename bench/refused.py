@@ -4,7 +4,7 @@
 refused.py PROGRAM [--most N]    runs each command once for each of its allocations, or for N of them at even steps where it makes more
 
 Each run ends with status 9 and nothing written, or as where nothing is refused. A run that doesn't is printed, and the exit status is 1 then.
-`check` takes no memory, but the words of the command line do, before it begins. The Nth call of `malloc` and `realloc` is refused by a
+`check`, `atleast` and `line` take no memory, but the words of the command line do, before they begin. The Nth call of `malloc` and `realloc` is refused by a
 library that the program is loaded with; it is compiled by `cc`, and the program has to be one that loads the C library when it starts, as
 those of this kit do.
 """
@@ -71,6 +71,12 @@ def cases():
     yield ["verdict", "1", "100"], b"4k3/8/8/8/8/8/P7/4K2R b - -\n"
     yield ["tree", "4", "1000"], ARRAY.replace(b" w ", b" b ")
     yield ["sample", "0", "3", "20"], b""
+    yield ["san"], ARRAY + b"1. e4 e5 2. Ke2 *\n"
+    yield ["spell"], b"e2e4 e7e5 f1c4 b8c6 d1h5 g8f6 h5f7\n"
+    yield ["length"], (EXAMPLES / "wheeler-1887.game").read_bytes().splitlines(keepends=True)[0]
+    yield ["atleast"], b"retro length 1\nfen 8/8/8/8/8/8/8/8 w - -\natleast 0\nmoves w /" + b" 0" * 16 + b"\n"
+    yield ["line"], b"retro line 1\nclaim line d6d5\nfen kN6/pp6/2P1P3/2KpP3/8/8/8/8 w - -\n"
+    yield ["dossier", "1", "100"], (EXAMPLES / "loyd-1891-three-moves.claim").read_bytes()
 
 
 class Refusing:
