@@ -420,13 +420,14 @@ fn counts_steps(rt: HostRuntime) -> Result<(), Fail> {
 /// Whichever read fails, that is the answer, and nothing is written.
 #[test]
 fn tells_failing_reads(rt: HostRuntime) -> Result<(), Fail> {
-    for read in 0..9 {
+    // 278 bytes come in 14 reads of at most 20, and the next tells the end.
+    for read in 0..15 {
         let ports = Ports {
             most_read: 20,
             failing_read: Some(read),
             ..WHOLE
         };
-        let (status, sink) = run_on(rt.alloc(), LINE, BOTH, ports)?;
+        let (status, sink) = run_on(rt.alloc(), LINE, TWO_STEPS, ports)?;
         assert_eq!(rt; status, Status::ReadFault);
         assert!(rt; sink.taken().is_empty());
     }

@@ -142,6 +142,11 @@ fn reads_no_more_than_the_limit(rt: HostRuntime) -> Result<(), Fail> {
     let line = b"refused line 1 text\n";
     assert_answer(&rt, "check", Wide::rest(MOST), Status::Refused, line)?;
     assert_answer(&rt, "check", Wide::rest(MOST + 1), Status::TooLong, b"")?;
+    assert_answer(&rt, "atleast", Wide::rest(MOST), Status::Refused, line)?;
+    assert_answer(&rt, "atleast", Wide::rest(MOST + 1), Status::TooLong, b"")?;
+    let head = b"refused head\n";
+    assert_answer(&rt, "line", Wide::rest(MOST), Status::Refused, head)?;
+    assert_answer(&rt, "line", Wide::rest(MOST + 1), Status::TooLong, b"")?;
     Ok(())
 }
 
