@@ -1,3 +1,6 @@
+ghost use Rattle.std.specs.Prelude.{[], ◌≡◌, IfOk};
+ghost use Rattle.retro_top.specs.Statuses.{IsSilent};
+
 use retro_ports::{MemSink, MemSource};
 use retro_top::{Status, run};
 use std::alloc::{AllocError, Global};
@@ -32,7 +35,7 @@ pub const WHOLE: Ports = Ports {
     failing_write: None,
 };
 
-pub fn words_of(alloc: Global, words: &[&str]) -> Result<Vec<String>, AllocError> {
+fn words_of(alloc: Global, words: &[&str]) -> Result<Vec<String>, AllocError> {
     let mut all = Vec::new(alloc);
     for word in words {
         all.push(String::from_str(alloc, word)?)?;
@@ -49,13 +52,15 @@ fn at_most_one(alloc: Global, number: Option<u32>) -> Result<Vec<u32>, AllocErro
     Ok(numbers)
 }
 
-/// The status and the sink of a run with these words on this input.
+/// The status and the sink of a run with these words on this input. At a status without an answer the sink has taken nothing.
 pub fn run_on(
     alloc: Global,
     words: &[&str],
     input: &[u8],
     ports: Ports,
-) -> Result<(Status, MemSink), AllocError> {
+) -> Result<(Status, MemSink), AllocError>
+    ensures silent { IfOk result (λ ran. IsSilent ran.0 → ran.1.taken ≡ []) }
+{
     let words = words_of(alloc, words)?;
     let bytes = Vec::from_slice(alloc, input)?;
     let failing_reads = at_most_one(alloc, ports.failing_read)?;

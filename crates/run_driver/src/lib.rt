@@ -4,5 +4,5 @@
 mod driving;
 mod rows;
 
-pub use driving::{Ports, Row, WHOLE, run_on, words_of};
+pub use driving::{Ports, Row, WHOLE, run_on};
 pub use rows::{BLOCKED_PAWN, CAPTURES, DOUBLE_STEP, NO_KINGS};

@@ -5,7 +5,6 @@ ghost use Rattle.std.specs.Prelude.{None};
 use cert_checker::{StreamRefused, Why, check_stream};
 use retro_ports::{Failed, MemSink, Source};
 use retro_top::{Status, run};
-use run_driver::words_of;
 use std::alloc::Global;
 use std::process::Abort;
 use std::test::Fail;
@@ -102,7 +101,8 @@ fn assert_answer(
     status: Status,
     text: &[u8],
 ) -> Result<(), Fail> {
-    let words = words_of(rt.alloc(), &[word])?;
+    let mut words = Vec::new(rt.alloc());
+    words.push(String::from_str(rt.alloc(), word)?)?;
     let mut sink = MemSink::new(rt.alloc(), 1_048_576, Vec::new(rt.alloc()), 65_536)?;
     let answered = run(rt.alloc(), &words, &mut source, &mut sink);
     assert_eq!(rt; answered, status, "{word}");
