@@ -1,8 +1,8 @@
 -- Men, their kinds and their colours, by the tests that tell them.
-use Rattle.std.proofs.Common.{◌≡◌, true, false, refl, ap, sym, ◌∙◌}
-use Rattle.std.proofs.lemmas.Bool.{both_ways, false_from_ne_true}
-use Rattle.std.specs.Prelude.{Option, Some, None, is_some}
-use Rattle.board_base.specs.Board.{is_a, is_empty, is_of, opponent, same_colour, same_kind}
+use Rattle.std.proofs.Common.{◌≡◌, ℕ, zero, suc, Bool, true, false, ◌&&◌, not, refl, ap, sym, ◌∙◌}
+use Rattle.std.proofs.lemmas.Bool.{and_parts, both_ways, false_from_ne_true}
+use Rattle.std.specs.Prelude.{Option, Some, None, is_some, replicate}
+use Rattle.board_base.specs.Board.{at, is_a, is_empty, is_of, opponent, same_colour, same_kind}
 use Rattle.board_base.specs.Legal.{is_officer}
 use Rattle.board_base.specs.declared.men.Man.{Man}
 use Rattle.board_base.specs.declared.men.Colour.{Colour}
@@ -65,3 +65,14 @@ none-empty (Some m) h = cc
 pub full-of : (c : Colour) (place : Option Man) → is_of c place ≡ true → is_empty place ≡ false
 full-of c None h = cc
 full-of c (Some m) h = refl
+
+-- nobody stands on a board without men
+pub none-stand : (n s : ℕ) → at (replicate n None) s ≡ None
+none-stand zero s = refl
+none-stand (suc n) zero = refl
+none-stand (suc n) (suc s) = none-stand n s
+
+-- who is no pawn is not promoted
+pub no-promo : (promo : Option Kind) (pawn reaches : Bool) → pawn ≡ false → elim promo as (λ _. Bool) [ None ↦ not (pawn && reaches) | Some k ↦ pawn && reaches && is_officer k ] ≡ true → promo ≡ None
+no-promo None pawn reaches other h = refl
+no-promo (Some k) pawn reaches other h = absurd (both_ways _ other (and_parts _ _ (and_parts _ _ h).0).0)

@@ -9,8 +9,9 @@ use Rattle.board_base.specs.Attacks.{distance, files_apart, is_open, king_distan
 use Rattle.board_base.specs.declared.lines.Change.{Change}
 use Rattle.board_base.specs.declared.lines.Change.TheVariants.{Falls, Stays, Rises}
 use Rattle.board_base.specs.declared.lines.Direction.{Direction}
-use Rattle.board_base.specs.Ways.{IsOff, LiesAlong, along, change, changed}
+use Rattle.board_base.specs.Ways.{IsOff, along, changed}
 use Rattle.board_base.specs.Growth.{fall, rise}
+use Rattle.board_base.specs.LinesThrough.{LiesAlong, change}
 
 by_tests : (up down : Bool) (a k : ℕ) → cond up (a + k) (cond down (a - k) a) ≡ changed (cond up Rises (cond down Falls Stays)) a k
 by_tests true down a k = refl

@@ -1,9 +1,10 @@
 -- Inner: no public clause cites this file.
 -- How potentials are stored.
-use Rattle.std.specs.Prelude.{◌≡◌, ℕ, ◌-◌, ◌≤◌, List, ◌++◌, length, take, drop, replicate, ℤ, pos}
+use Rattle.std.specs.Prelude.{◌≡◌, ◌-◌, ◌≤◌, ◌++◌, length, take, drop, replicate, pos}
 use Rattle.std.specs.List.{All}
-use Rattle.std.proofs.Common.{ap, ◌∙◌, sym, arith}
-use Rattle.std.proofs.lemmas.List.{length-take-le, take-append-drop}
+use Rattle.std.proofs.Common.{arith}
+use Rattle.std.proofs.lemmas.List.{length-take-le}
+use Rattle.general_lemmas.proofs.Rows.{filled-again}
 use Rattle.board_base.specs.declared.potentials.Potentials.TheInside.{Inside}
 use Rattle.board_base.specs.Potentials.{Duals, IsWithinLimit}
 
@@ -27,8 +28,6 @@ stored d = record { pawns = d.u ++ replicate (8 - length d.u) (pos 0); count = l
 -- the fields can be told from the potentials that they hold
 pub stored-seen : (a : Inside) → IsStored a → stored (seen a) ≡ a
 stored-seen a h =
-    let within : a.count ≤ length a.pawns = omega (arith, h.count, h.pawns) in
-    let count : length (take a.count a.pawns) ≡ a.count = length-take-le a.count a.pawns within in
-    let pawns : take a.count a.pawns ++ replicate (8 - length (take a.count a.pawns)) (pos 0) ≡ a.pawns =
-    ap (λ (n : ℕ). take a.count a.pawns ++ replicate (8 - n) (pos 0)) count ∙ ap (λ (l : List ℤ). take a.count a.pawns ++ l) (sym h.rest) ∙ take-append-drop a.count a.pawns in
+    let count : length (take a.count a.pawns) ≡ a.count = length-take-le a.count a.pawns (omega (arith, h.count, h.pawns)) in
+    let pawns : take a.count a.pawns ++ replicate (8 - length (take a.count a.pawns)) (pos 0) ≡ a.pawns = filled-again (pos 0) 8 a.count a.pawns h.count h.pawns h.rest in
     λ i. record { pawns = pawns i; count = count i; files = a.files }

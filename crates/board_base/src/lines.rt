@@ -1,7 +1,8 @@
 ghost use Rattle.std.specs.Prelude.{◌≡◌, ◌<◌, ◌≤◌, ◌+◌, ◌*◌, ◌⊎◌, ℕ, true, false, IfSome, IfNone, Some};
 ghost use Rattle.board_base.specs.Board.{at, file, is_empty, rank};
 ghost use Rattle.board_base.specs.Attacks.{is_open};
-ghost use Rattle.board_base.specs.Ways.{IsOff, LiesAlong, along, changed};
+ghost use Rattle.board_base.specs.Ways.{IsOff, along, changed};
+ghost use Rattle.board_base.specs.LinesThrough.{LiesAlong};
 ghost use Rattle.board_base.specs.Growth.{fall, rise};
 
 use crate::boards::Board;
@@ -41,7 +42,7 @@ fn changed(change: Change, start: u8, steps: u8) -> Option<u8>
     requires inside { start < 8 }
     requires few { steps < 8 }
     ensures value { IfSome result (λ end. end ≡ changed change start steps) }
-    ensures on_board { IfSome result (λ end. end < 8) }
+    ensures on_board { IfSome result (λ end. (end < 8) × (IsOff change start steps → ⊥)) }
     ensures off { IfNone result (IsOff change start steps) }
 {
     match change {
@@ -61,6 +62,7 @@ fn changed(change: Change, start: u8, steps: u8) -> Option<u8>
 pub fn along(direction: Direction, start: Square, steps: u8) -> Option<Square>
     requires { steps < 8 }
     ensures value { IfSome result (λ end. end ≡ along direction start steps) }
+    ensures on_board { IfSome result (λ end. (IsOff direction.ranks (rank start) steps → ⊥) × (IsOff direction.files (file start) steps → ⊥)) }
     ensures off { IfNone result (IsOff direction.ranks (rank start) steps ⊎ IsOff direction.files (file start) steps) }
 {
     let rank = changed(direction.ranks, start.rank(), steps)?;
@@ -107,7 +109,7 @@ fn growth(direction: Direction) -> (u8, u8)
 }
 
 /// The square of the first man in this direction: of each man to whom the line is open he is the one.
-pub fn first_man(board: &Board, from: Square, direction: Direction) -> Option<Square>
+pub(crate) fn first_man(board: &Board, from: Square, direction: Direction) -> Option<Square>
     ensures { (t : ℕ) → t < 64 → LiesAlong direction from t → is_open board.now from t ≡ true → is_empty (at board.now t) ≡ false → result ≡ Some t }
 {
     let room = room(direction.ranks, from.rank()).min(room(direction.files, from.file()));

@@ -37,7 +37,8 @@ fn is_within_limit(x: i8) -> bool
     -64 <= x && x <= 64
 }
 
-fn are_within_limit(numbers: &[i8]) -> bool
+/// Whether each number is from -64 to 64, as each potential is.
+pub fn are_within_limit(numbers: &[i8]) -> bool
     ensures { IsTrue result ↔ All IsWithinLimit numbers.now }
 {
     numbers.iter().all(|&x| is_within_limit(x))

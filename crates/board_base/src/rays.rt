@@ -2,7 +2,7 @@ ghost use Rattle.std.specs.Prelude.{◌≡◌, ◌+◌, ◌*◌, ◌<◌, ℕ, t
 ghost use Rattle.board_base.specs.Board.{at, file, is_of, is_the, rank};
 ghost use Rattle.board_base.specs.Attacks.{attacks, attacks_from, distance, is_open, on_one_diagonal, on_one_line};
 ghost use Rattle.board_base.specs.declared.men.Kind.TheVariants.{Knight};
-ghost use Rattle.board_base.specs.Ways.{LiesAlong};
+ghost use Rattle.board_base.specs.LinesThrough.{LiesAlong};
 
 use crate::attacks::man_attacks;
 use crate::boards::Board;

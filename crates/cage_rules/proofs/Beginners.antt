@@ -10,20 +10,16 @@ use Rattle.board_base.specs.declared.men.Kind.TheVariants.{Knight, Bishop, Rook,
 use Rattle.play_rules.specs.Laws.{is_end}
 use Rattle.cage_rules.specs.Regions.{beginner, is_officer_home}
 use Rattle.cage_rules.proofs.Filling.{Filled, filled-start}
+use Rattle.board_base.proofs.KindsOfMen.{none-stand}
 
 -- a man who isn't left out begins where he begins in the whole array
 pub array-there : (o : List Bool) (s : ℕ) → is_in o s ≡ false → at (array_of o) s ≡ at initial_array s
 unfolding array_of
 array-there o s kept = at-without o initial_array s ∙ ap (λ (b : Bool). cond b None (at initial_array s)) kept
 
-none-there : (n s : ℕ) → at (replicate n None) s ≡ None
-none-there zero s = refl
-none-there (suc n) zero = refl
-none-there (suc n) (suc s) = none-there n s
-
 -- a board to be filled
 pub empty-board : (f : ℕ → Option Man) (board : Places) → board ≡ no_men → Filled f None board 0
-empty-board f board e = filled-start f None board (ap length e ∙ length-replicate {A = Option Man} 64 None) (λ t. ap (λ (b : Places). at b t) e ∙ none-there 64 t)
+empty-board f board e = filled-start f None board (ap length e ∙ length-replicate {A = Option Man} 64 None) (λ t. ap (λ (b : Places). at b t) e ∙ none-stand 64 t)
 
 length-whole : length initial_array ≡ 64
 unfolding initial_array

@@ -7,5 +7,6 @@ pub mod Filtered
 pub mod Differing
 pub mod SumsAmong
 pub mod Counts
+pub mod Rows
 pub mod Rounds
 pub mod Settling

@@ -14,7 +14,7 @@ use Rattle.board_base.specs.declared.men.Kind.TheVariants.{Pawn, King, Rook}
 use Rattle.board_base.specs.declared.men.Man.{Man}
 use Rattle.board_base.specs.declared.moves.Move.{Move}
 use Rattle.board_base.specs.declared.castles.Castle.{Castle}
-use Rattle.board_base.proofs.KindsOfMen.{another_kind}
+use Rattle.board_base.proofs.KindsOfMen.{another_kind, no-promo}
 use Rattle.board_base.proofs.CastleSquares.{rook_home-not-home, rook_home-not-target}
 use Rattle.play_rules.proofs.Legality.{Legality, legality}
 use Rattle.play_rules.proofs.Games.{in_every_game, board_after-more}
@@ -69,11 +69,6 @@ promoted-some : (promo : Option Kind) (place : Option Man) (after : Man) → pro
 promoted-some None place after e = (after, e, refl)
 promoted-some (Some k) None after e = cc
 promoted-some (Some k) (Some man) after e = (man, refl, sym (same_Some _ _ e))
-
--- who is no pawn is not promoted
-pub no-promo : (promo : Option Kind) (pawn reaches : Bool) → pawn ≡ false → elim promo as (λ _. Bool) [ None ↦ not (pawn && reaches) | Some k ↦ pawn && reaches && is_officer k ] ≡ true → promo ≡ None
-no-promo None pawn reaches other h = refl
-no-promo (Some k) pawn reaches other h = absurd (both_ways _ other (and_parts _ _ (and_parts _ _ h).0).0)
 
 -- the king of a castling is not promoted
 castle-no-promo : (board : Places) (c : Colour) (m : Move) (x : Castle) → castling board m ≡ Some x → promotion_fits board c m ≡ true → m.promo ≡ None

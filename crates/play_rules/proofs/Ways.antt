@@ -9,10 +9,11 @@ use Rattle.board_base.specs.declared.men.Kind.TheVariants.{Pawn, Knight, Bishop,
 use Rattle.board_base.specs.Board.{Places, file, is_in, rank}
 use Rattle.board_base.specs.Attacks.{distance, files_apart, is_open, king_distance, one_ahead, ranks_apart}
 use Rattle.board_base.specs.declared.lines.Direction.{Direction}
-use Rattle.board_base.specs.Ways.{LiesAlong, along}
+use Rattle.board_base.specs.Ways.{along}
 use Rattle.play_rules.specs.Reach.{IsWithin}
 use Rattle.play_rules.specs.Ways.{may_step}
 use Rattle.board_base.proofs.Ways.{along-end, zero-apart}
+use Rattle.board_base.specs.LinesThrough.{LiesAlong}
 
 -- a square that is in stays in when another comes in
 pub in-more : (set_of : List Bool) (i t : ℕ) → i < length set_of → is_in set_of t ≡ true → is_in (set set_of i true) t ≡ true

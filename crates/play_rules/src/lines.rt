@@ -1,7 +1,7 @@
 ghost use Rattle.std.specs.Prelude.{◌≡◌, ◌<◌, ℕ, true};
 ghost use Rattle.board_base.specs.Board.{is_in};
 ghost use Rattle.board_base.specs.Attacks.{is_open};
-ghost use Rattle.board_base.specs.Ways.{LiesAlong};
+ghost use Rattle.board_base.specs.LinesThrough.{LiesAlong};
 ghost use Rattle.play_rules.specs.Reach.{IsWithin};
 
 use crate::sets::add;

@@ -12,7 +12,7 @@ use Rattle.board_base.specs.declared.men.Colour.{Colour}
 use Rattle.board_base.specs.declared.men.Kind.{Kind}
 use Rattle.board_base.specs.declared.men.Kind.TheVariants.{Knight, Bishop, Rook, Queen}
 use Rattle.board_base.specs.declared.men.Man.{Man}
-use Rattle.board_base.proofs.KindsOfMen.{same_colour-self, same_kind-self}
+use Rattle.board_base.proofs.KindsOfMen.{full-of, same_colour-self, same_kind-self}
 use Rattle.play_rules.specs.Laws.{is_end}
 use Rattle.men_account.specs.Account.{counts_of, excess_of, is_any, is_dark, is_light, men, allowance_of}
 use Rattle.men_account.specs.Homes.{men_of}
@@ -54,10 +54,6 @@ kept-full false place full = refl
 begins-there : (o : List Bool) (h : ℕ) → is_empty (at (array_of o) h) ≡ false → at (array_of o) h ≡ beginner h
 unfolding array_of beginner
 begins-there o h full = at-without o initial_array h ∙ kept-full (is_in o h) (at initial_array h) (sym (ap is_empty (at-without o initial_array h)) ∙ full)
-
-full-of : (c : Colour) (place : Option Man) → is_of c place ≡ true → is_empty place ≡ false
-full-of c None h = absurd (both_ways false refl h)
-full-of c (Some m) h = refl
 
 stayed-there : (o : List Bool) (board : Places) (h : ℕ) → is_empty (at (array_of o) h) ≡ false → has_stayed (array_of o) board h ≡ true → at board h ≡ beginner h
 stayed-there o board h full stayed = same-told _ _ stayed ∙ begins-there o h full

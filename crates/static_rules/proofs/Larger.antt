@@ -26,20 +26,15 @@ use Rattle.pawn_assign.specs.PawnCosts.{pawn_squares}
 use Rattle.static_rules.specs.SetRules.{CapsSupports, FrozenSupports, IsAbove, IsSettled, PromoSupports}
 use Rattle.static_rules.specs.Greatest.{AreBest, IsGreatestSettled}
 use Rattle.static_rules.proofs.Left.{home-of}
+use Rattle.general_lemmas.proofs.Counts.{one_if-more}
 
 -- counts
-
-one-less : (a b : Bool) → (a ≡ true → b ≡ true) → cond a 1 0 ≤ cond b 1 0
-one-less true true h = omega arith
-one-less true false h = absurd (both_ways false (let e : false ≡ false = λ i. false in e) (h (λ i. true)))
-one-less false true h = omega arith
-one-less false false h = omega arith
 
 -- what passes more counts more
 pub less-count : (p q : ℕ → Bool) (k n : ℕ) → ((s : ℕ) → k ≤ s → s < k + n → p s ≡ true → q s ≡ true) → count_by p (range_with_len k n) ≤ count_by q (range_with_len k n)
 less-count p q k zero less = omega arith
 less-count p q k (suc n) less =
-    let here : ◌≤◌ (cond (p k) 1 0) (cond (q k) 1 0) = one-less (p k) (q k) (less k (omega arith) (omega arith)) in
+    let here : ◌≤◌ (cond (p k) 1 0) (cond (q k) 1 0) = one_if-more (p k) (q k) (less k (omega arith) (omega arith)) in
     let rest = less-count p q (k + 1) n (λ s low high. less s (omega arith) (omega arith)) in
     omega (arith, sum_by-cons (λ x. cond (p x) 1 0) k (range_with_len (k + 1) n), sum_by-cons (λ x. cond (q x) 1 0) k (range_with_len (k + 1) n), here, rest)
 

@@ -113,3 +113,7 @@ answered-from board c last (Some d) h = let p = and_parts _ _ h in (last_is last
 pub answered-last : (board : Places) (c : Colour) (last : Option Move) (m : Move) → pawn_captures_en_passant board c last m ≡ true → IfSome (double_of m c) (λ d. (last ≡ Some d) × IsTrue (is_a Pawn (at board d.to)))
 unfolding pawn_captures_en_passant
 answered-last board c last m h = answered-from board c last (double_of m c) (and_parts _ _ h).1
+
+-- what captures en passant is a pawn
+pub goes-pawn : (board : Places) (m : Move) (b : Bool) → goes_en_passant board m ≡ b → b ≡ true → is_a Pawn (at board m.from) ≡ true
+goes-pawn board m b goes e = (and_parts _ _ (and_parts _ _ (goes ∙ e)).0).0

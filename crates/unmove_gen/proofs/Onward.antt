@@ -38,7 +38,7 @@ use Rattle.unmove_gen.proofs.Castlings.{castled}
 use Rattle.unmove_gen.proofs.Demands.{barred-met, held-keeps, only-met, untouched}
 use Rattle.general_lemmas.proofs.Truth.{same_truth}
 use Rattle.unmove_gen.proofs.Exchanged.{legal-exchanged}
-use Rattle.unmove_gen.proofs.Marks.{captures, goes-same, none-answers}
+use Rattle.unmove_gen.proofs.Marks.{captures, goes-pawn, goes-same, none-answers}
 use Rattle.unmove_gen.proofs.Parts.{Parts, clocked, legality_of, parts}
 use Rattle.general_lemmas.proofs.Filtered.{passes-filter}
 
@@ -57,9 +57,6 @@ beq-of true true h = refl
 beq-of true false h = absurd (both_ways _ refl h)
 beq-of false true h = absurd (both_ways _ refl h)
 beq-of false false h = refl
-
-goes-pawn : (board : Places) (m : Move) (b : Bool) → goes_en_passant board m ≡ b → b ≡ true → is_a Pawn (at board m.from) ≡ true
-goes-pawn board m b goes e = (and_parts _ _ (and_parts _ _ (goes ∙ e)).0).0
 
 taken-place : (c : Colour) (place : Option Man) (k : Option Kind) → is_of c place ≡ true → is_some k ≡ not (is_empty (captured_by place k))
 taken-place c None k own = absurd (both_ways false refl own)

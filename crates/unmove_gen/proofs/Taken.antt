@@ -35,7 +35,7 @@ use Rattle.unmove_gen.proofs.Castlings.{castles, was-castling}
 use Rattle.unmove_gen.proofs.Demands.{barred-from, held-from, keeps-all, only-from}
 use Rattle.unmove_gen.proofs.Equal.{places_self}
 use Rattle.unmove_gen.proofs.Exchanged.{legal-exchanged}
-use Rattle.unmove_gen.proofs.Marks.{Captures, answered-last, captures, goes-same, home-left, none-answers, self-answers}
+use Rattle.unmove_gen.proofs.Marks.{Captures, answered-last, captures, goes-pawn, goes-same, home-left, none-answers, self-answers}
 use Rattle.unmove_gen.proofs.Members.{Fits, candidate-of}
 use Rattle.unmove_gen.proofs.SaneGames.{sane-in-game}
 
@@ -142,9 +142,6 @@ board-before g m q r =
 kind-there : (place : Option Man) → is_some (kind_of place) ≡ not (is_empty place)
 kind-there None = refl
 kind-there (Some m) = refl
-
-goes-pawn : (board : Places) (m : Move) (b : Bool) → goes_en_passant board m ≡ b → b ≡ true → is_a Pawn (at board m.from) ≡ true
-goes-pawn board m b goes e = (and_parts _ _ (and_parts _ _ (goes ∙ e)).0).0
 
 takes-some : (place : Option Man) (b : Bool) → b ≡ false → is_some (cond b (Some Pawn) (kind_of place)) ≡ not (is_empty place)
 takes-some place b e = ap (λ (d : Bool). is_some (cond d (Some Pawn) (kind_of place))) e ∙ kind-there place

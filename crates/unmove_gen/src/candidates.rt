@@ -136,21 +136,4 @@ impl Cursor {
             self.next_origin()
         }
     }
-
-    /// The next candidate.
-    pub fn next(self) -> Cursor
-        requires { self.to < 64 }
-        ensures { number_of result ≡ number_of self + 1 }
-    {
-        if self.capture < 6 {
-            Cursor {
-                to: self.to,
-                from: self.from,
-                promotion: self.promotion,
-                capture: self.capture + 1,
-            }
-        } else {
-            self.next_promotion()
-        }
-    }
 }

@@ -1,8 +1,9 @@
 use Rattle.std.proofs.Common.{◌≡◌, ℕ, ◌<◌, true, false}
 use Rattle.board_base.specs.Board.{at, is_empty}
 use Rattle.board_base.specs.Attacks.{is_open, king_distance}
-use Rattle.board_base.specs.Ways.{LiesAlong, along}
+use Rattle.board_base.specs.Ways.{along}
 use Rattle.board_base.proofs.lines.first_man.Given as goal
+use Rattle.board_base.specs.LinesThrough.{LiesAlong}
 
 -- no man that the line is open to stands so near
 abbrev pub invariant-loop : goal.invariant-loop

@@ -1,9 +1,9 @@
 use Rattle.std.proofs.Common.{inl, inr, subst, sym}
 use Rattle.std.proofs.lemmas.Bool.{or_left, or_right}
 use Rattle.board_base.specs.declared.lines.Direction.{Direction}
-use Rattle.board_base.specs.Ways.{LiesAlong}
 use Rattle.board_base.proofs.Ways.{diagonal}
 use Rattle.board_base.proofs.rays.is_hit_diagonally.Goals as goal
+use Rattle.board_base.specs.LinesThrough.{LiesAlong}
 
 pub returns-clause-complete : goal.returns-clause-complete
 returns-clause-complete c = λ t small h clear hit.

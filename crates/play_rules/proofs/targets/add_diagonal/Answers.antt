@@ -1,9 +1,9 @@
 use Rattle.std.proofs.Common.{inl, inr, subst, sym}
 use Rattle.std.proofs.lemmas.Bool.{and_parts}
 use Rattle.board_base.specs.declared.lines.Direction.{Direction}
-use Rattle.board_base.specs.Ways.{LiesAlong}
 use Rattle.board_base.proofs.Ways.{diagonal}
 use Rattle.play_rules.proofs.targets.add_diagonal.Goals as goal
+use Rattle.board_base.specs.LinesThrough.{LiesAlong}
 
 pub returns-clause-added : goal.returns-clause-added
 returns-clause-added c = λ t small h.
