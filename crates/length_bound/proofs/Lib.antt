@@ -6,7 +6,7 @@ pub mod Bound
 pub mod Direct
 pub mod LeastWay
 pub mod Duals
-pub mod Squares
+mod Tables
 pub mod Shown
 mod Examples
 mod Chains

@@ -15,14 +15,14 @@ use Rattle.board_base.specs.declared.men.Kind.TheVariants.{Pawn, Rook, King}
 use Rattle.board_base.specs.declared.men.Man.{Man}
 use Rattle.board_base.specs.declared.moves.Move.{Move}
 use Rattle.board_base.specs.declared.castles.Castle.{Castle}
-use Rattle.board_base.proofs.KindsOfMen.{kind_is, colour_is, same_colour-self}
+use Rattle.board_base.proofs.KindsOfMen.{colour_is, kind_is, no-promo, same_colour-self}
 use Rattle.play_rules.proofs.Legality.{Legality, Manner, moves, steps, doubles, takes, passes, castles}
 use Rattle.play_rules.proofs.Kings.{within, castle-ends, two-castles}
 use Rattle.men_account.specs.Labels.{Labels, label_at, relabelled}
 use Rattle.men_account.proofs.FilesLeft.{led-inside}
 use Rattle.men_account.proofs.Captured.{same-side}
 use Rattle.men_account.proofs.Moved.{moved_from, moved_from-apart}
-use Rattle.men_account.proofs.Origins.{origin, Came, stayed, moved_here, with_the_king, before, no-promo, promoted_man}
+use Rattle.men_account.proofs.Origins.{origin, Came, stayed, moved_here, with_the_king, before, promoted_man}
 use Rattle.general_lemmas.proofs.SumsAmong.{value_at, sum-through, sum-both, at_only, only-there, sum-only}
 use Rattle.length_bound.specs.MoveCosts.{move_cost}
 use Rattle.length_bound.specs.SideBounds.{man_cost, side_cost}

@@ -5,7 +5,6 @@ pub mod ManDuals
 pub mod LengthText
 pub mod LengthAnswers
 pub mod Longest
-pub mod Rows
 pub mod StoredManPotentials
 pub mod LengthReading
 pub mod LengthFronts

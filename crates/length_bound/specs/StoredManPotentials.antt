@@ -1,9 +1,10 @@
 -- Inner: no public clause cites this file.
 -- How potentials of men and homes are stored.
-use Rattle.std.specs.Prelude.{◌≡◌, ℕ, ◌-◌, ◌≤◌, List, ◌++◌, length, take, drop, replicate, ℤ, pos}
+use Rattle.std.specs.Prelude.{◌≡◌, ◌-◌, ◌≤◌, ◌++◌, length, take, drop, replicate, pos}
 use Rattle.std.specs.List.{All}
-use Rattle.std.proofs.Common.{ap, ◌∙◌, sym, arith}
-use Rattle.std.proofs.lemmas.List.{length-take-le, take-append-drop}
+use Rattle.std.proofs.Common.{arith}
+use Rattle.std.proofs.lemmas.List.{length-take-le}
+use Rattle.general_lemmas.proofs.Rows.{filled-again}
 use Rattle.board_base.specs.Potentials.{Duals, IsWithinLimit}
 use Rattle.length_bound.specs.declared.man_potentials.ManPotentials.TheInside.{Inside}
 
@@ -27,8 +28,6 @@ stored d = record { men = d.u ++ replicate (16 - length d.u) (pos 0); count = le
 -- the fields can be told from the potentials that they hold
 pub stored-seen : (a : Inside) → IsStored a → stored (seen a) ≡ a
 stored-seen a h =
-    let within : a.count ≤ length a.men = omega (arith, h.count, h.men) in
-    let count : length (take a.count a.men) ≡ a.count = length-take-le a.count a.men within in
-    let men : take a.count a.men ++ replicate (16 - length (take a.count a.men)) (pos 0) ≡ a.men =
-    ap (λ (n : ℕ). take a.count a.men ++ replicate (16 - n) (pos 0)) count ∙ ap (λ (l : List ℤ). take a.count a.men ++ l) (sym h.rest) ∙ take-append-drop a.count a.men in
+    let count : length (take a.count a.men) ≡ a.count = length-take-le a.count a.men (omega (arith, h.count, h.men)) in
+    let men : take a.count a.men ++ replicate (16 - length (take a.count a.men)) (pos 0) ≡ a.men = filled-again (pos 0) 16 a.count a.men h.count h.men h.rest in
     λ i. record { men = men i; count = count i; homes = a.homes }

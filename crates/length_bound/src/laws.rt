@@ -26,17 +26,17 @@ pub fn steps_add_one()
     ensures direct { (k : AKind) (h s : ℕ) → same_kind Pawn k ≡ false → h < 64 → s < 64 → steps k h s ≡ direct_steps k h s }
 {}
 
-/// The law that in every game from the array without any of its men, the men of a side on the board, each by himself from the square
-/// on which he began, need no more moves in all than the side made and two more; and where a castling right of the side is not lost,
-/// no more than the side made (article 3.8: by a castling a king goes two steps and a rook one).
+/// The law that in every game from the array, whichever of its men are left out, the men of a side on the board, each by himself from
+/// the square on which he began, need no more moves in all than the side made and two more; and where a castling right of the side is
+/// not lost, no more than the side made (article 3.8: by a castling a king goes two steps and a rook one).
 pub fn men_need_moves()
     ensures most { (o : List Bool) (g : List Move) (c : AColour) → IsGame o g → side_cost o c (board_after o g) (labels_after o g) ≤ moves_of c (length g) + 2 }
     ensures uncastled { (o : List Bool) (g : List Move) (c : AColour) (x : Castle) → IsGame o g → side x ≡ c → IsTrue (unmoved o g x) → side_cost o c (board_after o g) (labels_after o g) ≤ moves_of c (length g) }
 {}
 
 /// The law of the length of games: where potentials are bounded by what the men of a side need from each of its homes, each game
-/// that leads to the board, from the array without any of its men, has at least as many half-moves as the side's moves that they show
-/// ask for. The castlings that are held are those whose rights are not lost.
+/// that leads to the board from the array, whichever of its men are left out, has at least as many half-moves as the side's moves
+/// that they show ask for. The castlings that are held are those whose rights are not lost.
 pub fn games_are_long()
     ensures moves { (o : List Bool) (g : List Move) (c : AColour) (held : Rights) (u v : List ℤ) → IsGame o g → ((x : Castle) → IsTrue (holds held x) → IsTrue (unmoved o g x)) → IsSideBound o c (board_after o g) u v → moves_shown c held u v ≤ moves_of c (length g) }
     ensures from_odds { (o : List Bool) (g : List Move) (c : AColour) (held : Rights) (u v : List ℤ) → IsGame o g → ((x : Castle) → IsTrue (holds held x) → IsTrue (unmoved o g x)) → IsSideBound o c (board_after o g) u v → length_with c (turn_after g) (moves_shown c held u v) ≤ length g }

@@ -67,7 +67,7 @@ fn sum_of(board: &Board, side: Colour, odds: Odds, p: &ManPotentials) -> Option<
     ensures small { IfSome result (λ sum. sum ≤ℤ pos 1024) }
 {
     match costs(board, side, odds) {
-        Some(costs) => bound(costs.table(), p.u(), p.v()),
+        Some(costs) => bound(costs.as_slice(), p.u(), p.v()),
         None => None,
     }
 }
@@ -103,7 +103,7 @@ pub fn best(query: &Query, side: Colour) -> Option<ManPotentials>
 {
     match costs(&query.board, side, query.odds) {
         Some(costs) => {
-            let solution = solve(costs.table());
+            let solution = solve(costs.as_slice());
             Some(ManPotentials::known(solution.u.as_slice(), &solution.v))
         }
         None => None,

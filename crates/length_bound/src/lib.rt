@@ -11,7 +11,6 @@ mod lengths;
 mod man_potentials;
 mod reading;
 mod rows;
-mod table;
 mod text_laws;
 mod texts;
 mod walks;

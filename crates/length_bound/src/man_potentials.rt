@@ -1,8 +1,7 @@
-ghost use Rattle.std.specs.Prelude.{◌≡◌, IsTrue, ◌↔◌, SomeIff};
-ghost use Rattle.std.specs.List.{All};
-ghost use Rattle.board_base.specs.Potentials.{IsWithinLimit};
+ghost use Rattle.std.specs.Prelude.{◌≡◌, SomeIff};
 ghost use Rattle.length_bound.specs.ManDuals.{AreManPotentials};
 
+use board_base::are_within_limit;
 use std::marker::Model;
 
 /// Dual potentials of an assignment of men to homes, seen as two lists of numbers from -64 to 64: `u` has one for each of at most
@@ -29,20 +28,6 @@ impl Model for ManPotentials {
     ghost inverse = { stored };
 
     ghost inverse_ok = { stored-seen };
-}
-
-/// Whether the number is from -64 to 64.
-fn is_within_limit(x: i8) -> bool
-    ensures { IsTrue result ↔ IsWithinLimit x }
-{
-    -64 <= x && x <= 64
-}
-
-/// Whether each number is from -64 to 64.
-fn are_within_limit(numbers: &[i8]) -> bool
-    ensures { IsTrue result ↔ All IsWithinLimit numbers.now }
-{
-    numbers.iter().all(|&x| is_within_limit(x))
 }
 
 impl ManPotentials {

@@ -1,9 +1,11 @@
-ghost use Rattle.std.specs.Prelude.{◌≡◌, ◌+◌, ◌<◌, ◌≤◌, SomeIff, length, map};
+ghost use Rattle.std.specs.Prelude.{◌≡◌, ◌+◌, ◌<◌, ◌≤◌, IfSome, SomeIff, length, map};
 ghost use Rattle.std.specs.List.{All, range_with_len};
+ghost use Rattle.std.specs.Option.{option_map};
+ghost use Rattle.assignment.specs.Tables.{IsTable};
 ghost use Rattle.length_bound.specs.SideBounds.{home_of, man_row, men_squares, move_costs, place_cost};
 
 use crate::costs::move_cost;
-use crate::table::Costs;
+use arrayvec::ArrayVec;
 use board_base::{Board, Colour, Man, Odds, Square, is_of};
 
 /// A home of a side, by its place among the side's sixteen homes in ascending order, from 0.
@@ -40,16 +42,18 @@ fn man_row(odds: Odds, side: Colour, place: Option<Man>, s: Square) -> [u8; 16]
     row
 }
 
-/// The costs of this side's men in a game at these odds; None exactly where it has more than sixteen.
-pub(crate) fn costs(board: &Board, side: Colour, odds: Odds) -> Option<Costs>
-    ensures { SomeIff result (length (men_squares side board.now) ≤ 16) (move_costs odds side board.now) }
+/// The costs of this side's men in a game at these odds: a row for each man, in ascending order of the men's squares, with the cost
+/// from each home of the side, in ascending order. None exactly where it has more than sixteen men.
+pub(crate) fn costs(board: &Board, side: Colour, odds: Odds) -> Option<ArrayVec<[u8; 16], 16>>
+    ensures items { SomeIff (option_map (λ costs. costs.items) result) (length (men_squares side board.now) ≤ 16) (move_costs odds side board.now) }
+    ensures table { IfSome result (λ costs. IsTable costs.items 16) }
 {
-    let mut costs = Costs::new();
+    let mut costs: ArrayVec<[u8; 16], 16> = ArrayVec::new();
     for i in 0..64 {
         let s = Square::known(i);
         let place = board.at(s);
         if is_of(side, place) {
-            if costs.rows() == 16 {
+            if costs.is_full() {
                 return None;
             }
             costs.push(man_row(odds, side, place, s));

@@ -20,10 +20,12 @@ pub fn rows_are_of_the_pawns()
 {}
 
 /// The law of weak duality for the pawns of a side: wherever they began, each on a file of its own, their costs are no less than the sum of
-/// potentials that bound them. Where each can have come from its file, the costs are the files that they have gone aside.
+/// potentials that bound them. Where each can have come from its file, the costs are the files that they have gone aside; and where the
+/// costs are below 64 in all, each can have come from its file.
 pub fn no_way_costs_less()
     ensures costs { (o : List Bool) (c : AColour) (board : Places) (u v : List ℤ) (files : List ℕ) → IsBounded 8 (pawn_costs o c board) u v → IsInjection 8 (length (pawn_squares c board)) files → (total u +ℤ total v) ≤ℤ pos (assignment_cost (pawn_costs o c board) files) }
     ensures aside { (o : List Bool) (c : AColour) (board : Places) (files : List ℕ) → IsInjection 8 (length (pawn_squares c board)) files → HaveCome o c (pawn_squares c board) files → assignment_cost (pawn_costs o c board) files ≡ files_aside (pawn_squares c board) files }
+    ensures came { (o : List Bool) (c : AColour) (board : Places) (files : List ℕ) → IsInjection 8 (length (pawn_squares c board)) files → assignment_cost (pawn_costs o c board) files < 64 → HaveCome o c (pawn_squares c board) files }
     ensures files { (o : List Bool) (c : AColour) (board : Places) (u v : List ℤ) (files : List ℕ) → IsBounded 8 (pawn_costs o c board) u v → IsInjection 8 (length (pawn_squares c board)) files → HaveCome o c (pawn_squares c board) files → (total u +ℤ total v) ≤ℤ pos (files_aside (pawn_squares c board) files) }
 {}
 

@@ -13,4 +13,4 @@ returns-in-Some-clause-small c =
     sum-small (move_costs c.args.odds c.args.side c.args.board.now) c.args.p.now.u c.args.p.now.v c.bound.result answer range.men range.u_within
 
 pub returns-in-None-clause-sum : goal.returns-in-None-clause-sum
-returns-in-None-clause-sum c = λ bound. too-many c.args.odds c.args.side c.args.board.now c.args.p.now.u c.args.p.now.v c.in-None.ensures bound
+returns-in-None-clause-sum c = λ bound. too-many c.args.odds c.args.side c.args.board.now c.args.p.now.u c.args.p.now.v c.in-None.ensures.items bound

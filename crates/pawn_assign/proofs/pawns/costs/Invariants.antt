@@ -1,5 +1,8 @@
-use Rattle.pawn_assign.proofs.Squares.{IsMade}
+use Rattle.board_base.specs.Board.{at, is_the}
+use Rattle.board_base.specs.declared.men.Kind.TheVariants.{Pawn}
+use Rattle.general_lemmas.proofs.Rows.{AreMade}
+use Rattle.pawn_assign.specs.PawnCosts.{pawn_row}
 use Rattle.pawn_assign.proofs.pawns.costs.Given as goal
 
 abbrev pub invariant-loop-i : goal.invariant-loop-i
-invariant-loop-i l = IsMade l.fn.odds l.side l.board l.i l.costs
+invariant-loop-i l = AreMade (λ s. is_the l.side Pawn (at l.board s)) (pawn_row l.fn.odds l.side) 64 8 l.i l.costs
