@@ -29,6 +29,7 @@ use Rattle.unmove_gen.proofs.Parts.{parts}
 use Rattle.unmove_gen.proofs.Taken.{listed_after}
 use Rattle.cert_text.specs.Tree.{Tree, Forest, rule, back, expand, none, more}
 use Rattle.cert_checker.specs.Proving.{Proves}
+use Rattle.board_base.proofs.KindsOfMen.{none-stand}
 
 abbrev no_rights : Rights
 no_rights = record { white_short = false; white_long = false; black_short = false; black_long = false }
@@ -52,15 +53,10 @@ kings_there : Proves (rule Kings) the_array [] → ⊥
 unfolding initial_array
 kings_there proves = proves (λ c. elim c as (λ d. kings d initial_array ≡ 1) [ White ↦ refl | Black ↦ refl ])
 
-no_man_at : (n s : ℕ) → at (replicate n None) s ≡ None
-no_man_at zero s = refl
-no_man_at (suc n) zero = refl
-no_man_at (suc n) (suc s) = no_man_at n s
-
 none_listed : (u : Unmove) → is_listed (asked no_men) u ≡ true → ⊥
 none_listed u listed =
     let moved : is_of Black (at no_men u.mv.to) ≡ true = (parts _ u listed).target in
-    let none : is_of Black (at no_men u.mv.to) ≡ false = ap (is_of Black) (no_man_at 64 u.mv.to) in
+    let none : is_of Black (at no_men u.mv.to) ≡ false = ap (is_of Black) (none-stand 64 u.mv.to) in
     both_ways _ none moved
 
 none_in : (us : List Unmove) → ((u : Unmove) → Contains us u → ⊥) → us ≡ []

@@ -5,7 +5,6 @@ use Rattle.query_base.specs.Asked.{Asked}
 use Rattle.query_base.specs.declared.claims.Claim.{Claim}
 use Rattle.fen_text.specs.ClockLines.{clock_line}
 use Rattle.fen_text.specs.OddsLines.{odds_line}
-use Rattle.fen_text.proofs.PartLemmas.{mapped_some}
 use Rattle.cert_text.specs.Lines.{said}
 use Rattle.cert_text.specs.Certificate.{Lines, Certificate, AreLinesOf, format_of, query_of}
 use Rattle.cert_text.specs.ClaimLines.{claim_of}
@@ -18,6 +17,7 @@ use Rattle.cert_text.proofs.FenLines.{query_read}
 use Rattle.cert_text.proofs.HeadSteps.{one_of}
 use Rattle.cert_text.proofs.HeadTexts.{head_plain}
 use Rattle.cert_checker.specs.Staging.{BarsNothing}
+use Rattle.board_base.proofs.TextLemmas.{mapped_some}
 
 -- a certificate that has a text is about such a query
 pub query_unbarred : (lines : Lines) (cert : Certificate) → AreLinesOf lines cert → cert.query.barred ≡ None

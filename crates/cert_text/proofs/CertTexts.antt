@@ -1,8 +1,10 @@
 -- Certificates and their texts.
 use Rattle.std.proofs.Common.{◌≡◌, ℕ, ◌==◌, Bool, true, false, cond, List, [], ◌∷◌, ◌++◌, None, refl, sym, ap, ◌∙◌, subst, arith}
 use Rattle.std.specs.List.{concat, onto_first}
+use Rattle.query_base.specs.Asked.{Asked}
+use Rattle.query_base.specs.declared.claims.Claim.{Claim}
 use Rattle.cert_text.specs.Lines.{cut, ended}
-use Rattle.cert_text.specs.Certificate.{Lines, Certificate, AreLinesOf, IsTextOf, HasText, body_of}
+use Rattle.cert_text.specs.Certificate.{Lines, Certificate, AreHeadLines, AreLinesOf, IsTextOf, HasText, body_of}
 use Rattle.cert_text.specs.Writable.{is_written, IsQuery, fits}
 use Rattle.cert_text.specs.NodeLines.{root_text}
 use Rattle.cert_text.specs.Written.{cert_lines, head_lines}
@@ -66,6 +68,10 @@ step false b lines = onto b lines
 pub concat_cut : (bytes : List ℕ) → concat (cut bytes) ≡ bytes
 concat_cut [] = refl
 concat_cut (b ∷ bytes) = step (b == 10) b (cut bytes) ∙ ap (λ (l : List ℕ). b ∷ l) (concat_cut bytes)
+
+-- the bytes of a head are what is written of its claim and query
+pub head_bytes : (bytes : List ℕ) (claim : Claim) (q : Asked) → AreHeadLines (cut bytes) claim q → bytes ≡ concat (head_lines claim q)
+head_bytes bytes claim q h = sym (concat_cut bytes) ∙ ap concat (head_is (cut bytes) claim q h)
 
 -- a text of a certificate is what is written of it
 pub text_is : (bytes : List ℕ) (cert : Certificate) → IsTextOf bytes cert → bytes ≡ concat (cert_lines cert)

@@ -18,13 +18,14 @@ use Rattle.query_base.specs.declared.claims.Claim.{Claim}
 use Rattle.query_base.specs.declared.claims.Claim.TheVariants.{Illegal, Last, Lost, Ep}
 use Rattle.fen_text.specs.Parts.{Free}
 use Rattle.cert_text.specs.Lines.{ended, said}
-use Rattle.cert_text.specs.ClaimLines.{castling_named, capture_claimed, claim_of, castle_letter, claim_text}
+use Rattle.cert_text.specs.ClaimLines.{castling_named, capture_claimed, claim_of, claim_text}
 use Rattle.cert_text.specs.Writable.{is_on_board, is_written}
-use Rattle.cert_text.proofs.Frees.{move_free}
 use Rattle.cert_text.proofs.OnBoard.{move_on_board}
 use Rattle.fen_text.proofs.Begun.{begun}
 use Rattle.cert_text.proofs.RuleTexts.{Only, only_none}
 use Rattle.cert_text.proofs.SpelledLines.{said_back, said_read}
+use Rattle.fen_text.specs.Fen.{castle_letter}
+use Rattle.fen_text.proofs.MoveFrees.{move_free}
 
 move_known : (m : Move) → is_on_board m ≡ true → can_promote m.promo ≡ true → move_of (move_text m) ≡ Some m
 move_known m there promo =

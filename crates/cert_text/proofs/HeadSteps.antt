@@ -19,7 +19,7 @@ use Rattle.fen_text.specs.Sets.{set_of}
 use Rattle.fen_text.specs.Spelling.{spelling}
 use Rattle.fen_text.proofs.ClockTexts.{clock_read}
 use Rattle.fen_text.proofs.OddsTexts.{line_read}
-use Rattle.fen_text.proofs.PartLemmas.{mapped_some, some_value}
+use Rattle.fen_text.proofs.PartLemmas.{some_value}
 use Rattle.cert_text.specs.Lines.{ended, said}
 use Rattle.cert_text.specs.Certificate.{AreHeadLines, IsSaid, Lines, clock_demand, format_for, format_of, query_of}
 use Rattle.cert_text.specs.ClaimLines.{claim_of}
@@ -30,6 +30,7 @@ use Rattle.cert_text.specs.declared.heads.Head.{Head}
 use Rattle.cert_text.specs.declared.heads.Head.TheVariants.{FormatDue, ClaimDue, DemandDue, ClockOrFenDue, FenDue, RootDue}
 use Rattle.cert_text.proofs.FenLines.{fen_line, query_read}
 use Rattle.cert_text.proofs.SpelledLines.{nothing_said, said_back, said_read}
+use Rattle.board_base.proofs.TextLemmas.{mapped_some}
 
 -- the lines of a head lead to its root
 
@@ -168,7 +169,7 @@ root_query : (c d : Claim) (p q : Asked) → RootDue c p ≡ RootDue d q → p �
 root_query c d p q e = cc
 
 -- FEN has no word for what a line before it demands
-bare : (p : Asked) → p.odds ≡ no_odds → p.clock ≡ None → p ≡ record p { odds = no_odds; clock = None }
+pub bare : (p : Asked) → p.odds ≡ no_odds → p.clock ≡ None → p ≡ record p { odds = no_odds; clock = None }
 bare p o k = ap (λ (x : List Bool). record p { odds = x }) o ∙ ap (λ (x : Option ℕ). record p { odds = no_odds; clock = x }) k
 
 fen_then : (line : List ℕ) (lines : Lines) (claim c : Claim) (odds : List Bool) (clock : Option ℕ) (q : Asked) (next : Head) → fen_step claim odds clock line ≡ Some next → Leads next lines (RootDue c q) → FromFen claim odds clock (line ∷ lines) c q

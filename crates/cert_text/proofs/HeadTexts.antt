@@ -1,10 +1,11 @@
 -- The lines of a head and their texts.
-use Rattle.std.proofs.Common.{◌≡◌, ◌≢◌, ℕ, ◌+◌, Bool, true, false, cond, List, [], ◌∷◌, ◌++◌, length, Option, Some, None, refl, sym, ap, ◌∙◌, inl, inr, arith, length-append}
+use Rattle.std.proofs.Common.{◌≡◌, ◌≢◌, ℕ, ◌+◌, Bool, true, false, cond, List, [], ◌∷◌, ◌++◌, length, Option, Some, None, refl, sym, ap, ◌∙◌, subst, inl, inr, arith, append_assoc, length-append}
 use Rattle.std.specs.Prelude.{codes}
 use Rattle.std.specs.List.{concat}
 use Rattle.std.specs.Option.{option_map}
 use Rattle.std.specs.Str.{bytes_eq}
 use Rattle.std.proofs.lemmas.List.{append-nil}
+use Rattle.std.proofs.lemmas.List.Folds.{concat-append}
 use Rattle.std.proofs.lemmas.Bool.{cases_Bool, cond-true, cond-false}
 use Rattle.std.proofs.lemmas.Slice.Eq.{bytes_eq-Decides}
 use Rattle.board_base.specs.Board.{AreOdds, no_odds}
@@ -18,9 +19,8 @@ use Rattle.fen_text.specs.Spelling.{spelling}
 use Rattle.fen_text.proofs.ClockTexts.{clock_back, clock_read}
 use Rattle.fen_text.proofs.HexTexts.{set_free}
 use Rattle.fen_text.proofs.OddsTexts.{line_read, odds_back}
-use Rattle.fen_text.proofs.PartLemmas.{mapped_some}
-use Rattle.cert_text.specs.Lines.{ended, said}
-use Rattle.cert_text.specs.Certificate.{AreHeadLines, IsSaid, Lines, clock_demand, demand_lines, format_for, format_of, lines_of_clock, lines_of_odds, root_at}
+use Rattle.cert_text.specs.Lines.{cut, ended, said}
+use Rattle.cert_text.specs.Certificate.{AreHeadLines, IsSaid, Lines, clock_demand, demand_lines, format_for, format_of, lines_of_clock, lines_of_odds, query_lines, root_at}
 use Rattle.cert_text.specs.ClaimLines.{claim_text}
 use Rattle.cert_text.specs.Writable.{IsQuery, is_written}
 use Rattle.cert_text.specs.Written.{format_text, head_lines}
@@ -30,7 +30,8 @@ use Rattle.cert_text.proofs.ClaimTexts.{claim_back, claim_free, claim_read}
 use Rattle.cert_text.proofs.FenLines.{fen_line, query_back, query_read}
 use Rattle.cert_text.proofs.Frees.{decimal_free, spelling_free}
 use Rattle.cert_text.proofs.SpelledLines.{said_back, said_read}
-use Rattle.cert_text.proofs.TreeTexts.{AreWhole, whole_both}
+use Rattle.cert_text.proofs.TreeTexts.{AreWhole, cut_back, whole_both}
+use Rattle.board_base.proofs.TextLemmas.{mapped_some}
 
 -- the format
 
@@ -66,7 +67,7 @@ odds-at : (b : Bool) (odds : List Bool) → is_no_odds odds ≡ b → AreOdds od
 odds-at true odds is are = (sets_decide odds no_odds).0 is
 odds-at false odds is are = odds_said odds are (λ none. let same = (sets_decide odds no_odds).1 none in cc)
 
-odds_written : (odds : List Bool) → AreOdds odds → IsSaid odds_line no_odds (lines_of_odds odds) odds
+pub odds_written : (odds : List Bool) → AreOdds odds → IsSaid odds_line no_odds (lines_of_odds odds) odds
 odds_written odds are = odds-at (is_no_odds odds) odds refl are
 
 odds_free : (odds : List Bool) → Free 10 (odds_text odds)
@@ -99,7 +100,7 @@ odds_lines_are (line ∷ other ∷ lines) odds e = absurd e
 
 -- the clock
 
-clock_written : (clock : Option ℕ) → IsShortClock clock → IsSaid clock_demand None (lines_of_clock clock) clock
+pub clock_written : (clock : Option ℕ) → IsShortClock clock → IsSaid clock_demand None (lines_of_clock clock) clock
 clock_written None short = refl
 clock_written (Some n) short = said_back clock_demand (clock_text n) (Some n) (ap (option_map (λ k. Some k)) (clock_back n short))
 
@@ -188,12 +189,36 @@ head_back claim q written known plain = record {
   query_is = query_back q known.whole plain known.step;
 }
 
+-- each line of a query has its end
+pub query_whole : (q : Asked) → IsShortClock q.clock → AreWhole (query_lines q)
+query_whole q short =
+    let demands : AreWhole (demand_lines q) = whole_both (lines_of_odds q.odds) (lines_of_clock q.clock) (odds_whole (is_no_odds q.odds) q.odds) (clock_whole q.clock short) in
+    let last : AreWhole (ended (codes "fen " ++ spelling q) ∷ []) = (record { text = codes "fen " ++ spelling q; line_is = refl; free = spelling_free q }, tt) in
+    whole_both (demand_lines q) (ended (codes "fen " ++ spelling q) ∷ []) demands last
+
 -- each line of a head that is written has its end
 pub head_whole : (claim : Claim) (q : Asked) → IsShortClock q.clock → AreWhole (head_lines claim q)
 head_whole claim q short =
-    let demands : AreWhole (demand_lines q) = whole_both (lines_of_odds q.odds) (lines_of_clock q.clock) (odds_whole (is_no_odds q.odds) q.odds) (clock_whole q.clock short) in
-    let last : AreWhole (ended (codes "fen " ++ spelling q) ∷ []) = (record { text = codes "fen " ++ spelling q; line_is = refl; free = spelling_free q }, tt) in
     let format : Format = format_for (demand_lines q) in (
       record { text = format_text format; line_is = refl; free = format_free format },
-      (record { text = claim_text claim; line_is = refl; free = claim_free claim }, whole_both (demand_lines q) (ended (codes "fen " ++ spelling q) ∷ []) demands last),
+      (record { text = claim_text claim; line_is = refl; free = claim_free claim }, query_whole q short),
     )
+
+-- the lines of a query, put one after another behind others
+pub query_put : (q : Asked) (out odds clock now : List ℕ) → odds ≡ out ++ concat (lines_of_odds q.odds) → clock ≡ odds ++ concat (lines_of_clock q.clock) → now ≡ clock ++ ended (codes "fen " ++ spelling q) → now ≡ out ++ concat (query_lines q)
+query_put q out odds clock now first second third =
+    let o : List ℕ = concat (lines_of_odds q.odds) in
+    let k : List ℕ = concat (lines_of_clock q.clock) in
+    let last : List ℕ = ended (codes "fen " ++ spelling q) in
+    let bytes : concat (query_lines q) ≡ o ++ (k ++ last) =
+    concat-append (demand_lines q) (last ∷ []) ∙ ap (λ (l : List ℕ). concat (demand_lines q) ++ l) (append-nil last) ∙ ap (λ (l : List ℕ). l ++ last) (concat-append (lines_of_odds q.odds) (lines_of_clock q.clock)) ∙ append_assoc o k last in
+    third ∙ ap (λ (l : List ℕ). l ++ last) (second ∙ ap (λ (l : List ℕ). l ++ k) first) ∙ append_assoc (out ++ o) k last ∙ append_assoc out o (k ++ last) ∙ ap (λ (l : List ℕ). out ++ l) (sym bytes)
+
+-- the lines of the format, of the claim and of the query, put one after another, are the head
+pub head_put : (claim : Claim) (q : Asked) (a b c d : List ℕ) → is_written claim ≡ true → IsQuery q → q.barred ≡ None → a ≡ [] → b ≡ a ++ ended (format_text (format_for (demand_lines q))) → c ≡ b ++ ended (claim_text claim) → d ≡ c ++ concat (query_lines q) → AreHeadLines (cut d) claim q
+head_put claim q a b c d written known plain none first second third =
+    let format : List ℕ = ended (format_text (format_for (demand_lines q))) in
+    let named : List ℕ = ended (claim_text claim) in
+    let below : List ℕ = concat (query_lines q) in
+    let is : d ≡ concat (head_lines claim q) = third ∙ ap (λ (l : List ℕ). l ++ below) (second ∙ ap (λ (l : List ℕ). l ++ named) (first ∙ ap (λ (l : List ℕ). l ++ format) none)) ∙ append_assoc format named below in
+    subst (λ (ls : Lines). AreHeadLines ls claim q) (sym (ap cut is ∙ cut_back (head_lines claim q) (head_whole claim q known.clock))) (head_back claim q written known plain)

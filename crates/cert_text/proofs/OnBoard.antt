@@ -8,7 +8,7 @@ use Rattle.board_base.specs.declared.men.Kind.{Kind}
 use Rattle.board_base.specs.declared.moves.Move.{Move}
 use Rattle.board_base.specs.declared.unmoves.Unmove.{Unmove}
 use Rattle.board_base.specs.Texts.{◌>>=◌, square_at, promo_of, move_of, promo_head, after_promo, capture_of, unmove_as, unmove_from}
-use Rattle.fen_text.proofs.PartLemmas.{bound_some, mapped_some}
+use Rattle.board_base.proofs.TextLemmas.{bound_some, mapped_some}
 
 square_small : (a b s : ℕ) → square_at a b ≡ Some s → s < 64
 square_small a b s e =

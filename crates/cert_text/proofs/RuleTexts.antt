@@ -17,7 +17,7 @@ use Rattle.fen_text.specs.Fen.{turn}
 use Rattle.fen_text.specs.Parts.{Free}
 use Rattle.fen_text.specs.Spelling.{turn_letter}
 use Rattle.fen_text.proofs.OneText.{turn_spelled}
-use Rattle.fen_text.proofs.PartLemmas.{followed, free_append, mapped_some, part_more, parted_next}
+use Rattle.fen_text.proofs.PartLemmas.{followed, free_append, part_more, parted_next}
 use Rattle.fen_text.specs.Sets.{is_whole, set_of, set_text}
 use Rattle.cert_text.specs.Arguments.{potentials_of, potentials_text}
 use Rattle.cert_text.specs.Writable.{are_near, is_rule}
@@ -26,6 +26,7 @@ use Rattle.fen_text.proofs.Begun.{begun}
 use Rattle.cert_text.proofs.PartTexts.{no_part, no_rest}
 use Rattle.fen_text.proofs.HexTexts.{set_back, set_free, set_read}
 use Rattle.cert_text.proofs.WordTexts.{duals_back, duals_free, duals_read}
+use Rattle.board_base.proofs.TextLemmas.{mapped_some}
 
 -- what an option gives, if anything, has the property
 abbrev pub Only : {A : Type 0} → (A → Type 0) → Option A → Type 0

@@ -85,7 +85,7 @@ body_short depth (Rule r) fits few = omega (arith, name_short r fits)
 body_short depth (Back k) fits few = omega (arith, length-decimal-le 6 k (omega arith) (omega arith) (omega arith))
 body_short depth (Expand n) fits few = omega (arith, length-decimal-le 6 n (omega arith) (omega arith) (omega arith))
 
-claim_short : (claim : Claim) → length (claim_text claim) ≤ 16
+pub claim_short : (claim : Claim) → length (claim_text claim) ≤ 16
 claim_short Illegal = omega arith
 claim_short (Last m) = omega (arith, move_short m)
 claim_short (Lost x) = omega arith

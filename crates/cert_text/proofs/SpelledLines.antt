@@ -10,18 +10,18 @@ use Rattle.std.specs.Option.{option_and_then}
 use Rattle.board_base.specs.declared.unmoves.Unmove.{Unmove}
 use Rattle.board_base.specs.Texts.{unmove_from, unmove_text, can_promote, can_capture}
 use Rattle.board_base.proofs.OneText.{unmove_read}
-use Rattle.board_base.proofs.TextLemmas.{unmove_back}
-use Rattle.fen_text.proofs.PartLemmas.{followed, mapped_some}
+use Rattle.board_base.proofs.TextLemmas.{mapped_some, unmove_back}
+use Rattle.fen_text.proofs.PartLemmas.{followed}
 use Rattle.cert_text.specs.Lines.{ended, without_end, said}
 use Rattle.cert_text.specs.NodeLines.{body_at, root_body, kid_body, node_line, body_text, root_text, kid_text, line_text}
 use Rattle.cert_text.specs.Writable.{has_text, fits_depth}
 use Rattle.cert_text.specs.declared.node_lines.BodyLine.{BodyLine}
 use Rattle.cert_text.specs.declared.node_lines.NodeLine.{NodeLine}
 use Rattle.cert_text.proofs.KidLines.{labelled, kid_is}
-use Rattle.cert_text.proofs.Frees.{unmove_free}
 use Rattle.cert_text.proofs.OnBoard.{unmove_on_board}
 use Rattle.fen_text.proofs.Begun.{begun}
 use Rattle.cert_text.proofs.Spelled.{body_back, body_read, number_in}
+use Rattle.fen_text.proofs.MoveFrees.{unmove_free}
 pub use Rattle.cert_text.proofs.Tests.{when}
 
 -- a line with its end taken off

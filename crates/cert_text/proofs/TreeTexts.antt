@@ -13,8 +13,9 @@ use Rattle.cert_text.specs.Writable.{has_text, fits_depth, fits, all_fit}
 use Rattle.cert_text.specs.NodeLines.{body_text, kid_text}
 use Rattle.cert_text.specs.Written.{lines_below, lines_of}
 use Rattle.cert_text.specs.declared.node_lines.BodyLine.TheVariants.{Expand}
-use Rattle.cert_text.proofs.Frees.{unmove_free, body_free}
+use Rattle.cert_text.proofs.Frees.{body_free}
 use Rattle.cert_text.proofs.SpelledLines.{kid_back, kid_read}
+use Rattle.fen_text.proofs.MoveFrees.{unmove_free}
 
 -- a text without a line end, with one after it
 pub record IsLine (line : List ℕ) : Type 0 where
@@ -30,7 +31,7 @@ pub whole_both : (a b : Lines) → AreWhole a → AreWhole b → AreWhole (a ++ 
 whole_both [] b p q = q
 whole_both (line ∷ a) b p q = (p.0, whole_both a b p.1 q)
 
-cut_line : (text rest : List ℕ) → Free 10 text → cut (ended text ++ rest) ≡ ended text ∷ cut rest
+pub cut_line : (text rest : List ℕ) → Free 10 text → cut (ended text ++ rest) ≡ ended text ∷ cut rest
 cut_line [] rest free = refl
 cut_line (b ∷ text) rest free =
     let parts = and_parts (not (b == 10)) _ free in

@@ -1,27 +1,25 @@
 -- Lines that are put after one another.
 use Rattle.std.proofs.Common.{◌≡◌, ℕ, zero, suc, ◌+◌, ◌<◌, ◌^◌, ◌==◌, ◌&&◌, ◌||◌, true, nat_lt, nat_le, List, [], ◌∷◌, ◌++◌, sym, ap, ◌∙◌, subst, arith}
-use Rattle.std.specs.Prelude.{Some, None, codes}
+use Rattle.std.specs.Prelude.{Some, None}
 use Rattle.std.specs.List.{concat}
 use Rattle.std.proofs.lemmas.Bool.{and_parts, leb-true}
 use Rattle.std.proofs.lemmas.List.{append_assoc}
 use Rattle.std.proofs.lemmas.List.Folds.{concat-append}
 use Rattle.std.proofs.lemmas.Option.{some_pair_parts}
 use Rattle.board_base.specs.declared.unmoves.Unmove.{Unmove}
-use Rattle.fen_text.specs.Spelling.{spelling}
-use Rattle.fen_text.proofs.PartLemmas.{mapped_some}
 use Rattle.cert_text.specs.Tree.{Tree, Forest, rule, back, expand, none, more, count, kid_at}
 use Rattle.cert_text.specs.Sizes.{rest_of}
 use Rattle.cert_text.specs.Lines.{ended}
-use Rattle.cert_text.specs.Certificate.{Certificate, body_of, demand_lines, format_for}
-use Rattle.cert_text.specs.ClaimLines.{claim_text}
+use Rattle.cert_text.specs.Certificate.{Certificate, body_of}
 use Rattle.cert_text.specs.NodeLines.{kid_body, root_body, root_text, kid_text, IsLine}
 use Rattle.cert_text.specs.Writable.{all_fit, fits, fits_depth, has_text}
-use Rattle.cert_text.specs.Written.{IsLabel, cert_lines, format_text, lines_below, lines_of}
+use Rattle.cert_text.specs.Written.{IsLabel, cert_lines, head_lines, lines_below, lines_of}
 use Rattle.cert_text.specs.declared.node_lines.BodyLine.{BodyLine}
 use Rattle.cert_text.specs.declared.node_lines.BodyLine.TheVariants.{Expand}
 use Rattle.cert_text.specs.declared.node_lines.NodeLine.{NodeLine}
 use Rattle.cert_text.proofs.Forests.{rest-more}
 use Rattle.cert_text.proofs.SpelledLines.{kid_text_read}
+use Rattle.board_base.proofs.TextLemmas.{mapped_some}
 
 -- a child that the grammar admits
 pub record IsAdmitted (depth : ℕ) (label : Unmove) (t : Tree) : Type 0 where
@@ -55,17 +53,13 @@ after_kid f i label t out own now e first second =
     let r : List ℕ = concat (lines_of (rest_of f (i + 1))) in
     ap (λ (l : List ℕ). l ++ r) (second ∙ ap (λ (l : List ℕ). l ++ b) first) ∙ regrouped out a b r ∙ ap (λ (l : List ℕ). out ++ l) (sym (lines_next f i label t e))
 
--- six parts, put after one another
-pub put_together : (h x o y z w a b c d e f : List ℕ) → a ≡ h → b ≡ a ++ x → c ≡ b ++ o → d ≡ c ++ y → e ≡ d ++ z → f ≡ e ++ w → f ≡ h ++ (x ++ (o ++ (y ++ (z ++ w))))
-put_together h x o y z w a b c d e f p q r s t u = simp (u, t, s, r, q, p, append_assoc)
-
--- the bytes of a certificate's lines, part after part
-pub cert_bytes : (cert : Certificate) → concat (cert_lines cert) ≡ ended (format_text (format_for (demand_lines cert.query))) ++ (ended (claim_text cert.claim) ++ (concat (demand_lines cert.query) ++ (ended (codes "fen " ++ spelling cert.query) ++ (ended (root_text (body_of cert.root)) ++ concat (lines_below cert.root)))))
-cert_bytes cert =
-    let fen : List ℕ = ended (codes "fen " ++ spelling cert.query) in
-    let last : List (List ℕ) = ended (root_text (body_of cert.root)) ∷ lines_below cert.root in
-    ap (λ (l : List (List ℕ)). ended (format_text (format_for (demand_lines cert.query))) ++ (ended (claim_text cert.claim) ++ concat l)) (append_assoc (demand_lines cert.query) (fen ∷ []) last)
-    ∙ ap (λ (l : List ℕ). ended (format_text (format_for (demand_lines cert.query))) ++ (ended (claim_text cert.claim) ++ l)) (concat-append (demand_lines cert.query) (fen ∷ last))
+-- the head, the root's line and the lines below it, put after one another, are the bytes of a certificate
+pub put_together : (cert : Certificate) (head a b c d : List ℕ) → head ≡ concat (head_lines cert.claim cert.query) → a ≡ [] → b ≡ a ++ head → c ≡ b ++ ended (root_text (body_of cert.root)) → d ≡ c ++ concat (lines_below cert.root) → d ≡ concat (cert_lines cert)
+put_together cert head a b c d is empty first second third =
+    let own : List ℕ = ended (root_text (body_of cert.root)) in
+    let below : List ℕ = concat (lines_below cert.root) in
+    third ∙ ap (λ (l : List ℕ). l ++ below) (second ∙ ap (λ (l : List ℕ). l ++ own) (first ∙ ap (λ (l : List ℕ). l ++ head) empty ∙ is))
+    ∙ append_assoc (concat (head_lines cert.claim cert.query)) own below ∙ sym (concat-append (head_lines cert.claim cert.query) (own ∷ lines_below cert.root))
 
 -- what is read as a line has a label with a text
 pub line_label : (n : NodeLine) → IsLine n → IsLabel n.label

@@ -9,6 +9,7 @@ use Rattle.query_base.specs.declared.claims.Claim.{Claim}
 use Rattle.fen_text.specs.ClockLines.{clock_line, clock_text}
 use Rattle.fen_text.specs.Fen.{fen_of_four}
 use Rattle.fen_text.specs.OddsLines.{is_no_odds, odds_line, odds_text}
+use Rattle.fen_text.specs.Spelling.{spelling}
 use Rattle.cert_text.specs.Tree.{Tree, Forest, rule, back, expand, none, more, count}
 use Rattle.cert_text.specs.Lines.{cut, ended, said}
 use Rattle.cert_text.specs.ClaimLines.{claim_of}
@@ -78,6 +79,10 @@ lines_of_clock (Some n) = ended (clock_text n) ∷ []
 -- the lines of the demands that FEN has no word for: the odds, and then the clock
 abbrev pub demand_lines : Asked → Lines
 demand_lines q = lines_of_odds q.odds ++ lines_of_clock q.clock
+
+-- the lines of a query: those of the demands, and the FEN's
+abbrev pub query_lines : Asked → Lines
+query_lines q = demand_lines q ++ ended (codes "fen " ++ spelling q) ∷ []
 
 -- the number of the root's line, counted from 1
 abbrev pub root_at : Asked → ℕ

@@ -9,6 +9,7 @@ use Rattle.board_base.specs.declared.castles.Castle.{Castle}
 use Rattle.board_base.specs.declared.castles.Castle.TheVariants.{WhiteShort, WhiteLong, BlackShort, BlackLong}
 use Rattle.query_base.specs.declared.claims.Claim.{Claim}
 use Rattle.query_base.specs.declared.claims.Claim.TheVariants.{Illegal, Last, Lost, Ep}
+use Rattle.fen_text.specs.Fen.{castle_letter}
 
 -- the castling of a letter K, Q, k or q
 abbrev pub castling_named : List ℕ → Option Castle
@@ -30,13 +31,6 @@ claim_of text =
     cond (starts_with nat_eq text (codes "claim lost ")) (option_map (λ x. Lost x) (castling_named (drop 11 text))) (
     cond (starts_with nat_eq text (codes "claim ep ")) (option_and_then capture_claimed (move_of (drop 9 text))) (
     cond (bytes_eq text (codes "claim illegal")) (Some Illegal) None)))
-
--- the letter of a castling
-abbrev pub castle_letter : Castle → ℕ
-castle_letter WhiteShort = 75
-castle_letter WhiteLong = 81
-castle_letter BlackShort = 107
-castle_letter BlackLong = 113
 
 -- what the text of a claim says after `claim `
 abbrev pub claim_words : Claim → List ℕ

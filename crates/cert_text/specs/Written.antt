@@ -9,10 +9,9 @@ use Rattle.cert_text.specs.declared.heads.Format.{Format}
 use Rattle.cert_text.specs.declared.heads.Format.TheVariants.{One, Two}
 use Rattle.cert_text.specs.Tree.{Tree, Forest, rule, back, expand, none, more}
 use Rattle.cert_text.specs.Lines.{ended}
-use Rattle.cert_text.specs.Certificate.{Certificate, Lines, body_of, demand_lines, format_for}
+use Rattle.cert_text.specs.Certificate.{Certificate, Lines, body_of, demand_lines, format_for, query_lines}
 use Rattle.cert_text.specs.ClaimLines.{claim_text}
 use Rattle.cert_text.specs.NodeLines.{kid_text, root_text}
-use Rattle.fen_text.specs.Spelling.{spelling}
 use Rattle.cert_text.specs.Writable.{has_text}
 
 -- the label, if there is one, has a text
@@ -43,7 +42,7 @@ format_text Two = codes "retro 2"
 
 -- the lines of the head of a certificate about this query
 abbrev pub head_lines : Claim → Asked → Lines
-head_lines claim q = ended (format_text (format_for (demand_lines q))) ∷ ended (claim_text claim) ∷ (demand_lines q ++ ended (codes "fen " ++ spelling q) ∷ [])
+head_lines claim q = ended (format_text (format_for (demand_lines q))) ∷ ended (claim_text claim) ∷ query_lines q
 
 -- the lines of a certificate
 abbrev pub cert_lines : Certificate → Lines

@@ -1,26 +1,21 @@
-ghost use Rattle.std.specs.Prelude.{ℕ, List, ◌≡◌, ◌↔◌, ◌<◌, ◌^◌, ◌++◌, [], IfOk, IsTrue, None, OnOk, codes, true};
+ghost use Rattle.std.specs.Prelude.{ℕ, List, ◌≡◌, ◌<◌, ◌^◌, ◌++◌, IfOk, OnOk, true};
 ghost use Rattle.std.specs.List.{concat};
-ghost use Rattle.fen_text.specs.Spelling.{spelling};
-ghost use Rattle.query_base.specs.Asked.{IsShortClock};
-ghost use Rattle.cert_text.specs.Certificate.{AreLinesOf, Certificate as AnyCertificate, HasText, IsTextOf, body_of, demand_lines, format_for, lines_of_clock, lines_of_odds};
-ghost use Rattle.cert_text.specs.ClaimLines.{claim_text, promotes_well};
+ghost use Rattle.cert_text.specs.Certificate.{AreLinesOf, Certificate as AnyCertificate, HasText, IsTextOf, body_of};
 ghost use Rattle.cert_text.specs.Lines.{cut, ended};
 ghost use Rattle.cert_text.specs.Seen.{tree_of};
 ghost use Rattle.cert_text.specs.SeenCert.{cert_of};
 ghost use Rattle.cert_text.specs.Texts.{IsBadAt};
 ghost use Rattle.cert_text.specs.Writable.{all_fit, fits};
 ghost use Rattle.cert_text.specs.NodeLines.{labelled_text};
-ghost use Rattle.cert_text.specs.Written.{IsLabel, format_text, lines_below, lines_of};
+ghost use Rattle.cert_text.specs.Written.{IsLabel, lines_below, lines_of};
 
 use crate::certificates::Cert;
-use crate::claims::write_claim;
+use crate::head_writing::write_head;
 use crate::line_writing::push_line;
 use crate::node_lines::{BodyLine, NodeLine};
 use crate::nodes::{Body, Kids, Node};
 use arrayvec::ArrayVec;
-use board_base::{Memory, Odds, Unmove};
-use fen_text::{write_clock, write_fen, write_odds};
-use query_base::{Claim, Query};
+use board_base::{Memory, Unmove};
 use std::alloc::{AllocError, Global};
 
 /// Puts the text after the others, with a line end.
@@ -30,78 +25,6 @@ fn push_ended(text: &[u8], out: &mut Vec<u8>) -> Result<(), AllocError>
     out.extend_from_slice(text)?;
     out.push(b'\n')?;
     Ok(())
-}
-
-/// Puts the line of the claim after the others.
-fn push_claim(claim: &Claim, out: &mut Vec<u8>) -> Result<(), AllocError>
-    requires { IsTrue (promotes_well claim.now) }
-    ensures { OnOk result (out.new.items ≡ out.old.items ++ ended (claim_text claim.now)) }
-{
-    let mut text: ArrayVec<u8, 128> = ArrayVec::new();
-    write_claim(claim, &mut text);
-    push_ended(text.as_slice(), out)
-}
-
-/// Whether neither odds nor a clock are demanded.
-fn is_undemanding(query: &Query) -> bool
-    ensures { IsTrue result ↔ (demand_lines query.now ≡ []) }
-{
-    query.odds.is_none() && query.clock.is_none()
-}
-
-/// Puts the line of the format after the others: the first format where neither odds nor a clock are demanded.
-fn push_format(query: &Query, out: &mut Vec<u8>) -> Result<(), AllocError>
-    ensures { OnOk result (out.new.items ≡ out.old.items ++ ended (format_text (format_for (demand_lines query.now)))) }
-{
-    if is_undemanding(query) {
-        push_ended(b"retro 1", out)
-    } else {
-        push_ended(b"retro 2", out)
-    }
-}
-
-/// Puts the line of the odds after the others, if there are any.
-fn push_odds(odds: Odds, out: &mut Vec<u8>) -> Result<(), AllocError>
-    ensures { OnOk result (out.new.items ≡ out.old.items ++ concat (lines_of_odds odds)) }
-{
-    if odds.is_none() {
-        return Ok(());
-    }
-    let mut text: ArrayVec<u8, 32> = ArrayVec::new();
-    write_odds(odds, &mut text);
-    push_ended(text.as_slice(), out)
-}
-
-/// Puts the line of the clock after the others, if one is demanded.
-fn push_clock(clock: Option<u16>, out: &mut Vec<u8>) -> Result<(), AllocError>
-    requires { IsShortClock clock }
-    ensures { OnOk result (out.new.items ≡ out.old.items ++ concat (lines_of_clock clock)) }
-{
-    let Some(n) = clock else {
-        return Ok(());
-    };
-    let mut text: ArrayVec<u8, 32> = ArrayVec::new();
-    write_clock(n, &mut text);
-    push_ended(text.as_slice(), out)
-}
-
-/// Puts the lines of the odds and of the clock after the others.
-fn push_demands(query: &Query, out: &mut Vec<u8>) -> Result<(), AllocError>
-    ensures { OnOk result (out.new.items ≡ out.old.items ++ concat (demand_lines query.now)) }
-{
-    push_odds(query.odds, out)?;
-    push_clock(query.clock, out)
-}
-
-/// Puts the line of the FEN after the others.
-fn push_fen(query: &Query, out: &mut Vec<u8>) -> Result<(), AllocError>
-    requires { query.now.barred ≡ None }
-    ensures { OnOk result (out.new.items ≡ out.old.items ++ ended (codes "fen " ++ spelling query.now)) }
-{
-    let mut fen: ArrayVec<u8, 128> = ArrayVec::new();
-    write_fen(query, &mut fen);
-    out.extend_from_slice(b"fen ")?;
-    push_ended(fen.as_slice(), out)
 }
 
 /// What the own line of a node says of it. The node has fewer than 2^32 children.
@@ -159,11 +82,10 @@ fn text_of(alloc: Global, cert: &Cert) -> Result<Vec<u8>, AllocError>
     requires { HasText (cert_of cert.now) }
     ensures { IfOk result (λ text. IsTextOf text.items (cert_of cert.now)) }
 {
+    let mut head: ArrayVec<u8, 512> = ArrayVec::new();
+    write_head(&cert.claim, &cert.query, &mut head);
     let mut out = Vec::new(alloc);
-    push_format(&cert.query, &mut out)?;
-    push_claim(&cert.claim, &mut out)?;
-    push_demands(&cert.query, &mut out)?;
-    push_fen(&cert.query, &mut out)?;
+    out.extend_from_slice(head.as_slice())?;
     push_own(None, &cert.root, &mut out)?;
     push_below(&cert.root, &mut out)?;
     Ok(out)

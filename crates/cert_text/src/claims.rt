@@ -2,11 +2,12 @@ ghost use Rattle.std.specs.Prelude.{◌≡◌, ◌≤◌, ◌+◌, ◌++◌, [],
 ghost use Rattle.std.specs.Option.{option_and_then, option_map};
 ghost use Rattle.board_base.specs.Texts.{can_promote, move_of, move_text};
 ghost use Rattle.query_base.specs.declared.claims.Claim.TheVariants.{Last, Lost};
-ghost use Rattle.cert_text.specs.ClaimLines.{capture_claimed, castle_letter, castling_named, claim_of, claim_text, promotes_well};
+ghost use Rattle.cert_text.specs.ClaimLines.{capture_claimed, castling_named, claim_of, claim_text, promotes_well};
 
 use crate::lines::is_text;
 use arrayvec::ArrayVec;
 use board_base::{Castle, Move, read_move, write_move};
+use fen_text::castle_letter;
 use query_base::Claim;
 
 fn read_castle(name: &[u8]) -> Option<Castle>
@@ -78,18 +79,6 @@ pub fn read_claim(line: &[u8]) -> Option<Claim>
         Some(Claim::Illegal)
     } else {
         None
-    }
-}
-
-/// The letter of a castling in claims and FEN: `K`, `Q`, `k` or `q`.
-pub fn castle_letter(castle: Castle) -> u8
-    ensures { result ≡ castle_letter castle }
-{
-    match castle {
-        Castle::WhiteShort => b'K',
-        Castle::WhiteLong => b'Q',
-        Castle::BlackShort => b'k',
-        Castle::BlackLong => b'q',
     }
 }
 

@@ -10,6 +10,7 @@ ghost use Rattle.cert_text.specs.declared.node_lines.BodyLine.TheVariants.{Back,
 use crate::arguments::{are_near, is_whole};
 use crate::certificates::Cert;
 use crate::nodes::{Body, Kids, Node};
+use crate::query_lines::is_known;
 use board_base::{Kind, Move, Unmove};
 use query_base::{Claim, Query, RuleLine};
 
@@ -119,8 +120,7 @@ fn is_plain(query: &Query) -> bool
     ensures plain { IsTrue result ↔ (query.now.barred ≡ None) }
     ensures known { IsQuery query.now }
 {
-    query.board.is_whole();
-    query.odds.set();
+    is_known(query);
     query.barred.is_none()
 }
 

@@ -2,9 +2,9 @@
 use Rattle.std.specs.Prelude.{ℕ, Bool, cond, List, [], ◌∷◌, ◌++◌, codes, IsSome}
 use Rattle.std.specs.Fmt.{decimal}
 use Rattle.board_base.specs.Texts.{move_text}
-use Rattle.cert_text.specs.ClaimLines.{castle_letter}
 use Rattle.codex_verdict.specs.declared.kinds.Right.{Right}
 use Rattle.codex_verdict.specs.declared.kinds.Right.TheVariants.{Castling, EnPassant}
+use Rattle.fen_text.specs.Fen.{castle_letter}
 
 -- the name of a right: a letter for a castling, the move for a capture en passant
 abbrev pub right_text : Right → List ℕ

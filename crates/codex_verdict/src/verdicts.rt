@@ -5,7 +5,7 @@ ghost use Rattle.codex_verdict.specs.Verdicts.{Promotes, open_words, proved_word
 use crate::kinds::Right;
 use arrayvec::ArrayVec;
 use board_base::write_move;
-use cert_text::castle_letter;
+use fen_text::castle_letter;
 use itoa::Buffer;
 
 fn push_text(text: &[u8], out: &mut ArrayVec<u8, 64>)

@@ -38,7 +38,7 @@ one_step (NotBoth x y) q i j a b = absurd a
 one_step (Line steps) q i j a b = first_one q steps i j a b
 
 -- or all are
-no_step : (claim : LineClaim) (q : Asked) (i : ℕ) → HasParts claim q → LacksStep claim q i → ⊥
+pub no_step : (claim : LineClaim) (q : Asked) (i : ℕ) → HasParts claim q → LacksStep claim q i → ⊥
 no_step (NotBoth x y) q i listed a = a
 no_step (Line steps) q i listed a = a.unlisted (listed a.before a.after a.step a.whole)
 

@@ -14,7 +14,6 @@ use Rattle.fen_text.specs.ClockLines.{clock_line}
 use Rattle.fen_text.specs.OddsLines.{odds_line}
 use Rattle.fen_text.proofs.ClockTexts.{clock_read}
 use Rattle.fen_text.proofs.OddsTexts.{line_read}
-use Rattle.fen_text.proofs.PartLemmas.{mapped_some}
 use Rattle.cert_text.specs.Certificate.{IsSaid, Lines, clock_demand, query_of}
 use Rattle.cert_text.specs.Lines.{cut, ended, said}
 use Rattle.cert_text.proofs.CertTexts.{concat_cut}
@@ -28,6 +27,8 @@ use Rattle.dossier_text.specs.Dossiers.{AreHeadLines, BeginsWithHead, HasNoHead,
 use Rattle.dossier_text.specs.declared.heads.Head.{Head}
 use Rattle.dossier_text.specs.HeadReading.{claim_first, claimed_of, clock_first, fen_first, head_first, query_first, said_first, unless_said}
 use Rattle.dossier_text.proofs.HeadTexts.{cut_head, head_is, head_lines, head_wholly}
+use Rattle.board_base.proofs.TextLemmas.{mapped_some}
+use Rattle.cert_text.proofs.HeadSteps.{bare}
 
 -- a line of one kind is none of another: they begin with different letters
 
@@ -114,10 +115,6 @@ front_line grammar unsaid line lines (Some value) e = record { front = line ∷ 
 front_of : {A : Type 0} (grammar : List ℕ → Option A) (unsaid : A) (lines : Lines) → Front grammar unsaid lines (said_first grammar unsaid lines).0 (said_first grammar unsaid lines).1
 front_of grammar unsaid [] = record { front = []; parts = refl; is = refl }
 front_of grammar unsaid (line ∷ lines) = front_line grammar unsaid line lines (said grammar line) refl
-
--- FEN has no word for what a line before it demands
-bare : (p : Asked) → p.odds ≡ no_odds → p.clock ≡ None → p ≡ record p { odds = no_odds; clock = None }
-bare p o k = ap (λ (x : List Bool). record p { odds = x }) o ∙ ap (λ (x : Option ℕ). record p { odds = no_odds; clock = x }) k
 
 record FenFirst (odds : List Bool) (clock : Option ℕ) (lines : Lines) (q : Asked) (rest : Lines) : Type 0 where
   fen_line : List ℕ

@@ -1,44 +1,41 @@
 -- The head of a dossier is one text of lines.
-use Rattle.std.proofs.Common.{◌≡◌, ℕ, ◌≤◌, ◌==◌, not, Bool, List, [], ◌∷◌, ◌++◌, length, Option, Some, None, refl, sym, ap, ◌∙◌, subst, arith, append_assoc, length-append}
+use Rattle.std.proofs.Common.{◌≡◌, ℕ, ◌≤◌, Bool, List, [], ◌∷◌, ◌++◌, length, Option, Some, None, refl, sym, ap, ◌∙◌, subst, arith, append_assoc, length-append}
 use Rattle.std.specs.Prelude.{codes}
-use Rattle.std.specs.List.{concat, onto_first}
-use Rattle.std.proofs.lemmas.Bool.{and_parts, cond-false, not-true}
+use Rattle.std.specs.List.{concat}
 use Rattle.std.proofs.lemmas.Fmt.{length-decimal-le}
-use Rattle.std.proofs.lemmas.List.{append-nil}
 use Rattle.std.proofs.lemmas.List.Folds.{concat-append}
 use Rattle.board_base.specs.Board.{no_odds}
 use Rattle.board_base.specs.Texts.{unmove_text}
 use Rattle.board_base.specs.declared.castles.Castle.{Castle}
 use Rattle.board_base.specs.declared.castles.Castle.TheVariants.{WhiteShort, WhiteLong, BlackShort, BlackLong}
 use Rattle.board_base.specs.declared.unmoves.Unmove.{Unmove}
-use Rattle.general_lemmas.proofs.Lists.{same_rest}
 use Rattle.query_base.specs.Asked.{Asked, IsShortClock}
-use Rattle.query_base.specs.declared.claims.Claim.TheVariants.{Illegal}
 use Rattle.fen_text.specs.ClockLines.{clock_line}
 use Rattle.fen_text.specs.OddsLines.{odds_line}
 use Rattle.fen_text.specs.Parts.{Free}
 use Rattle.fen_text.specs.Spelling.{spelling}
 use Rattle.fen_text.proofs.ClockTexts.{clock_read}
-use Rattle.fen_text.proofs.PartLemmas.{free_append, mapped_some}
-use Rattle.cert_text.specs.Certificate.{IsSaid, Lines, clock_demand, demand_lines, lines_of_clock, lines_of_odds, query_of}
+use Rattle.fen_text.proofs.PartLemmas.{free_append}
+use Rattle.cert_text.specs.Certificate.{IsSaid, Lines, clock_demand, lines_of_clock, lines_of_odds, query_lines, query_of}
 use Rattle.cert_text.specs.Lines.{cut, ended, said}
-use Rattle.cert_text.specs.Writable.{IsQuery}
 use Rattle.cert_text.proofs.CertTexts.{concat_cut}
 use Rattle.cert_text.proofs.FenLines.{fen_line, query_read}
-use Rattle.cert_text.proofs.Frees.{unmove_free}
-use Rattle.cert_text.proofs.HeadTexts.{demands_are, head_back, head_whole}
+use Rattle.cert_text.proofs.HeadTexts.{demands_are, query_whole}
 use Rattle.cert_text.proofs.Short.{line_short, odds_text_short, query_text_short}
 use Rattle.cert_text.proofs.SpelledLines.{said_back, said_read}
-use Rattle.cert_text.proofs.TreeTexts.{AreWhole, cut_back}
-use Rattle.line_claims.specs.Lines.{HasLine, castle_letter, line_claim_of, line_claim_text, steps_text}
+use Rattle.cert_text.proofs.TreeTexts.{AreWhole, cut_back, cut_line}
+use Rattle.line_claims.specs.Lines.{HasLine, line_claim_of, line_claim_text, steps_text}
 use Rattle.line_claims.specs.declared.claims.LineClaim.{LineClaim}
 use Rattle.line_claims.specs.declared.claims.LineClaim.TheVariants.{NotBoth, Line}
 use Rattle.line_claims.proofs.LineTexts.{short, spelled, written}
 use Rattle.dossier_text.specs.Dossiers.{AreHeadLines, IsHead, format_line}
+use Rattle.board_base.proofs.TextLemmas.{mapped_some}
+use Rattle.fen_text.specs.Fen.{castle_letter}
+use Rattle.fen_text.proofs.MoveFrees.{unmove_free}
 
 -- the one text of a head, line after line
 abbrev pub head_lines : LineClaim → Asked → Lines
-head_lines claim q = format_line ∷ ended (line_claim_text claim) ∷ (demand_lines q ++ ended (codes "fen " ++ spelling q) ∷ [])
+head_lines claim q = format_line ∷ ended (line_claim_text claim) ∷ query_lines q
 
 -- no line ends in the text of a claim
 
@@ -72,7 +69,7 @@ clock_short (line ∷ other ∷ lines) clock e = absurd e
 pub heads_whole : (claim : LineClaim) (q : Asked) → IsShortClock q.clock → AreWhole (head_lines claim q)
 heads_whole claim q few = (
   record { text = codes "retro line 1"; line_is = refl; free = refl },
-  (record { text = line_claim_text claim; line_is = refl; free = claim_free claim }, (head_whole Illegal q few).1.1),
+  (record { text = line_claim_text claim; line_is = refl; free = claim_free claim }, query_whole q few),
 )
 
 pub head_wholly : (lines : Lines) (claim : LineClaim) (q : Asked) → AreHeadLines lines claim q → AreWhole (head_lines claim q)
@@ -98,29 +95,7 @@ head_plain bytes claim q h = (query_read h.fen_line (record q { odds = no_odds; 
 pub head_lined : (bytes : List ℕ) (claim : LineClaim) (q : Asked) → IsHead bytes claim q → HasLine claim
 head_lined bytes claim q h = let says = said_read line_claim_of h.claim_line claim h.claim_is in written says.text claim says.stands
 
--- what is written of a claim that has a line and of a query is their head
-pub head_written : (claim : LineClaim) (q : Asked) → line_claim_of (line_claim_text claim) ≡ Some claim → IsQuery q → q.barred ≡ None → AreHeadLines (head_lines claim q) claim q
-head_written claim q read known plain =
-    let h = head_back Illegal q refl known plain in
-    record {
-      claim_line = ended (line_claim_text claim);
-      odds_lines = h.odds_lines;
-      clock_lines = h.clock_lines;
-      fen_line = h.fen_line;
-      parts = ap (λ (ls : Lines). format_line ∷ ended (line_claim_text claim) ∷ ls) (same_rest (same_rest h.parts));
-      claim_is = said_back line_claim_of (line_claim_text claim) claim read;
-      odds_are = h.odds_are;
-      clock_is = h.clock_is;
-      query_is = h.query_is;
-    }
-
 -- lines that begin bytes are cut off again
-
-pub cut_line : (text rest : List ℕ) → Free 10 text → cut (ended text ++ rest) ≡ ended text ∷ cut rest
-cut_line [] rest free = refl
-cut_line (b ∷ text) rest free =
-    let parts = and_parts (not (b == 10)) _ free in
-    cond-false (b == 10) ((b ∷ []) ∷ cut (ended text ++ rest)) (onto_first b (cut (ended text ++ rest))) (not-true (b == 10) parts.0) ∙ ap (onto_first b) (cut_line text rest parts.1)
 
 pub cut_front : (lines : Lines) (rest : List ℕ) → AreWhole lines → cut (concat lines ++ rest) ≡ lines ++ cut rest
 cut_front [] rest whole = refl
@@ -175,22 +150,25 @@ head_short bytes claim q h =
       line_short query_of 85 h.fen_line (record q { odds = no_odds; clock = None }) (λ text. query_text_short text (record q { odds = no_odds; clock = None })) h.query_is,
     )
 
--- what was put one after another
-put : (a b c d e f : List ℕ) (x y z w v : List ℕ) → a ≡ [] → b ≡ a ++ x → c ≡ b ++ y → d ≡ c ++ z → e ≡ d ++ w → f ≡ e ++ v → f ≡ x ++ (y ++ (z ++ (w ++ v)))
-put a b c d e f x y z w v none first second third fourth fifth =
-    fifth ∙ ap (λ (l : List ℕ). l ++ v) (fourth ∙ ap (λ (l : List ℕ). l ++ w) (third ∙ ap (λ (l : List ℕ). l ++ z) (second ∙ ap (λ (l : List ℕ). l ++ y) (first ∙ ap (λ (l : List ℕ). l ++ x) none))))
-    ∙ append_assoc ((x ++ y) ++ z) w v ∙ append_assoc (x ++ y) z (w ++ v) ∙ append_assoc x y (z ++ (w ++ v))
+-- what is written of a claim that has a line and of a query is their head
+head_written : (claim : LineClaim) (q : Asked) → line_claim_of (line_claim_text claim) ≡ Some claim → IsSaid odds_line no_odds (lines_of_odds q.odds) q.odds → IsSaid clock_demand None (lines_of_clock q.clock) q.clock → said query_of (ended (codes "fen " ++ spelling q)) ≡ Some (record q { odds = no_odds; clock = None }) → AreHeadLines (head_lines claim q) claim q
+head_written claim q read odds clock fen = record {
+  claim_line = ended (line_claim_text claim);
+  odds_lines = lines_of_odds q.odds;
+  clock_lines = lines_of_clock q.clock;
+  fen_line = ended (codes "fen " ++ spelling q);
+  parts = refl;
+  claim_is = said_back line_claim_of (line_claim_text claim) claim read;
+  odds_are = odds;
+  clock_is = clock;
+  query_is = fen;
+}
 
--- the bytes of a head
-head_put : (claim : LineClaim) (q : Asked) → concat (head_lines claim q) ≡ format_line ++ (ended (line_claim_text claim) ++ (concat (lines_of_odds q.odds) ++ (concat (lines_of_clock q.clock) ++ ended (codes "fen " ++ spelling q))))
-head_put claim q =
-    let last : List ℕ = ended (codes "fen " ++ spelling q) in
-    let below : concat (demand_lines q ++ last ∷ []) ≡ concat (lines_of_odds q.odds) ++ (concat (lines_of_clock q.clock) ++ last) =
-    concat-append (demand_lines q) (last ∷ []) ∙ ap (λ (l : List ℕ). concat (demand_lines q) ++ l) (append-nil last) ∙ ap (λ (l : List ℕ). l ++ last) (concat-append (lines_of_odds q.odds) (lines_of_clock q.clock)) ∙ append_assoc (concat (lines_of_odds q.odds)) (concat (lines_of_clock q.clock)) last in
-    ap (λ (l : List ℕ). format_line ++ (ended (line_claim_text claim) ++ l)) below
-
--- what was written one after another is the head
-pub put_together : (claim : LineClaim) (q : Asked) (a b c d e f : List ℕ) → line_claim_of (line_claim_text claim) ≡ Some claim → IsQuery q → q.barred ≡ None → a ≡ [] → b ≡ a ++ format_line → c ≡ b ++ ended (line_claim_text claim) → d ≡ c ++ concat (lines_of_odds q.odds) → e ≡ d ++ concat (lines_of_clock q.clock) → f ≡ e ++ ended (codes "fen " ++ spelling q) → IsHead f claim q
-put_together claim q a b c d e f read known plain none first second third fourth fifth =
-    let is : f ≡ concat (head_lines claim q) = put a b c d e f format_line (ended (line_claim_text claim)) (concat (lines_of_odds q.odds)) (concat (lines_of_clock q.clock)) (ended (codes "fen " ++ spelling q)) none first second third fourth fifth ∙ sym (head_put claim q) in
-    subst (λ (ls : Lines). AreHeadLines ls claim q) (sym (ap cut is ∙ cut_back (head_lines claim q) (heads_whole claim q known.clock))) (head_written claim q read known plain)
+-- the lines of the format, of the claim and of the query, put one after another, are the head
+pub head_put : (claim : LineClaim) (q : Asked) (a b c d : List ℕ) → line_claim_of (line_claim_text claim) ≡ Some claim → IsSaid odds_line no_odds (lines_of_odds q.odds) q.odds → IsSaid clock_demand None (lines_of_clock q.clock) q.clock → said query_of (ended (codes "fen " ++ spelling q)) ≡ Some (record q { odds = no_odds; clock = None }) → a ≡ [] → b ≡ a ++ format_line → c ≡ b ++ ended (line_claim_text claim) → d ≡ c ++ concat (query_lines q) → IsHead d claim q
+head_put claim q a b c d read odds clock fen none first second third =
+    let named : List ℕ = ended (line_claim_text claim) in
+    let below : List ℕ = concat (query_lines q) in
+    let is : d ≡ concat (head_lines claim q) = third ∙ ap (λ (l : List ℕ). l ++ below) (second ∙ ap (λ (l : List ℕ). l ++ named) (first ∙ ap (λ (l : List ℕ). l ++ format_line) none)) ∙ append_assoc format_line named below in
+    let whole : AreWhole (head_lines claim q) = heads_whole claim q (clock_short (lines_of_clock q.clock) q.clock clock) in
+    subst (λ (ls : Lines). AreHeadLines ls claim q) (sym (ap cut is ∙ cut_back (head_lines claim q) whole)) (head_written claim q read odds clock fen)

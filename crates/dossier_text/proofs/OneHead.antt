@@ -1,4 +1,4 @@
--- Bytes begin with one head at most.
+-- Bytes begin with one head at most, and a head has one text.
 use Rattle.std.proofs.Common.{◌≡◌, ℕ, List, ◌++◌, sym, ap, ◌∙◌}
 use Rattle.std.specs.List.{concat}
 use Rattle.std.proofs.lemmas.Option.{same_Some}
@@ -26,3 +26,7 @@ one_head a b rest more c d q r same first second =
       claim,
       query,
     )
+
+-- a head has one text
+pub one_text : (a b : List ℕ) (claim : LineClaim) (q : Asked) → IsHead a claim q → IsHead b claim q → a ≡ b
+one_text a b claim q first second = head_bytes a claim q first ∙ sym (head_bytes b claim q second)

@@ -7,7 +7,7 @@ use Rattle.general_lemmas.proofs.Lists.{same_first, same_rest}
 use Rattle.cert_text.specs.Lines.{cut}
 use Rattle.dossier_text.specs.Dossiers.{BeginsWithPart, count_line}
 use Rattle.dossier_text.proofs.CountTexts.{count_free, one_count}
-use Rattle.dossier_text.proofs.HeadTexts.{cut_line}
+use Rattle.cert_text.proofs.TreeTexts.{cut_line}
 
 -- two fronts of one length that begin the same bytes
 same_parts : (a b r s : List ℕ) → length a ≡ length b → a ++ r ≡ b ++ s → (a ≡ b) × (r ≡ s)

@@ -15,6 +15,12 @@ pub fn one_head_each()
     ensures { (a b rest more : List ℕ) (c d : LineClaim) (q r : Asked) → a ++ rest ≡ b ++ more → IsHead a c q → IsHead b d r → (a ≡ b) × (rest ≡ more) × (c ≡ d) × (q ≡ r) }
 {}
 
+/// The law that a head has one text: two texts of a head with the same claim about the same query are equal. This does nothing when
+/// it runs.
+pub fn one_text_of_a_head()
+    ensures { (a b : List ℕ) (claim : LineClaim) (q : Asked) → IsHead a claim q → IsHead b claim q → a ≡ b }
+{}
+
 /// The law that a head is at most 271 bytes long. This does nothing when it runs.
 pub fn heads_are_short()
     ensures { (bytes : List ℕ) (claim : LineClaim) (q : Asked) → IsHead bytes claim q → length bytes ≤ 271 }

@@ -15,11 +15,12 @@ use Rattle.query_base.specs.Asked.{Asked}
 use Rattle.fen_text.specs.Ranks.{letter, is_run, places_of, is_symbol, runs_apart, rank_places, is_rank, rank}
 use Rattle.fen_text.specs.Fen.{ranks, placement, turn, mark, castle_letters, marks, is_nothing, is_dash, no_rights, rights_of, rights, en_passant, en_passant_digit, double_on, number, Position, asked, from_numbers, from_en_passant, from_rights, from_turn, fen, unnumbered, fen_of_four}
 use Rattle.fen_text.specs.Spelling.{symbol, run_text, rank_text, rank_of, ranks_text, turn_letter, letter_if, rights_text, en_passant_text, spelling}
-use Rattle.fen_text.proofs.PartLemmas.{some_value, parted_known, followed, mapped_some}
+use Rattle.fen_text.proofs.PartLemmas.{some_value, parted_known, followed}
 use Rattle.fen_text.proofs.RankLemmas.{run_places, letter_len, letter_symbol}
 use Rattle.fen_text.proofs.PlacementLemmas.{rank_length}
 use Rattle.fen_text.proofs.Lengths.{spelling_bound}
 use Rattle.fen_text.proofs.FieldLemmas.{mark_hit, mark_miss, nothing_is, dash_is}
+use Rattle.board_base.proofs.TextLemmas.{mapped_some}
 
 -- one line of a table of bytes
 pick : {V : Type 0} (P : V → Type 0) (c k : ℕ) (v w : V) (rest : Option V) → (c ≡ k → P v) → (rest ≡ Some w → P w) → cond (c == k) (Some v) rest ≡ Some w → P w

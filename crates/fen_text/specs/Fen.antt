@@ -1,6 +1,6 @@
 -- FEN, as section 16.1 of the PGN standard describes it: placement, side to move, castling rights, the square that a double step
 -- crossed, and two numbers or none, with one space between two fields.
-use Rattle.std.specs.Prelude.{ℕ, zero, suc, ◌+◌, ◌-◌, ◌*◌, Bool, true, false, cond, ◌&&◌, ◌==◌, not, nat_le, List, [], ◌∷◌, ◌++◌, length, slice_index_or, Option, Some, None}
+use Rattle.std.specs.Prelude.{ℕ, zero, suc, ◌+◌, ◌-◌, ◌*◌, Bool, true, false, cond, ◌&&◌, ◌==◌, not, nat_le, List, [], ◌∷◌, ◌++◌, length, map, slice_index_or, Option, Some, None}
 use Rattle.std.specs.List.{list_all, fold}
 use Rattle.std.specs.Option.{option_map}
 use Rattle.board_base.specs.Board.{Places, no_odds}
@@ -12,6 +12,8 @@ use Rattle.board_base.specs.declared.moves.Move.{Move}
 use Rattle.query_base.specs.Asked.{Asked}
 use Rattle.fen_text.specs.Parts.{parted}
 use Rattle.fen_text.specs.Ranks.{rank}
+use Rattle.board_base.specs.declared.castles.Castle.{Castle}
+use Rattle.board_base.specs.declared.castles.Castle.TheVariants.{WhiteShort, WhiteLong, BlackShort, BlackLong}
 
 -- so many ranks and one more, the highest first, with a slash between two; the places from the lowest rank up
 unfoldable pub ranks : ℕ → List ℕ → Option Places
@@ -33,9 +35,16 @@ abbrev pub mark : ℕ → List ℕ → Bool × List ℕ
 mark letter [] = (false, [])
 mark letter (b ∷ text) = cond (b == letter) (true, text) (false, b ∷ text)
 
+-- FEN's letter of a castling: K, Q, k or q
+abbrev pub castle_letter : Castle → ℕ
+castle_letter WhiteShort = 75
+castle_letter WhiteLong = 81
+castle_letter BlackShort = 107
+castle_letter BlackLong = 113
+
 -- K, Q, k and q
 abbrev pub castle_letters : List ℕ
-castle_letters = 75 ∷ 81 ∷ 107 ∷ 113 ∷ []
+castle_letters = map castle_letter (WhiteShort ∷ WhiteLong ∷ BlackShort ∷ BlackLong ∷ [])
 
 -- which of the letters begin the text, each at most once and in their order, and what follows them
 abbrev pub marks : List ℕ → List ℕ → List Bool × List ℕ

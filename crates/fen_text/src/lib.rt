@@ -25,4 +25,4 @@ pub use odds_lines::{read_odds, write_odds};
 pub use parts::split_part;
 pub use positions::{read_fen, read_four_fields};
 pub use sets::{read_set, set_text};
-pub use writing::write_fen;
+pub use writing::{castle_letter, write_fen};

@@ -1,7 +1,7 @@
 ghost use Rattle.std.specs.Prelude.{◌≡◌, ◌+◌, ◌*◌, ◌<◌, ◌≤◌, ◌++◌, ◌∷◌, [], length, slice_index_or, None, Some};
 ghost use Rattle.board_base.specs.Board.{at, no_odds};
 ghost use Rattle.fen_text.specs.Spelling.{symbol, run_text, rank_text, rank_of, ranks_text, turn_letter, letter_if, rights_text, en_passant_text, spelling};
-ghost use Rattle.fen_text.specs.Fen.{fen};
+ghost use Rattle.fen_text.specs.Fen.{castle_letter, fen};
 
 use crate::fields::digit_of;
 use arrayvec::ArrayVec;
@@ -25,6 +25,18 @@ fn letter_of(man: Man) -> u8
         (Colour::Black, Kind::Rook) => b'r',
         (Colour::Black, Kind::Queen) => b'q',
         (Colour::Black, Kind::King) => b'k',
+    }
+}
+
+/// The letter of a castling in claims and FEN: `K`, `Q`, `k` or `q`.
+pub fn castle_letter(castle: Castle) -> u8
+    ensures { result ≡ castle_letter castle }
+{
+    match castle {
+        Castle::WhiteShort => b'K',
+        Castle::WhiteLong => b'Q',
+        Castle::BlackShort => b'k',
+        Castle::BlackLong => b'q',
     }
 }
 

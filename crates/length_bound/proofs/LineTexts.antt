@@ -14,7 +14,6 @@ use Rattle.fen_text.specs.Spelling.{turn_letter}
 use Rattle.fen_text.specs.Parts.{Free}
 use Rattle.fen_text.proofs.NumberLemmas.{digits_free}
 use Rattle.fen_text.proofs.Begun.{begun}
-use Rattle.fen_text.proofs.PartLemmas.{mapped_some}
 use Rattle.fen_text.specs.Numbers.{number}
 use Rattle.cert_text.specs.Arguments.{duals_of}
 use Rattle.cert_text.specs.Writable.{are_near}
@@ -23,6 +22,7 @@ use Rattle.cert_text.proofs.Tests.{when}
 use Rattle.cert_text.proofs.WordTexts.{duals_back, duals_free, duals_read}
 use Rattle.length_bound.specs.LengthReading.{moves_text}
 use Rattle.length_bound.specs.LengthText.{at_least_of, of_side, shown_by, up_to_9999}
+use Rattle.board_base.proofs.TextLemmas.{mapped_some}
 
 -- the text of a number of half-moves
 pub record IsAtLeastText (text : List ℕ) (n : ℕ) : Type 0 where

@@ -1,9 +1,6 @@
-ghost use Rattle.std.specs.Prelude.{◌≡◌, ◌≢◌, ◌+◌, ◌≤◌, ◌++◌, [], None, Some, codes, length};
+ghost use Rattle.std.specs.Prelude.{◌≡◌, ◌+◌, ◌≤◌, ◌++◌, [], None, codes, length};
 ghost use Rattle.std.specs.Fmt.{decimal};
-ghost use Rattle.board_base.specs.Board.{no_odds};
-ghost use Rattle.fen_text.specs.Fen.{fen};
-ghost use Rattle.fen_text.specs.OddsLines.{odds_line, odds_text};
-ghost use Rattle.fen_text.specs.Spelling.{spelling, turn_letter};
+ghost use Rattle.fen_text.specs.Spelling.{turn_letter};
 ghost use Rattle.cert_text.specs.Lines.{cut, ended};
 ghost use Rattle.length_bound.specs.ManDuals.{AreManPotentials};
 ghost use Rattle.length_bound.specs.LengthText.{AreLengthLines};
@@ -11,9 +8,8 @@ ghost use Rattle.length_bound.specs.LengthReading.{moves_text};
 
 use crate::man_potentials::ManPotentials;
 use arrayvec::ArrayVec;
-use board_base::{Colour, Odds};
-use cert_text::push_duals;
-use fen_text::{write_fen, write_odds};
+use board_base::Colour;
+use cert_text::{push_duals, write_query_lines};
 use itoa::Buffer;
 use query_base::Query;
 
@@ -24,50 +20,6 @@ fn push_text(bytes: &[u8], out: &mut ArrayVec<u8, 512>)
     ensures longer { length out.new.items ≡ length out.old.items + length bytes.now }
 {
     let _ = out.try_extend_from_slice(bytes);
-}
-
-/// Puts the line of odds after the others, if somebody is left out.
-fn push_odds(odds: Odds, out: &mut ArrayVec<u8, 512>)
-    requires { length out.old.items + 22 ≤ 512 }
-    ensures none { odds ≡ no_odds → out.new.items ≡ out.old.items }
-    ensures some { odds ≢ no_odds → out.new.items ≡ out.old.items ++ ended (odds_text odds) }
-    ensures read { odds ≢ no_odds → odds_line (odds_text odds) ≡ Some odds }
-    ensures short { length out.new.items ≤ length out.old.items + 22 }
-{
-    if odds.is_none() {
-        return;
-    }
-    let mut text: ArrayVec<u8, 32> = ArrayVec::new();
-    write_odds(odds, &mut text);
-    push_text(text.as_slice(), out);
-    out.push(b'\n');
-}
-
-/// Puts the line of the query's odds after the others, if somebody is left out.
-fn push_odds_of(query: &Query, out: &mut ArrayVec<u8, 512>)
-    requires { length out.old.items + 22 ≤ 512 }
-    ensures none { query.now.odds ≡ no_odds → out.new.items ≡ out.old.items }
-    ensures some { query.now.odds ≢ no_odds → out.new.items ≡ out.old.items ++ ended (odds_text query.now.odds) }
-    ensures read { query.now.odds ≢ no_odds → odds_line (odds_text query.now.odds) ≡ Some query.now.odds }
-    ensures short { length out.new.items ≤ length out.old.items + 22 }
-{
-    push_odds(query.odds, out);
-}
-
-/// Puts the line of the FEN after the others.
-fn push_fen(query: &Query, out: &mut ArrayVec<u8, 512>)
-    requires room { length out.old.items + 86 ≤ 512 }
-    requires plain { query.now.barred ≡ None }
-    requires free { query.now.clock ≡ None }
-    ensures text { out.new.items ≡ out.old.items ++ ended (codes "fen " ++ spelling query.now) }
-    ensures read { fen (spelling query.now) ≡ Some (record query.now { odds = no_odds }, None) }
-    ensures short { length out.new.items ≤ length out.old.items + 86 }
-{
-    let mut text: ArrayVec<u8, 128> = ArrayVec::new();
-    write_fen(query, &mut text);
-    push_text(b"fen ", out);
-    push_text(text.as_slice(), out);
-    out.push(b'\n');
 }
 
 /// Puts a number of at most four digits after the others.
@@ -134,8 +86,7 @@ pub fn write_length(
     ensures short { length out.new.items ≤ 274 }
 {
     push_text(b"retro length 1\n", out);
-    push_odds_of(query, out);
-    push_fen(query, out);
+    write_query_lines(query, out);
     push_at_least(n, out);
     push_moves(side, p, out);
 }

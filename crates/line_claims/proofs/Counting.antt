@@ -26,6 +26,7 @@ use Rattle.line_claims.specs.Due.{excluded, is_other, parts_of_steps, siblings}
 use Rattle.line_claims.specs.Listing.{AreListed}
 use Rattle.line_claims.proofs.Listings.{listed-first, listed-rest}
 use Rattle.line_claims.proofs.Others.{truths_self}
+use Rattle.general_lemmas.proofs.Counts.{one_if-more}
 
 -- numbers in order
 
@@ -125,16 +126,11 @@ next_long : {A : Type 0} (b : Bool) (y : A) (ys : List A) → length (cond b (y 
 next_long true y ys = omega arith
 next_long false y ys = omega arith
 
-at_most : (a b : Bool) → (a ≡ true → b ≡ true) → cond a 1 0 ≤ cond b 1 0
-at_most false b implied = omega arith
-at_most true true implied = omega arith
-at_most true false implied = absurd (true≢false (sym (implied refl)))
-
 fewer : {A : Type 0} (p r : A → Bool) (xs : List A) → ((y : A) → p y ≡ true → r y ≡ true) → length (filter p xs) ≤ length (filter r xs)
 fewer p r [] implied = omega arith
 fewer p r (y ∷ ys) implied =
     let rest = fewer p r ys implied in
-    let here = at_most (p y) (r y) (implied y) in
+    let here = one_if-more (p y) (r y) (implied y) in
     omega (arith, next_long (p y) y (filter p ys), next_long (r y) y (filter r ys))
 
 one_less : {A : Type 0} (p r : A → Bool) (xs : List A) (x : A) → ((y : A) → p y ≡ true → r y ≡ true) → Contains xs x → r x ≡ true → p x ≡ false → length (filter p xs) + 1 ≤ length (filter r xs)
@@ -147,7 +143,7 @@ one_less {A} p r (y ∷ ys) x implied among passes fails = elim (contains-cases 
       omega (arith, next_long (p y) y (filter p ys), next_long (r y) y (filter r ys))
   | inr later ↦
       let rest = one_less p r ys x implied later passes fails in
-      let here = at_most (p y) (r y) (implied y) in
+      let here = one_if-more (p y) (r y) (implied y) in
       omega (arith, next_long (p y) y (filter p ys), next_long (r y) y (filter r ys))
 ]
 

@@ -16,45 +16,19 @@ use Rattle.board_base.specs.declared.men.Kind.{Kind}
 use Rattle.board_base.specs.declared.men.Kind.TheVariants.{Pawn, Knight, Bishop, Rook, Queen, King}
 use Rattle.board_base.specs.declared.unmoves.Unmove.{Unmove}
 use Rattle.board_base.proofs.OneText.{unmove_read}
-use Rattle.board_base.proofs.TextLemmas.{unmove_short}
+use Rattle.board_base.proofs.TextLemmas.{bound_some, mapped_some, unmove_short}
 use Rattle.fen_text.specs.Parts.{Free}
 use Rattle.fen_text.proofs.Begun.{begun}
-use Rattle.fen_text.proofs.PartLemmas.{bound_some, free_append, mapped_some, parted_end, parted_known, parted_next}
+use Rattle.fen_text.proofs.PartLemmas.{free_append, parted_end, parted_known, parted_next}
 use Rattle.line_claims.specs.declared.claims.LineClaim.{LineClaim}
 use Rattle.line_claims.specs.declared.claims.LineClaim.TheVariants.{NotBoth, Line}
-use Rattle.line_claims.specs.Lines.{HasLine, both_claimed, castle_letter, castle_of, castles_lettered, castles_of, has_text, in_order, line_claim_of, line_claim_text, steps_of, steps_text}
+use Rattle.line_claims.specs.Lines.{HasLine, both_claimed, castling_lettered, castles_lettered, castles_of, has_text, in_order, line_claim_of, line_claim_text, steps_of, steps_text}
 use Rattle.line_claims.specs.Readable.{IsReadable}
+use Rattle.line_claims.proofs.Listings.{taken}
+use Rattle.fen_text.specs.Fen.{castle_letter}
+use Rattle.fen_text.proofs.MoveFrees.{unmove_free}
 
 -- no space stands in the text of an unmove
-
-higher : (b : ℕ) (text : List ℕ) → 32 < b → Free 32 text → Free 32 (b ∷ text)
-higher b text above free = and_from _ _ (ap not (ne_eqb b 32 (λ e. omega arith))) free
-
-letter_high : (k : Kind) → 32 < letter_of k
-letter_high Pawn = omega arith
-letter_high Knight = omega arith
-letter_high Bishop = omega arith
-letter_high Rook = omega arith
-letter_high Queen = omega arith
-letter_high King = omega arith
-
-square_free : (s : ℕ) → Free 32 (square_text s)
-square_free s = higher (97 + s % 8) ((49 + s / 8) ∷ []) (omega arith) (higher (49 + s / 8) [] (omega arith) refl)
-
-promo_free : (p : Option Kind) → Free 32 (promo_text p)
-promo_free None = refl
-promo_free (Some k) = higher (letter_of k) [] (letter_high k) refl
-
-capture_free : (captured : Option Kind) (ep : Bool) → Free 32 (capture_text captured ep)
-capture_free captured true = refl
-capture_free None false = refl
-capture_free (Some k) false = higher 120 (letter_of k ∷ []) (omega arith) (higher (letter_of k) [] (letter_high k) refl)
-
-unmove_free : (u : Unmove) → Free 32 (unmove_text u)
-unmove_free u =
-    free_append 32 (move_text u.mv) (capture_text u.captured u.ep)
-    (free_append 32 (square_text u.mv.from ++ square_text u.mv.to) (promo_text u.mv.promo) (free_append 32 (square_text u.mv.from) (square_text u.mv.to) (square_free u.mv.from) (square_free u.mv.to)) (promo_free u.mv.promo))
-    (capture_free u.captured u.ep)
 
 -- steps that are written
 
@@ -71,10 +45,10 @@ unfolding steps_of
 steps_back [] n read some few = absurd (omega arith)
 steps_back (u ∷ us) zero read some few = absurd (omega arith)
 steps_back (u ∷ []) (suc n) read some few =
-    parted_end 32 unmove_from (λ u. Some (u ∷ [])) (λ u rest. option_map (λ us. u ∷ us) (steps_of n rest)) (unmove_text u) (unmove_free u)
+    parted_end 32 unmove_from (λ u. Some (u ∷ [])) (λ u rest. option_map (λ us. u ∷ us) (steps_of n rest)) (unmove_text u) (unmove_free 32 u (omega arith))
     ∙ ap (λ (o : Option Unmove). o >>= (λ u. Some (u ∷ []))) (All-head IsReadable u [] read)
 steps_back (u ∷ v ∷ us) (suc n) read some few =
-    parted_next 32 unmove_from (λ u. Some (u ∷ [])) (λ u rest. option_map (λ us. u ∷ us) (steps_of n rest)) (unmove_text u) (steps_text (v ∷ us)) (unmove_free u)
+    parted_next 32 unmove_from (λ u. Some (u ∷ [])) (λ u rest. option_map (λ us. u ∷ us) (steps_of n rest)) (unmove_text u) (steps_text (v ∷ us)) (unmove_free 32 u (omega arith))
     ∙ ap (λ (o : Option Unmove). o >>= (λ u. option_map (λ us. u ∷ us) (steps_of n (steps_text (v ∷ us))))) (All-head IsReadable u (v ∷ us) read)
     ∙ ap (option_map (λ us. u ∷ us)) (steps_back (v ∷ us) n (All-tail IsReadable u (v ∷ us) read) (omega arith) (omega arith))
 
@@ -116,7 +90,7 @@ steps_read (suc n) text us e = elim (parted_known 32 unmove_from (λ u. Some (u 
 
 -- castlings and their letters
 
-letter_back : (x : Castle) → castle_of (castle_letter x) ≡ Some x
+letter_back : (x : Castle) → castling_lettered (castle_letter x) ≡ Some x
 letter_back WhiteShort = refl
 letter_back WhiteLong = refl
 letter_back BlackShort = refl
@@ -124,7 +98,7 @@ letter_back BlackLong = refl
 
 pub castles_back : (x y : Castle) → in_order x y ≡ true → castles_of (castle_letter x ∷ 32 ∷ castle_letter y ∷ []) ≡ Some (NotBoth x y)
 castles_back x y order =
-    ap (λ (o : Option Castle). o >>= (λ x. castle_of (castle_letter y) >>= both_claimed x)) (letter_back x)
+    ap (λ (o : Option Castle). o >>= (λ x. castling_lettered (castle_letter y) >>= both_claimed x)) (letter_back x)
     ∙ ap (λ (o : Option Castle). o >>= both_claimed x) (letter_back y)
     ∙ cond-true (in_order x y) (Some (NotBoth x y)) None order
 
@@ -134,7 +108,7 @@ LetterOf b x o = o ≡ Some x → b ≡ castle_letter x
 letter : (b : ℕ) (w x : Castle) → (b == castle_letter w) ≡ true → LetterOf b x (Some w)
 letter b w x h e = eqb-true b (castle_letter w) h ∙ ap castle_letter (same_Some w x e)
 
-letter_read : (b : ℕ) (x : Castle) → castle_of b ≡ Some x → b ≡ castle_letter x
+letter_read : (b : ℕ) (x : Castle) → castling_lettered b ≡ Some x → b ≡ castle_letter x
 letter_read b x =
     cond_both (b == castle_letter WhiteShort) (Some WhiteShort) _ (LetterOf b x) (letter b WhiteShort x)
     (λ n. cond_both (b == castle_letter WhiteLong) (Some WhiteLong) _ (LetterOf b x) (letter b WhiteLong x)
@@ -152,8 +126,8 @@ castles_read (a ∷ []) claim e = absurd cc
 castles_read (a ∷ s ∷ []) claim e = absurd cc
 castles_read (a ∷ s ∷ b ∷ []) claim e = elim (cases_Bool (s == 32)) [
   | inl space ↦
-      let first = bound_some (castle_of a) (λ x. castle_of b >>= both_claimed x) claim (sym (cond-true (s == 32) (castles_lettered a b) None space) ∙ e) in
-      let second = bound_some (castle_of b) (both_claimed first.0) claim first.2 in
+      let first = bound_some (castling_lettered a) (λ x. castling_lettered b >>= both_claimed x) claim (sym (cond-true (s == 32) (castles_lettered a b) None space) ∙ e) in
+      let second = bound_some (castling_lettered b) (both_claimed first.0) claim first.2 in
       let order = cond_some (in_order first.0 second.0) (NotBoth first.0 second.0) claim second.2 in
       let text : a ∷ s ∷ b ∷ [] ≡ castle_letter first.0 ∷ 32 ∷ castle_letter second.0 ∷ [] =
       ap (λ (n : ℕ). n ∷ s ∷ b ∷ []) (letter_read a first.0 first.1) ∙ ap (λ (n : ℕ). castle_letter first.0 ∷ n ∷ b ∷ []) (eqb-true s 32 space) ∙ ap (λ (n : ℕ). castle_letter first.0 ∷ 32 ∷ n ∷ []) (letter_read b second.0 second.1) in
@@ -201,9 +175,6 @@ fits_at us i u inside is all = elim (cases_Bool (has_text u)) [
   | inl fits ↦ fits
   | inr fails ↦ absurd (both_ways (list_all has_text us) (list_all_at has_text us i u inside (ap has_text (sym is) ∙ fails)) all)
 ]
-
-taken : (us : List Unmove) (i : ℕ) (u : Unmove) → i < length us → u ≡ get_or us i u → take (i + 1) us ≡ take i us ++ u ∷ []
-taken us i u inside is = take_more us i u inside ∙ ap (λ (w : Unmove). take i us ++ w ∷ []) (sym is)
 
 pub written_more : (us : List Unmove) (i : ℕ) (u : Unmove) (start out new : List ℕ) → i < length us → 1 ≤ i → u ≡ get_or us i u → out ≡ start ++ steps_text (take i us) → new ≡ out ++ 32 ∷ unmove_text u → new ≡ start ++ steps_text (take (i + 1) us)
 written_more us i u start out new inside some is before grown =

@@ -40,7 +40,7 @@ listed-push q us u all here = λ before after v e. elim (by_last after) [
 ]
 
 -- the step at a place of the list
-taken : (us : List Unmove) (i : ℕ) (u : Unmove) → i < length us → u ≡ get_or us i u → take (i + 1) us ≡ take i us ++ u ∷ []
+pub taken : (us : List Unmove) (i : ℕ) (u : Unmove) → i < length us → u ≡ get_or us i u → take (i + 1) us ≡ take i us ++ u ∷ []
 taken us i u inside is = take_more us i u inside ∙ ap (λ (w : Unmove). take i us ++ w ∷ []) (sym is)
 
 pub left-more : (q p r : Asked) (us : List Unmove) (i : ℕ) (u : Unmove) → i < length us → u ≡ get_or us i u → p ≡ left_by q (take i us) → r ≡ predecessor p u → r ≡ left_by q (take (i + 1) us)

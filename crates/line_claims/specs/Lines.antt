@@ -1,12 +1,12 @@
 -- The lines of claims of several steps.
-use Rattle.std.specs.Prelude.{ℕ, zero, suc, ◌≤◌, Bool, cond, ◌&&◌, ◌==◌, nat_eq, nat_lt, IsTrue, List, [], ◌∷◌, ◌++◌, length, drop, codes, slice_index, Option, Some, None}
+use Rattle.std.specs.Prelude.{ℕ, zero, suc, ◌≤◌, Bool, cond, ◌&&◌, ◌==◌, nat_eq, nat_lt, IsTrue, List, [], ◌∷◌, ◌++◌, length, drop, codes, Option, Some, None}
 use Rattle.std.specs.List.{list_all, starts_with}
 use Rattle.std.specs.Option.{option_map}
 use Rattle.board_base.specs.Texts.{◌>>=◌, can_capture, can_promote, unmove_from, unmove_text}
 use Rattle.board_base.specs.declared.castles.Castle.{Castle}
 use Rattle.board_base.specs.declared.castles.Castle.TheVariants.{WhiteShort, WhiteLong, BlackShort, BlackLong}
 use Rattle.board_base.specs.declared.unmoves.Unmove.{Unmove}
-use Rattle.fen_text.specs.Fen.{castle_letters}
+use Rattle.fen_text.specs.Fen.{castle_letter}
 use Rattle.fen_text.specs.Parts.{parted}
 use Rattle.line_claims.specs.declared.claims.LineClaim.{LineClaim}
 use Rattle.line_claims.specs.declared.claims.LineClaim.TheVariants.{NotBoth, Line}
@@ -18,13 +18,9 @@ castle_place WhiteLong = 1
 castle_place BlackShort = 2
 castle_place BlackLong = 3
 
--- the letter of the castling: K, Q, k or q
-abbrev pub castle_letter : Castle → ℕ
-castle_letter x = slice_index castle_letters (castle_place x)
-
 -- the castling of a letter
-abbrev pub castle_of : ℕ → Option Castle
-castle_of b =
+abbrev pub castling_lettered : ℕ → Option Castle
+castling_lettered b =
     cond (b == castle_letter WhiteShort) (Some WhiteShort) (
     cond (b == castle_letter WhiteLong) (Some WhiteLong) (
     cond (b == castle_letter BlackShort) (Some BlackShort) (
@@ -40,7 +36,7 @@ both_claimed x y = cond (in_order x y) (Some (NotBoth x y)) None
 
 -- the claim of two letters
 abbrev pub castles_lettered : ℕ → ℕ → Option LineClaim
-castles_lettered a b = castle_of a >>= (λ x. castle_of b >>= both_claimed x)
+castles_lettered a b = castling_lettered a >>= (λ x. castling_lettered b >>= both_claimed x)
 
 -- the claim of two letters with a space between them
 abbrev pub castles_of : List ℕ → Option LineClaim

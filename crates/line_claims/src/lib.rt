@@ -10,8 +10,6 @@ mod parts;
 mod reading;
 mod step_lists;
 mod steps_left;
-#[cfg(test)]
-mod tests;
 mod unlisted;
 mod writing;
 

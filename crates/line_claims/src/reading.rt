@@ -1,6 +1,6 @@
 ghost use Rattle.std.specs.Prelude.{◌≡◌, IfSome};
 ghost use Rattle.std.specs.Option.{option_map};
-ghost use Rattle.line_claims.specs.Lines.{HasLine, both_claimed, castle_of, castle_place, castles_lettered, castles_of, line_claim_of, steps_of};
+ghost use Rattle.line_claims.specs.Lines.{HasLine, both_claimed, castling_lettered, castle_place, castles_lettered, castles_of, line_claim_of, steps_of};
 ghost use Rattle.line_claims.specs.declared.claims.LineClaim.TheVariants.{Line};
 
 use crate::claims::LineClaim;
@@ -9,7 +9,7 @@ use board_base::{Castle, read_unmove};
 use fen_text::split_part;
 
 fn read_castle(letter: u8) -> Option<Castle>
-    ensures { result ≡ castle_of letter }
+    ensures { result ≡ castling_lettered letter }
 {
     match letter {
         b'K' => Some(Castle::WhiteShort),

@@ -1,23 +1,13 @@
 ghost use Rattle.std.specs.Prelude.{◌≡◌, ◌≤◌, ◌+◌, ◌*◌, ◌++◌, ◌∷◌, [], length, IsTrue, Some};
 ghost use Rattle.std.specs.List.{All, list_all};
 ghost use Rattle.board_base.specs.Texts.{unmove_text};
-ghost use Rattle.line_claims.specs.Lines.{HasLine, castle_letter, has_text, line_claim_of, line_claim_text, steps_text};
+ghost use Rattle.line_claims.specs.Lines.{HasLine, has_text, line_claim_of, line_claim_text, steps_text};
 ghost use Rattle.line_claims.specs.Readable.{IsReadable};
 
 use crate::claims::LineClaim;
 use arrayvec::ArrayVec;
-use board_base::{Castle, Unmove, write_unmove};
-
-fn castle_letter(castle: Castle) -> u8
-    ensures { result ≡ castle_letter castle }
-{
-    match castle {
-        Castle::WhiteShort => b'K',
-        Castle::WhiteLong => b'Q',
-        Castle::BlackShort => b'k',
-        Castle::BlackLong => b'q',
-    }
-}
+use board_base::{Unmove, write_unmove};
+use fen_text::castle_letter;
 
 fn push_text(text: &[u8], out: &mut ArrayVec<u8, 160>)
     requires { length out.old.items + length text.now ≤ 160 }

@@ -9,7 +9,7 @@ use Rattle.board_base.specs.declared.men.Kind.TheVariants.{Pawn, King}
 use Rattle.board_base.specs.declared.moves.Move.{Move}
 use Rattle.board_base.specs.declared.castles.Castle.{Castle}
 use Rattle.board_base.proofs.Equal.{moves_equal, promo_is}
-use Rattle.board_base.proofs.KindsOfMen.{another_kind}
+use Rattle.board_base.proofs.KindsOfMen.{another_kind, no-promo}
 use Rattle.play_rules.specs.States.{Position, legal_at}
 use Rattle.play_rules.specs.Listed.{move_of}
 use Rattle.play_rules.proofs.Legality.{legality}
@@ -20,12 +20,6 @@ use Rattle.san_text.specs.Fits.{fits, castles_by, short_of, long_of}
 use Rattle.san_text.specs.declared.grammar.San.{San}
 use Rattle.san_text.specs.declared.grammar.San.TheVariants.{Short, Long, Goes}
 use Rattle.san_text.proofs.Search.{AreCandidates}
-
--- a man that is no pawn isn't promoted
-pub no_pawn : (promo : Option Kind) (pawn reaches : Bool) → pawn ≡ false → elim promo as (λ _. Bool) [ None ↦ not (pawn && reaches) | Some k ↦ pawn && reaches && is_officer k ] ≡ true → promo ≡ None
-no_pawn None pawn reaches false_pawn h = refl
-no_pawn (Some k) true reaches false_pawn h = cc
-no_pawn (Some k) false reaches false_pawn h = cc
 
 -- a move by its parts
 pub made_of : (m : Move) (to : ℕ) (promo : Option Kind) → m.to ≡ to → m.promo ≡ promo → m ≡ move_of m.from to promo
@@ -41,7 +35,7 @@ king_stays : (p : Position) (m : Move) → legal_at p m ≡ true → is_a King (
 unfolding promotion_fits
 king_stays p m legal king =
     let l = legality p.board p.turn _ _ m legal in
-    no_pawn m.promo (is_a Pawn (at p.board m.from)) (rank m.to == last_rank p.turn) (another_kind Pawn King (at p.board m.from) king) l.promotion
+    no-promo m.promo (is_a Pawn (at p.board m.from)) (rank m.to == last_rank p.turn) (another_kind Pawn King (at p.board m.from) king) l.promotion
 
 pub castled : (p : Position) (x : Castle) (m : Move) → legal_at p m ≡ true → castles_by p.board x m ≡ true → m ≡ move_of m.from (king_target x) None
 castled p x m legal h =

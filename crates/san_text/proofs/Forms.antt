@@ -13,14 +13,7 @@ use Rattle.san_text.specs.Spelling.{capital, file_text, rank_text, takes_text, p
 use Rattle.san_text.specs.declared.grammar.San.{San}
 use Rattle.san_text.specs.declared.grammar.San.TheVariants.{Short, Long, Goes}
 use Rattle.san_text.proofs.Backs.{IsPiece, joined, pawn_joined, said_piece, said_pawn, said_short, said_long}
-
-mapped : {A B : Type 0} (f : A → B) (o : Option A) (y : B) → option_map f o ≡ Some y → (x : A) × (o ≡ Some x) × (f x ≡ y)
-mapped {A} {B} f None y e = cc
-mapped {A} {B} f (Some x) y e = let is : f x ≡ y = cc in (x, refl, is)
-
-bound : {A B : Type 0} (o : Option A) (f : A → Option B) (y : B) → (o >>= f) ≡ Some y → (x : A) × (o ≡ Some x) × (f x ≡ Some y)
-bound {A} {B} None f y e = cc
-bound {A} {B} (Some x) f y e = (x, refl, e)
+use Rattle.board_base.proofs.TextLemmas.{bound_some, mapped_some}
 
 where_true : {A : Type 0} (b : Bool) (o : Option A) (y : A) → cond b o None ≡ Some y → (b ≡ true) × (o ≡ Some y)
 where_true {A} true o y e = (refl, e)
@@ -105,7 +98,7 @@ target_form (a ∷ b ∷ rest) t e =
 piece_says : (k : Kind) (text : List ℕ) (said : San) → IsPiece k → piece_of k text ≡ Some said → IsForm said × ((sign : List ℕ) × (is_end sign ≡ true) × (capital k ++ text ≡ said_text said ++ sign))
 unfolding piece_of
 piece_says k text said piece e =
-    let read = mapped _ _ said e in
+    let read = mapped_some _ _ said e in
     let f = file_head text in
     let r = rank_head (after_file text) in
     let x = takes_head (after_rank (after_file text)) in
@@ -168,7 +161,7 @@ promotion_form (c ∷ []) promo e =
 promotion_form (a ∷ b ∷ rest) promo e =
     let both = where_true ((a == 61) && is_end rest) (option_map (λ k. Some k) (promoted_of b)) promo e in
     let parts = and_parts (a == 61) (is_end rest) both.0 in
-    let named = mapped (λ k. Some k) (promoted_of b) promo both.1 in
+    let named = mapped_some (λ k. Some k) (promoted_of b) promo both.1 in
     let letter = promoted_form b named.0 named.1 in
     let here : a ∷ b ∷ rest ≡ promotion_text (Some named.0) ++ rest =
     ap (λ (n : ℕ). n ∷ b ∷ rest) (eqb-true a 61 parts.0) ∙ ap (λ (l : List ℕ). 61 ∷ l ++ rest) letter.0.is in
@@ -189,8 +182,8 @@ pawn_end_form : (file : Option ℕ) (text : List ℕ) (said : San) → pawn_end 
 pawn_end_form file [] said e = cc
 pawn_end_form file (a ∷ []) said e = cc
 pawn_end_form file (a ∷ b ∷ rest) said e =
-    let square = bound (square_at a b) _ said e in
-    let promo = mapped (pawn_goes file square.0) (promotion_of rest) said square.2 in
+    let square = bound_some (square_at a b) _ said e in
+    let promo = mapped_some (pawn_goes file square.0) (promotion_of rest) said square.2 in
     let target = square_form a b square.0 square.1 in
     let becomes = promotion_form rest promo.0 promo.1 in
     record {
@@ -221,7 +214,7 @@ pawn_says [] said e = cc
 pawn_says (a ∷ []) said e = cc
 pawn_says (a ∷ b ∷ rest) said e = elim (either (b == 120) (file_of a >>= (λ file. pawn_end (Some file) rest)) (pawn_end None (a ∷ b ∷ rest)) said e) [
   | inl takes ↦
-      let file = bound (file_of a) (λ file. pawn_end (Some file) rest) said takes.1 in
+      let file = bound_some (file_of a) (λ file. pawn_end (Some file) rest) said takes.1 in
       let is = file_form a file.0 file.1 in
       pawn_says_so (Some file.0) rest (a ∷ b ∷ []) said is.0 (ap (λ (n : ℕ). n ∷ b ∷ []) is.1 ∙ ap (λ (n : ℕ). (97 + file.0) ∷ n ∷ []) (eqb-true b 120 takes.0)) (pawn_end_form (Some file.0) rest said file.2)
   | inr goes ↦ pawn_says_so None (a ∷ b ∷ rest) [] said tt refl (pawn_end_form None (a ∷ b ∷ rest) said goes)

@@ -36,6 +36,7 @@ use Rattle.san_text.proofs.Blanks.{HasNoBlank, IsWord, AreWords, above_space, ar
 use Rattle.san_text.proofs.Fitted.{named_only}
 use Rattle.san_text.proofs.Spelled.{spelling_reads}
 use Rattle.san_text.proofs.Told.{no_result}
+use Rattle.board_base.proofs.TextLemmas.{none_then}
 
 -- a spelling has no blank
 capital_clean : (k : Kind) → HasNoBlank (capital k)
@@ -126,10 +127,6 @@ number_clean k small =
     word_from (decimal k ++ 46 ∷ []) (let whole = length-append (decimal k) (46 ∷ []) in omega (arith, whole)) (no_blank_more (decimal k) (46 ∷ []) (digits_clean (decimal k) (digits_decimal model k small)) (refl, tt))
 
 -- a text that begins with a digit is no move's
-bind_none : {A B : Type 0} (o : Option A) (f : A → Option B) → o ≡ None → (o >>= f) ≡ None
-bind_none None f e = refl
-bind_none (Some a) f e = cc
-
 both_none : {A : Type 0} (b : Bool) (x y : Option A) → x ≡ None → y ≡ None → cond b x y ≡ None
 both_none true x y e f = e
 both_none false x y e f = f
@@ -140,7 +137,7 @@ low b below = false_from_ne_true _ (λ e. let high = leb-true 97 b e in absurd (
 pawn_none : (b : ℕ) (rest : List ℕ) → b ≤ 57 → pawn_of (b ∷ rest) ≡ None
 pawn_none b [] below = refl
 pawn_none b (c ∷ rest) below =
-    both_none (c == 120) _ _ (bind_none (file_of b) (λ file. pawn_end (Some file) rest) (rw (low b below) refl)) (bind_none (square_at b c) _ (rw (low b below) refl))
+    both_none (c == 120) _ _ (none_then (file_of b) (λ file. pawn_end (Some file) rest) (rw (low b below) refl)) (none_then (square_at b c) _ (rw (low b below) refl))
 
 digit_none : (b : ℕ) (rest : List ℕ) → b ≤ 57 → san_of (b ∷ rest) ≡ None
 unfolding san_of

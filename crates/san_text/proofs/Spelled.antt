@@ -10,7 +10,7 @@ use Rattle.board_base.specs.declared.men.Kind.TheVariants.{Pawn, Knight, Bishop,
 use Rattle.board_base.specs.declared.moves.Move.{Move}
 use Rattle.board_base.specs.declared.castles.Castle.{Castle}
 use Rattle.board_base.specs.declared.castles.Castle.TheVariants.{WhiteShort, WhiteLong, BlackShort, BlackLong}
-use Rattle.board_base.proofs.KindsOfMen.{another_kind}
+use Rattle.board_base.proofs.KindsOfMen.{another_kind, no-promo}
 use Rattle.play_rules.specs.States.{Position, legal_at}
 use Rattle.play_rules.proofs.Legality.{legality}
 use Rattle.san_text.specs.Grammar.{is_end, san_of}
@@ -23,7 +23,7 @@ use Rattle.san_text.specs.declared.grammar.San.TheVariants.{Goes}
 use Rattle.san_text.specs.declared.marks.Mark.{Mark}
 use Rattle.san_text.specs.declared.marks.Mark.TheVariants.{Quiet, Check, Mate}
 use Rattle.san_text.proofs.Backs.{IsPiece, said_piece, said_pawn, said_short, said_long}
-use Rattle.san_text.proofs.Candidates.{from_inside, no_pawn}
+use Rattle.san_text.proofs.Candidates.{from_inside}
 use Rattle.san_text.proofs.Fitted.{kind_there, named_only}
 use Rattle.san_text.proofs.Written.{origin_small}
 
@@ -49,7 +49,7 @@ legal_becomes p m legal = becomes m.promo (is_a Pawn (at p.board m.from) && (ran
 -- a piece isn't promoted
 piece_stays : (p : Position) (m : Move) → legal_at p m ≡ true → is_a Pawn (at p.board m.from) ≡ false → m.promo ≡ None
 unfolding promotion_fits
-piece_stays p m legal other = no_pawn m.promo (is_a Pawn (at p.board m.from)) (rank m.to == last_rank p.turn) other (legality p.board p.turn _ _ m legal).promotion
+piece_stays p m legal other = no-promo m.promo (is_a Pawn (at p.board m.from)) (rank m.to == last_rank p.turn) other (legality p.board p.turn _ _ m legal).promotion
 
 -- what is read of the text of what is said is that
 abbrev ReadsBack : San → List ℕ → Type 0

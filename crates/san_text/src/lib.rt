@@ -13,8 +13,6 @@ mod naming;
 mod playing;
 mod reading;
 mod spelling;
-#[cfg(test)]
-mod tests;
 mod words;
 mod writing;
 

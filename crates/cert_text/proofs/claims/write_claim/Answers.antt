@@ -3,9 +3,10 @@ use Rattle.std.specs.Prelude.{codes}
 use Rattle.board_base.specs.Texts.{move_text}
 use Rattle.query_base.specs.declared.claims.Claim.{Claim}
 use Rattle.query_base.specs.declared.claims.Claim.TheVariants.{Illegal, Last, Lost, Ep}
-use Rattle.cert_text.specs.ClaimLines.{castle_letter, claim_of, claim_text, promotes_well}
+use Rattle.cert_text.specs.ClaimLines.{claim_of, claim_text, promotes_well}
 use Rattle.cert_text.proofs.ClaimTexts.{illegal_back, last_back, lost_back, ep_back}
 use Rattle.cert_text.proofs.claims.write_claim.Goals as goal
+use Rattle.fen_text.specs.Fen.{castle_letter}
 
 -- what was put behind a front, which was put into an empty text
 behind : (before front out rest text : List ℕ) → before ≡ [] → front ≡ before ++ text → out ≡ front ++ rest → out ≡ text ++ rest

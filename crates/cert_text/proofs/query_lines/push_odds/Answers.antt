@@ -2,7 +2,7 @@ use Rattle.std.proofs.Common.{◌++◌, ap, sym, ◌∙◌, List, ℕ}
 use Rattle.std.proofs.lemmas.Bool.{both_ways}
 use Rattle.cert_text.specs.Lines.{ended}
 use Rattle.cert_text.proofs.HeadTexts.{odds_bytes}
-use Rattle.dossier_text.proofs.writing.push_odds.Goals as goal
+use Rattle.cert_text.proofs.query_lines.push_odds.Goals as goal
 
 pub returns-clause-lines : goal.returns-clause-lines
 returns-clause-lines c =

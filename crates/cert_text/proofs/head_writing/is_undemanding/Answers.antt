@@ -2,7 +2,7 @@ use Rattle.std.proofs.Common.{ap, ◌∙◌}
 use Rattle.std.proofs.lemmas.Bool.{both_ways}
 use Rattle.query_base.specs.Asked.{Asked}
 use Rattle.cert_text.proofs.HeadTexts.{no_lines}
-use Rattle.cert_text.proofs.cert_writing.is_undemanding.Goals as goal
+use Rattle.cert_text.proofs.head_writing.is_undemanding.Goals as goal
 
 pub returns-else-is_none : goal.returns-else-is_none
 returns-else-is_none c = (
