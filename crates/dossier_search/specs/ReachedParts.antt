@@ -1,5 +1,5 @@
 -- A part that a search comes to, since each part before it is refutable.
-use Rattle.std.specs.Prelude.{ℕ, ◌+◌, ◌≡◌, ◌<◌, List, [], ◌∷◌, ◌++◌, length}
+use Rattle.std.specs.Prelude.{ℕ, ◌+◌, ◌≡◌, List, [], ◌∷◌, ◌++◌, length}
 use Rattle.std.specs.List.{All}
 use Rattle.query_base.specs.Asked.{Asked}
 use Rattle.query_base.specs.Targets.{target}
@@ -7,8 +7,7 @@ use Rattle.query_base.specs.declared.claims.Claim.{Claim}
 use Rattle.line_claims.specs.Due.{parts_due}
 use Rattle.line_claims.specs.Listing.{HasParts}
 use Rattle.line_claims.specs.declared.claims.LineClaim.{LineClaim}
-use Rattle.retro_search.specs.Costs.{IsCost}
-use Rattle.retro_search.specs.Lone.{IsLoneSearch, IsMemoCost}
+use Rattle.retro_search.specs.Lone.{IsDear}
 use Rattle.retro_search.specs.Refutable.{IsRefutable}
 
 -- what a game reaches exactly where it contradicts the part
@@ -34,12 +33,6 @@ pub record IsReachedPart (depth : ℕ) (P : Claim × Asked → Type 0) (claim : 
 abbrev pub IsFirstOpenPart : ℕ → LineClaim → Asked → ℕ → Type 0
 IsFirstOpenPart depth claim q number = IsReachedPart depth (λ part. IsPartRefutable depth part → ⊥) claim q number
 
--- The part costs more than so many nodes; and where its target is refutable, no query of its tree is covered by one above it, and
--- its cost isn't large, so does it with refutations kept.
-pub record IsDear (depth nodes : ℕ) (part : Claim × Asked) : Type 0 where
-  pub cost : (n : ℕ) → IsCost (part_target part) depth [] n → nodes < n
-  pub memo_cost : (n k : ℕ) → IsLoneSearch (part_target part) depth n → IsMemoCost (part_target part) depth k → nodes < k
-
 -- the part with this number is dear, and each part before it is refutable at the depth
 abbrev pub IsDearPart : ℕ → ℕ → LineClaim → Asked → ℕ → Type 0
-IsDearPart depth nodes claim q number = IsReachedPart depth (IsDear depth nodes) claim q number
+IsDearPart depth nodes claim q number = IsReachedPart depth (λ part. IsDear depth nodes part.0 part.1) claim q number

@@ -3,7 +3,8 @@ ghost use Rattle.cert_text.specs.Certificate.{HasText, IsTextOf};
 ghost use Rattle.cert_text.specs.ClaimLines.{promotes_well};
 ghost use Rattle.cert_text.specs.SeenCert.{cert_of};
 ghost use Rattle.retro_search.specs.Sizes.{nodes_in};
-ghost use Rattle.dossier_search.specs.ReachedParts.{IsDear, IsPartRefutable};
+ghost use Rattle.retro_search.specs.Lone.{IsDear};
+ghost use Rattle.dossier_search.specs.ReachedParts.{IsPartRefutable};
 ghost use Rattle.dossier_search.specs.PartAnswers.{IfDear, IfOpen, IfProof, IsPartProof};
 
 use board_base::Memory;
@@ -50,7 +51,7 @@ pub(crate) fn solve_part(
     requires few_nodes { nodes ≤ 500_000 }
     ensures proof { IfOk result (λ part. IfProof part (λ text. IsPartProof depth text.items (claim.now, query.now))) }
     ensures open { IfOk result (λ part. IfOpen part (IsPartRefutable depth (claim.now, query.now) → ⊥)) }
-    ensures dear { IfOk result (λ part. IfDear part (IsDear depth nodes (claim.now, query.now))) }
+    ensures dear { IfOk result (λ part. IfDear part (IsDear depth nodes claim.now query.now)) }
 {
     match solve(alloc, query, claim, depth, nodes)? {
         Found::Proved(cert) => Ok(Part::Proved(few_bytes(alloc, &cert)?)),

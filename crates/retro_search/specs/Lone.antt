@@ -1,5 +1,5 @@
 -- Searches in which no query leans on an ancestor, and how many visits they take where refutations are kept.
-use Rattle.std.specs.Prelude.{ℕ, zero, suc, ◌+◌, ◌≡◌, ◌≤◌, ◌⊎◌, ◌↔◌, List, [], ◌∷◌, length}
+use Rattle.std.specs.Prelude.{ℕ, zero, suc, ◌+◌, ◌≡◌, ◌<◌, ◌≤◌, ◌⊎◌, ◌↔◌, List, [], ◌∷◌, length}
 use Rattle.std.specs.List.{Contains}
 use Rattle.board_base.specs.declared.unmoves.Unmove.{Unmove}
 use Rattle.query_base.specs.Asked.{Asked}
@@ -9,6 +9,8 @@ use Rattle.unmove_gen.specs.Predecessor.{predecessor}
 use Rattle.query_base.specs.Ancestors.{IsCovered}
 use Rattle.retro_search.specs.Refutable.{IsRefutable}
 use Rattle.retro_search.specs.Costs.{IsCost}
+use Rattle.query_base.specs.Targets.{target}
+use Rattle.query_base.specs.declared.claims.Claim.{Claim}
 
 -- p stands in the tree of the query: it is the query; or, where no rule line supports the query and the depth isn't 0, it stands in
 -- the tree of a predecessor at one less
@@ -48,3 +50,9 @@ pub record IsLoneSearch (q : Asked) (depth n : ℕ) : Type 0 where
   pub refutable : IsRefutable q depth []
   pub cost : IsCost q depth [] n
   pub few : n ≤ 30000
+
+-- The cost of the claim's target is above the nodes. Where the target is refutable, no query of its tree is covered by one above it,
+-- and its cost isn't large, its memo cost is above them too.
+pub record IsDear (depth nodes : ℕ) (claim : Claim) (q : Asked) : Type 0 where
+  pub cost : (n : ℕ) → IsCost (target q claim) depth [] n → nodes < n
+  pub memo_cost : (n k : ℕ) → IsLoneSearch (target q claim) depth n → IsMemoCost (target q claim) depth k → nodes < k
