@@ -3,7 +3,7 @@
 
 ghost use Rattle.std.specs.Prelude.{◌≡◌};
 ghost use Rattle.std.specs.Process.{exit_status};
-ghost use Rattle.retro_top.specs.Statuses.{code_of};
+ghost use Rattle.command_answers.specs.Statuses.{code_of};
 
 #[cfg(test)]
 mod tests;
@@ -23,7 +23,7 @@ pub struct Ended {
 }
 
 impl Model for Ended {
-    ghost use Rattle.retro_top.specs.declared.statuses.Status.{Status};
+    ghost use Rattle.command_answers.specs.declared.statuses.Status.{Status};
 
     ghost Value = { Status };
 
@@ -46,19 +46,19 @@ impl Termination for Ended {
 
 /// How each command is called, what it reads, and what it answers.
 const USAGE: &str = "usage:
-  retractor check < CERTIFICATE                whether the certificate proves its claim
-  retractor play < FEN-AND-MOVES               whether the moves are a legal game that reaches the position
-  retractor san < FEN-AND-GAME                 whether the game in algebraic notation reaches the position
-  retractor spell < MOVES                      the game in algebraic notation
-  retractor unmoves < FEN                      each move that may have been the last, and the position before it
-  retractor solve DEPTH NODES < CLAIM-AND-FEN  a certificate of the claim, or a game against it
-  retractor verdict DEPTH NODES < FEN          what the conventions say of castling and en passant
-  retractor tree DEPTH NODES < FEN             the moves that may lead to the position, as a tree
-  retractor length < FEN                       how many half-moves each game to the position has at least
-  retractor atleast < LENGTH                   whether the text of a length shows it
-  retractor line < DOSSIER                     whether the dossier proves its claim of several steps
+  retractor check < CERTIFICATE                  whether the certificate proves its claim
+  retractor play < FEN-AND-MOVES                 whether the moves are a legal game that reaches the position
+  retractor san < FEN-AND-GAME                   whether the game in algebraic notation reaches the position
+  retractor spell < MOVES                        the game in algebraic notation
+  retractor unmoves < FEN                        each move that may have been the last, and the position before it
+  retractor solve DEPTH NODES < CLAIM-AND-FEN    a certificate of the claim, or a game against it
+  retractor verdict DEPTH NODES < FEN            what the conventions say of castling and en passant
+  retractor tree DEPTH NODES < FEN               the moves that may lead to the position, as a tree
+  retractor length < FEN                         how many half-moves each game to the position has at least
+  retractor atleast < LENGTH                     whether the numbers of a length show it
+  retractor line < DOSSIER                       whether the dossier proves its claim of several steps
   retractor dossier DEPTH NODES < CLAIM-AND-FEN  a dossier of the claim of several steps
-  retractor sample START GAMES PLIES           what is counted of games that are made from a number";
+  retractor sample START GAMES PLIES             what is counted of games that are made from a number";
 
 /// What a user is told where no answer, or a part of one, was written.
 fn help(status: Status) -> Option<&'static str> {

@@ -7,10 +7,10 @@ use Rattle.cert_text.specs.Certificate.{Lines}
 use Rattle.cert_text.specs.Lines.{cut}
 use Rattle.cert_checker.specs.Answers.{Answer, accepted, bad_text, fault}
 use Rattle.retro_top.specs.Answers.{AnswersAs}
-use Rattle.retro_top.specs.Checks.{Tells}
-use Rattle.retro_top.specs.Plays.{AnswersEnd, AnswersGame, AnswersMoves}
-use Rattle.retro_top.specs.Sans.{AnswersSanGame}
-use Rattle.retro_top.specs.Spells.{AnswersSpelling}
+use Rattle.command_answers.specs.Checks.{Tells}
+use Rattle.command_answers.specs.Plays.{AnswersEnd, AnswersGame, AnswersMoves}
+use Rattle.command_answers.specs.Sans.{AnswersSanGame}
+use Rattle.command_answers.specs.Spells.{AnswersSpelling}
 use Rattle.codex_verdict.specs.declared.kinds.Right.{Right}
 use Rattle.line_claims.specs.declared.claims.LineClaim.{LineClaim}
 use Rattle.dossier_checker.specs.DossierAnswers.{DossierAnswer}
@@ -20,20 +20,20 @@ use Rattle.length_bound.specs.LengthAnswers as bounds
 use Rattle.question_text.specs.Positions.{IsLonePosition, IsNoLonePosition}
 use Rattle.question_text.specs.Questions.{AsksAlone, IsNoLoneQuestion, after_question}
 use Rattle.question_text.specs.declared.faults.InputFault.{InputFault}
-use Rattle.retro_top.specs.AtLeasts.{TellsBound}
-use Rattle.retro_top.specs.Dossiers.{AnswersLineClaim}
-use Rattle.retro_top.specs.LineChecks.{TellsDossier}
-use Rattle.retro_top.specs.Lengths.{AnswersLengthOf}
-use Rattle.retro_top.specs.Questions.{AnswersOne}
-use Rattle.retro_top.specs.Solves.{AnswersClaim}
-use Rattle.retro_top.specs.Retractions.{ListsUnmoves}
-use Rattle.retro_top.specs.Statuses.{IsAnswer}
-use Rattle.retro_top.specs.Trees.{AnswersTreeOf}
-use Rattle.retro_top.specs.Verdicts.{AnswersPosition, AnswersRights}
+use Rattle.command_answers.specs.AtLeasts.{TellsBound}
+use Rattle.command_answers.specs.Dossiers.{AnswersLineClaim}
+use Rattle.command_answers.specs.LineChecks.{TellsDossier}
+use Rattle.command_answers.specs.Lengths.{AnswersLengthOf}
+use Rattle.command_answers.specs.Questions.{AnswersOne}
+use Rattle.command_answers.specs.Solves.{AnswersClaim}
+use Rattle.command_answers.specs.Retractions.{ListsUnmoves}
+use Rattle.command_answers.specs.Statuses.{IsAnswer}
+use Rattle.command_answers.specs.Trees.{AnswersTreeOf}
+use Rattle.command_answers.specs.Verdicts.{AnswersPosition, AnswersRights}
 use Rattle.retro_top.specs.declared.commands.Command.{Command}
 use Rattle.retro_top.specs.declared.commands.Command.TheVariants.{Check, Play, San, Spell, Unmoves, Solve, Verdict, Tree, Length, AtLeast, Line, Dossier, Sample}
-use Rattle.retro_top.specs.declared.statuses.Status.{Status}
-use Rattle.retro_top.specs.declared.statuses.Status.TheVariants.{Done, Refused, Undecided, Spent, Countered, BadInput}
+use Rattle.command_answers.specs.declared.statuses.Status.{Status}
+use Rattle.command_answers.specs.declared.statuses.Status.TheVariants.{Done, Refused, Undecided, Spent, Countered, BadInput}
 
 as-answer : (known ending : Status) → ending ≡ known → IsAnswer known → IsAnswer ending
 as-answer known ending e = subst IsAnswer (sym e)

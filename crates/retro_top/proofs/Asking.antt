@@ -5,9 +5,9 @@ use Rattle.question_text.specs.Positions.{IsLonePosition, IsNoLonePosition}
 use Rattle.question_text.specs.Questions.{AsksAlone, IsNoLoneQuestion}
 use Rattle.question_text.specs.declared.faults.InputFault.{InputFault}
 use Rattle.question_text.proofs.OneQuestion.{alone-some, asks-one, position-one, position-some}
-use Rattle.retro_top.specs.Questions.{AnswersAlone, AnswersOne, AnswersPlain}
-use Rattle.retro_top.specs.declared.statuses.Status.{Status}
-use Rattle.retro_top.specs.declared.statuses.Status.TheVariants.{Done}
+use Rattle.command_answers.specs.Questions.{AnswersAlone, AnswersOne, AnswersPlain}
+use Rattle.command_answers.specs.declared.statuses.Status.{Status}
+use Rattle.command_answers.specs.declared.statuses.Status.TheVariants.{Done}
 
 said-one : (AsksFor : Asked → Type 0) (HasFault : InputFault → Type 0) (Said : Asked → Status → List ℕ → Type 0) (P : Asked → Type 0) → ((q r : Asked) → AsksFor q → AsksFor r → q ≡ r) → ((q : Asked) (why : InputFault) → AsksFor q → HasFault why → ⊥) → (q : Asked) (ending : Status) (text : List ℕ) → AnswersOne AsksFor HasFault Said ending text → AsksFor q → P q → (r : Asked) × P r × Said r ending text
 said-one AsksFor HasFault Said P one never q ending text answers asks here = elim answers [

@@ -2,13 +2,13 @@
 use Rattle.std.proofs.Common.{◌≡◌, ℕ, List, sym, subst}
 use Rattle.std.specs.Prelude.{Option, Some, None, IfSome}
 use Rattle.retro_top.specs.Answers.{AnswersAs, IsUnspent, MustSucceed, ReadsBy, Succeeds, Suffices}
-use Rattle.retro_top.specs.Retractions.{ListsUnmoves}
-use Rattle.retro_top.specs.Trees.{AnswersTreeOf}
-use Rattle.retro_top.specs.Verdicts.{AnswersPosition}
+use Rattle.command_answers.specs.Retractions.{ListsUnmoves}
+use Rattle.command_answers.specs.Trees.{AnswersTreeOf}
+use Rattle.command_answers.specs.Verdicts.{AnswersPosition}
 use Rattle.retro_top.specs.declared.commands.Command.{Command}
 use Rattle.retro_top.specs.declared.commands.Command.TheVariants.{Check, Play, San, Spell, Unmoves, Solve, Verdict, Tree, Length, AtLeast, Line, Dossier, Sample}
-use Rattle.retro_top.specs.declared.statuses.Status.{Status}
-use Rattle.retro_top.specs.declared.statuses.Status.TheVariants.{Done}
+use Rattle.command_answers.specs.declared.statuses.Status.{Status}
+use Rattle.command_answers.specs.declared.statuses.Status.TheVariants.{Done}
 use Rattle.retro_top.proofs.Gaming.{NoGameFault, OneGame, done-game, done-moves, done-notation, play-done, san-done, spell-done}
 use Rattle.retro_top.proofs.Input.{of_left}
 use Rattle.retro_top.proofs.Asking.{done-alone, said-alone}

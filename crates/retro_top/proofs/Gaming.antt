@@ -15,11 +15,12 @@ use Rattle.san_text.specs.declared.games.SanGameFault.TheVariants as fault
 use Rattle.question_text.specs.Questions.{after_question}
 use Rattle.question_text.proofs.OneQuestion.{asks-one, asks-some}
 use Rattle.retro_top.specs.Answers.{TellsGame, TellsMoves, TellsNotation}
-use Rattle.retro_top.specs.Plays.{AnswersPlay, AnswersGame, AnswersMoves, AnswersEnd}
-use Rattle.retro_top.specs.Sans.{AnswersSan, AnswersSanGame, IsFaultLine}
-use Rattle.retro_top.specs.Spells.{AnswersSpell, AnswersSpelling}
-use Rattle.retro_top.specs.declared.statuses.Status.{Status}
-use Rattle.retro_top.specs.declared.statuses.Status.TheVariants.{Done, Refused, Undecided, Spent, Countered, BadWords, BadInput, ReadFault, WriteFault, Memory, TooLong}
+use Rattle.command_answers.proofs.LegalGames.{game_ends}
+use Rattle.command_answers.specs.Plays.{AnswersPlay, AnswersGame, AnswersMoves, AnswersEnd}
+use Rattle.command_answers.specs.Sans.{AnswersSan, AnswersSanGame, IsFaultLine}
+use Rattle.command_answers.specs.Spells.{AnswersSpell, AnswersSpelling}
+use Rattle.command_answers.specs.declared.statuses.Status.{Status}
+use Rattle.command_answers.specs.declared.statuses.Status.TheVariants.{Done, Refused, Undecided, Spent, Countered, BadWords, BadInput, ReadFault, WriteFault, Memory, TooLong}
 
 -- a text of algebraic notation tells one game at most
 abbrev pub OneGame : Type 0
@@ -57,13 +58,6 @@ end-done q g ReadFault text answers reached = absurd answers
 end-done q g WriteFault text answers reached = absurd answers
 end-done q g Memory text answers reached = absurd answers
 end-done q g TooLong text answers reached = absurd answers
-
--- of a legal game nothing is said but how it ends
-pub game_ends : (q : Asked) (g : List Move) (ending : Status) (text : List ℕ) → IsGame q.odds g → AnswersMoves q g ending text → AnswersEnd q g ending text
-game_ends q g ending text game answers = elim answers [
-  | inl end ↦ end
-  | inr first ↦ absurd (both_ways _ first.1.illegal (game first.1.before first.1.after first.1.move first.1.split))
-]
 
 game-done : (q : Asked) (bytes : List ℕ) (g : List Move) (ending : Status) (text : List ℕ) → AnswersGame q bytes ending text → AreTextsOf (words bytes) g → Reaches g q → ending ≡ Done
 game-done q bytes g ending text answers are reached = elim answers [

@@ -3,8 +3,10 @@ use Rattle.std.proofs.Common.{◌≡◌, ℕ, ◌≤◌, List, [], length, refl,
 use Rattle.std.proofs.KnownBytes.{Consumes-whole}
 use Rattle.std.specs.Io.KnownBytes.{Consumes}
 use Rattle.std.specs.Prelude.{Option, Some, None, IfSome}
+use Rattle.retro_ports.specs.Causes.{Rose}
 use Rattle.retro_ports.specs.Ends.{ReadSome}
-use Rattle.retro_top.specs.Answers.{ReadsAll, ReadsBy, Unhindered}
+use Rattle.command_answers.specs.Inputs.{ReadsAll}
+use Rattle.retro_top.specs.Answers.{ReadsBy, Unhindered}
 use Rattle.retro_top.specs.Commands.{Reads}
 use Rattle.retro_top.specs.declared.commands.Command.{Command}
 use Rattle.retro_top.specs.declared.commands.Command.TheVariants.{Sample}
@@ -46,3 +48,8 @@ never_fits (Some xs) (Some ys) bytes P read long = λ fits. absurd (omega (arith
 pub hindered-long : (command : Command) (left new : Option (List ℕ)) (f g h k : ℕ) (P : List ℕ → Type 0) → Reads command → ReadSome left new (λ n. n ≡ 67108865) → Unhindered command 67108864 left f g h k P
 hindered-long (Sample start games plies) left new f g h k P reads long = absurd reads
 hindered-long _ left new f g h k P reads long = λ read written. never_fits left new long.0 P long.1 long.2
+
+-- nor where a write failed
+pub hindered-unwritten : (command : Command) (left : Option (List ℕ)) (f g h k : ℕ) (P : List ℕ → Type 0) → Rose h k → Unhindered command 67108864 left f g h k P
+hindered-unwritten (Sample start games plies) left f g h k P rose = λ written. absurd (written rose)
+hindered-unwritten _ left f g h k P rose = λ read written. absurd (written rose)

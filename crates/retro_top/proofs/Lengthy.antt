@@ -15,10 +15,10 @@ use Rattle.length_bound.specs.declared.texts.LengthText.{LengthText}
 use Rattle.length_bound.proofs.Longer.{some_men}
 use Rattle.question_text.specs.Positions.{IsLonePosition, IsNoLonePosition}
 use Rattle.retro_top.specs.Answers.{BoundsGames}
-use Rattle.retro_top.specs.AtLeasts.{AnswersAtLeast, ShowsLength, TellsBound, bound_line}
-use Rattle.retro_top.specs.Lengths.{AnswersHowLong, AnswersLengthOf, AsksForLength, TellsLength}
-use Rattle.retro_top.specs.declared.statuses.Status.{Status}
-use Rattle.retro_top.specs.declared.statuses.Status.TheVariants.{Done, Undecided}
+use Rattle.command_answers.specs.AtLeasts.{AnswersAtLeast, ShowsLength, TellsBound, bound_line}
+use Rattle.command_answers.specs.Lengths.{AnswersHowLong, AnswersLengthOf, AsksForLength, TellsLength}
+use Rattle.command_answers.specs.declared.statuses.Status.{Status}
+use Rattle.command_answers.specs.declared.statuses.Status.TheVariants.{Done, Undecided}
 use Rattle.retro_top.proofs.Asking.{done-one, said-plain}
 
 -- there is one answer to a text of a length

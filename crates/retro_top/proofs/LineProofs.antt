@@ -6,20 +6,20 @@ use Rattle.std.proofs.lemmas.List.Elements.{All-head, All-tail}
 use Rattle.query_base.specs.Asked.{Asked}
 use Rattle.line_claims.specs.Holding.{HoldsLine}
 use Rattle.line_claims.specs.Lines.{line_claim_of}
-use Rattle.line_claims.specs.Listing.{HasParts, LacksStep}
+use Rattle.line_claims.specs.Listing.{HasParts}
 use Rattle.line_claims.specs.declared.claims.LineClaim.{LineClaim}
-use Rattle.line_claims.specs.declared.claims.LineClaim.TheVariants as claims
 use Rattle.dossier_text.specs.Proving.{IsDossier}
 use Rattle.dossier_checker.specs.DossierAnswers.{AnswersDossier, DossierAnswer, bad_text_in, fault_in, line_accepted, no_head, no_part, other_part, unlisted_step}
 use Rattle.dossier_search.specs.ReachedParts.{IsPartRefutable}
 use Rattle.retro_top.specs.Answers.{IsUnspent}
-use Rattle.retro_top.specs.Dossiers.{AnswersLineClaim, AnswersMaking, AreCheapParts, AreRefutable, StatesCheapLine, StatesProvable}
-use Rattle.retro_top.specs.LineChecks.{AnswersLine, ProvesLine, TellsDossier, accepted_steps_line}
-use Rattle.retro_top.specs.Solves.{IsCheap}
-use Rattle.retro_top.specs.Statements.{StatesLine}
-use Rattle.retro_top.specs.declared.statuses.Status.{Status}
-use Rattle.retro_top.specs.declared.statuses.Status.TheVariants.{Done, Refused, Undecided, Spent}
+use Rattle.command_answers.specs.Dossiers.{AnswersLineClaim, AnswersMaking, AreCheapParts, AreRefutable, StatesCheapLine, StatesProvable}
+use Rattle.command_answers.specs.LineChecks.{AnswersLine, ProvesLine, TellsDossier, accepted_steps_line}
+use Rattle.command_answers.specs.Solves.{IsCheap}
+use Rattle.command_answers.specs.Statements.{StatesLine}
+use Rattle.command_answers.specs.declared.statuses.Status.{Status}
+use Rattle.command_answers.specs.declared.statuses.Status.TheVariants.{Done, Refused, Undecided, Spent}
 use Rattle.retro_top.proofs.Stated.{stated-by, states-some-by}
+use Rattle.dossier_checker.proofs.OneDossier.{no_step}
 
 -- there is one answer to a dossier
 abbrev pub OneDossier : Type 0
@@ -69,11 +69,6 @@ pub line-done : OneDossier → AcceptedAreDossiers → (input : List ℕ) (endin
 line-done one law input ending text answers good =
     told-done answers.0 good.0 good.1 ending text (one input answers.0 (line_accepted good.0 good.1) answers.1 ((law input good.0 good.1).1 good.2)) answers.2
 
--- no step is lacking where the parts are defined
-none-lacking : (claim : LineClaim) (q : Asked) (i : ℕ) → HasParts claim q → LacksStep claim q i → ⊥
-none-lacking (claims.NotBoth x y) q i has lacks = lacks
-none-lacking (claims.Line steps) q i has lacks = lacks.unlisted (has lacks.before lacks.after lacks.step lacks.whole)
-
 -- what holds of each holds of the one between
 of_one : {A : Type 0} (P : A → Type 0) (before : List A) (x : A) (after : List A) → All P (before ++ x ∷ after) → P x
 of_one P [] x after all = All-head P x after all
@@ -81,7 +76,7 @@ of_one P (y ∷ before) x after all = of_one P before x after (All-tail P y (bef
 
 line_claim-unspent : (depth nodes : ℕ) (claim : LineClaim) (q : Asked) (ending : Status) (text : List ℕ) → AnswersLineClaim depth nodes claim q ending text → HasParts claim q → AreCheapParts depth nodes claim q → IsUnspent ending
 line_claim-unspent depth nodes claim q Done text answers has cheap = tt
-line_claim-unspent depth nodes claim q Refused text answers has cheap = absurd (none-lacking claim q answers.0 has answers.1)
+line_claim-unspent depth nodes claim q Refused text answers has cheap = absurd (no_step claim q answers.0 has answers.1)
 line_claim-unspent depth nodes claim q Undecided text answers has cheap = tt
 line_claim-unspent depth nodes claim q Spent text answers has cheap =
     let first = answers.1 in

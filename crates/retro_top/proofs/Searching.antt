@@ -1,5 +1,5 @@
 -- Which status `verdict` and `tree` answer, and what `verdict` says.
-use Rattle.std.proofs.Common.{◌≡◌, ℕ, ◌≤◌, Bool, List, refl, arith}
+use Rattle.std.proofs.Common.{◌≡◌, ℕ, ◌≤◌, Bool, List, [], ◌∷◌, refl, arith}
 use Rattle.std.specs.List.{Contains}
 use Rattle.query_base.specs.Asked.{Asked}
 use Rattle.codex_verdict.specs.Rights.{AreRights, claim_of}
@@ -7,13 +7,12 @@ use Rattle.codex_verdict.specs.declared.kinds.Right.{Right}
 use Rattle.tree_browser.specs.Trees.{HasMoreLines, IsTreeText}
 use Rattle.retro_top.specs.Answers.{Decides}
 use Rattle.question_text.specs.Questions.{AsksAlone}
-use Rattle.retro_top.specs.Solves.{IsCheap}
-use Rattle.retro_top.specs.Trees.{AnswersTree, AnswersTreeOf, AsksForFewLines, AsksForMoreLines}
-use Rattle.retro_top.specs.Verdicts.{AnswersPosition, AnswersRights, AnswersVerdict, AsksForCheap, Each, IsSettled, verdicts_text}
-use Rattle.retro_top.specs.declared.statuses.Status.{Status}
-use Rattle.retro_top.specs.declared.statuses.Status.TheVariants.{Done, Spent}
+use Rattle.command_answers.specs.Solves.{IsCheap}
+use Rattle.command_answers.specs.Trees.{AnswersTree, AnswersTreeOf, AsksForFewLines, AsksForMoreLines}
+use Rattle.command_answers.specs.Verdicts.{AnswersPosition, AnswersRights, AnswersVerdict, AsksForCheap, Each, IsSettled, verdicts_text}
+use Rattle.command_answers.specs.declared.statuses.Status.{Status}
+use Rattle.command_answers.specs.declared.statuses.Status.TheVariants.{Done, Spent}
 use Rattle.retro_top.proofs.Asking.{done-alone, said-alone}
-use Rattle.retro_top.proofs.Settled.{each-weaker}
 
 -- the targets of these rights have costs of at most so many nodes
 abbrev AreCheap : ℕ → ℕ → Asked → Type 0
@@ -22,7 +21,7 @@ AreCheap depth nodes q = (rights : List Right) → AreRights q.board q.turn righ
 rights-done : (depth nodes : ℕ) (q : Asked) (rights : List Right) (ending : Status) (text : List ℕ) → AnswersRights depth nodes q rights ending text → ((right : Right) → Contains rights right → IsCheap depth nodes (claim_of right) q) → ending ≡ Done
 rights-done depth nodes q rights Done text answers cheap = refl
 rights-done depth nodes q rights Spent text answers cheap =
-    let enough = cheap answers.right answers.is_one in absurd (omega (arith, answers.dear enough.0 enough.1, enough.2))
+    let enough = cheap answers.right answers.is_one in absurd (omega (arith, answers.dear.cost enough.0 enough.1, enough.2))
 rights-done depth nodes q rights _ text answers cheap = absurd answers
 
 -- where the nodes suffice for each right, each is told
@@ -30,6 +29,13 @@ pub cheap-done : (depth nodes : ℕ) (input : List ℕ) (ending : Status) (text 
 cheap-done depth nodes input ending text answers cheap =
     let said = said-alone (AnswersPosition depth nodes) (AreCheap depth nodes) input cheap.0 ending text answers cheap.1 cheap.2 in
     rights-done depth nodes said.0 said.2.0 ending text said.2.2 (said.1 said.2.0 said.2.1)
+
+-- what holds of each right and its truth value may be weakened
+each-weaker : (P Q : Right → Bool → Type 0) → ((right : Right) (s : Bool) → P right s → Q right s) → (rights : List Right) (settled : List Bool) → Each P rights settled → Each Q rights settled
+each-weaker P Q law [] [] each = tt
+each-weaker P Q law [] (s ∷ others) each = absurd each
+each-weaker P Q law (right ∷ rights) [] each = absurd each
+each-weaker P Q law (right ∷ rights) (s ∷ others) each = (law right s each.0, each-weaker P Q law rights others each.1)
 
 -- where `verdict` is done, its text tells which rights are settled, and what is settled holds
 pub record Decided (depth : ℕ) (input text : List ℕ) : Type 0 where

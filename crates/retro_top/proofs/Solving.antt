@@ -9,16 +9,16 @@ use Rattle.cert_text.specs.Certificate.{Certificate, IsTextOf}
 use Rattle.cert_checker.specs.Proving.{ProvesClaim}
 use Rattle.retro_search.specs.Refutable.{IsRefutable}
 use Rattle.retro_top.specs.Answers.{IsUnspent, StatesCheap, StatesRefutable}
-use Rattle.retro_top.specs.Solves.{AnswersClaim, AnswersSolve, IsCheap, countered_line}
-use Rattle.retro_top.specs.Statements.{States}
-use Rattle.retro_top.specs.declared.statuses.Status.{Status}
-use Rattle.retro_top.specs.declared.statuses.Status.TheVariants.{Done, Undecided, Spent, Countered}
+use Rattle.command_answers.specs.Solves.{AnswersClaim, AnswersSolve, IsCheap, countered_line}
+use Rattle.command_answers.specs.Statements.{States}
+use Rattle.command_answers.specs.declared.statuses.Status.{Status}
+use Rattle.command_answers.specs.declared.statuses.Status.TheVariants.{Done, Undecided, Spent, Countered}
 use Rattle.retro_top.proofs.Stated.{stated, states-some}
 
 claim-unspent : (depth nodes : ℕ) (claim : Claim) (q : Asked) (ending : Status) (text : List ℕ) → AnswersClaim depth nodes claim q ending text → IsCheap depth nodes claim q → IsUnspent ending
 claim-unspent depth nodes claim q Done text answers cheap = tt
 claim-unspent depth nodes claim q Undecided text answers cheap = tt
-claim-unspent depth nodes claim q Spent text answers cheap = absurd (omega (arith, answers.dear cheap.0 cheap.1, cheap.2))
+claim-unspent depth nodes claim q Spent text answers cheap = absurd (omega (arith, answers.dear.cost cheap.0 cheap.1, cheap.2))
 claim-unspent depth nodes claim q Countered text answers cheap = tt
 claim-unspent depth nodes claim q _ text answers cheap = absurd answers
 

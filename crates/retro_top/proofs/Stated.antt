@@ -10,7 +10,7 @@ use Rattle.question_text.specs.Questions.{AsksAlone}
 use Rattle.question_text.specs.declared.faults.InputFault.{InputFault}
 use Rattle.question_text.specs.declared.faults.InputFault.TheVariants.{BadLine, BadFen}
 use Rattle.question_text.proofs.OneQuestion.{alone-some, asks-one}
-use Rattle.retro_top.specs.Statements.{IsNoStatement, IsNoStatementBy, IsNoneBehind, States, StatesBy}
+use Rattle.command_answers.specs.Statements.{IsNoStatement, IsNoStatementBy, IsNoneBehind, States, StatesBy}
 
 -- what holds of a claim and a query that the input states holds of those that it states
 pub stated-by : {C : Type 0} (grammar : List ℕ → Option C) (P : C → Asked → Type 0) (input : List ℕ) (claim other : C) (q r : Asked) → StatesBy grammar input claim q → StatesBy grammar input other r → P claim q → P other r

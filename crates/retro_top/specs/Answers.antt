@@ -1,7 +1,7 @@
 -- What the program answers.
 use Rattle.std.specs.Prelude.{ℕ, ◌≡◌, ◌≤◌, Bool, IsTrue, List, [], length, String, Option, IfSome}
 use Rattle.std.specs.Global.{Global}
-use Rattle.std.specs.Io.KnownBytes.{Appends, Consumes, IsAtEnd, Keeps}
+use Rattle.std.specs.Io.KnownBytes.{Appends, Keeps}
 use Rattle.retro_ports.specs.Causes.{Rose}
 use Rattle.retro_ports.specs.Ends.{TakesPrefix}
 use Rattle.board_base.specs.Board.{no_odds}
@@ -20,10 +20,11 @@ use Rattle.retro_search.specs.Refutable.{IsRefutable}
 use Rattle.codex_verdict.specs.Rights.{AreRights, claim_of}
 use Rattle.codex_verdict.specs.declared.kinds.Right.{Right}
 use Rattle.retro_top.specs.Commands.{Call, TakesMemory}
-use Rattle.retro_top.specs.Checks.{AnswersCheck, accepted_line}
-use Rattle.retro_top.specs.Plays.{AnswersPlay}
-use Rattle.retro_top.specs.Sans.{AnswersSan}
-use Rattle.retro_top.specs.Spells.{AnswersSpell}
+use Rattle.command_answers.specs.Inputs.{ReadsAll}
+use Rattle.command_answers.specs.Checks.{AnswersCheck, accepted_line}
+use Rattle.command_answers.specs.Plays.{AnswersPlay}
+use Rattle.command_answers.specs.Sans.{AnswersSan}
+use Rattle.command_answers.specs.Spells.{AnswersSpell}
 use Rattle.line_claims.specs.Holding.{HoldsLine}
 use Rattle.line_claims.specs.declared.claims.LineClaim.{LineClaim}
 use Rattle.dossier_text.specs.Proving.{IsDossier}
@@ -32,18 +33,18 @@ use Rattle.length_bound.specs.LengthText.{AreLengthLines}
 use Rattle.length_bound.specs.declared.texts.LengthText.{LengthText}
 use Rattle.question_text.specs.Positions.{IsLonePosition}
 use Rattle.question_text.specs.Questions.{Asks, AsksAlone, AsksForOne, after_question}
-use Rattle.retro_top.specs.Retractions.{AnswersUnmoves}
-use Rattle.retro_top.specs.Samples.{AnswersSample}
-use Rattle.retro_top.specs.Statements.{States, StatesLine}
-use Rattle.retro_top.specs.Solves.{AnswersSolve, IsCheap, countered_line}
-use Rattle.retro_top.specs.Trees.{AnswersTree, AsksForFewLines}
-use Rattle.retro_top.specs.Lengths.{AnswersHowLong, AsksForLength, TellsLength}
-use Rattle.retro_top.specs.Dossiers.{AnswersMaking, StatesCheapLine, StatesProvable}
-use Rattle.retro_top.specs.LineChecks.{AnswersLine, ProvesLine, accepted_steps_line}
-use Rattle.retro_top.specs.AtLeasts.{AnswersAtLeast, ShowsLength, bound_line}
-use Rattle.retro_top.specs.Verdicts.{AnswersVerdict, AsksForCheap, Each, verdicts_text}
-use Rattle.retro_top.specs.declared.statuses.Status.{Status}
-use Rattle.retro_top.specs.declared.statuses.Status.TheVariants.{Done, Undecided, Countered, Memory}
+use Rattle.command_answers.specs.Retractions.{AnswersUnmoves}
+use Rattle.command_answers.specs.Samples.{AnswersSample}
+use Rattle.command_answers.specs.Statements.{States, StatesLine}
+use Rattle.command_answers.specs.Solves.{AnswersSolve, IsCheap, countered_line}
+use Rattle.command_answers.specs.Trees.{AnswersTree, AsksForFewLines}
+use Rattle.command_answers.specs.Lengths.{AnswersHowLong, AsksForLength, TellsLength}
+use Rattle.command_answers.specs.Dossiers.{AnswersMaking, StatesCheapLine, StatesProvable}
+use Rattle.command_answers.specs.LineChecks.{AnswersLine, ProvesLine, accepted_steps_line}
+use Rattle.command_answers.specs.AtLeasts.{AnswersAtLeast, ShowsLength, bound_line}
+use Rattle.command_answers.specs.Verdicts.{AnswersVerdict, AsksForCheap, Each, verdicts_text}
+use Rattle.command_answers.specs.declared.statuses.Status.{Status}
+use Rattle.command_answers.specs.declared.statuses.Status.TheVariants.{Done, Undecided, Countered, Memory}
 use Rattle.retro_top.specs.declared.commands.Command.{Command}
 use Rattle.retro_top.specs.declared.commands.Command.TheVariants.{Check, Play, San, Spell, Unmoves, Solve, Verdict, Tree, Length, AtLeast, Line, Dossier, Sample}
 
@@ -74,11 +75,6 @@ WritesAnswer words input status old new = (text : List ℕ) × Answers words inp
 -- what was taken grew by a part of a text that answers the input, from its front on
 abbrev pub WritesPart : List (String Global) → List ℕ → Option (List ℕ) → Option (List ℕ) → Type 0
 WritesPart words input old new = (status : Status) × (text : List ℕ) × Answers words input status text × TakesPrefix old new text
-
--- An input of at most so many bytes was read to its end, and this holds of it. Where the source tells its bytes, it is all of
--- them.
-abbrev pub ReadsAll : ℕ → Option (List ℕ) → Option (List ℕ) → (List ℕ → Type 0) → Type 0
-ReadsAll limit old new holds = (input : List ℕ) × Consumes old new input × IsAtEnd new × (length input ≤ limit) × holds input
 
 -- The command reads all of an input of at most so many bytes, and this holds of it. `sample` reads nothing, and it holds of no bytes.
 abbrev pub ReadsBy : Command → ℕ → Option (List ℕ) → Option (List ℕ) → (List ℕ → Type 0) → Type 0

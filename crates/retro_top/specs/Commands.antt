@@ -1,7 +1,8 @@
 -- The words of the command line.
-use Rattle.std.specs.Prelude.{ℕ, ◌≡◌, ◌≤◌, ◌<◌, ◌^◌, List, [], ◌∷◌, map, codes, string_bytes, String}
+use Rattle.std.specs.Prelude.{ℕ, ◌≡◌, List, [], ◌∷◌, map, codes, string_bytes, String}
 use Rattle.std.specs.Global.{Global}
 use Rattle.std.specs.Fmt.{decimal}
+use Rattle.command_answers.specs.Limits.{AreLimits, AreSampleNumbers}
 use Rattle.retro_top.specs.declared.commands.Command.{Command}
 use Rattle.retro_top.specs.declared.commands.Command.TheVariants.{Check, Play, San, Spell, Unmoves, Solve, Verdict, Tree, Length, AtLeast, Line, Dossier, Sample}
 
@@ -20,20 +21,6 @@ words_of AtLeast = codes "atleast" ∷ []
 words_of Line = codes "line" ∷ []
 words_of (Dossier depth nodes) = codes "dossier" ∷ decimal depth ∷ decimal nodes ∷ []
 words_of (Sample start games plies) = codes "sample" ∷ decimal start ∷ decimal games ∷ decimal plies ∷ []
-
--- a search goes back at most 64 moves, and visits at least one query and at most 500,000
-pub record AreLimits (depth nodes : ℕ) : Type 0 where
-  pub shallow : depth ≤ 64
-  pub some_nodes : 1 ≤ nodes
-  pub few_nodes : nodes ≤ 500000
-
--- a sample starts from a number of 64 bits, and has from 1 to 1,000 games of at most so many moves, from 1 to 200
-pub record AreSampleNumbers (start games plies : ℕ) : Type 0 where
-  pub start_fits : start < 2 ^ 64
-  pub some_games : 1 ≤ games
-  pub few_games : games ≤ 1000
-  pub some_plies : 1 ≤ plies
-  pub few_plies : plies ≤ 200
 
 -- the command's numbers, if it has any, are in their ranges
 abbrev pub IsInRange : Command → Type 0

@@ -1,5 +1,5 @@
 ghost use Rattle.std.specs.Prelude.{◌≡◌, ◌↔◌, ◌∷◌, [], IsTrue, MatchOption, string_bytes};
-ghost use Rattle.retro_top.specs.Commands.{Call, CallSome, Reads};
+ghost use Rattle.retro_top.specs.Commands.{Call, CallSome, Reads, TakesMemory};
 ghost use Rattle.retro_top.specs.Numbers.{SayLimits, SaySample, SaySomeLimits, SaySomeSample, Spells, SpellSome};
 
 use crate::numbers::read_number;
@@ -78,21 +78,14 @@ pub enum Command {
 pub(crate) fn reads(command: Command) -> bool
     ensures { IsTrue result ↔ Reads command }
 {
-    match command {
-        Command::Check
-        | Command::Play
-        | Command::San
-        | Command::Spell
-        | Command::Unmoves
-        | Command::Solve { .. }
-        | Command::Verdict { .. }
-        | Command::Tree { .. }
-        | Command::Length
-        | Command::AtLeast
-        | Command::Line
-        | Command::Dossier { .. } => true,
-        Command::Sample { .. } => false,
-    }
+    !matches!(command, Command::Sample { .. })
+}
+
+/// The command takes memory: each but `check`, `atleast` and `line` does.
+pub(crate) fn takes_memory(command: Command) -> bool
+    ensures { IsTrue result ↔ TakesMemory command }
+{
+    !matches!(command, Command::Check | Command::AtLeast | Command::Line)
 }
 
 fn is_word(word: &String, text: &[u8]) -> bool

@@ -1,5 +1,5 @@
 ghost use Rattle.std.specs.Prelude.{[], ◌≡◌, IfOk};
-ghost use Rattle.retro_top.specs.Statuses.{IsSilent};
+ghost use Rattle.command_answers.specs.Statuses.{IsSilent};
 
 use retro_ports::{MemSink, MemSource};
 use retro_top::{Status, run};

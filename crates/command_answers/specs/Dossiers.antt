@@ -1,0 +1,52 @@
+-- What `dossier` answers.
+use Rattle.std.specs.Prelude.{ℕ, ◌≡◌, ◌⊎◌, List, codes}
+use Rattle.std.specs.List.{All}
+use Rattle.query_base.specs.Asked.{Asked}
+use Rattle.line_claims.specs.Due.{parts_due}
+use Rattle.line_claims.specs.Listing.{HasParts, LacksStep}
+use Rattle.line_claims.specs.declared.claims.LineClaim.{LineClaim}
+use Rattle.dossier_text.specs.Proving.{IsDossier}
+use Rattle.dossier_search.specs.ReachedParts.{IsDearPart, IsFirstOpenPart, IsPartRefutable}
+use Rattle.question_text.specs.declared.faults.InputFault.{InputFault}
+use Rattle.command_answers.specs.LineChecks.{step_line}
+use Rattle.command_answers.specs.Plays.{number_line}
+use Rattle.command_answers.specs.Questions.{fault_line}
+use Rattle.command_answers.specs.Solves.{IsCheap, spent_line}
+use Rattle.command_answers.specs.Statements.{IsNoLineStatement, StatesLine}
+use Rattle.command_answers.specs.declared.statuses.Status.{Status}
+use Rattle.command_answers.specs.declared.statuses.Status.TheVariants.{BadInput}
+use Rattle.command_answers.specs.declared.statuses.Status.TheVariants as status
+
+-- the target of each part due is refutable at the depth
+abbrev pub AreRefutable : ℕ → LineClaim → Asked → Type 0
+AreRefutable depth claim q = All (IsPartRefutable depth) (parts_due claim q)
+
+-- the target of each part due has a cost of at most so many nodes
+abbrev pub AreCheapParts : ℕ → ℕ → LineClaim → Asked → Type 0
+AreCheapParts depth nodes claim q = All (λ part. IsCheap depth nodes part.0 part.1) (parts_due claim q)
+
+-- the text is a dossier of the claim about the query, and the targets of its parts are refutable at the depth
+abbrev pub TellsProofs : ℕ → LineClaim → Asked → List ℕ → Type 0
+TellsProofs depth claim q text = IsDossier text claim q × AreRefutable depth claim q
+
+-- what is said of a claim of several steps about a query
+abbrev pub AnswersLineClaim : ℕ → ℕ → LineClaim → Asked → Status → List ℕ → Type 0
+AnswersLineClaim depth nodes claim q status.Done text = TellsProofs depth claim q text
+AnswersLineClaim depth nodes claim q status.Refused text = (i : ℕ) × LacksStep claim q i × (text ≡ step_line i)
+AnswersLineClaim depth nodes claim q status.Undecided text = (p : ℕ) × IsFirstOpenPart depth claim q p × (text ≡ number_line (codes "undecided part ") p)
+AnswersLineClaim depth nodes claim q status.Spent text = (p : ℕ) × IsDearPart depth nodes claim q p × (text ≡ spent_line nodes)
+AnswersLineClaim depth nodes claim q _ text = ⊥
+
+-- the status and the text with which `dossier` answers these bytes
+abbrev pub AnswersMaking : ℕ → ℕ → List ℕ → Status → List ℕ → Type 0
+AnswersMaking depth nodes input ending text =
+    ((claim : LineClaim) × (q : Asked) × StatesLine input claim q × AnswersLineClaim depth nodes claim q ending text)
+    ⊎ ((why : InputFault) × IsNoLineStatement input why × (ending ≡ BadInput) × (text ≡ fault_line why))
+
+-- the input states a claim of several steps whose parts are defined, and their targets are refutable at the depth
+abbrev pub StatesProvable : ℕ → List ℕ → Type 0
+StatesProvable depth input = (claim : LineClaim) × (q : Asked) × StatesLine input claim q × HasParts claim q × AreRefutable depth claim q
+
+-- the input states a claim of several steps whose parts are defined, and their targets have costs of at most so many nodes
+abbrev pub StatesCheapLine : ℕ → ℕ → List ℕ → Type 0
+StatesCheapLine depth nodes input = (claim : LineClaim) × (q : Asked) × StatesLine input claim q × HasParts claim q × AreCheapParts depth nodes claim q

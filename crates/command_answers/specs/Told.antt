@@ -1,0 +1,29 @@
+-- Inner: no public clause cites this file.
+-- Certificates that have lines, unmoves that a line can tell, and rights whose searches are spent.
+use Rattle.std.specs.Prelude.{ℕ, suc, IsTrue, List}
+use Rattle.std.specs.List.{Contains}
+use Rattle.board_base.specs.Texts.{can_capture, can_promote}
+use Rattle.codex_verdict.specs.Rights.{claim_of}
+use Rattle.codex_verdict.specs.declared.kinds.Right.{Right}
+use Rattle.query_base.specs.Asked.{Asked}
+use Rattle.board_base.specs.declared.unmoves.Unmove.{Unmove}
+use Rattle.cert_text.specs.Tree.{Forest, Tree}
+use Rattle.cert_text.specs.Certificate.{AreBelow, AreKids, Lines}
+use Rattle.retro_search.specs.Lone.{IsDear}
+
+-- at some depth the grammar has lines for what stands below the node
+abbrev pub HasLinesBelow : Tree → Type 0
+HasLinesBelow tree = (depth : ℕ) × (lines : Lines) × AreBelow tree depth lines
+
+-- below a node at some depth the grammar has lines for these children
+abbrev pub HaveLines : Forest → Type 0
+HaveLines kids = (depth : ℕ) × (lines : Lines) × AreKids kids (suc depth) lines
+
+-- the unmove has a text
+pub record IsSpelled (u : Unmove) : Type 0 where
+  pub promotion : IsTrue (can_promote u.mv.promo)
+  pub capture : IsTrue (can_capture u.mv.promo u.captured u.ep)
+
+-- the target of the claim of one of these rights has a cost above the nodes
+abbrev pub HasDearRight : ℕ → ℕ → Asked → List Right → Type 0
+HasDearRight depth nodes q rights = (right : Right) × Contains rights right × IsDear depth nodes (claim_of right) q

@@ -1,0 +1,70 @@
+ghost use Rattle.std.specs.Prelude.{◌≡◌, ◌≤◌, IfOk, None, codes, length};
+ghost use Rattle.line_claims.specs.Lines.{HasLine};
+ghost use Rattle.command_answers.specs.Limits.{AreLimits};
+ghost use Rattle.command_answers.specs.Dossiers.{AnswersLineClaim, AnswersMaking};
+ghost use Rattle.command_answers.specs.LineChecks.{step_line};
+ghost use Rattle.command_answers.specs.Plays.{number_line};
+
+use crate::questions::write_fault;
+use crate::solves::write_spent;
+use crate::statements::{LineStatement, read_line_statement};
+use crate::statuses::Status;
+use crate::told::refused_step;
+use dossier_search::{Dossier, solve_line};
+use std::alloc::{AllocError, Global};
+
+/// The line that tells which part isn't proved.
+fn write_open_part(alloc: Global, part: u32) -> Result<Vec<u8>, AllocError>
+    ensures { IfOk result (λ v. v.items ≡ number_line (codes "undecided part ") part) }
+{
+    Ok(format!(in alloc; "undecided part {part}\n")?.into_bytes())
+}
+
+/// The line that tells which step isn't listed.
+fn write_unlisted(alloc: Global, step: u8) -> Result<Vec<u8>, AllocError>
+    ensures { IfOk result (λ v. v.items ≡ step_line step) }
+{
+    Vec::from_slice(alloc, refused_step(step).as_slice())
+}
+
+/// What is said of the claim of several steps about the query.
+fn answer_line_claim(
+    alloc: Global,
+    statement: &LineStatement,
+    depth: u8,
+    nodes: u32,
+) -> Result<(Status, Vec<u8>), AllocError>
+    requires plain { statement.now.query.barred ≡ None }
+    requires lined { HasLine statement.now.claim }
+    requires limits { AreLimits depth nodes }
+    ensures { IfOk result (λ a. AnswersLineClaim depth nodes statement.now.claim statement.now.query a.0 a.1.items) }
+{
+    let found = match solve_line(alloc, &statement.query, &statement.claim, depth, nodes) {
+        Ok(found) => found,
+        Err(_) => return Err(AllocError),
+    };
+    match found {
+        Dossier::Written(text) => Ok((Status::Done, text)),
+        Dossier::Unlisted { step } => Ok((Status::Refused, write_unlisted(alloc, step)?)),
+        Dossier::Undecided { part } => Ok((Status::Undecided, write_open_part(alloc, part)?)),
+        Dossier::Spent { .. } => Ok((Status::Spent, write_spent(alloc, nodes)?)),
+    }
+}
+
+/// The status and the text with which `dossier` answers these bytes: each part is searched as by `solve`, going back at most `depth`
+/// moves, from 0 to 64, and visiting at most `nodes` queries, from 1 to 500,000.
+pub fn make_dossier(
+    alloc: Global,
+    depth: u8,
+    nodes: u32,
+    input: &[u8],
+) -> Result<(Status, Vec<u8>), AllocError>
+    requires short { length input.now ≤ 67_108_864 }
+    requires limits { AreLimits depth nodes }
+    ensures { IfOk result (λ a. AnswersMaking depth nodes input.now a.0 a.1.items) }
+{
+    match read_line_statement(input) {
+        Ok(statement) => answer_line_claim(alloc, &statement, depth, nodes),
+        Err(why) => Ok((Status::BadInput, write_fault(alloc, why)?)),
+    }
+}

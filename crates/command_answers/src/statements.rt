@@ -1,0 +1,78 @@
+ghost use Rattle.std.specs.Prelude.{◌≡◌, ◌+◌, ◌≤◌, ◌<◌, ◌^◌, IfErr, IfOk, IsTrue, None, length};
+ghost use Rattle.cert_text.specs.ClaimLines.{promotes_well};
+ghost use Rattle.line_claims.specs.Lines.{HasLine};
+ghost use Rattle.question_text.specs.Questions.{AsksAlone};
+ghost use Rattle.command_answers.specs.Statements.{IsNoLineStatement, IsNoStatement, IsNoneBehind, States, StatesLine};
+
+use cert_text::{one_text_of_a_claim, read_claim};
+use line_claims::{LineClaim, read_line_claim};
+use query_base::{Claim, Query};
+use question_text::{InputFault, read_lone_question, split_first_line};
+
+/// A claim, and the query that it is about.
+#[derive(Clone, Copy)]
+pub struct Statement {
+    pub claim: Claim,
+    pub query: Query,
+}
+
+/// A claim of several steps, and the query that it is about.
+#[derive(Drop)]
+pub struct LineStatement {
+    pub claim: LineClaim,
+    pub query: Query,
+}
+
+/// The query of the lines behind a claim. `BadLine`, counted from the claim on, and `BadFen` come as from `read_lone_question`.
+fn read_behind(rest: &[u8]) -> Result<Query, InputFault>
+    requires { length rest.now ≤ 67_108_864 }
+    ensures asked { IfOk result (AsksAlone rest.now) }
+    ensures plain { IfOk result (λ query. query.barred ≡ None) }
+    ensures none { IfErr result (IsNoneBehind rest.now) }
+{
+    match read_lone_question(rest) {
+        Ok(query) => Ok(query),
+        Err(InputFault::BadLine { line }) => Err(InputFault::BadLine { line: line + 1 }),
+        Err(InputFault::BadFen(fault)) => Err(InputFault::BadFen(fault)),
+    }
+}
+
+/// The claim of the input's first line, and the query of the lines behind it, of which there are no more than the query's. `BadLine`
+/// comes where the first line is no claim, and `BadLine`, counted from the claim on, and `BadFen` as from `read_lone_question` of what
+/// follows it.
+pub fn read_statement(input: &[u8]) -> Result<Statement, InputFault>
+    requires { length input.now ≤ 67_108_864 }
+    ensures states { IfOk result (λ s. States input.now s.claim s.query) }
+    ensures promotion { IfOk result (λ s. IsTrue (promotes_well s.claim)) }
+    ensures plain { IfOk result (λ s. s.query.barred ≡ None) }
+    ensures no_statement { IfErr result (IsNoStatement input.now) }
+{
+    one_text_of_a_claim();
+    let (first, rest) = split_first_line(input);
+    let Some(claim) = read_claim(first) else {
+        return Err(InputFault::BadLine { line: 1 });
+    };
+    match read_behind(rest) {
+        Ok(query) => Ok(Statement { claim, query }),
+        Err(why) => Err(why),
+    }
+}
+
+/// The claim of several steps of the input's first line, and the query of the lines behind it. `BadLine` and `BadFen` come as from
+/// `read_statement`.
+pub fn read_line_statement(input: &[u8]) -> Result<LineStatement, InputFault>
+    requires { length input.now ≤ 67_108_864 }
+    ensures states { IfOk result (λ s. StatesLine input.now s.claim s.query) }
+    ensures lined { IfOk result (λ s. HasLine s.claim) }
+    ensures plain { IfOk result (λ s. s.query.barred ≡ None) }
+    ensures no_statement { IfErr result (IsNoLineStatement input.now) }
+{
+    let (first, rest) = split_first_line(input);
+    let Some(claim) = read_line_claim(first) else {
+        return Err(InputFault::BadLine { line: 1 });
+    };
+    match read_behind(rest) {
+        Ok(query) => Ok(LineStatement { claim, query }),
+        Err(why) => Err(why),
+    }
+}

@@ -1,5 +1,0 @@
-use Rattle.std.proofs.Common.{append_assoc}
-use Rattle.retro_top.proofs.questions.write_fen_fault.Goals as goal
-
-pub returns : goal.returns
-returns c = simp append_assoc (rw c.into_bytes.ensures.value c.in_ok-format.ensures.ok)

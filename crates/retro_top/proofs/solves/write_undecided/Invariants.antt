@@ -1,7 +1,0 @@
-use Rattle.std.proofs.Common.{◌≡◌, ◌++◌, take}
-use Rattle.std.specs.Prelude.{codes}
-use Rattle.retro_top.specs.Solves.{unmove_words}
-use Rattle.retro_top.proofs.solves.write_undecided.Given as goal
-
-abbrev pub invariant-loop-i : goal.invariant-loop-i
-invariant-loop-i l = l.text.items ≡ codes "undecided" ++ unmove_words (take l.i l.line)

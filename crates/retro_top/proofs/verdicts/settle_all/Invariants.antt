@@ -1,6 +1,0 @@
-use Rattle.std.proofs.Common.{take}
-use Rattle.retro_top.specs.Verdicts.{Each, IsSettled}
-use Rattle.retro_top.proofs.verdicts.settle_all.Given as goal
-
-abbrev pub invariant-loop-right : goal.invariant-loop-right
-invariant-loop-right l = Each (IsSettled l.query l.depth) (take l.right-index l.rights) l.all.items
