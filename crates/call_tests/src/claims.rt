@@ -68,7 +68,7 @@ fn reads_no_other_claims(rt: HostRuntime) {
 }
 
 /// The board and the side to move of a FEN, of whose past nothing is demanded.
-fn position(fen: &[u8]) -> Option<Query>
+pub(crate) fn position(fen: &[u8]) -> Option<Query>
     requires { length fen.now < 2 ^ 32 }
     ensures { IfSome result (λ q. q.barred ≡ None) }
 {

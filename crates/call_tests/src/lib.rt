@@ -11,3 +11,5 @@ mod men;
 mod odds;
 #[cfg(test)]
 mod queries;
+#[cfg(test)]
+mod step_claims;

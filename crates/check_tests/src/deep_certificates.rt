@@ -53,46 +53,26 @@ fn going_round(
 }
 
 /// Four steps back the query of the root comes again, three steps back another one, and five lead above the root. Where the root bars a
-/// last move, it doesn't cover a node that demands nothing.
+/// last move, it doesn't cover a node that demands nothing. At odds of a knight it is the same, one line further down.
 #[test]
 fn leads_back_to_what_covers(rt: HostRuntime) -> Result<(), Fail> {
-    let uncovered = Refused::Unsupported {
-        line: 18,
-        why: Why::Back,
-    };
-    for (claim, steps, refused) in [
-        ("illegal", 4, None),
-        ("illegal", 3, Some(uncovered)),
-        ("illegal", 5, Some(Refused::BadText { line: 18 })),
-        ("last h8h7", 4, Some(uncovered)),
-    ] {
-        let text = going_round(rt.alloc(), claim, 1, "", steps)?;
-        assert!(rt;
-            is_answered(rt.alloc(), text.as_bytes(), refused)?,
-            "{claim}, {steps}"
-        );
-    }
-    Ok(())
-}
-
-/// At odds of a knight the same tree proves the same, one line further down.
-#[test]
-fn leads_back_at_odds(rt: HostRuntime) -> Result<(), Fail> {
-    let uncovered = Refused::Unsupported {
-        line: 19,
-        why: Why::Back,
-    };
-    for (claim, steps, refused) in [
-        ("illegal", 4, None),
-        ("illegal", 3, Some(uncovered)),
-        ("illegal", 5, Some(Refused::BadText { line: 19 })),
-        ("last h8h7", 4, Some(uncovered)),
-    ] {
-        let text = going_round(rt.alloc(), claim, 2, "odds 0000000000000002\n", steps)?;
-        assert!(rt;
-            is_answered(rt.alloc(), text.as_bytes(), refused)?,
-            "{claim}, {steps}"
-        );
+    for (format, demands, line) in [(1, "", 18), (2, "odds 0000000000000002\n", 19)] {
+        let uncovered = Refused::Unsupported {
+            line,
+            why: Why::Back,
+        };
+        for (claim, steps, refused) in [
+            ("illegal", 4, None),
+            ("illegal", 3, Some(uncovered)),
+            ("illegal", 5, Some(Refused::BadText { line })),
+            ("last h8h7", 4, Some(uncovered)),
+        ] {
+            let text = going_round(rt.alloc(), claim, format, demands, steps)?;
+            assert!(rt;
+                is_answered(rt.alloc(), text.as_bytes(), refused)?,
+                "{demands}{claim}, {steps}"
+            );
+        }
     }
     Ok(())
 }

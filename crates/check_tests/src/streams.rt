@@ -6,18 +6,15 @@ use retro_ports::MemSource;
 use std::alloc::{AllocError, Global};
 use std::test::Fail;
 
-/// The answer to a text whose bytes come at most so many at a time. The read of this number fails, if one is given.
+/// The answer to a text whose bytes come at most so many at a time, and of which the reads of these numbers fail.
 fn streamed(
     alloc: Global,
     text: &[u8],
     piece: usize,
-    failing: Option<u32>,
+    failing: &[u32],
 ) -> Result<Result<Accepted, StreamRefused>, AllocError> {
-    let mut fails = Vec::new(alloc);
-    if let Some(number) = failing {
-        fails.push(number)?;
-    }
-    let mut source = MemSource::new(Vec::from_slice(alloc, text)?, fails, piece.max(1));
+    let failing = Vec::from_slice(alloc, failing)?;
+    let mut source = MemSource::new(Vec::from_slice(alloc, text)?, failing, piece.max(1));
     Ok(check_stream(&mut source))
 }
 
@@ -61,7 +58,7 @@ fn as_refused(refused: StreamRefused) -> Option<Refused> {
 /// Whether a text is answered alike whole and at most so many bytes at a time.
 fn is_alike(alloc: Global, text: &[u8], piece: usize) -> Result<bool, AllocError> {
     let whole = checked(alloc, text);
-    match streamed(alloc, text, piece, None)? {
+    match streamed(alloc, text, piece, &[])? {
         Ok(accepted) => Ok(whole == Ok(accepted)),
         Err(refused) => Ok(whole.err() == as_refused(refused)),
     }
@@ -127,7 +124,7 @@ fn wants_the_last_line_to_end(rt: HostRuntime) {
 fn tells_a_failed_read_after_a_fault(rt: HostRuntime) -> Result<(), Fail> {
     // The fault stands on line 4, which ends in the third read of forty bytes. The fourth read fails.
     let whole = checked(rt.alloc(), ARRAY);
-    match streamed(rt.alloc(), ARRAY, 40, Some(3))? {
+    match streamed(rt.alloc(), ARRAY, 40, &[3])? {
         Ok(accepted) => assert!(rt; whole == Ok(accepted)),
         Err(refused) => assert!(rt; refused == StreamRefused::ReadFault),
     }

@@ -17,18 +17,15 @@ const NUMBER: &str = "atleast 2\n";
 
 const MOVES: &str = "moves w 0 0 0 0 0 0 0 0 0 0 0 0 0 0 0 1 / 0 0 0 0 0 0 0 0 0 0 0 0 0 0 0 0\n";
 
-/// The answer to a text whose bytes come at most so many at a time. The read of this number fails, if one is given.
+/// The answer to a text whose bytes come at most so many at a time, and of which the reads of these numbers fail.
 fn checked(
     alloc: Global,
     text: &[u8],
     piece: usize,
-    failing: Option<u32>,
+    failing: &[u32],
 ) -> Result<Result<(u16, Query), LengthRefused>, AllocError> {
-    let mut fails = Vec::new(alloc);
-    if let Some(number) = failing {
-        fails.push(number)?;
-    }
-    let mut source = MemSource::new(Vec::from_slice(alloc, text)?, fails, piece.max(1));
+    let failing = Vec::from_slice(alloc, failing)?;
+    let mut source = MemSource::new(Vec::from_slice(alloc, text)?, failing, piece.max(1));
     Ok(check_length(&mut source))
 }
 
@@ -37,12 +34,9 @@ fn answer(
     alloc: Global,
     lines: &[&str],
 ) -> Result<Option<Result<(u16, Query), LengthRefused>>, AllocError> {
-    let mut text = Vec::new(alloc);
-    for line in lines {
-        text.extend_from_slice(line.as_bytes())?;
-    }
-    let whole = checked(alloc, text.as_slice(), 4096, None)?;
-    let single = checked(alloc, text.as_slice(), 1, None)?;
+    let text = lines.concat(alloc)?;
+    let whole = checked(alloc, text.as_bytes(), 4096, &[])?;
+    let single = checked(alloc, text.as_bytes(), 1, &[])?;
     if whole == single {
         Ok(Some(whole))
     } else {
@@ -74,8 +68,8 @@ fn is_read_back(
     write_length(query, side, &text.potentials, length, &mut out);
     let mut more: ArrayVec<u8, 512> = ArrayVec::new();
     write_length(query, side, &text.potentials, length + 1, &mut more);
-    let good = checked(alloc, out.as_slice(), 1, None)? == Ok((length, *query));
-    let above = checked(alloc, more.as_slice(), 4096, None)? == Err(LengthRefused::Unsupported);
+    let good = checked(alloc, out.as_slice(), 1, &[])? == Ok((length, *query));
+    let above = checked(alloc, more.as_slice(), 4096, &[])? == Err(LengthRefused::Unsupported);
     Ok(good && above)
 }
 
@@ -140,6 +134,9 @@ fn shows_nothing_of_seventeen_and_seventeen(rt: HostRuntime) -> Result<(), Fail>
 #[test]
 fn tells_the_first_bad_line(rt: HostRuntime) -> Result<(), Fail> {
     let odds = "odds 0000000000000002\n";
+    let fifteen = "moves w / 0 0 0 0 0 0 0 0 0 0 0 0 0 0 0\n";
+    let seventeen = "moves w 0 0 0 0 0 0 0 0 0 0 0 0 0 0 0 0 0 / 0 0 0 0 0 0 0 0 0 0 0 0 0 0 0 0\n";
+    let unended = "moves w / 0 0 0 0 0 0 0 0 0 0 0 0 0 0 0 0";
     let rows: [(&[&str], u32); 17] = [
         (&[], 1),
         (&["retro length 2\n", "fen\n", NUMBER, MOVES], 1),
@@ -161,33 +158,9 @@ fn tells_the_first_bad_line(rt: HostRuntime) -> Result<(), Fail> {
         (&[HEAD, FEN, "atleast 10000\n", MOVES], 3),
         (&[HEAD, odds, FEN, "atleast 0 \n", MOVES], 4),
         (&[HEAD, FEN, NUMBER], 4),
-        (
-            &[
-                HEAD,
-                FEN,
-                NUMBER,
-                "moves w / 0 0 0 0 0 0 0 0 0 0 0 0 0 0 0\n",
-            ],
-            4,
-        ),
-        (
-            &[
-                HEAD,
-                FEN,
-                NUMBER,
-                "moves w 0 0 0 0 0 0 0 0 0 0 0 0 0 0 0 0 0 / 0 0 0 0 0 0 0 0 0 0 0 0 0 0 0 0\n",
-            ],
-            4,
-        ),
-        (
-            &[
-                HEAD,
-                FEN,
-                NUMBER,
-                "moves w / 0 0 0 0 0 0 0 0 0 0 0 0 0 0 0 0",
-            ],
-            4,
-        ),
+        (&[HEAD, FEN, NUMBER, fifteen], 4),
+        (&[HEAD, FEN, NUMBER, seventeen], 4),
+        (&[HEAD, FEN, NUMBER, unended], 4),
         (&[HEAD, FEN, NUMBER, MOVES, "\n"], 5),
         (&[HEAD, odds, FEN, NUMBER, MOVES, MOVES], 6),
     ];
@@ -228,7 +201,7 @@ fn tells_what_is_shown(rt: HostRuntime) -> Result<(), Fail> {
 #[test]
 fn tells_a_failed_read(rt: HostRuntime) -> Result<(), Fail> {
     for text in [HEAD, "retro length 2\n"] {
-        let refused = checked(rt.alloc(), text.as_bytes(), 5, Some(1))?;
+        let refused = checked(rt.alloc(), text.as_bytes(), 5, &[1])?;
         assert!(rt; refused == Err(LengthRefused::ReadFault));
     }
     Ok(())

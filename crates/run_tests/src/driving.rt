@@ -1,25 +1,27 @@
-//! Rows are answered as they say.
+//! An input is answered as it should be.
 
-use run_driver::{Ports, Row, WHOLE, run_on};
+use retro_top::Status;
+use run_driver::{Ports, WHOLE, run_on};
 use std::alloc::{AllocError, Global};
 use std::process::Abort;
 
-/// The rows are answered with their statuses and texts, whether they come byte by byte, in sevens or whole.
-pub(crate) fn assert_answers(
+/// These words on this input are answered with this status and text, whether bytes come one by one, in sevens or whole.
+pub(crate) fn assert_answer(
     rt: &(impl Abort + Alloc<A = Global>),
-    rows: &[Row],
+    words: &[&str],
+    input: &[u8],
+    status: Status,
+    text: &[u8],
 ) -> Result<(), AllocError> {
-    for row in rows {
-        for most in [1, 7, 65_536] {
-            let ports = Ports {
-                most_read: most,
-                most_written: most,
-                ..WHOLE
-            };
-            let (status, sink) = run_on(rt.alloc(), row.words, row.input, ports)?;
-            assert_eq!(rt; status, row.status);
-            assert!(rt; sink.taken() == row.text);
-        }
+    for most in [1, 7, 65_536] {
+        let ports = Ports {
+            most_read: most,
+            most_written: most,
+            ..WHOLE
+        };
+        let (answered, sink) = run_on(rt.alloc(), words, input, ports)?;
+        assert_eq!(rt; answered, status);
+        assert!(rt; sink.taken() == text);
     }
     Ok(())
 }

@@ -1,19 +1,13 @@
 //! What `length` and `atleast` answer.
 
-use crate::driving::assert_answers;
+use crate::driving::assert_answer;
 use retro_top::Status;
-use run_driver::{Row, WHOLE, run_on};
+use run_driver::{WHOLE, run_on};
 use std::test::Fail;
 
 const LENGTH: &[&str] = &["length"];
 
 const AT_LEAST: &[&str] = &["atleast"];
-
-const FIANCHETTO: &[u8] = b"retro length 1
-fen rnbqk2r/ppppppbp/5np1/8/8/5NP1/PPPPPPBP/RNBQ1RK1 b kq -
-atleast 7
-moves w 0 0 0 0 1 2 0 0 0 0 0 0 1 0 1 1 / 0 0 0 0 0 0 0 0 0 0 0 0 0 0 0 0
-";
 
 /// What `length` answers to a position that has a length: the lines before the potentials, and what `atleast` says of the whole.
 struct Measured {
@@ -70,118 +64,97 @@ moves b ",
     },
 ];
 
-const OTHERS: [Row; 5] = [
+/// Inputs without a length, and what is answered.
+const OTHERS: [(&str, Status, &str); 5] = [
     // Seventeen men on each side.
-    Row {
-        words: LENGTH,
-        input: b"rnbqkbnr/pppppppp/p7/8/8/P7/PPPPPPPP/RNBQKBNR w - -\n",
-        status: Status::Undecided,
-        text: b"undecided\n",
-    },
-    Row {
-        words: LENGTH,
-        input: b"",
-        status: Status::BadInput,
-        text: b"bad line 1\n",
-    },
-    Row {
-        words: LENGTH,
-        input: b"odds 0000000000000002\n",
-        status: Status::BadInput,
-        text: b"bad line 2\n",
-    },
+    (
+        "rnbqkbnr/pppppppp/p7/8/8/P7/PPPPPPPP/RNBQKBNR w - -\n",
+        Status::Undecided,
+        "undecided\n",
+    ),
+    ("", Status::BadInput, "bad line 1\n"),
+    ("odds 0000000000000002\n", Status::BadInput, "bad line 2\n"),
     // No line is due as a clock.
-    Row {
-        words: LENGTH,
-        input: b"clock 2\n4k3/8/8/8/8/8/8/4K3 w - -\n",
-        status: Status::BadInput,
-        text: b"bad fen field 1 byte 0\n",
-    },
-    Row {
-        words: LENGTH,
-        input: b"4k3/8/8/8/8/8/8/4K3 w - -\n\n",
-        status: Status::BadInput,
-        text: b"bad line 2\n",
-    },
+    (
+        "clock 2\n4k3/8/8/8/8/8/8/4K3 w - -\n",
+        Status::BadInput,
+        "bad fen field 1 byte 0\n",
+    ),
+    (
+        "4k3/8/8/8/8/8/8/4K3 w - -\n\n",
+        Status::BadInput,
+        "bad line 2\n",
+    ),
 ];
 
-const BOUNDS: [Row; 8] = [
-    Row {
-        words: AT_LEAST,
-        input: FIANCHETTO,
-        status: Status::Done,
-        text: b"accepted atleast 7 rnbqk2r/ppppppbp/5np1/8/8/5NP1/PPPPPPBP/RNBQ1RK1 b kq -\n",
-    },
-    Row {
-        words: AT_LEAST,
-        input: b"retro length 1
-odds 0000000000000002
-fen rnbqkbnr/pppppppp/8/8/8/8/PPPPPPPP/R1BQKBNR w KQkq -
-atleast 0
-moves b 0 0 0 0 0 0 0 0 0 0 0 0 0 0 0 0 / 0 0 0 0 0 0 0 0 0 0 0 0 0 0 0 0
-",
-        status: Status::Done,
-        text: b"accepted atleast 0 rnbqkbnr/pppppppp/8/8/8/8/PPPPPPPP/R1BQKBNR w KQkq - odds 0000000000000002\n",
-    },
+const HEAD: &str = "retro length 1\n";
+
+const FIANCHETTO: &str = "fen rnbqk2r/ppppppbp/5np1/8/8/5NP1/PPPPPPBP/RNBQ1RK1 b kq -\n";
+
+const FIANCHETTO_MOVES: &str =
+    "moves w 0 0 0 0 1 2 0 0 0 0 0 0 1 0 1 1 / 0 0 0 0 0 0 0 0 0 0 0 0 0 0 0 0\n";
+
+const KINGS: &str = "fen 4k3/8/8/8/8/8/8/4K3 w - -\n";
+
+const KING_MOVES: &str = "moves w 0 / 0 0 0 0 0 0 0 0 0 0 0 0 0 0 0 0\n";
+
+/// The lines of lengths, and what is answered.
+const BOUNDS: [(&[&str], Status, &str); 8] = [
+    (
+        &[HEAD, FIANCHETTO, "atleast 7\n", FIANCHETTO_MOVES],
+        Status::Done,
+        "accepted atleast 7 rnbqk2r/ppppppbp/5np1/8/8/5NP1/PPPPPPBP/RNBQ1RK1 b kq -\n",
+    ),
+    (
+        &[
+            HEAD,
+            "odds 0000000000000002\n",
+            "fen rnbqkbnr/pppppppp/8/8/8/8/PPPPPPPP/R1BQKBNR w KQkq -\n",
+            "atleast 0\n",
+            "moves b 0 0 0 0 0 0 0 0 0 0 0 0 0 0 0 0 / 0 0 0 0 0 0 0 0 0 0 0 0 0 0 0 0\n",
+        ],
+        Status::Done,
+        "accepted atleast 0 rnbqkbnr/pppppppp/8/8/8/8/PPPPPPPP/R1BQKBNR w KQkq - odds 0000000000000002\n",
+    ),
     // One more than is shown.
-    Row {
-        words: AT_LEAST,
-        input: b"retro length 1
-fen rnbqk2r/ppppppbp/5np1/8/8/5NP1/PPPPPPBP/RNBQ1RK1 b kq -
-atleast 8
-moves w 0 0 0 0 1 2 0 0 0 0 0 0 1 0 1 1 / 0 0 0 0 0 0 0 0 0 0 0 0 0 0 0 0
-",
-        status: Status::Refused,
-        text: b"refused unsupported\n",
-    },
+    (
+        &[HEAD, FIANCHETTO, "atleast 8\n", FIANCHETTO_MOVES],
+        Status::Refused,
+        "refused unsupported\n",
+    ),
     // No right of White is named, so two moves are taken off.
-    Row {
-        words: AT_LEAST,
-        input: b"retro length 1
-fen rnbqkb1r/pppppppp/5n2/8/4P3/8/PPPP1PPP/RNBQKBNR w kq -
-atleast 1
-moves w 0 0 0 0 0 0 0 0 0 0 0 0 0 0 0 1 / 0 0 0 0 0 0 0 0 0 0 0 0 0 0 0 0
-",
-        status: Status::Refused,
-        text: b"refused unsupported\n",
-    },
+    (
+        &[
+            HEAD,
+            "fen rnbqkb1r/pppppppp/5n2/8/4P3/8/PPPP1PPP/RNBQKBNR w kq -\n",
+            "atleast 1\n",
+            "moves w 0 0 0 0 0 0 0 0 0 0 0 0 0 0 0 1 / 0 0 0 0 0 0 0 0 0 0 0 0 0 0 0 0\n",
+        ],
+        Status::Refused,
+        "refused unsupported\n",
+    ),
     // No number for the last man.
-    Row {
-        words: AT_LEAST,
-        input: b"retro length 1
-fen rnbqkb1r/pppppppp/5n2/8/4P3/8/PPPP1PPP/RNBQKBNR w KQkq -
-atleast 0
-moves w 0 0 0 0 0 0 0 0 0 0 0 0 0 0 0 / 0 0 0 0 0 0 0 0 0 0 0 0 0 0 0 0
-",
-        status: Status::Refused,
-        text: b"refused unsupported\n",
-    },
-    Row {
-        words: AT_LEAST,
-        input: b"",
-        status: Status::Refused,
-        text: b"refused line 1 text\n",
-    },
-    Row {
-        words: AT_LEAST,
-        input: b"retro length 1
-fen 4k3/8/8/8/8/8/8/4K3 w - -
-atleast 00
-moves w 0 / 0 0 0 0 0 0 0 0 0 0 0 0 0 0 0 0
-",
-        status: Status::Refused,
-        text: b"refused line 3 text\n",
-    },
-    Row {
-        words: AT_LEAST,
-        input: b"retro length 1
-fen 4k3/8/8/8/8/8/8/4K3 w - -
-atleast 0
-moves w 0 / 0 0 0 0 0 0 0 0 0 0 0 0 0 0 0 0
-\n",
-        status: Status::Refused,
-        text: b"refused line 5 text\n",
-    },
+    (
+        &[
+            HEAD,
+            "fen rnbqkb1r/pppppppp/5n2/8/4P3/8/PPPP1PPP/RNBQKBNR w KQkq -\n",
+            "atleast 0\n",
+            "moves w 0 0 0 0 0 0 0 0 0 0 0 0 0 0 0 / 0 0 0 0 0 0 0 0 0 0 0 0 0 0 0 0\n",
+        ],
+        Status::Refused,
+        "refused unsupported\n",
+    ),
+    (&[], Status::Refused, "refused line 1 text\n"),
+    (
+        &[HEAD, KINGS, "atleast 00\n", KING_MOVES],
+        Status::Refused,
+        "refused line 3 text\n",
+    ),
+    (
+        &[HEAD, KINGS, "atleast 0\n", KING_MOVES, "\n"],
+        Status::Refused,
+        "refused line 5 text\n",
+    ),
 ];
 
 #[test]
@@ -199,12 +172,17 @@ fn measures_and_accepts(rt: HostRuntime) -> Result<(), Fail> {
 
 #[test]
 fn measures_nothing(rt: HostRuntime) -> Result<(), Fail> {
-    assert_answers(&rt, &OTHERS)?;
+    for (input, status, said) in OTHERS {
+        assert_answer(&rt, LENGTH, input.as_bytes(), status, said.as_bytes())?;
+    }
     Ok(())
 }
 
 #[test]
 fn answers_bounds(rt: HostRuntime) -> Result<(), Fail> {
-    assert_answers(&rt, &BOUNDS)?;
+    for (lines, status, said) in BOUNDS {
+        let input = lines.concat(rt.alloc())?;
+        assert_answer(&rt, AT_LEAST, input.as_bytes(), status, said.as_bytes())?;
+    }
     Ok(())
 }

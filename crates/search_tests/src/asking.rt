@@ -1,5 +1,6 @@
 //! How the tests ask.
 
+use board_base::UnmoveList;
 use cert_text::{Body, Cert, Node, fits_format, read_claim};
 use fen_text::read_four_fields;
 use query_base::{Claim, Query};
@@ -42,6 +43,20 @@ pub(crate) fn certificate(
         Found::Undecided(_) => Err(Fail::from("undecided")),
         Found::Countered(_) => Err(Fail::from("countered")),
         Found::Spent { visited: _ } => Err(Fail::from("spent")),
+    }
+}
+
+/// The first open line of a claim that is left undecided.
+pub(crate) fn open_line(
+    alloc: Global,
+    claim: &str,
+    fen: &str,
+    depth: u8,
+    nodes: u32,
+) -> Result<UnmoveList, Fail> {
+    match ask(alloc, claim, fen, depth, nodes)? {
+        Found::Undecided(line) => Ok(line),
+        _ => Err(Fail::from("not left undecided")),
     }
 }
 

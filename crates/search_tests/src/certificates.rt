@@ -1,10 +1,9 @@
 //! Positions of several kinds, each with a claim that the search proves: each certificate that it finds is read by the checker from
 //! its text, and accepted.
 
-use crate::asking::{ask, certificate};
+use crate::asking::{certificate, open_line};
 use cert_checker::check_bytes;
 use cert_text::{Cert, fits_format, write_cert};
-use retro_search::Found;
 use std::alloc::Global;
 use std::test::Fail;
 
@@ -220,6 +219,7 @@ const CLAIMS: [(&str, &str, u8); 51] = [
     ("claim illegal", PACING_KINGS, 12),
 ];
 
+/// The certificate's text, if it has one.
 fn text_of(alloc: Global, cert: &Cert) -> Result<Vec<u8>, Fail> {
     if !fits_format(cert) {
         return Err(Fail::from("no text"));
@@ -227,7 +227,8 @@ fn text_of(alloc: Global, cert: &Cert) -> Result<Vec<u8>, Fail> {
     Ok(write_cert(alloc, cert)?)
 }
 
-fn is_accepted(alloc: Global, claim: &str, fen: &str, depth: u8) -> Result<bool, Fail> {
+/// Whether the checker accepts the text of the certificate that is found, with its claim and query.
+pub(crate) fn is_accepted(alloc: Global, claim: &str, fen: &str, depth: u8) -> Result<bool, Fail> {
     let cert = certificate(alloc, claim, fen, depth, 2_000)?;
     let text = text_of(alloc, &cert)?;
     let bytes = text.as_slice();
@@ -243,7 +244,7 @@ fn is_accepted(alloc: Global, claim: &str, fen: &str, depth: u8) -> Result<bool,
 #[test]
 fn finds_what_the_checker_accepts(rt: HostRuntime) -> Result<(), Fail> {
     for (claim, fen, depth) in CLAIMS {
-        assert!(rt; is_accepted(rt.alloc(), claim, fen, depth)?);
+        assert!(rt; is_accepted(rt.alloc(), claim, fen, depth)?, "{fen}");
     }
     Ok(())
 }
@@ -267,9 +268,7 @@ fn goes_back_to_what_was_there_before(rt: HostRuntime) -> Result<(), Fail> {
 
 #[test]
 fn leaves_circles_open_that_are_too_wide(rt: HostRuntime) -> Result<(), Fail> {
-    match ask(rt.alloc(), "claim illegal", PACING_KINGS, 11, 1_000)? {
-        Found::Undecided(line) => assert_eq!(rt; line.len(), 11),
-        _ => return Err(Fail::from("decided")),
-    }
+    let line = open_line(rt.alloc(), "claim illegal", PACING_KINGS, 11, 1_000)?;
+    assert_eq!(rt; line.len(), 11);
     Ok(())
 }

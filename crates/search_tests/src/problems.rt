@@ -1,7 +1,7 @@
 //! Published problems whose answers are known, at the depth that settles each, and one less.
 
-use crate::asking::{ask, certificate};
-use retro_search::Found;
+use crate::asking::open_line;
+use crate::certificates::is_accepted;
 use std::test::Fail;
 
 /// Claim, position and depth: Loyd 1859, Loyd 1891, Benko 1996, Dawson 1913, and Dawson in the British Chess Magazine of 1913.
@@ -24,7 +24,7 @@ const PROBLEMS: [(&str, &str, u8); 5] = [
 #[test]
 fn settles_published_problems(rt: HostRuntime) -> Result<(), Fail> {
     for (claim, fen, depth) in PROBLEMS {
-        let _ = certificate(rt.alloc(), claim, fen, depth, 100_000)?;
+        assert!(rt; is_accepted(rt.alloc(), claim, fen, depth)?, "{fen}");
     }
     Ok(())
 }
@@ -35,10 +35,8 @@ fn leaves_them_open_at_a_smaller_depth(rt: HostRuntime) -> Result<(), Fail> {
         if depth == 0 {
             return Err(Fail::from("a depth"));
         }
-        match ask(rt.alloc(), claim, fen, depth - 1, 100_000)? {
-            Found::Undecided(line) => assert_eq!(rt; line.len(), (depth - 1) as usize),
-            _ => return Err(Fail::from("decided")),
-        }
+        let line = open_line(rt.alloc(), claim, fen, depth - 1, 100_000)?;
+        assert_eq!(rt; line.len(), (depth - 1) as usize, "{fen}");
     }
     Ok(())
 }

@@ -1,6 +1,6 @@
 //! What `solve` answers to positions whose answers are known from outside.
 
-use crate::asking::{ask, certificate, count_nodes};
+use crate::asking::{ask, certificate, count_nodes, open_line};
 use board_base::read_unmove;
 use cert_text::Body;
 use query_base::{Claim, RuleLine};
@@ -44,17 +44,11 @@ fn expands_a_double_step(rt: HostRuntime) -> Result<(), Fail> {
 
 #[test]
 fn stays_open_at_small_depths(rt: HostRuntime) -> Result<(), Fail> {
-    match ask(rt.alloc(), ILLEGAL, STEP, 1, 10)? {
-        Found::Undecided(line) => {
-            assert_eq!(rt; line.len(), 1);
-            assert!(rt; line.get(0) == read_unmove(b"d7d5"));
-        }
-        _ => return Err(Fail::from("decided")),
-    }
-    match ask(rt.alloc(), ILLEGAL, STEP, 0, 10)? {
-        Found::Undecided(line) => assert_eq!(rt; line.len(), 0),
-        _ => return Err(Fail::from("decided")),
-    }
+    let line = open_line(rt.alloc(), ILLEGAL, STEP, 1, 10)?;
+    assert_eq!(rt; line.len(), 1);
+    assert!(rt; line.get(0) == read_unmove(b"d7d5"));
+    let none = open_line(rt.alloc(), ILLEGAL, STEP, 0, 10)?;
+    assert_eq!(rt; none.len(), 0);
     Ok(())
 }
 
@@ -79,14 +73,10 @@ fn finds_games(rt: HostRuntime) -> Result<(), Fail> {
 #[test]
 fn stays_open_by_parity(rt: HostRuntime) -> Result<(), Fail> {
     let fen = "rnbqkbnr/pppppppp/8/8/8/8/PPPPPPPP/RNBQKBNR b KQkq -";
-    match ask(rt.alloc(), ILLEGAL, fen, 2, 3)? {
-        Found::Undecided(line) => {
-            assert_eq!(rt; line.len(), 2);
-            assert!(rt; line.get(0) == read_unmove(b"a3b1"));
-            assert!(rt; line.get(1) == read_unmove(b"a6b8"));
-        }
-        _ => return Err(Fail::from("decided")),
-    }
+    let line = open_line(rt.alloc(), ILLEGAL, fen, 2, 3)?;
+    assert_eq!(rt; line.len(), 2);
+    assert!(rt; line.get(0) == read_unmove(b"a3b1"));
+    assert!(rt; line.get(1) == read_unmove(b"a6b8"));
     match ask(rt.alloc(), ILLEGAL, fen, 2, 2)? {
         Found::Spent { visited } => assert_eq!(rt; visited, 2),
         _ => return Err(Fail::from("not spent")),
@@ -116,14 +106,10 @@ fn visits_no_more_than_it_may(rt: HostRuntime) -> Result<(), Fail> {
 
 #[test]
 fn goes_as_deep_as_it_may(rt: HostRuntime) -> Result<(), Fail> {
-    match ask(rt.alloc(), ILLEGAL, MANY, 8, 9)? {
-        Found::Undecided(line) => {
-            assert_eq!(rt; line.len(), 8);
-            assert!(rt; line.get(0) == read_unmove(b"a2a3"));
-            assert!(rt; line.get(1) == read_unmove(b"a7a6"));
-            assert!(rt; line.get(7) == read_unmove(b"g7g6"));
-        }
-        _ => return Err(Fail::from("decided")),
-    }
+    let line = open_line(rt.alloc(), ILLEGAL, MANY, 8, 9)?;
+    assert_eq!(rt; line.len(), 8);
+    assert!(rt; line.get(0) == read_unmove(b"a2a3"));
+    assert!(rt; line.get(1) == read_unmove(b"a7a6"));
+    assert!(rt; line.get(7) == read_unmove(b"g7g6"));
     Ok(())
 }

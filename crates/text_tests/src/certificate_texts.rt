@@ -2,7 +2,7 @@
 
 use board_base::{Colour, Kind, Memory, Move, Square, Unmove, read_unmove};
 use cert_text::{
-    Body, BodyLine, Cert, CertFault, Kid, Kids, Node, fits_format, read_cert, read_claim, read_line,
+    Body, BodyLine, Cert, CertFault, Kid, Kids, Node, fits_format, read_cert, read_line,
 };
 use query_base::{Claim, RuleLine};
 use std::alloc::Global;
@@ -190,8 +190,6 @@ fn reads_lines(rt: HostRuntime) {
     for (text, depth, body) in LINES {
         assert_eq!(rt; body_of(text, depth), body);
     }
-    assert_eq!(rt; read_claim(b"claim illegal"), Some(Claim::Illegal));
-    assert_eq!(rt; read_claim(b"claim illegal\n"), None);
 }
 
 /// The node with this one as its only child.

@@ -10,6 +10,7 @@ use play_rules::{State, is_legal};
 use san_text::{
     SanFault, SanGameFault, SpellFault, read_san, read_san_game, write_san, write_san_game,
 };
+use std::alloc::Global;
 use std::test::Fail;
 
 /// A game as it is printed, and its moves by origin and target.
@@ -55,6 +56,32 @@ const PROMOTION_TO_A_KNIGHT: Game = Game {
     moves: b"d2d4 d7d5 c2c4 e7e5 d4e5 d5d4 e2e3 f8b4 c1d2 d4e3 d2b4 e3f2 e1e2 f2g1n e2e1 d8h4 e1d2 b8c6 b4c3 c8g4",
 };
 
+/// Morphy against two allies, Paris 1858: castling to the long side, and mate by a rook.
+const PARIS: Game = Game {
+    printed: b"1. e4 e5 2. Nf3 d6 3. d4 Bg4 4. dxe5 Bxf3 5. Qxf3 dxe5 6. Bc4 Nf6 7. Qb3 Qe7 8. Nc3 c6 9. Bg5 b5 10. Nxb5 cxb5 11. Bxb5+ Nbd7 12. O-O-O Rd8 13. Rxd7 Rxd7 14. Rd1 Qe6 15. Bxd7+ Nxd7 16. Qb8+ Nxb8 17. Rd8#",
+    moves: b"e2e4 e7e5 g1f3 d7d6 d2d4 c8g4 d4e5 g4f3 d1f3 d6e5 f1c4 g8f6 f3b3 d8e7 b1c3 c7c6 c1g5 b7b5 c3b5 c6b5 c4b5 b8d7 e1c1 a8d8 d1d7 d8d7 h1d1 e7e6 b5d7 f6d7 b3b8 d7b8 d1d8",
+};
+
+/// The shortest mate.
+const MATE_IN_TWO: Game = Game {
+    printed: b"1. f3 e5 2. g4 Qh4#",
+    moves: b"f2f3 e7e5 g2g4 d8h4",
+};
+
+/// Black's pawn captures en passant, and is promoted to a queen with capture and check.
+const FAR_PAWN: Game = Game {
+    printed: b"1. Nf3 a6 2. d3 a5 3. Nbd2 a4 4. b4 axb3 5. g3 bxc2 6. Bg2 cxd1=Q+ 7. Kxd1",
+    moves: b"g1f3 a7a6 d2d3 a6a5 b1d2 a5a4 b2b4 a4b3 g2g3 b3c2 f1g2 c2d1q e1d1",
+};
+
+/// The moves of a game that is written so, from the array, if the text isn't too long.
+fn moves_of(alloc: Global, text: &[u8]) -> Result<Vec<Move>, Fail> {
+    if text.len() > 1000 {
+        return Err(Fail::from("too long"));
+    }
+    Ok(read_san_game(alloc, State::start(), text)?)
+}
+
 /// Each printed game is read as its moves, and its moves are spelled as it is printed, letter for letter.
 #[test]
 fn reads_and_spells_printed_games(rt: HostRuntime) -> Result<(), Fail> {
@@ -65,15 +92,17 @@ fn reads_and_spells_printed_games(rt: HostRuntime) -> Result<(), Fail> {
         MATE_EN_PASSANT,
         MATE_BY_THE_KING,
         PROMOTION_TO_A_KNIGHT,
+        PARIS,
+        MATE_IN_TWO,
+        FAR_PAWN,
     ] {
-        if game.moves.len() > 1000 || game.printed.len() > 1000 {
+        if game.moves.len() > 1000 {
             return Err(Fail::from("too long"));
         }
         let moves = read_game(rt.alloc(), game.moves)?;
         let spelled = write_san_game(rt.alloc(), State::start(), &moves)?;
         assert_eq!(rt; spelled.as_slice(), game.printed);
-        let read = read_san_game(rt.alloc(), State::start(), game.printed)?;
-        assert!(rt; read == moves);
+        assert!(rt; moves_of(rt.alloc(), game.printed)? == moves);
     }
     Ok(())
 }
@@ -89,6 +118,7 @@ fn state_of(fen: &[u8]) -> Option<State> {
     Some(State::at(query.board, query.turn, query.held, crossed))
 }
 
+/// The spelling of the move, if it is legal.
 fn spelled(state: &State, m: &Move) -> Option<ArrayVec<u8, 16>> {
     if !is_legal(state, m) {
         return None;
@@ -99,7 +129,10 @@ fn spelled(state: &State, m: &Move) -> Option<ArrayVec<u8, 16>> {
 }
 
 /// A position, a move, and how it is spelled.
-const SPELLINGS: [(&[u8], &[u8], &[u8]); 20] = [
+const SPELLINGS: [(&[u8], &[u8], &[u8]); 22] = [
+    // Rooks on d8 and h8 reach f8, and those on a1 and a5 reach a3.
+    (b"1k1r3r/8/8/R7/4Q2Q/8/8/R6Q b - -", b"d8f8", b"Rdf8"),
+    (b"1k1r3r/8/8/R7/4Q2Q/8/8/R6Q w - -", b"a1a3", b"R1a3"),
     // Queens on e4, h4 and h1 reach e1.
     (b"1k6/8/8/8/4Q2Q/8/8/K6Q w - -", b"e4e1", b"Qee1"),
     (b"1k6/8/8/8/4Q2Q/8/8/K6Q w - -", b"h1e1", b"Q1e1"),
@@ -150,8 +183,11 @@ fn spells_moves_in_positions(rt: HostRuntime) -> Result<(), Fail> {
     Ok(())
 }
 
+/// Knights on b1 and f3 reach d2, and a bishop stands between king and rook.
+const AFTER_TWO_MOVES: &[u8] = b"rnbqkbnr/1ppppppp/8/p7/8/3P1N2/PPP1PPPP/RNBQKB1R w KQkq -";
+
 /// A position, a text, and why it names no move there.
-const FAULTS: [(&[u8], &[u8], SanFault); 21] = [
+const FAULTS: [(&[u8], &[u8], SanFault); 26] = [
     (b"5k2/8/8/8/8/8/8/4K2R w K -", b"0-0", SanFault::BadText),
     (b"5k2/8/8/8/8/8/8/4K2R w K -", b"o-o", SanFault::BadText),
     (b"5k2/8/8/8/8/8/8/4K2R w K -", b"O-O-", SanFault::BadText),
@@ -181,6 +217,11 @@ const FAULTS: [(&[u8], &[u8], SanFault); 21] = [
     (b"4k3/8/8/8/8/2N5/8/4K1N1 w - -", b"", SanFault::BadText),
     (b"1k6/8/8/8/4Q2Q/8/8/K6Q w - -", b"Q4e1", SanFault::Many),
     (b"1k6/8/8/8/4Q2Q/8/8/K6Q w - -", b"Qhe1", SanFault::Many),
+    (AFTER_TWO_MOVES, b"nbd2", SanFault::BadText),
+    (AFTER_TWO_MOVES, b"Nbd2++", SanFault::BadText),
+    (AFTER_TWO_MOVES, b"Nd4e5", SanFault::NoMove),
+    (AFTER_TWO_MOVES, b"O-O", SanFault::NoMove),
+    (AFTER_TWO_MOVES, b"e4=Q", SanFault::NoMove),
 ];
 
 #[test]
@@ -204,7 +245,7 @@ fn reads_more_than_is_spelled(rt: HostRuntime) -> Result<(), Fail> {
 }
 
 /// Numbers with one dot or three, glued to the move or apart, and results at the end: the same three moves each time.
-const SAME_GAMES: [&[u8]; 10] = [
+const SAME_GAMES: [&[u8]; 11] = [
     b"e4 e5 Nf3",
     b"1. e4 e5 2. Nf3",
     b"1.e4 e5 2.Nf3",
@@ -213,6 +254,7 @@ const SAME_GAMES: [&[u8]; 10] = [
     b"17. e4 0099...e5 0.Nf3",
     b"\r\n1.\ne4\r\n\r\ne5   2. Nf3\n",
     b"1. e4 e5 2. Nf3 *",
+    b"1. e4 e5 2. Nf3 1-0\n",
     b"1. e4 e5 2. Nf3 1/2-1/2\n",
     b"1. e4 e5 2. Nf3 2... 0-1",
 ];
@@ -221,17 +263,20 @@ const SAME_GAMES: [&[u8]; 10] = [
 fn passes_over_numbers_and_a_result(rt: HostRuntime) -> Result<(), Fail> {
     let wanted = read_game(rt.alloc(), b"e2e4 e7e5 g1f3")?;
     for text in SAME_GAMES {
-        if text.len() > 1000 {
-            return Err(Fail::from("too long"));
-        }
-        let moves = read_san_game(rt.alloc(), State::start(), text)?;
-        assert!(rt; moves == wanted);
+        assert!(rt; moves_of(rt.alloc(), text)? == wanted);
     }
+    let castled = read_game(
+        rt.alloc(),
+        b"d2d4 d7d5 c1f4 c8f5 b1c3 b8c6 d1d2 d8d7 e1c1 e8c8",
+    )?;
+    let glued = b"1.d4 d5 2.Bf4 Bf5 3.Nc3 Nc6 4.Qd2 Qd7 5.O-O-O 5...O-O-O";
+    assert!(rt; moves_of(rt.alloc(), glued)? == castled);
     Ok(())
 }
 
 /// Texts of games, each with its first fault: bad words go before the plies.
-const GAME_FAULTS: [(&[u8], SanGameFault); 17] = [
+const GAME_FAULTS: [(&[u8], SanGameFault); 21] = [
+    (b"1..e4", SanGameFault::BadText { word: 1 }),
     (b"1.. e4", SanGameFault::BadText { word: 1 }),
     (b"1 e4", SanGameFault::BadText { word: 1 }),
     (b"1....e4", SanGameFault::BadText { word: 1 }),
@@ -249,9 +294,12 @@ const GAME_FAULTS: [(&[u8], SanGameFault); 17] = [
     (b"e4 e4 exd", SanGameFault::BadText { word: 3 }),
     (b"1. e4 e5 2. 0-0", SanGameFault::BadText { word: 5 }),
     (b"1. e4 e5 2. e8Q", SanGameFault::BadText { word: 5 }),
+    (b"1. e4 e5 2. Nf6 nc3", SanGameFault::BadText { word: 6 }),
     (b"1. e4 e4 2. Nf3", SanGameFault::NoMove { ply: 2 }),
     (b"1. e4 e5 2. O-O", SanGameFault::NoMove { ply: 3 }),
+    (b"1. e4 e5 2. Nf6 *", SanGameFault::NoMove { ply: 3 }),
     (b"Nf3 a6 d3 a5 Nd2 Nd2", SanGameFault::Many { ply: 5 }),
+    (b"Nf3 a6 d3 a5 Nd2 1/2-1/2", SanGameFault::Many { ply: 5 }),
 ];
 
 #[test]
