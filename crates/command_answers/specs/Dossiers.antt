@@ -6,7 +6,7 @@ use Rattle.line_claims.specs.Due.{parts_due}
 use Rattle.line_claims.specs.Listing.{HasParts, LacksStep}
 use Rattle.line_claims.specs.declared.claims.LineClaim.{LineClaim}
 use Rattle.dossier_text.specs.Proving.{IsDossier}
-use Rattle.dossier_search.specs.ReachedParts.{IsDearPart, IsFirstOpenPart, IsPartRefutable}
+use Rattle.dossier_search.specs.ReachedParts.{IsDearPart, IsFirstOpenPart, IsPartAfforded, IsPartRefutable}
 use Rattle.question_text.specs.declared.faults.InputFault.{InputFault}
 use Rattle.command_answers.specs.LineChecks.{step_line}
 use Rattle.command_answers.specs.Plays.{number_line}
@@ -25,13 +25,16 @@ AreRefutable depth claim q = All (IsPartRefutable depth) (parts_due claim q)
 abbrev pub AreCheapParts : ℕ → ℕ → LineClaim → Asked → Type 0
 AreCheapParts depth nodes claim q = All (λ part. IsCheap depth nodes part.0 part.1) (parts_due claim q)
 
--- the text is a dossier of the claim about the query, and the targets of its parts are refutable at the depth
-abbrev pub TellsProofs : ℕ → LineClaim → Asked → List ℕ → Type 0
-TellsProofs depth claim q text = IsDossier text claim q × AreRefutable depth claim q
+-- the text is a dossier of the claim about the query, the targets of its parts are refutable at the depth, and the proof of each part is
+-- afforded by the nodes
+pub record TellsProofs (depth nodes : ℕ) (claim : LineClaim) (q : Asked) (text : List ℕ) : Type 0 where
+  pub is_dossier : IsDossier text claim q
+  pub refutable : AreRefutable depth claim q
+  pub afforded : All (IsPartAfforded depth nodes) (parts_due claim q)
 
 -- what is said of a claim of several steps about a query
 abbrev pub AnswersLineClaim : ℕ → ℕ → LineClaim → Asked → Status → List ℕ → Type 0
-AnswersLineClaim depth nodes claim q status.Done text = TellsProofs depth claim q text
+AnswersLineClaim depth nodes claim q status.Done text = TellsProofs depth nodes claim q text
 AnswersLineClaim depth nodes claim q status.Refused text = (i : ℕ) × LacksStep claim q i × (text ≡ step_line i)
 AnswersLineClaim depth nodes claim q status.Undecided text = (p : ℕ) × IsFirstOpenPart depth claim q p × (text ≡ number_line (codes "undecided part ") p)
 AnswersLineClaim depth nodes claim q status.Spent text = (p : ℕ) × IsDearPart depth nodes claim q p × (text ≡ spent_line nodes)

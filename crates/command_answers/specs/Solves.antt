@@ -1,5 +1,5 @@
 -- What `solve` answers.
-use Rattle.std.specs.Prelude.{ℕ, ◌≡◌, ◌≤◌, ◌⊎◌, List, [], ◌∷◌, ◌++◌, codes}
+use Rattle.std.specs.Prelude.{ℕ, ◌≡◌, ◌<◌, ◌≤◌, ◌⊎◌, List, [], ◌∷◌, ◌++◌, codes, length}
 use Rattle.std.specs.List.{flat_map}
 use Rattle.board_base.specs.Texts.{move_text, unmove_text}
 use Rattle.board_base.specs.declared.moves.Move.{Move}
@@ -11,7 +11,7 @@ use Rattle.cert_text.specs.Certificate.{Certificate, IsTextOf}
 use Rattle.cert_text.specs.Lines.{ended}
 use Rattle.retro_search.specs.Refutable.{IsRefutable}
 use Rattle.retro_search.specs.Costs.{IsCost}
-use Rattle.retro_search.specs.Lone.{IsDear}
+use Rattle.retro_search.specs.Lone.{IsAfforded, IsDear}
 use Rattle.retro_search.specs.Answers.{IsCounter, IsProofOf, IsUndecided}
 use Rattle.command_answers.specs.Plays.{number_line}
 use Rattle.command_answers.specs.Questions.{fault_line}
@@ -45,24 +45,29 @@ spent_line nodes = number_line (codes "spent ") nodes
 abbrev pub IsCheap : ℕ → ℕ → Claim → Asked → Type 0
 IsCheap depth nodes claim q = (n : ℕ) × IsCost (target q claim) depth [] n × (n ≤ nodes)
 
--- The claim's target is refutable at the depth. The text is that of a certificate of the claim about the query, which proves it and
--- has at most 500,000 nodes.
-pub record TellsProof (depth : ℕ) (claim : Claim) (q : Asked) (text : List ℕ) : Type 0 where
+-- The claim's target is refutable at the depth, and its proof is afforded by the nodes. The text is that of a certificate of the claim
+-- about the query, which proves it, goes back no further than the depth, and has at most 500,000 nodes.
+pub record TellsProof (depth nodes : ℕ) (claim : Claim) (q : Asked) (text : List ℕ) : Type 0 where
   pub cert : Certificate
-  pub is_proof : IsProofOf cert claim q
+  pub is_proof : IsProofOf depth cert claim q
   pub is_text : IsTextOf text cert
   pub refutable : IsRefutable (target q claim) depth []
+  pub afforded : IsAfforded depth nodes claim q
 
--- the claim's target isn't refutable at the depth, and the text tells its first open line, which ends elsewhere than at the array
-pub record TellsOpenLine (depth : ℕ) (claim : Claim) (q : Asked) (text : List ℕ) : Type 0 where
+-- The claim's target isn't refutable at the depth, and the text tells its first open line, which ends elsewhere than at the array and
+-- has fewer moves than the nodes.
+pub record TellsOpenLine (depth nodes : ℕ) (claim : Claim) (q : Asked) (text : List ℕ) : Type 0 where
   pub line : List Unmove
   pub undecided : IsUndecided line (target q claim) depth
+  pub few : length line < nodes
   pub text_is : text ≡ undecided_line line
 
--- the first open line of the claim's target ends at the array, and the text tells it as a game, which contradicts the claim
-pub record TellsGameAgainst (depth : ℕ) (claim : Claim) (q : Asked) (text : List ℕ) : Type 0 where
+-- The first open line of the claim's target ends at the array, and the text tells it as a game, which contradicts the claim and has
+-- fewer moves than the nodes.
+pub record TellsGameAgainst (depth nodes : ℕ) (claim : Claim) (q : Asked) (text : List ℕ) : Type 0 where
   pub game : List Move
   pub counter : IsCounter game claim q depth
+  pub few : length game < nodes
   pub text_is : text ≡ countered_line game
 
 -- the claim's target costs more than the nodes, and the text says that they are spent
@@ -72,9 +77,9 @@ pub record TellsSpent (depth nodes : ℕ) (claim : Claim) (q : Asked) (text : Li
 
 -- what is said of a claim about a query
 abbrev pub AnswersClaim : ℕ → ℕ → Claim → Asked → Status → List ℕ → Type 0
-AnswersClaim depth nodes claim q status.Done text = TellsProof depth claim q text
-AnswersClaim depth nodes claim q status.Undecided text = TellsOpenLine depth claim q text
-AnswersClaim depth nodes claim q status.Countered text = TellsGameAgainst depth claim q text
+AnswersClaim depth nodes claim q status.Done text = TellsProof depth nodes claim q text
+AnswersClaim depth nodes claim q status.Undecided text = TellsOpenLine depth nodes claim q text
+AnswersClaim depth nodes claim q status.Countered text = TellsGameAgainst depth nodes claim q text
 AnswersClaim depth nodes claim q status.Spent text = TellsSpent depth nodes claim q text
 AnswersClaim depth nodes claim q _ text = ⊥
 

@@ -5,6 +5,7 @@ use Rattle.query_base.specs.Asked.{Asked}
 use Rattle.query_base.specs.Reach.{Holds}
 use Rattle.query_base.specs.Targets.{target}
 use Rattle.cert_text.specs.Lines.{ended}
+use Rattle.retro_search.specs.Lone.{IsAfforded, IsDear}
 use Rattle.retro_search.specs.Refutable.{IsRefutable}
 use Rattle.codex_verdict.specs.Rights.{AreRights, claim_of}
 use Rattle.codex_verdict.specs.Verdicts.{verdict_text}
@@ -14,7 +15,6 @@ use Rattle.command_answers.specs.Questions.{AnswersAlone}
 use Rattle.command_answers.specs.Solves.{IsCheap, spent_line}
 use Rattle.command_answers.specs.declared.statuses.Status.{Status}
 use Rattle.command_answers.specs.declared.statuses.Status.TheVariants as status
-use Rattle.retro_search.specs.Lone.{IsDear}
 
 -- there are as many truth values as rights, and this holds of each right and its truth value, in order
 abbrev pub Each : (Right → Bool → Type 0) → List Right → List Bool → Type 0
@@ -22,10 +22,12 @@ Each P [] [] = Unit {0}
 Each P (right ∷ rights) (settled ∷ others) = P right settled × Each P rights others
 Each P _ _ = ⊥
 
--- the target of the right's claim is refutable at the depth, exactly where this is true; and where it is, no game contradicts the claim
-pub record IsSettled (q : Asked) (depth : ℕ) (right : Right) (settled : Bool) : Type 0 where
+-- The target of the right's claim is refutable at the depth, exactly where this is true. Where it is, no game contradicts the claim, and
+-- its proof is afforded by the nodes.
+pub record IsSettled (q : Asked) (depth nodes : ℕ) (right : Right) (settled : Bool) : Type 0 where
   pub exactly : IsTrue settled ↔ IsRefutable (target q (claim_of right)) depth []
   pub holds : IsTrue settled → Holds (claim_of right) q
+  pub afforded : IsTrue settled → IsAfforded depth nodes (claim_of right) q
 
 -- the line of each right, in order
 unfoldable pub right_lines : ℕ → List Right → List Bool → List ℕ
@@ -47,7 +49,7 @@ pub record TellsDearRight (depth nodes : ℕ) (q : Asked) (rights : List Right) 
 -- what is said of these rights of a query
 abbrev pub AnswersRights : ℕ → ℕ → Asked → List Right → Status → List ℕ → Type 0
 AnswersRights depth nodes q rights status.Done text =
-    (settled : List Bool) × Each (IsSettled q depth) rights settled × (text ≡ verdicts_text depth rights settled)
+    (settled : List Bool) × Each (IsSettled q depth nodes) rights settled × (text ≡ verdicts_text depth rights settled)
 AnswersRights depth nodes q rights status.Spent text = TellsDearRight depth nodes q rights text
 AnswersRights depth nodes q rights _ text = ⊥
 

@@ -27,7 +27,7 @@ fn settle(
 ) -> Result<Option<bool>, AllocError>
     requires plain { query.now.barred ≡ None }
     requires limits { AreLimits depth nodes }
-    ensures { IfOk result (λ o. MatchOption o (IsDear depth nodes (claim_of right.now) query.now) (IsSettled query.now depth right.now)) }
+    ensures { IfOk result (λ o. MatchOption o (IsDear depth nodes (claim_of right.now) query.now) (IsSettled query.now depth nodes right.now)) }
 {
     let found = match solve(alloc, query, &claim_of(right), depth, nodes) {
         Ok(found) => found,
@@ -51,7 +51,7 @@ fn settle_all(
     requires plain { query.now.barred ≡ None }
     requires few { length rights.now ≤ 18 }
     requires limits { AreLimits depth nodes }
-    ensures { IfOk result (λ o. MatchOption o (HasDearRight depth nodes query.now rights.now) (λ settled. Each (IsSettled query.now depth) rights.now settled.items)) }
+    ensures { IfOk result (λ o. MatchOption o (HasDearRight depth nodes query.now rights.now) (λ settled. Each (IsSettled query.now depth nodes) rights.now settled.items)) }
 {
     let mut all: ArrayVec<bool, 18> = ArrayVec::new();
     for right in rights {

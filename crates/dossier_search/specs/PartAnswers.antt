@@ -5,16 +5,17 @@ use Rattle.std.specs.declared.alloc.Global.{Global}
 use Rattle.query_base.specs.Asked.{Asked}
 use Rattle.query_base.specs.declared.claims.Claim.{Claim}
 use Rattle.dossier_text.specs.Proving.{ProvesPart}
-use Rattle.dossier_search.specs.ReachedParts.{IsPartRefutable}
+use Rattle.dossier_search.specs.ReachedParts.{IsPartAfforded, IsPartRefutable}
 use Rattle.dossier_search.specs.declared.parts.Part.{Part}
 use Rattle.dossier_search.specs.declared.parts.Part.TheVariants as part
 
--- the bytes prove the part, whose target is refutable, and a dossier may have so many
-pub record IsPartProof (depth : ℕ) (bytes : List ℕ) (due : Claim × Asked) : Type 0 where
+-- the bytes prove the part, whose target is refutable and whose proof is afforded, and a dossier may have so many
+pub record IsPartProof (depth nodes : ℕ) (bytes : List ℕ) (due : Claim × Asked) : Type 0 where
   pub proves : ProvesPart bytes due
   pub some : 1 ≤ length bytes
   pub few : length bytes ≤ 67108864
   pub refuted : IsPartRefutable depth due
+  pub afforded : IsPartAfforded depth nodes due
 
 abbrev pub IfProof : Part → (Vec ℕ Global → Type 0) → Type 0
 IfProof (part.Proved text) P = P text

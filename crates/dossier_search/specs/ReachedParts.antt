@@ -7,7 +7,7 @@ use Rattle.query_base.specs.declared.claims.Claim.{Claim}
 use Rattle.line_claims.specs.Due.{parts_due}
 use Rattle.line_claims.specs.Listing.{HasParts}
 use Rattle.line_claims.specs.declared.claims.LineClaim.{LineClaim}
-use Rattle.retro_search.specs.Lone.{IsDear}
+use Rattle.retro_search.specs.Lone.{IsAfforded, IsDear}
 use Rattle.retro_search.specs.Refutable.{IsRefutable}
 
 -- what a game reaches exactly where it contradicts the part
@@ -17,6 +17,10 @@ part_target part = target part.1 part.0
 -- the part's target is refutable at the depth
 abbrev pub IsPartRefutable : ℕ → Claim × Asked → Type 0
 IsPartRefutable depth part = IsRefutable (part_target part) depth []
+
+-- the proof of the part is afforded by so many nodes
+abbrev pub IsPartAfforded : ℕ → ℕ → Claim × Asked → Type 0
+IsPartAfforded depth nodes part = IsAfforded depth nodes part.0 part.1
 
 -- The part with this number, counted from 1, is as P says, and each part before it is refutable at the depth.
 pub record IsReachedPart (depth : ℕ) (P : Claim × Asked → Type 0) (claim : LineClaim) (q : Asked) (number : ℕ) : Type 0 where

@@ -7,7 +7,7 @@ ghost use Rattle.line_claims.specs.Listing.{HasParts, LacksStep};
 ghost use Rattle.dossier_text.specs.Dossiers.{IsHead, part_text};
 ghost use Rattle.dossier_text.specs.Proving.{IsDossier};
 ghost use Rattle.dossier_search.specs.Answers.{IfSpent, IfUndecided, IfUnlisted, IfWritten};
-ghost use Rattle.dossier_search.specs.ReachedParts.{IsDearPart, IsFirstOpenPart, IsPartRefutable};
+ghost use Rattle.dossier_search.specs.ReachedParts.{IsDearPart, IsFirstOpenPart, IsPartAfforded, IsPartRefutable};
 
 use crate::dossiers::Dossier;
 use crate::parts::{Part, solve_part};
@@ -69,6 +69,7 @@ fn solve_parts(
     requires few_nodes { nodes ≤ 500_000 }
     ensures written { IfOk result (λ dossier. IfWritten dossier (λ text. IsDossier text.items claim.now query.now)) }
     ensures refutable { IfOk result (λ dossier. IfWritten dossier (λ text. All (IsPartRefutable depth) (parts_due claim.now query.now))) }
+    ensures afforded { IfOk result (λ dossier. IfWritten dossier (λ text. All (IsPartAfforded depth nodes) (parts_due claim.now query.now))) }
     ensures unlisted { IfOk result (λ dossier. IfUnlisted dossier (λ step. ⊥)) }
     ensures undecided { IfOk result (λ dossier. IfUndecided dossier (λ part. IsFirstOpenPart depth claim.now query.now part)) }
     ensures spent { IfOk result (λ dossier. IfSpent dossier (λ part. IsDearPart depth nodes claim.now query.now part)) }
@@ -96,8 +97,8 @@ fn solve_parts(
 ///
 /// - `Unlisted` comes exactly where some step isn't among the unmoves of what the steps before it leave, with the first of them; no
 ///   part is then due.
-/// - `Written` comes only where the target of each part is refutable at the depth, with the text of a dossier: its parts prove exactly
-///   the parts due. No game of any length contradicts the claim.
+/// - `Written` comes only where the target of each part is refutable at the depth and `solve` may prove it with `nodes`, with the text
+///   of a dossier: its parts prove exactly the parts due. No game of any length contradicts the claim.
 /// - `Undecided` comes only where the target of some part isn't refutable at the depth, with the first such part. Each part before it
 ///   was proved.
 /// - `Spent` comes only where a part costs more than `nodes`, in the ways that `solve` says. Each part before it was proved.
@@ -118,6 +119,7 @@ pub fn solve_line(
     ensures written { IfOk result (λ dossier. IfWritten dossier (λ text. IsDossier text.items claim.now query.now)) }
     ensures holds { IfOk result (λ dossier. IfWritten dossier (λ text. HoldsLine claim.now query.now)) }
     ensures refutable { IfOk result (λ dossier. IfWritten dossier (λ text. All (IsPartRefutable depth) (parts_due claim.now query.now))) }
+    ensures afforded { IfOk result (λ dossier. IfWritten dossier (λ text. All (IsPartAfforded depth nodes) (parts_due claim.now query.now))) }
     ensures unlisted { IfOk result (λ dossier. IfUnlisted dossier (λ step. LacksStep claim.now query.now step)) }
     ensures undecided { IfOk result (λ dossier. IfUndecided dossier (λ part. IsFirstOpenPart depth claim.now query.now part)) }
     ensures spent { IfOk result (λ dossier. IfSpent dossier (λ part. IsDearPart depth nodes claim.now query.now part)) }

@@ -49,7 +49,7 @@ pub(crate) fn solve_part(
     requires shallow { depth ≤ 64 }
     requires some_nodes { 1 ≤ nodes }
     requires few_nodes { nodes ≤ 500_000 }
-    ensures proof { IfOk result (λ part. IfProof part (λ text. IsPartProof depth text.items (claim.now, query.now))) }
+    ensures proof { IfOk result (λ part. IfProof part (λ text. IsPartProof depth nodes text.items (claim.now, query.now))) }
     ensures open { IfOk result (λ part. IfOpen part (IsPartRefutable depth (claim.now, query.now) → ⊥)) }
     ensures dear { IfOk result (λ part. IfDear part (IsDear depth nodes claim.now query.now)) }
 {

@@ -22,7 +22,7 @@ use Rattle.cert_text.specs.Tree.{rule, back, expand, none, more}
 use Rattle.retro_search.specs.Refutable.{IsRefutable, IsShut}
 use Rattle.retro_search.specs.Lines.{IsFirstNot, forwards}
 use Rattle.retro_search.specs.Costs.{IsCost, SumsUpTo}
-use Rattle.retro_search.specs.Lone.{AreDifferent, IsLoneSearch, IsMemoCost}
+use Rattle.retro_search.specs.Lone.{AreDifferent, IsAfforded, IsLoneSearch, IsMemoCost}
 use Rattle.retro_search.specs.Sizes.{nodes_in}
 use Rattle.retro_search.specs.Heights.{height}
 use Rattle.retro_search.specs.Answers.{IsCounter, IsProofOf}
@@ -76,10 +76,14 @@ nothing_lone = record {
   few = omega arith;
 }
 
--- one node proves that it is illegal
-nothing_proved : IsProofOf (record { claim = Illegal; query = nothing; root = rule Kings }) Illegal nothing
+-- so a search that may visit none can't prove it
+nothing_dear : IsAfforded 1 0 Illegal nothing → ⊥
+nothing_dear afforded = absurd (omega (arith, afforded 1 1 nothing_lone nothing_memo_cost))
+
+-- one node proves that it is illegal, without going back
+nothing_proved : IsProofOf 0 (record { claim = Illegal; query = nothing; root = rule Kings }) Illegal nothing
 unfolding nothing_closed
-nothing_proved = record { claim_is = refl; query_is = refl; proves = nothing_closed.1; few = omega arith }
+nothing_proved = record { claim_is = refl; query_is = refl; proves = nothing_closed.1; low = omega arith; few = omega arith }
 
 -- the array from which games begin
 abbrev beginning : Asked

@@ -28,8 +28,8 @@ use Rattle.retro_search.proofs.Trees.Heights.{refutable_by}
 abbrev pub certified : Claim → Asked → Tree → Certificate
 certified claim q t = record { claim = claim; query = q; root = t }
 
-pub proof_of : (t : Tree) (claim : Claim) (q : Asked) (depth : ℕ) → Refutes t (target q claim) depth [] → nodes_in t ≤ 500000 → IsProofOf (certified claim q t) claim q
-proof_of t claim q depth r few = record { claim_is = refl; query_is = refl; proves = r.proves; few = few }
+pub proof_of : (t : Tree) (claim : Claim) (q : Asked) (depth : ℕ) → Refutes t (target q claim) depth [] → nodes_in t ≤ 500000 → IsProofOf depth (certified claim q t) claim q
+proof_of t claim q depth r few = record { claim_is = refl; query_is = refl; proves = r.proves; low = r.low; few = few }
 
 pub refutable_root : (t : Tree) (q : Asked) (depth : ℕ) → Refutes t q depth [] → IsRefutable q depth []
 refutable_root t q depth r = refutable_by t q depth [] r.proves r.low

@@ -10,16 +10,18 @@ use Rattle.cert_text.specs.Certificate.{Certificate}
 use Rattle.cert_text.specs.declared.certificates.Cert.{Cert}
 use Rattle.cert_checker.specs.Proving.{ProvesClaim}
 use Rattle.retro_search.specs.Refutable.{IsRefutable}
+use Rattle.retro_search.specs.Heights.{height}
 use Rattle.retro_search.specs.Lines.{EndsAtArray, IsFirstOpen, forwards}
 use Rattle.retro_search.specs.Sizes.{nodes_in}
 use Rattle.retro_search.specs.declared.answers.Found.{Found}
 use Rattle.retro_search.specs.declared.answers.Found.TheVariants as found
 
--- the certificate proves this claim about this query, with few nodes
-pub record IsProofOf (cert : Certificate) (claim : Claim) (q : Asked) : Type 0 where
+-- the certificate proves this claim about this query, goes back no further than the depth, and has few nodes
+pub record IsProofOf (depth : ℕ) (cert : Certificate) (claim : Claim) (q : Asked) : Type 0 where
   pub claim_is : cert.claim ≡ claim
   pub query_is : cert.query ≡ q
   pub proves : ProvesClaim cert
+  pub low : height cert.root ≤ depth
   pub few : nodes_in cert.root ≤ 500000
 
 -- the query isn't refutable at the depth, and this is its first open line

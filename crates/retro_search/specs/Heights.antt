@@ -1,4 +1,3 @@
--- Inner: no public clause cites this file.
 -- How high a certificate's tree is.
 use Rattle.std.specs.Prelude.{ℕ, suc, max}
 use Rattle.cert_text.specs.Tree.{Tree, Forest, rule, back, expand, none, more}
@@ -10,6 +9,7 @@ abbrev mutual
   height (back k) = 0
   height (expand kids) = suc (height_of_all kids)
 
+  -- the height of the highest of these trees; 0 where there is none
   pub height_of_all : Forest → ℕ
   height_of_all none = 0
   height_of_all (more label tree rest) = max (height tree) (height_of_all rest)

@@ -1,6 +1,6 @@
 -- Inner: no public clause cites this file.
 -- Refutations that lean on few ancestors, or none, and those that are kept.
-use Rattle.std.specs.Prelude.{ℕ, ◌≡◌, ◌≤◌, List, [], take}
+use Rattle.std.specs.Prelude.{ℕ, ◌≡◌, ◌≤◌, List, [], length, take}
 use Rattle.std.specs.List.{All}
 use Rattle.indexmap.specs.IndexMap.{values}
 use Rattle.board_base.specs.declared.unmoves.Unmove.{Unmove}
@@ -41,7 +41,8 @@ pub record StandsAlone (t : Tree) (q : Asked) (h n : ℕ) : Type 0 where
 abbrev pub IsKept : AKept → Type 0
 IsKept k = StandsAlone (tree_of k.node) k.query k.height k.lines
 
--- what is kept stands alone, and is limited
+-- what is kept stands alone, and there are few trees, with few lines together
 pub record IsSound (m : AMemo) : Type 0 where
   pub each : All IsKept (values m.trees)
+  pub trees : length m.trees.entries ≤ 65536
   pub few : m.lines ≤ 2000000

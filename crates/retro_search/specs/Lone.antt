@@ -51,6 +51,11 @@ pub record IsLoneSearch (q : Asked) (depth n : ℕ) : Type 0 where
   pub cost : IsCost q depth [] n
   pub few : n ≤ 30000
 
+-- The claim's proof is afforded by so many nodes: where its target is refutable, no query of its tree is covered by one above it, and its
+-- cost isn't large, its memo cost is at most these.
+abbrev pub IsAfforded : ℕ → ℕ → Claim → Asked → Type 0
+IsAfforded depth nodes claim q = (n k : ℕ) → IsLoneSearch (target q claim) depth n → IsMemoCost (target q claim) depth k → k ≤ nodes
+
 -- The cost of the claim's target is above the nodes. Where the target is refutable, no query of its tree is covered by one above it,
 -- and its cost isn't large, its memo cost is above them too.
 pub record IsDear (depth nodes : ℕ) (claim : Claim) (q : Asked) : Type 0 where

@@ -13,8 +13,6 @@ mod searching;
 mod shutting;
 mod solving;
 mod stops;
-#[cfg(test)]
-mod tests;
 
 pub use answers::Found;
 pub use laws::{one_cost_each, one_memo_cost_each, one_open_line_each};

@@ -73,6 +73,7 @@ pub(crate) fn search(
     ensures too_large { IfErr result (λ stop. IfTooLarge stop (run.old.memo.on ≡ false → ⊥)) }
     ensures cost { OnOk result ((n : ℕ) → IsCost query.now depth (reverse ancestors.old.items) n → run.old.left ≤ run.new.left + n) }
     ensures spent { IfErr result (λ stop. IfSpent stop ((n : ℕ) → IsCost query.now depth (reverse ancestors.old.items) n → run.old.left < n)) }
+    ensures deep { IfErr result (λ stop. IfOpen stop (λ line. length line.back.items < run.old.left)) }
     ensures on { OnOk result (GoesOn run.old run.new) }
     ensures kept { OnOk result (ancestors.new.items ≡ ancestors.old.items) }
     ensures well { IfOk result (λ found. (ps : List Asked) (n : ℕ) → IsGood ps n query.now depth (reverse ancestors.old.items) run.old → GoesWell ps n query.now depth (reverse ancestors.old.items) found run.old run.new) }
@@ -128,6 +129,7 @@ fn expand(
     ensures too_large { IfErr result (λ stop. IfTooLarge stop (run.old.memo.on ≡ false → ⊥)) }
     ensures cost { OnOk result ((n : ℕ) → IsCostBelow query.now below (reverse ancestors.old.items) n → run.old.left ≤ run.new.left + n) }
     ensures spent { IfErr result (λ stop. IfSpent stop ((n : ℕ) → IsCostBelow query.now below (reverse ancestors.old.items) n → run.old.left < n)) }
+    ensures deep { IfErr result (λ stop. IfOpen stop (λ line. length line.back.items ≤ run.old.left)) }
     ensures on { OnOk result (GoesOn run.old run.new) }
     ensures kept { OnOk result (ancestors.new.items ≡ ancestors.old.items) }
     ensures well { IfOk result (λ found. (ps : List Asked) (m : ℕ) → IsGoodBelow ps m query.now below (reverse ancestors.old.items) run.old → GoesWellBelow ps m query.now below (reverse ancestors.old.items) found run.old run.new) }

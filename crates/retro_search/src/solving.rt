@@ -1,4 +1,4 @@
-ghost use Rattle.std.specs.Prelude.{ℕ, List, ◌≡◌, ◌≤◌, ◌<◌, ◌↔◌, [], IfErr, IfOk, IsTrue, None, false, map, reverse, true};
+ghost use Rattle.std.specs.Prelude.{ℕ, List, ◌≡◌, ◌≤◌, ◌<◌, ◌↔◌, [], IfErr, IfOk, IsTrue, None, false, length, map, reverse, true};
 ghost use Rattle.query_base.specs.Asked.{Asked};
 ghost use Rattle.query_base.specs.Reach.{Holds};
 ghost use Rattle.query_base.specs.Targets.{target};
@@ -8,7 +8,7 @@ ghost use Rattle.cert_text.specs.Writable.{stays_on_board, IsQuery};
 ghost use Rattle.cert_text.specs.SeenCert.{cert_of};
 ghost use Rattle.retro_search.specs.Refutable.{IsRefutable};
 ghost use Rattle.retro_search.specs.Costs.{IsCost};
-ghost use Rattle.retro_search.specs.Lone.{AreExpanded, IsLoneSearch, IsMemoCost, unmoves_in_all};
+ghost use Rattle.retro_search.specs.Lone.{AreExpanded, IsAfforded, IsLoneSearch, IsMemoCost, unmoves_in_all};
 ghost use Rattle.retro_search.specs.Stops.{IfOpen, IfSpent, IfTooLarge};
 ghost use Rattle.retro_search.specs.Searched.{IsOpen};
 ghost use Rattle.retro_search.specs.Kept.{IsRefutation};
@@ -90,9 +90,11 @@ fn attempt(
     requires few { nodes ≤ MOST_NODES }
     ensures refuted { IfOk result (λ found. IsRefutation found target.now depth []) }
     ensures unrefuted { IfErr result (λ stop. IfOpen stop (λ line. IsOpen line target.now depth [])) }
+    ensures deep { IfErr result (λ stop. IfOpen stop (λ line. length line.back.items < nodes)) }
     ensures spent { IfErr result (λ stop. IfSpent stop ((n : ℕ) → IsCost target.now depth [] n → nodes < n)) }
     ensures too_large { IfErr result (λ stop. IfTooLarge stop (with_memo ≡ false → ⊥)) }
     ensures paid { with_memo ≡ true → IfErr result (λ stop. (ps : List Asked) (n : ℕ) → AreExpanded ps target.now depth → IsLoneSearch target.now depth n → IfSpent stop (nodes ≤ unmoves_in_all ps)) }
+    ensures afforded { with_memo ≡ true → IfOk result (λ found. (ps : List Asked) (n : ℕ) → AreExpanded ps target.now depth → IsLoneSearch target.now depth n → unmoves_in_all ps < nodes) }
     ensures small { with_memo ≡ true → IfErr result (λ stop. (ps : List Asked) (n : ℕ) → AreExpanded ps target.now depth → IsLoneSearch target.now depth n → IfTooLarge stop ⊥) }
 {
     let mut ancestors = Vec::new(alloc);
@@ -109,8 +111,10 @@ fn refute(alloc: Global, target: &Query, depth: u8, nodes: u32) -> Result<Refuta
     requires few { nodes ≤ MOST_NODES }
     ensures refuted { IfOk result (λ found. IsRefutation found target.now depth []) }
     ensures unrefuted { IfErr result (λ stop. IfOpen stop (λ line. IsOpen line target.now depth [])) }
+    ensures deep { IfErr result (λ stop. IfOpen stop (λ line. length line.back.items < nodes)) }
     ensures spent { IfErr result (λ stop. IfSpent stop ((n : ℕ) → IsCost target.now depth [] n → nodes < n)) }
     ensures small { IfErr result (λ stop. IfTooLarge stop ⊥) }
+    ensures afforded { IfOk result (λ found. (ps : List Asked) (n : ℕ) → AreExpanded ps target.now depth → IsLoneSearch target.now depth n → unmoves_in_all ps < nodes) }
     ensures paid { IfErr result (λ stop. (ps : List Asked) (n : ℕ) → AreExpanded ps target.now depth → IsLoneSearch target.now depth n → IfSpent stop (nodes ≤ unmoves_in_all ps)) }
 {
     match attempt(alloc, target, depth, nodes, true) {
@@ -127,15 +131,16 @@ fn refute(alloc: Global, target: &Query, depth: u8, nodes: u32) -> Result<Refuta
 /// still be taken back, it isn't the array from which games begin, and each of its predecessors is refutable with one move less.
 ///
 /// - `Proved` comes exactly where the target is refutable at the depth and `Spent` doesn't come. The certificate is of this claim and
-///   this query, proves it, has at most 500,000 nodes, and has a text where the claim has one. No game of any length contradicts the
-///   claim; of `Illegal` this says that the position is illegal (article 3.10.3).
+///   this query, proves it, goes back at most `depth` moves, has at most 500,000 nodes, and has a text where the claim has one. No
+///   game of any length contradicts the claim; of `Illegal` this says that the position is illegal (article 3.10.3).
 /// - `Undecided` comes only where the target isn't refutable, with its first open line. That has as many unmoves as the depth, and
 ///   doesn't end at the array.
 /// - `Countered` comes only where the target isn't refutable and its first open line ends at the array, with that line read forwards
-///   as a game, which contradicts the claim.
+///   as a game, which contradicts the claim. An open line or a game has fewer moves than `nodes`, since each query on its way is
+///   visited.
 /// - `Spent` comes only where the cost of the target is above `nodes`. Refutations that lean on no query above them are kept and taken
 ///   again. So where the target is refutable, no query of its tree is covered by one above it, and the cost is at most 30,000, `Spent`
-///   comes only where the memo cost is above `nodes`. It says how many queries were visited, which is `nodes`.
+///   comes exactly where the memo cost is above `nodes`. It says how many queries were visited, which is `nodes`.
 ///
 /// Want of memory is a free answer: `Memory` may take the place of each of these.
 pub fn solve(
@@ -149,12 +154,15 @@ pub fn solve(
     requires shallow { depth ≤ 64 }
     requires some_nodes { 1 ≤ nodes }
     requires few_nodes { nodes ≤ 500_000 }
-    ensures proved { IfOk result (λ found. IfProved found (λ cert. IsProofOf (cert_of cert) claim.now query.now)) }
+    ensures proved { IfOk result (λ found. IfProved found (λ cert. IsProofOf depth (cert_of cert) claim.now query.now)) }
     ensures holds { IfOk result (λ found. IfProved found (λ cert. Holds claim.now query.now)) }
     ensures written { IsTrue (promotes_well claim.now) → IfOk result (λ found. IfProved found (λ cert. HasText (cert_of cert))) }
     ensures exactly { IfOk result (λ found. IfUnspent found (IsProved found ↔ IsRefutable (target query.now claim.now) depth [])) }
     ensures undecided { IfOk result (λ found. IfUndecided found (λ line. IsUndecided line (target query.now claim.now) depth)) }
     ensures countered { IfOk result (λ found. IfCountered found (λ game. IsCounter game claim.now query.now depth)) }
+    ensures afforded { IfOk result (λ found. IfProved found (λ cert. IsAfforded depth nodes claim.now query.now)) }
+    ensures short_line { IfOk result (λ found. IfUndecided found (λ line. length line < nodes)) }
+    ensures short_game { IfOk result (λ found. IfCountered found (λ game. length game < nodes)) }
     ensures visited { IfOk result (λ found. IfSpentAt found (λ visited. visited ≡ nodes)) }
     ensures spent { IfOk result (λ found. IfSpentAt found (λ visited. (n : ℕ) → IsCost (target query.now claim.now) depth [] n → nodes < n)) }
     ensures lone { IfOk result (λ found. IfSpentAt found (λ visited. (n k : ℕ) → IsLoneSearch (target query.now claim.now) depth n → IsMemoCost (target query.now claim.now) depth k → nodes < k)) }

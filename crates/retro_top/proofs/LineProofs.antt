@@ -117,7 +117,7 @@ making-done depth nodes input ending text answers good cheap =
 -- a dossier is written only where the targets are refutable
 pub done-provable : (depth nodes : ℕ) (input text : List ℕ) → AnswersMaking depth nodes input Done text → StatesProvable depth input
 done-provable depth nodes input text answers = elim answers [
-  | inl said ↦ (said.0, said.1, said.2, said.3.0.listed, said.3.1)
+  | inl said ↦ (said.0, said.1, said.2, said.3.is_dossier.listed, said.3.refutable)
   | inr none ↦ let e = none.2 in cc
 ]
 
@@ -130,6 +130,6 @@ pub record Made (input text : List ℕ) : Type 0 where
 
 pub done-made : (depth nodes : ℕ) (input text : List ℕ) → AnswersMaking depth nodes input Done text → Made input text
 done-made depth nodes input text answers = elim answers [
-  | inl said ↦ record { claim = said.0; query = said.1; states = said.2; is_dossier = said.3.0 }
+  | inl said ↦ record { claim = said.0; query = said.1; states = said.2; is_dossier = said.3.is_dossier }
   | inr none ↦ let e = none.2 in cc
 ]

@@ -58,7 +58,7 @@ done-decided depth nodes input text answers =
       alone = alone.1;
       are = alone.2.1;
       lines = told.2;
-      hold = each-weaker (IsSettled alone.0 depth) (Decides alone.0) (λ right s settles. settles.holds) alone.2.0 told.0 told.1;
+      hold = each-weaker (IsSettled alone.0 depth nodes) (Decides alone.0) (λ right s settles. settles.holds) alone.2.0 told.0 told.1;
     }
 
 -- each query has at most one tree, of one number of lines

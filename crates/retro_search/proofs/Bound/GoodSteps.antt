@@ -1,7 +1,8 @@
 -- A lone and refutable query, child after child.
-use Rattle.std.proofs.Common.{◌≡◌, ℕ, ◌+◌, ◌*◌, ◌<◌, ◌≤◌, List, [], ◌∷◌, length, sym, ap, ◌∙◌, subst, arith}
+use Rattle.std.proofs.Common.{◌≡◌, ℕ, ◌+◌, ◌*◌, ◌<◌, ◌≤◌, ◌⊎◌, inl, inr, List, [], ◌∷◌, length, sym, ap, ◌∙◌, subst, arith}
 use Rattle.std.specs.List.{Contains}
 use Rattle.board_base.specs.declared.unmoves.Unmove.{Unmove}
+use Rattle.general_lemmas.proofs.Lists.{contains-cases, contains-none}
 use Rattle.query_base.specs.Asked.{Asked}
 use Rattle.unmove_gen.specs.Listed.{unmoves}
 use Rattle.unmove_gen.specs.Predecessor.{predecessor}
@@ -12,11 +13,12 @@ use Rattle.retro_search.specs.Stops.{IfSpent, IfTooLarge, IsLengthened}
 use Rattle.retro_search.specs.Lone.{unmoves_in_all}
 use Rattle.retro_search.specs.Eager.{AreEager, IsEager}
 use Rattle.retro_search.specs.Tidy.{kept_in}
-use Rattle.retro_search.specs.Good.{FitsIn, GoesWell, GoesWellBelow, IsGood, IsGoodBelow, IsPaid}
+use Rattle.retro_search.specs.Good.{FitsIn, GoesWell, GoesWellBelow, IsDone, IsGood, IsGoodBelow, IsPaid}
 use Rattle.retro_search.specs.declared.refutations.Children.{Children}
 use Rattle.retro_search.specs.declared.refutations.Refutation.{Refutation}
 use Rattle.retro_search.specs.declared.runs.Run.{Run}
 use Rattle.retro_search.specs.declared.stops.Stop.{Stop}
+use Rattle.retro_search.proofs.Bound.Wholes.{done_on}
 use Rattle.retro_search.proofs.Costs.CostSums.{later_numbers}
 use Rattle.retro_search.proofs.Expansions.{Adds, CostBy, IsRefutableBy}
 use Rattle.retro_search.proofs.Lines.OpenLines.{stop_large, stop_spent}
@@ -31,7 +33,9 @@ pub record GoodSoFar (ps : List Asked) (m : ℕ) (q : Asked) (below : ℕ) (ance
   pub alone : c.lean ≡ 0
   pub small : c.lines ≤ made
   pub fits : FitsIn ps (q ∷ ancestors) run
-  pub visits : first.left + unmoves_in_all (kept_in first.memo) + length rest ≤ run.left + length (unmoves q) + unmoves_in_all (kept_in run.memo)
+  pub done : (u : Unmove) → Contains (unmoves q) u → Contains rest u ⊎ IsDone (kept_in run.memo) (predecessor q u)
+  pub stay : (p : Asked) → Contains (kept_in first.memo) p → Contains (kept_in run.memo) p
+  pub visits : first.left + unmoves_in_all (kept_in first.memo) + length rest ≡ run.left + length (unmoves q) + unmoves_in_all (kept_in run.memo)
   pub trees : length (kept_in run.memo) ≤ length (kept_in first.memo) + made
   pub lines : run.memo.lines ≤ first.memo.lines + below * made
 
@@ -46,6 +50,8 @@ good_none ps m q below ancestors rest c run all empty numbers g =
       alone = numbers.0;
       small = omega (arith, numbers.2);
       fits = g.fits;
+      done = λ u listed. inl listed;
+      stay = λ p there. there;
       visits = omega arith;
       trees = omega arith;
       lines = omega arith;
@@ -103,6 +109,14 @@ good_more ps m q below ancestors rest others c grown run now first u r p above h
       alone = omega (arith, a.lean, s.alone, w.alone);
       small = omega (arith, a.lines, s.small, w.small);
       fits = w.fits;
+      done = λ v there. elim (s.done v there) [
+        | inl left ↦ elim (contains-cases u others v (subst (λ (l : List Unmove). Contains l v) next left)) [
+          | inl same ↦ inr (subst (λ (x : Unmove). IsDone (kept_in now.memo) (predecessor q x)) same w.done)
+          | inr later ↦ inl later
+        ]
+        | inr done ↦ inr (done_on (kept_in run.memo) (kept_in now.memo) (predecessor q v) w.stay done)
+      ];
+      stay = λ x there. w.stay x (s.stay x there);
       visits = omega (arith, ap length next, s.visits, w.visits);
       trees = omega (arith, s.trees, w.trees);
       lines = omega (arith, s.lines, w.lines);
@@ -144,7 +158,12 @@ good_all ps m q below ancestors rest c run first r g s end tree lean counted =
       alone = lean ∙ s.alone;
       small = omega (arith, counted, s.small, same);
       fits = s.fits;
-      visits = omega (arith, s.visits);
+      done = λ u listed. elim (s.done u listed) [
+        | inl left ↦ absurd (contains-none u (subst (λ (l : List Unmove). Contains l u) end left))
+        | inr done ↦ done
+      ];
+      stay = s.stay;
+      visits = omega (arith, s.visits, ap length end);
       trees = omega (arith, s.trees, same);
       lines = omega (arith, s.lines, ap (λ (x : ℕ). below * x) same);
     }

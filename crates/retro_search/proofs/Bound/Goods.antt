@@ -5,10 +5,10 @@ use Rattle.std.specs.List.{All, Contains}
 use Rattle.std.proofs.Math.Nat.{mul-le-mul_left}
 use Rattle.std.specs.Map.{keys_of, values_of}
 use Rattle.std.proofs.lemmas.List.{length-append, map-append}
-use Rattle.std.proofs.lemmas.List.Elements.{All-contains, All-nil, All-push, Contains-append_cases, Contains-append_right}
+use Rattle.std.proofs.lemmas.List.Elements.{All-contains, All-nil, All-push, Contains-append_cases, Contains-append_left, Contains-append_right}
 use Rattle.indexmap.specs.IndexMap.{values}
 use Rattle.board_base.specs.declared.unmoves.Unmove.{Unmove}
-use Rattle.general_lemmas.proofs.Lists.{contains-cases, contains-none}
+use Rattle.general_lemmas.proofs.Lists.{contains-cases, contains-first, contains-none}
 use Rattle.query_base.specs.Asked.{Asked}
 use Rattle.query_base.specs.Reach.{Reaches}
 use Rattle.static_rules.specs.Supports.{IsClosed}
@@ -23,9 +23,9 @@ use Rattle.retro_search.specs.Costs.{IsCost}
 use Rattle.retro_search.specs.Lone.{AreDifferent, AreExpanded, IsLone, IsLoneSearch, IsMemoCost, StandsIn, unmoves_in_all}
 use Rattle.retro_search.specs.Eager.{IsEager}
 use Rattle.retro_search.specs.Heights.{height}
-use Rattle.retro_search.specs.Kept.{IsKept, IsSound, StandsAlone}
+use Rattle.retro_search.specs.Kept.{IsKept, IsRefutation, IsSound, StandsAlone}
 use Rattle.retro_search.specs.Tidy.{HasRoomFor, IsKeptLow, Keeps, kept_in}
-use Rattle.retro_search.specs.Good.{FitsIn, GoesWell, GoesWellBelow, IsGood, IsGoodBelow, IsPaid, IsTidy}
+use Rattle.retro_search.specs.Good.{AreWhole, FitsIn, GoesWell, GoesWellBelow, IsDone, IsGood, IsGoodBelow, IsPaid, IsTidy}
 use Rattle.retro_search.specs.declared.memos.Kept.{Kept}
 use Rattle.retro_search.specs.declared.memos.Memo.{Memo}
 use Rattle.retro_search.specs.declared.refutations.Refutation.{Refutation}
@@ -35,6 +35,7 @@ use Rattle.retro_search.specs.declared.stops.Stop.{Stop}
 use Rattle.retro_search.proofs.Expansions.{if_spent, less_one}
 use Rattle.retro_search.proofs.Costs.CostSums.{cost_below, cost_positive}
 use Rattle.retro_search.proofs.Bound.Different.{different_moved, member_moved, sum-append, sum_within}
+use Rattle.retro_search.proofs.Bound.Wholes.{tree_done, value_key, whole_more}
 use Rattle.retro_search.proofs.Trees.EagerTrees.{covered-by, eager_low, eager_small, lone-here, lone_unshut}
 
 -- before a visit, all visits are paid for
@@ -52,22 +53,31 @@ leaf_eager (rule r) q above p low lone covers = tt
 leaf_eager (back k) q above p low lone covers = absurd (lone (covers k refl))
 leaf_eager (expand kids) q above p low lone covers = absurd (omega arith)
 
-stay : (ps : List Asked) (n : ℕ) (q : Asked) (depth : ℕ) (ancestors : List Asked) (run : Run) (r : Refutation) → run.left ≢ 0 → IsGood ps n q depth ancestors run → IsEager (tree_of r.node) q → r.lean ≡ 0 → r.lines ≤ n → GoesWell ps n q depth ancestors r run (visited run)
-stay ps n q depth ancestors run r some g eager alone small = record {
+-- it is a rule line that supports the query
+eager-closed : (t : Tree) (q : Asked) (above : List Asked) → Proves t q above → height t ≡ 0 → IsEager t q → IsClosed q
+eager-closed (rule r) q above p low eager = (r, p)
+eager-closed (back k) q above p low eager = absurd eager
+eager-closed (expand kids) q above p low eager = absurd (omega arith)
+
+stay : (ps : List Asked) (n : ℕ) (q : Asked) (depth : ℕ) (ancestors : List Asked) (run : Run) (r : Refutation) → run.left ≢ 0 → IsGood ps n q depth ancestors run → IsEager (tree_of r.node) q → r.lean ≡ 0 → r.lines ≤ n → IsDone (kept_in run.memo) q → GoesWell ps n q depth ancestors r run (visited run)
+stay ps n q depth ancestors run r some g eager alone small done = record {
   eager = eager;
   alone = alone;
   small = small;
   fits = record { tidy = g.fits.tidy; different = g.fits.different; within = g.fits.within };
+  done = done;
+  stay = λ p there. there;
   visits = omega arith;
   trees = omega arith;
   lines = omega arith;
 }
 
 -- a query that is shut
-pub shut_well : (ps : List Asked) (n : ℕ) (q : Asked) (depth : ℕ) (ancestors : List Asked) (run : Run) (r : Refutation) → run.left ≢ 0 → IsGood ps n q depth ancestors run → r.lines ≡ 1 → ((IsCovered q ancestors → ⊥) → (r.lean ≡ 0) × IsEager (tree_of r.node) q) → GoesWell ps n q depth ancestors r run (visited run)
-shut_well ps n q depth ancestors run r some g one own =
+pub shut_well : (ps : List Asked) (n : ℕ) (q : Asked) (depth : ℕ) (ancestors : List Asked) (run : Run) (r : Refutation) → run.left ≢ 0 → IsGood ps n q depth ancestors run → IsRefutation r q 0 ancestors → r.lines ≡ 1 → ((IsCovered q ancestors → ⊥) → (r.lean ≡ 0) × IsEager (tree_of r.node) q) → GoesWell ps n q depth ancestors r run (visited run)
+shut_well ps n q depth ancestors run r some g is one own =
     let o = own (lone-here depth q ancestors g.lone) in
-    stay ps n q depth ancestors run r some g o.1 o.0 (omega (arith, one, cost_positive depth q ancestors n g.cost))
+    let closed = eager-closed (tree_of r.node) q _ is.proves (omega (arith, is.high, is.low)) o.1 in
+    stay ps n q depth ancestors run r some g o.1 o.0 (omega (arith, one, cost_positive depth q ancestors n g.cost)) (inl closed)
 
 -- a query of which a tree is kept
 pub kept_well : (ps : List Asked) (n : ℕ) (q : Asked) (depth : ℕ) (ancestors : List Asked) (run : Run) (r : Refutation) (k : Kept) → run.left ≢ 0 → IsGood ps n q depth ancestors run → IsSound run.memo → k.query ≡ q → Contains (values run.memo.trees) k → tree_of r.node ≡ tree_of k.node → r.lean ≡ 0 → r.lines ≡ k.lines → GoesWell ps n q depth ancestors r run (visited run)
@@ -76,7 +86,8 @@ kept_well ps n q depth ancestors run r k some g sound own among tree alone count
     let stands : StandsAlone (tree_of k.node) k.query k.height k.lines = All-contains IsKept (values run.memo.trees) k sound.each among in
     let proves : Proves (tree_of k.node) q [] = subst (λ (a : Asked). Proves (tree_of k.node) a []) own stands.proves in
     let few = eager_small (tree_of k.node) q depth ancestors [] n eager proves g.lone g.refutable g.cost in
-    stay ps n q depth ancestors run r some g (subst (λ (t : Tree). IsEager t q) (sym tree) eager) alone (omega (arith, few, stands.counted, counted))
+    let there : Contains (kept_in run.memo) q = subst (λ (a : Asked). Contains (kept_in run.memo) a) own (value_key run.memo.trees.entries k g.fits.tidy.own among) in
+    stay ps n q depth ancestors run r some g (subst (λ (t : Tree). IsEager t q) (sym tree) eager) alone (omega (arith, few, stands.counted, counted)) (inr there)
 
 -- what is kept for a lone and refutable query is low
 low-kept : (q : Asked) (depth : ℕ) (ancestors : List Asked) (k : Kept) → IsLone q depth ancestors → IsRefutable q depth ancestors → IsEager (tree_of k.node) k.query → StandsAlone (tree_of k.node) k.query k.height k.lines → k.query ≡ q → k.height ≤ depth
@@ -155,10 +166,13 @@ kept_after ps n m q below ancestors run expanded new r some size g w left k on =
           on = on;
           own = subst (λ (es : List (Asked × Kept)). All (λ e. e.1.query ≡ e.0) es) (sym k.entries) (All-push (λ e. e.1.query ≡ e.0) expanded.memo.trees.entries (q, k.kept) w.fits.tidy.own k.query_is);
           eager = subst (λ (vs : List Kept). All (λ x. IsEager (tree_of x.node) x.query) vs) (sym values_are) (All-push (λ x. IsEager (tree_of x.node) x.query) (values expanded.memo.trees) k.kept w.fits.tidy.eager eager);
+          whole = subst AreWhole (sym keys_are) (whole_more (kept_in expanded.memo) q w.fits.tidy.whole w.done);
         };
         different = subst (λ (ks : List Asked). AreDifferent (ancestors ++ ks)) (sym keys_are) (different_moved ancestors (kept_in expanded.memo) q w.fits.different.0 w.fits.different.1);
         within = λ p there. w.fits.within p (member_moved ancestors (kept_in expanded.memo) q p (subst (λ (ks : List Asked). Contains (ancestors ++ ks) p) keys_are there));
       };
+      done = inr (subst (λ (ks : List Asked). Contains ks q) (sym keys_are) (Contains-append_right (kept_in expanded.memo) (q ∷ []) q (contains-first q [])));
+      stay = λ p there. subst (λ (ks : List Asked). Contains ks p) (sym keys_are) (Contains-append_left (kept_in expanded.memo) (q ∷ []) p (w.stay p there));
       visits = omega (arith, w.visits, left, ap unmoves_in_all keys_are, sum-append (kept_in expanded.memo) (q ∷ []));
       trees = omega (arith, w.trees, ap length keys_are, length-append (kept_in expanded.memo) (q ∷ []), size);
       lines = omega (arith, w.lines, k.lines, w.small, wide);
@@ -209,6 +223,7 @@ good_root ps n q depth run on empty blank shallow lone ref cost few expanded =
           on = on;
           own = subst (λ (es : List (Asked × Kept)). All (λ e. e.1.query ≡ e.0) es) (sym empty) (All-nil (λ (e : Asked × Kept). e.1.query ≡ e.0));
           eager = subst (λ (vs : List Kept). All (λ x. IsEager (tree_of x.node) x.query) vs) (sym values_are) (All-nil (λ (x : Kept). IsEager (tree_of x.node) x.query));
+          whole = subst AreWhole (sym keys_are) (λ p there u listed. absurd (contains-none p there));
         };
         different = subst AreDifferent (sym keys_are) tt;
         within = λ p there. absurd (contains-none p (subst (λ (ks : List Asked). Contains ks p) keys_are there));
@@ -231,6 +246,22 @@ pub root_small : (s : Stop) (q : Asked) (depth : ℕ) (run : Run) (above : List 
 root_small s q depth run above none on empty blank shallow small ps n expanded l =
     let here : IsGood ps n q depth [] run → IfTooLarge s ⊥ = subst (λ (up : List Asked). IsGood ps n q depth (reverse up) run → IfTooLarge s ⊥) none (small ps n) in
     here (good_root ps n q depth run on empty blank shallow l.lone l.refutable l.cost l.few expanded)
+
+-- a search that keeps trees and refutes has as many visits as the memo cost
+pub root_afforded : (r : Refutation) (q : Asked) (depth : ℕ) (run new : Run) (above : List Asked) → above ≡ [] → run.memo.on ≡ true → run.memo.trees.entries ≡ [] → run.memo.lines ≡ 0 → depth ≤ 64 → ((ps : List Asked) (n : ℕ) → IsGood ps n q depth (reverse above) run → GoesWell ps n q depth (reverse above) r run new) → (ps : List Asked) (n : ℕ) → AreExpanded ps q depth → IsLoneSearch q depth n → unmoves_in_all ps < run.left
+root_afforded r q depth run new above none on empty blank shallow well ps n expanded l =
+    let here : IsGood ps n q depth [] run → GoesWell ps n q depth [] r run new = subst (λ (up : List Asked). IsGood ps n q depth (reverse up) run → GoesWell ps n q depth (reverse up) r run new) none (well ps n) in
+    let w = here (good_root ps n q depth run on empty blank shallow l.lone l.refutable l.cost l.few expanded) in
+    let kept : (p : Asked) → Contains ps p → Contains (kept_in new.memo) p = λ p there.
+    let e = (expanded.each p).0 there in
+    elim (tree_done depth p q (kept_in new.memo) w.fits.tidy.whole w.done e.0) [ inl closed ↦ absurd (e.1 closed) | inr inside ↦ inside ] in
+    omega (arith, w.visits, sum_within ps (kept_in new.memo) expanded.different kept, ap unmoves_in_all (ap keys_of empty))
+
+-- so it had no fewer than the memo cost
+pub memo_afforded : (nodes : ℕ) (p q : Asked) (depth : ℕ) → p ≡ q → ((ps : List Asked) (n : ℕ) → AreExpanded ps p depth → IsLoneSearch p depth n → unmoves_in_all ps < nodes) → (n k : ℕ) → IsLoneSearch q depth n → IsMemoCost q depth k → k ≤ nodes
+memo_afforded nodes p q depth same afforded n k l (ps, expanded, e) =
+    let enough = afforded ps n (subst (λ (a : Asked). AreExpanded ps a depth) (sym same) expanded) (subst (λ (a : Asked). IsLoneSearch a depth n) (sym same) l) in
+    omega (arith, enough, e)
 
 -- a search that keeps trees and runs out of visits had fewer than the memo cost
 pub memo_spent : (nodes : ℕ) (p q : Asked) (depth : ℕ) → p ≡ q → ((ps : List Asked) (n : ℕ) → AreExpanded ps p depth → IsLoneSearch p depth n → nodes ≤ unmoves_in_all ps) → (n k : ℕ) → IsLoneSearch q depth n → IsMemoCost q depth k → nodes < k

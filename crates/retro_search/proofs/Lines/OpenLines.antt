@@ -51,6 +51,12 @@ longer_open kid line q u done rest depth ancestors parts all elsewhere unshut gr
       marked = subst (λ (l : List Unmove). IsTrue line.at_array ↔ EndsAtArray q l) back (subst (λ (b : Bool). IsTrue b ↔ EndsAtArray (predecessor q u) (reverse kid.back.items)) (sym same) o.marked);
     }
 
+pub if_open : (s : Stop) (P Q : OpenLine → Type 0) → ((line : OpenLine) → P line → Q line) → IfOpen s P → IfOpen s Q
+if_open (stop.Open line) P Q on h = on line h
+if_open stop.Spent P Q on h = h
+if_open stop.TooLarge P Q on h = h
+if_open stop.Memory P Q on h = h
+
 -- what stops the search of a predecessor stops that of the query
 pub stop_open : (s t : Stop) (u : Unmove) (P Q : OpenLine → Type 0) → ((kid line : OpenLine) → line.back.items ≡ kid.back.items ++ u ∷ [] → line.at_array ≡ kid.at_array → P kid → Q line) → IsLengthened s u t → IfOpen s P → IfOpen t Q
 stop_open (stop.Open kid) (stop.Open line) u P Q on (grown, same) h = on kid line grown same h

@@ -28,5 +28,6 @@ returns-in-Proved c =
       cert = cert;
       is_proof = rw c.in-Proved.is at c.in-Ok.ensures.proved;
       is_text = text_written cert _ (rw c.in-Proved.is at (c.in-Ok.ensures.written c.requires.promotion)) c.of_certificate.ensures;
+      afforded = rw c.in-Proved.is at c.in-Ok.ensures.afforded;
       refutable = (rw c.in-Proved.is at c.in-Ok.ensures.exactly).0 tt;
     }

@@ -9,4 +9,4 @@ push-requires c = (omega arith, omega (arith, each-fewer _ c.args.rights.now c.l
 pub loop-right-preserved : goal.loop-right-preserved
 loop-right-preserved c =
     let settles = rw c.in-Some.is at c.in_ok-settled.ensures in
-    each-more (IsSettled c.args.query.now c.args.depth) c.args.rights.now c.loop-right.right-index _ _ _ _ (omega arith) c.right-item.is c.loop-right.invariant settles c.push.ensures.items
+    each-more (IsSettled c.args.query.now c.args.depth c.args.nodes) c.args.rights.now c.loop-right.right-index _ _ _ _ (omega arith) c.right-item.is c.loop-right.invariant settles c.push.ensures.items

@@ -1,4 +1,4 @@
-use Rattle.std.proofs.Common.{◌≡◌, ◌⊎◌, inl, inr, List, [], ◌∷◌, ◌++◌, ◌+◌, ◌-◌, ◌≤◌, reverse, sym, ◌∙◌, subst, true≢false, arith}
+use Rattle.std.proofs.Common.{◌≡◌, ◌⊎◌, inl, inr, List, [], ◌∷◌, ◌++◌, ◌+◌, ◌-◌, ◌≤◌, length, reverse, sym, ap, ◌∙◌, subst, true≢false, arith, length-append}
 use Rattle.std.proofs.lemmas.Bool.{both_ways}
 use Rattle.std.proofs.lemmas.List.Elements.{Contains-append_right}
 use Rattle.std.specs.List.{Contains}
@@ -11,13 +11,14 @@ use Rattle.query_base.specs.Ancestors.{IsCovered}
 use Rattle.retro_search.specs.Refutable.{IsShut}
 use Rattle.retro_search.specs.Eager.{IsEager}
 use Rattle.retro_search.specs.Good.{IsPaid}
+use Rattle.retro_search.specs.Kept.{IsRefutation}
 use Rattle.retro_search.specs.Tidy.{IsKeptLow}
 use Rattle.cert_text.specs.Seen.{tree_of}
 use Rattle.retro_search.proofs.Costs.CostSums.{cost_positive}
 use Rattle.retro_search.proofs.Expansions.{deeper_open, expands_more, expands_none, expands_open, expands_spent, if_large, if_spent, no_open, ok_always, own_ok, own_spent}
 use Rattle.retro_search.proofs.Bound.GoodSteps.{good_all, good_more, good_none, good_room, good_small, good_spent}
 use Rattle.retro_search.proofs.Bound.Goods.{good_at, if_ok_both, kept_well, paid_at, paid_at_none, shut_well, well_at}
-use Rattle.retro_search.proofs.Lines.OpenLines.{leaf_open}
+use Rattle.retro_search.proofs.Lines.OpenLines.{if_open, leaf_open, stop_open}
 use Rattle.retro_search.proofs.searching.+searching.Goals as goal
 use Rattle.retro_search.proofs.searching.+searching.Goals.{search-then-depth-eq0-via-then-depth-eq0, search-then-depth-eq0-via-else-depth-eq0+then-at_array}
 
@@ -69,6 +70,16 @@ expand-loop-unmove-preserved t c =
       }) c.in-Ok-search.ensures.well;
       kept = c.in-Ok-search.ensures.kept ∙ c.loop-unmove.invariant.kept;
     }
+
+pub expand-returns-in-Err-search-clause-deep : goal.expand-returns-in-Err-search-clause-deep
+expand-returns-in-Err-search-clause-deep t c =
+    stop_open c.in-Err-search.stop c.lengthened.result c.in-Some.unmove _ _ (λ kid line grown same short. omega (arith, short, ap length grown, length-append kid.back.items (c.in-Some.unmove ∷ []), c.loop-unmove.invariant.expands.on.fewer)) c.lengthened.ensures c.in-Err-search.ensures.deep
+
+pub expand-returns-in-Err-add-clause-deep : goal.expand-returns-in-Err-add-clause-deep
+expand-returns-in-Err-add-clause-deep t c = no_open c.in-Err-add.stop _ c.in-Err-add.ensures.closed
+
+pub search-returns-in-Err-clause-deep : goal.search-returns-in-Err-clause-deep
+search-returns-in-Err-clause-deep t c = if_open c.in-Err.stop _ _ (λ line short. omega (arith, short, c.if-run-eq0.false)) c.in-Err.ensures.deep
 
 pub expand-returns-in-Err-add-clause-unrefuted : goal.expand-returns-in-Err-add-clause-unrefuted
 expand-returns-in-Err-add-clause-unrefuted t c = no_open c.in-Err-add.stop _ c.in-Err-add.ensures.closed
@@ -140,7 +151,8 @@ pub search-returns-in-Some-clause-well : goal.search-returns-in-Some-clause-well
 search-returns-in-Some-clause-well t c ps n g =
     let q : Asked = c.args.query.now in
     let own = subst (λ (l : List Asked). (IsCovered q (reverse l) → ⊥) → (c.in-Some.found.lean ≡ 0) × IsEager (tree_of c.in-Some.found.node) q) c.deref.ensures.value c.in-Some.ensures.lone in
-    shut_well ps n q c.args.depth (reverse c.args.ancestors.now.items) c.args.run.now c.in-Some.found c.if-run-eq0.false g c.in-Some.ensures.one own
+    let is = subst (λ (l : List Asked). IsRefutation c.in-Some.found q 0 (reverse l)) c.deref.ensures.value c.in-Some.ensures.shut in
+    shut_well ps n q c.args.depth (reverse c.args.ancestors.now.items) c.args.run.now c.in-Some.found c.if-run-eq0.false g is c.in-Some.ensures.one own
 
 pub search-returns-in-Some-find-clause-well : goal.search-returns-in-Some-find-clause-well
 search-returns-in-Some-find-clause-well t c =

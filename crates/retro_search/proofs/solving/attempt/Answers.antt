@@ -4,7 +4,8 @@ use Rattle.query_base.specs.Asked.{Asked}
 use Rattle.retro_search.specs.Costs.{IsCost}
 use Rattle.retro_search.specs.Stops.{IfSpent}
 use Rattle.retro_search.proofs.Expansions.{if_err}
-use Rattle.retro_search.proofs.Bound.Goods.{root_paid, root_small}
+use Rattle.retro_search.proofs.Bound.Goods.{root_afforded, root_paid, root_small}
+use Rattle.retro_search.proofs.Roots.{if_ok}
 use Rattle.retro_search.proofs.solving.attempt.Goals as goal
 
 pub returns-clause-spent : goal.returns-clause-spent
@@ -14,6 +15,10 @@ returns-clause-spent c =
 pub returns-clause-paid : goal.returns-clause-paid
 returns-clause-paid c memo =
     if_err c.search.result _ _ (λ s paid. root_paid s c.args.target.now c.args.depth _ c.new-ancestors.result.items c.new-ancestors.ensures.items (c.new.ensures.on ∙ memo) c.new.ensures.empty.0 c.new.ensures.empty.1 c.requires.shallow paid) c.search.ensures.paid
+
+pub returns-clause-afforded : goal.returns-clause-afforded
+returns-clause-afforded c memo =
+    if_ok c.search.result _ _ (λ found well. root_afforded found c.args.target.now c.args.depth _ c.search.new.run c.new-ancestors.result.items c.new-ancestors.ensures.items (c.new.ensures.on ∙ memo) c.new.ensures.empty.0 c.new.ensures.empty.1 c.requires.shallow well) c.search.ensures.well
 
 pub returns-clause-small : goal.returns-clause-small
 returns-clause-small c memo =

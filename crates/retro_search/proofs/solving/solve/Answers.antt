@@ -1,4 +1,6 @@
-use Rattle.std.proofs.Common.{◌≤◌, [], subst, arith}
+use Rattle.std.proofs.Common.{◌≤◌, [], length, ap, subst, arith}
+use Rattle.std.proofs.lemmas.List.{length-map, length-reverse}
+use Rattle.board_base.specs.declared.unmoves.Unmove.{Unmove}
 use Rattle.query_base.specs.Asked.{Asked}
 use Rattle.query_base.specs.Targets.{target}
 use Rattle.cert_text.specs.Seen.{tree_of}
@@ -9,7 +11,7 @@ use Rattle.retro_search.specs.Sizes.{nodes_in}
 use Rattle.retro_search.proofs.Lines.LineEnds.{countered, undecided}
 use Rattle.retro_search.proofs.Trees.Refuting.{refutes_whole}
 use Rattle.retro_search.proofs.Roots.{exactly_open, held, if_countered, if_ok, if_undecided, refutable_root, written}
-use Rattle.retro_search.proofs.Bound.Goods.{memo_spent}
+use Rattle.retro_search.proofs.Bound.Goods.{memo_afforded, memo_spent}
 use Rattle.retro_search.proofs.solving.solve.Goals as goal
 
 pub returns-in-Ok-clause-written : goal.returns-in-Ok-clause-written
@@ -32,9 +34,22 @@ returns-in-Err-Open-clause-countered c =
     if_ok c.open_answer.result _ _ (λ f. if_countered f _ _ (λ g h.
     countered c.in-Err-Open.line g c.target.result c.args.query.now c.args.claim.now c.args.depth c.target.ensures.query c.target.ensures.contradicted (rw c.in-Err-Open.field-0-is at c.in-Err-Open.ensures.unrefuted) h.0 h.1)) c.open_answer.ensures.countered
 
+pub returns-in-Err-Open-clause-short_line : goal.returns-in-Err-Open-clause-short_line
+returns-in-Err-Open-clause-short_line c =
+    let deep = rw c.in-Err-Open.field-0-is at c.in-Err-Open.ensures.deep in
+    if_ok c.open_answer.result _ _ (λ f. if_undecided f _ _ (λ l h. omega (arith, deep, ap length h.0, length-reverse c.in-Err-Open.line.back.items))) c.open_answer.ensures.undecided
+
+pub returns-in-Err-Open-clause-short_game : goal.returns-in-Err-Open-clause-short_game
+returns-in-Err-Open-clause-short_game c =
+    let deep = rw c.in-Err-Open.field-0-is at c.in-Err-Open.ensures.deep in
+    if_ok c.open_answer.result _ _ (λ f. if_countered f _ _ (λ g h. omega (arith, deep, ap length h.0, length-map c.in-Err-Open.line.back.items (λ (u : Unmove). u.mv)))) c.open_answer.ensures.countered
+
 pub returns-in-Err-Spent-clause-lone : goal.returns-in-Err-Spent-clause-lone
 returns-in-Err-Spent-clause-lone c =
     memo_spent c.args.nodes c.target.result _ c.args.depth c.target.ensures.query (rw c.in-Err-Spent.field-0-is at c.in-Err-Spent.ensures.paid)
+
+pub returns-in-Ok-clause-afforded : goal.returns-in-Ok-clause-afforded
+returns-in-Ok-clause-afforded c = memo_afforded c.args.nodes c.target.result _ c.args.depth c.target.ensures.query c.in-Ok.ensures.afforded
 
 pub returns-in-Ok-clause-exactly : goal.returns-in-Ok-clause-exactly
 returns-in-Ok-clause-exactly c = (
