@@ -1,4 +1,4 @@
-//! Tests of the calls of the crates below: what each answers on boards, men and queries that are written out.
+//! Tests of the calls of the crates below: what each answers on boards, men, queries and streams that are written out.
 #![tactic(auto)]
 
 #[cfg(test)]
@@ -9,6 +9,8 @@ mod demands;
 mod men;
 #[cfg(test)]
 mod odds;
+#[cfg(test)]
+mod ports;
 #[cfg(test)]
 mod queries;
 #[cfg(test)]

@@ -1,4 +1,6 @@
-use crate::{
+//! Sources and sinks over any reader and writer, in memory, and without faults.
+
+use retro_ports::{
     Failed, MemSink, MemSource, QuietSink, QuietSource, ReadAllFault, Sink, Source, StdSink,
     StdSource, read_all, write_all,
 };
@@ -79,7 +81,7 @@ fn reads_from_any_reader_to_its_end(rt: HostRuntime) -> Result<(), Fail> {
         for answer in want {
             let mut buf = [0; 2];
             let read = source.read(&mut buf);
-            assert_eq!(rt; read, answer, "{most} a call, and {fails}");
+            assert_eq!(rt; read, answer);
             if let Ok(n) = read {
                 all.extend_from_slice(&buf[..n])?;
             }
@@ -107,11 +109,7 @@ fn writes_through_any_writer(rt: HostRuntime) -> Result<(), Fail> {
         };
         let mut sink = StdSink::new(&mut writer);
         for answer in want {
-            assert_eq!(rt;
-                sink.write(b"ab"),
-                answer,
-                "{most} a call, and {write_fails}, {flush_fails}"
-            );
+            assert_eq!(rt; sink.write(b"ab"), answer);
         }
         drop(sink);
         assert!(rt; writer.passed_on.as_slice() == passed_on);
@@ -132,10 +130,10 @@ fn reads_all_within_the_limit(rt: HostRuntime) -> Result<(), Fail> {
         let mut source = MemSource::new(bytes, fails, 2);
         match read_all(rt.alloc(), &mut source, limit) {
             Ok(all) => {
-                assert_eq!(rt; want, None, "at {limit} and {failing}");
+                assert_eq!(rt; want, None);
                 assert!(rt; all.as_slice() == b"abcde".as_slice());
             }
-            Err(fault) => assert_eq!(rt; Some(fault), want, "at {limit} and {failing}"),
+            Err(fault) => assert_eq!(rt; Some(fault), want),
         }
     }
     Ok(())
@@ -146,13 +144,9 @@ fn writes_all_within_the_room(rt: HostRuntime) -> Result<(), Fail> {
     for (room, failing, taken) in [(5, 9, 5), (4, 9, 4), (5, 1, 2)] {
         let fails = Vec::from_slice(rt.alloc(), &[failing])?;
         let mut sink = MemSink::new(rt.alloc(), room, fails, 2)?;
-        assert_eq!(rt;
-            write_all(&mut sink, b"abcde").is_ok(),
-            taken == 5,
-            "in {room}"
-        );
-        assert_eq!(rt; sink.taken().len(), taken, "in {room}");
-        assert!(rt; b"abcde".as_slice().starts_with(sink.taken()), "in {room}");
+        assert_eq!(rt; write_all(&mut sink, b"abcde").is_ok(), taken == 5);
+        assert_eq!(rt; sink.taken().len(), taken);
+        assert!(rt; b"abcde".as_slice().starts_with(sink.taken()));
     }
     Ok(())
 }
