@@ -1,5 +1,7 @@
 ghost use Rattle.std.specs.Prelude.{◌≡◌};
+ghost use Rattle.board_base.specs.declared.castles.Castle.TheVariants.{WhiteShort};
 ghost use Rattle.codex_verdict.specs.Rights.{claim_of};
+ghost use Rattle.codex_verdict.specs.declared.kinds.Right.TheVariants.{Castling};
 
 use board_base::{Castle, Move};
 use query_base::Claim;
@@ -14,7 +16,10 @@ pub enum Right {
 }
 
 impl Default for Right {
-    fn default() -> Right {
+    /// What stands in the unused places of an array of rights.
+    fn default() -> Right
+        ensures { result ≡ Castling WhiteShort }
+    {
         Right::Castling(Castle::WhiteShort)
     }
 }

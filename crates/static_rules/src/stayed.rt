@@ -49,8 +49,8 @@ fn stayed_allowance(board: &Board, side: Colour, odds: Odds) -> Allowance
     with_pawns(allowance(side, odds).pawns, &n)
 }
 
-/// Whether the side's pawns, and its officers of each kind above those who stand where they began, are at most the pawns with which it
-/// began. Homes on which they stand are never dead, so no more of them have been promoted, whatever the set.
+/// True only where the side's pawns, and its officers of each kind above those who stand where they began, are at most the pawns with
+/// which it began. Homes on which they stand are never dead, so no more of them have been promoted, whatever the set.
 pub(crate) fn has_few(query: &Query, side: Colour) -> bool
     ensures { IsTrue result → (set : List Bool) → HasTooMany query.now.odds query.now set side → ⊥ }
 {
@@ -107,7 +107,7 @@ fn may_spend(first: &Board, board: &Board, set: SquareSet, side: Colour) -> bool
     false
 }
 
-/// Whether the side's pawns need no more captures than there are enemy men gone, and each of these may have been captured by a pawn.
+/// True only where the side's pawns need no more captures than there are enemy men gone, and each of these may have been captured by a pawn.
 pub(crate) fn needs_few(query: &Query, side: Colour, set: SquareSet) -> bool
     ensures { IsTrue result → (u v : List ℤ) → IsAbove query.now.odds query.now side set u v → ⊥ }
 {

@@ -15,7 +15,8 @@ use std::marker::Model;
 /// castling is allowed, it leads to the query's board, and that board passes tests that the board of every game passes: one king
 /// each, no pawn on rank 1 or 8, no king attacked out of turn, and for each side no more pawns and men that must have been promoted
 /// than it begins with pawns, seen from what it begins with at the query's odds. The move touches no home of a right that is held,
-/// and is what `only` and `barred` ask of the last move.
+/// and is what `only`, `barred` and the clock ask of the last move: by `only` a pawn stands on its target, and where a clock is
+/// demanded, the move captures or is a pawn's exactly where the clock is 0.
 ///
 /// They ascend in the order of `cmp_unmove`: by target, then origin, then promotion, then captured man, en passant after all others.
 /// There are at most 143,360.

@@ -34,7 +34,7 @@ fn is_alone_at(query: &Query, facts: &Option<QueryFacts>, last: u8, alone: bool,
     }
 }
 
-/// The place of the first capture from this one on that is listed, or 7.
+/// 7, or the place of a capture from this one on with none before it that is listed.
 fn next_listed(answers: &[bool; 7], start: u8) -> u8
     requires { start ≤ 7 }
     ensures high { start ≤ result }
@@ -80,7 +80,7 @@ fn stop_on(query: &Query, facts: &Option<QueryFacts>, start: Cursor, alone: bool
     }
 }
 
-/// The first candidate from this one on that is listed, or the end.
+/// The end, or a candidate from this one on with none before it that is listed.
 pub fn stop_from(
     query: &Query,
     facts: &Option<QueryFacts>,
