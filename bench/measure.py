@@ -10,6 +10,7 @@ measure.py moves            `legal_moves` on four middle-game positions: builds 
 measure.py pawns            `least` and `bound` on eight pawns, in machine instructions, by valgrind: builds pawns.program likewise
 measure.py unmoves          lists of retractions of eight positions, in machine instructions: builds unmoves.program likewise
 measure.py cages            a greatest frozen set and seven regions beside it, in machine instructions: builds cages.program likewise
+measure.py balance          the balance of captures at equal prices, and the search for prices, likewise: builds balance.program
 """
 import contextlib
 import pathlib
@@ -185,6 +186,14 @@ def cages():
             print(f"{(many - none) / 100:.0f} instructions: {fen}")
 
 
+def balance():
+    parts = "board_base query_base cage_rules fen_text capture_prices balance_rule"
+    with built("balance", parts, ["--", CHAINS[0], "0", "0"]) as program:
+        for fen in CHAINS:
+            none, many, found = (instructions([program, fen, a, b]) for a, b in (("0", "0"), ("20", "0"), ("0", "1")))
+            print(f"{(many - none) / 20:.0f} instructions to weigh, {found - none} to look for prices: {fen}")
+
+
 def unmoves():
     with built("unmoves", "board_base fen_text query_base unmove_gen", ["--", RETRACTED[0], "0"]) as program:
         for fen in RETRACTED:
@@ -211,6 +220,8 @@ def main():
         unmoves()
     elif sys.argv[1:] == ["cages"]:
         cages()
+    elif sys.argv[1:] == ["balance"]:
+        balance()
     else:
         sys.exit(__doc__)
 

@@ -17,8 +17,8 @@ IsMatched-new table width rows columns in_rows in_columns =
         columns_reached = λ j lt. (j, lt, in_columns j lt);
         rows_reached = λ j lt. (j, lt, in_rows j lt);
         fair = λ m e lm le. let u = zero_at m lm in omega arith;
-        u_small = λ m lm. let u = zero_at m lm in omega arith;
-        prices_small = λ m lm. let u = zero_at m lm in omega arith;
+        u_small = λ limit most m lm. let u = zero_at m lm in omega arith;
+        prices_small = λ limit most m lm. let u = zero_at m lm in omega arith;
       };
       rows_below = λ m none. omega arith;
       met = λ m none. omega arith;

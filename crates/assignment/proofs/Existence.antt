@@ -6,18 +6,18 @@ use Rattle.std.proofs.Math.ListN.{get_or-map}
 use Rattle.std.proofs.lemmas.Bool.{cases_eq, cases_lt}
 use Rattle.std.proofs.lemmas.Bool.Decides.{nat_tests}
 use Rattle.std.proofs.lemmas.List.{get_or_past, length-map, length-replicate}
-use Rattle.std.proofs.lemmas.List.Edits.{length-swap, swapped_from_swap}
+use Rattle.std.proofs.lemmas.List.Edits.{length-swap}
 use Rattle.std.proofs.lemmas.List.FromFn.{get_or-map-range_with_len, get_or-range_with_len, length-map-range_with_len, length-range_with_len}
-use Rattle.assignment.specs.Tables.{IsTable}
-use Rattle.assignment.specs.Pairings.{IsColumnSwap, IsHanding, IsMatched, IsOutside, IsPlaceSwap, IsRaised, IsReadOff, IsSwapped, IsTree, Meets, slack_of}
+use Rattle.assignment.specs.Pairings.{ArePlaces, IsColumnSwap, IsHanding, IsMatched, IsOutside, IsPlaceSwap, IsRaised, IsTree, Meets, slack_of}
 use Rattle.assignment.specs.declared.nearest.Link.{Link}
 use Rattle.assignment.specs.declared.pairing.Pairing.{Pairing}
 use Rattle.assignment.proofs.Beginning.{IsMatched-new}
 use Rattle.assignment.proofs.Growth.{IsTreeRaised, IsTree-grown, IsTree-raised, IsTree-rooted, Meets-raised}
 use Rattle.assignment.proofs.Handing.{IsHanding-begun, IsHanding-step, IsMatched-handed}
 use Rattle.assignment.proofs.LeastSlack.{IsBestOfRow, IsBestOfRow-better, IsBestOfRow-kept, IsBestOfRows, IsBestOfRows-more}
-use Rattle.assignment.proofs.ReadOff.{IsReadOff-more}
+use Rattle.assignment.proofs.ReadOff.{ArePlaces-more}
 use Rattle.assignment.proofs.Solved.{IsSolved, IsSolved-read}
+use Rattle.assignment.proofs.Swaps.{IsSwapped-swap}
 
 raised : ℕ → ℕ → ℕ → List ℕ → List ℕ
 raised from to by xs = map (λ i. cond (nat_le from i && nat_lt i to) (slice_index xs i + by) (slice_index xs i)) (range_with_len 0 (length xs))
@@ -45,11 +45,6 @@ IsRaised-raised from to by xs within = record {
   below = λ m low. let at = raised_at from to by xs m within in grind (arith, nat_tests);
   above = λ m high. let at = raised_at from to by xs m within in grind (arith, nat_tests);
 }
-
-IsSwapped-swap : (a b : ℕ) (xs : List ℕ) → a < length xs → b < length xs → IsSwapped a b xs (swap xs a b)
-IsSwapped-swap a b xs la lb =
-    let swapped = swapped_from_swap xs (swap xs a b) a b 0 la lb refl in
-    record { at_first = swapped.0; at_second = swapped.1; others = swapped.2 }
 
 -- each list has one number for each place
 record IsSized (width : ℕ) (p : Pairing width) : Type 0 where
@@ -207,9 +202,9 @@ module _ (table : List (List ℕ)) (width n : ℕ) where
       ]
 
   -- one more column is met, and it is free, or the tree grows
-  wider : IsTable table width → (k : ℕ) (parents : List ℕ) (p : Pairing width) → IsSized width p → IsTree table width p n k parents
+  wider : (k : ℕ) (parents : List ℕ) (p : Pairing width) → IsSized width p → IsTree table width p n k parents
       → (q : Pairing width) × (m : ℕ) × (e : ℕ) × IsSized width q × IsTree table width q n k parents × (m < k) × (e < width) × IsOutside k e × Meets table width q m e
-  wider costs k parents p sized h =
+  wider k parents p sized h =
       let some = h.root in
       let high : k ≤ width = omega (arith, h.size, h.room) in
       let best = best_of_rows table width p k (k - 1) (omega arith) high in
@@ -222,20 +217,20 @@ module _ (table : List (List ℕ)) (width n : ℕ) where
         best.0.from,
         best.0.to,
         IsSized-raised width k best.0.slack p sized,
-        IsTree-raised table width n k best.0.slack parents p costs h least q is,
+        IsTree-raised table width n k best.0.slack parents p h least q is,
         link.within,
         link.to,
         link.outside,
-        Meets-raised table width n k best.0.slack parents p costs h least q is best.0.from best.0.to link,
+        Meets-raised table width n k best.0.slack parents p h least q is best.0.from best.0.to link,
       )
 
-  grown : IsTable table width → (fuel k : ℕ) (parents : List ℕ) (p : Pairing width) → n + 1 ≡ k + fuel → IsSized width p → length parents ≡ width → IsTree table width p n k parents → Matches (n + 1)
-  grown costs zero k parents p e sized size h =
-      let w = wider costs k parents p sized h in
+  grown : (fuel k : ℕ) (parents : List ℕ) (p : Pairing width) → n + 1 ≡ k + fuel → IsSized width p → length parents ≡ width → IsTree table width p n k parents → Matches (n + 1)
+  grown zero k parents p e sized size h =
+      let w = wider k parents p sized h in
       handed w.1 w.1 w.2 parents w.0 (omega arith) w.3
       (IsHanding-begun table width n parents k w.1 w.2 w.0 w.4 w.5 w.6 (λ some. let past : k ≤ w.2 = w.7 some in omega arith) w.8)
-  grown costs (suc fuel) k parents p e sized size h =
-      let w = wider costs k parents p sized h in
+  grown (suc fuel) k parents p e sized size h =
+      let w = wider k parents p sized h in
       elim (cases_eq w.2 0) [
         | inl root ↦
             handed w.1 w.1 w.2 parents w.0 (omega arith) w.3
@@ -248,7 +243,7 @@ module _ (table : List (List ℕ)) (width n : ℕ) where
               let past : k ≤ w.2 = w.7 (omega arith) in
               let low : k < width = omega (arith, h.size, h.room) in
               let q = with_places_swapped width k w.2 w.0 in
-              grown costs fuel (k + 1) (slice_set parents k w.1) q (omega arith) (IsSized-places width k w.2 w.0 w.3) (length-set parents k w.1 ∙ size)
+              grown fuel (k + 1) (slice_set parents k w.1) q (omega arith) (IsSized-places width k w.2 w.0 w.3) (length-set parents k w.1 ∙ size)
               (IsTree-grown table width n w.0 q k w.1 w.2 parents (slice_set parents k w.1) w.4 w.5 past taken w.8
               (get_or-set_same parents k w.1 0 (omega arith))
               (λ i lt. get_or-set_other parents k i w.1 0 (λ is. omega arith))
@@ -257,48 +252,48 @@ module _ (table : List (List ℕ)) (width n : ℕ) where
       ]
 
 -- as many rows as there are can be matched
-matched : (table : List (List ℕ)) (width n : ℕ) → IsTable table width → n ≤ length table → (q : Pairing width) × IsSized width q × IsMatched table width q n
-matched table width zero costs le = (
+matched : (table : List (List ℕ)) (width n : ℕ) → n ≤ width → (q : Pairing width) × IsSized width q × IsMatched table width q n
+matched table width zero le = (
   record { rows = range_with_len 0 width; u = replicate width 0; columns = range_with_len 0 width; prices = replicate width 0 },
   record { rows = length-range_with_len 0 width; u = length-replicate width 0; columns = length-range_with_len 0 width; prices = length-replicate width 0 },
   IsMatched-new table width (range_with_len 0 width) (range_with_len 0 width)
       (λ m lt. get_or-range_with_len 0 width m 0 lt ∙ omega arith) (λ m lt. get_or-range_with_len 0 width m 0 lt ∙ omega arith),
 )
-matched table width (suc n) costs le =
-    let before = matched table width n costs (omega arith) in
-    let low : n < width = omega (arith, costs.rows) in
+matched table width (suc n) le =
+    let before = matched table width n (omega arith) in
+    let low : n < width = omega arith in
     let p = before.0 in
     let q = with_places_swapped width 0 n p in
     let tree = IsTree-rooted table width n p q (replicate width 0) low before.2 (IsPlaceSwap-swapped width 0 n p before.1 (omega arith) low) in
-    let all = grown table width n costs n 1 (replicate width 0) q (omega arith) (IsSized-places width 0 n p before.1) (length-replicate width 0) tree in
+    let all = grown table width n n 1 (replicate width 0) q (omega arith) (IsSized-places width 0 n p before.1) (length-replicate width 0) tree in
     let next : n + 1 ≡ suc n = omega arith in
     (all.0, all.1, subst (λ (n : ℕ). IsMatched table width all.0 n) next all.2)
 
-read : (width count : ℕ) (keys values : List ℕ) → count ≤ width → ((i : ℕ) → i < width → (m : ℕ) × (m < width) × (slice_index keys m ≡ i)) → (read : List ℕ) × IsReadOff width count keys values read
-read width zero keys values le reached = ([], record { size = refl; at = λ i lt. absurd (omega arith) })
-read width (suc count) keys values le reached =
-    let before = read width count keys values (omega arith) reached in
+found : (width count : ℕ) (keys : List ℕ) → count ≤ width → ((i : ℕ) → i < width → (m : ℕ) × (m < width) × (slice_index keys m ≡ i)) → (places : List ℕ) × ArePlaces width count keys places
+found width zero keys le reached = ([], record { size = refl; within = λ i d lt. absurd (omega arith); at = λ i lt. absurd (omega arith) })
+found width (suc count) keys le reached =
+    let before = found width count keys (omega arith) reached in
     let place = reached count (omega arith) in
     let next : count + 1 ≡ suc count = omega arith in (
-      before.0 ++ slice_index values place.0 ∷ [],
-      subst (λ (n : ℕ). IsReadOff width n keys values (before.0 ++ slice_index values place.0 ∷ [])) next
-          (IsReadOff-more width count place.0 keys values before.0 _ before.1 place.1 place.2 refl),
+      before.0 ++ place.0 ∷ [],
+      subst (λ (n : ℕ). ArePlaces width n keys (before.0 ++ place.0 ∷ [])) next (ArePlaces-more width count place.0 keys before.0 _ before.1 place.1 place.2 refl),
     )
 
 -- each table has an injection and potentials that reach its cost
-pub solved : (table : List (List ℕ)) (width : ℕ) → IsTable table width → (columns : List ℕ) × (u : List ℤ) × (v : List ℤ) × IsSolved width table columns u v
-solved table width costs =
-    let all = matched table width (length table) costs (omega arith) in
+pub solved : (table : List (List ℕ)) (width : ℕ) → length table ≤ width → (columns : List ℕ) × (u : List ℤ) × (v : List ℤ) × IsSolved width table columns u v
+solved table width few =
+    let all = matched table width (length table) few in
     let p = all.0 in
     let sound = all.2.sound in
-    let columns = read width (length table) p.rows p.columns costs.rows sound.rows_reached in
-    let us = read width (length table) p.rows p.u costs.rows sound.rows_reached in
-    let ws = read width width p.columns p.prices (omega arith) sound.columns_reached in
-    let v : List ℤ = map (λ w. neg_ℤ (pos w)) ws.0 in (
-      columns.0,
-      map pos us.0,
+    let of_rows = found width (length table) p.rows few sound.rows_reached in
+    let of_columns = found width width p.columns (omega arith) sound.columns_reached in
+    let us : List ℕ = map (slice_index p.u) of_rows.0 in
+    let ws : List ℕ = map (slice_index p.prices) of_columns.0 in
+    let v : List ℤ = map (λ w. neg_ℤ (pos w)) ws in (
+      map (slice_index p.columns) of_rows.0,
+      map pos us,
       v,
-      IsSolved-read table width p costs all.2 columns.0 us.0 ws.0 (map pos us.0) v columns.1 us.1 ws.1 refl
-          (length-map ws.0 (λ w. neg_ℤ (pos w)) ∙ ws.1.size)
-          (λ j lt. get_or-map (λ w. neg_ℤ (pos w)) ws.0 j 0),
+      IsSolved-read table width p few all.2 of_rows.0 of_columns.0 v of_rows.1 of_columns.1
+          (length-map ws (λ w. neg_ℤ (pos w)) ∙ length-map of_columns.0 (slice_index p.prices) ∙ of_columns.1.size)
+          (λ j lt. get_or-map (λ w. neg_ℤ (pos w)) ws j 0),
     )

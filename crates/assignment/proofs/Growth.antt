@@ -2,7 +2,7 @@
 use Rattle.std.proofs.Common.{◌≡◌, ℕ, ◌+◌, ◌<◌, ◌≤◌, ◌⊎◌, List, slice_index, sym, ap, ◌∙◌, subst, inl, inr, arith}
 use Rattle.std.proofs.lemmas.Bool.{cases_eq, cases_lt}
 use Rattle.std.proofs.lemmas.Bool.Decides.{nat_tests}
-use Rattle.assignment.specs.Tables.{IsTable, cost_at}
+use Rattle.assignment.specs.Tables.{IsLimit, cost_at}
 use Rattle.assignment.specs.Pairings.{IsLink, IsMatched, IsOutside, IsPlaceSwap, IsSound, IsRaised, IsTree, Meets, cost_between, slack_of}
 use Rattle.assignment.specs.declared.pairing.Pairing.{Pairing}
 use Rattle.assignment.proofs.Swaps.{IsExchange-partner, IsMoved-places, IsSound-moved, Meets-moved, partner, partner-other, partner-first}
@@ -14,23 +14,23 @@ pub record IsTreeRaised (k by width : ℕ) (p q : Pairing width) : Type 0 where
   pub u : IsRaised 0 k by p.u q.u
   pub prices : IsRaised 1 k by p.prices q.prices
 
-module _ (table : List (List ℕ)) (width n k by : ℕ) (parents : List ℕ) (p : Pairing width) (costs : IsTable table width) (h : IsTree table width p n k parents)
+module _ (table : List (List ℕ)) (width n k by : ℕ) (parents : List ℕ) (p : Pairing width) (h : IsTree table width p n k parents)
     (least : (m e : ℕ) → m < k → e < width → IsOutside k e → by ≤ slack_of table width p m e) where
   inside : (m : ℕ) → m < k → m < width
   inside m lt = omega (arith, h.size, h.room)
 
-  pub u_room : (m : ℕ) → m < k → slice_index p.u m + by ≤ 64
-  u_room m lt =
+  pub u_room : (limit : ℕ) → IsLimit table limit → (m : ℕ) → m < k → slice_index p.u m + by ≤ limit
+  u_room limit costs m lt =
       let low : 0 < width = omega (arith, h.room) in
       let most : by ≤ slack_of table width p m 0 = least m 0 lt low (λ none. omega arith) in
       let fair = h.sound.fair m 0 (inside m lt) low in
-      let cost : cost_between table width p m 0 ≤ 64 = costs.costs (slice_index p.rows m) (slice_index p.columns 0) in
+      let cost : cost_between table width p m 0 ≤ limit = costs (slice_index p.rows m) (slice_index p.columns 0) in
       let free = h.free in
       omega arith
 
-  pub price_room : (e : ℕ) → 1 ≤ e → e < k → slice_index p.prices e + by ≤ 64
-  price_room e one lt =
-      let u = u_room e lt in
+  pub price_room : (limit : ℕ) → IsLimit table limit → (e : ℕ) → 1 ≤ e → e < k → slice_index p.prices e + by ≤ limit
+  price_room limit costs e one lt =
+      let u = u_room limit costs e lt in
       let met = h.met e one (omega (arith, h.size)) in
       omega arith
 
@@ -86,13 +86,13 @@ module _ (table : List (List ℕ)) (width n k by : ℕ) (parents : List ℕ) (p 
       columns_reached = λ j lt. let old = h.sound.columns_reached j lt in (old.0, old.1, same_column old.0 ∙ old.2);
       rows_reached = λ i lt. let old = h.sound.rows_reached i lt in (old.0, old.1, same_row old.0 ∙ old.2);
       fair = fair;
-      u_small = λ m lm. elim (u_cases m) [
-        | inl up ↦ let room = u_room m up.0 in omega arith
-        | inr stays ↦ let old = h.sound.u_small m lm in omega arith
+      u_small = λ limit costs m lm. elim (u_cases m) [
+        | inl up ↦ let room = u_room limit costs m up.0 in omega arith
+        | inr stays ↦ let old = h.sound.u_small limit costs m lm in omega arith
       ];
-      prices_small = λ e le. elim (price_cases e) [
-        | inl up ↦ let room = price_room e up.0 up.1 in omega arith
-        | inr out ↦ let old = h.sound.prices_small e le in omega arith
+      prices_small = λ limit costs e le. elim (price_cases e) [
+        | inl up ↦ let room = price_room limit costs e up.0 up.1 in omega arith
+        | inr out ↦ let old = h.sound.prices_small limit costs e le in omega arith
       ];
     }
 

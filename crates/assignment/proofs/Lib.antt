@@ -7,6 +7,8 @@ pub mod Duality
 pub mod Injections
 pub mod Solved
 pub mod ReadOff
+pub mod Costs
+pub mod Tables
 pub mod Totals
 pub mod Decided
 mod Examples

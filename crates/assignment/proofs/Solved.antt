@@ -7,13 +7,29 @@ use Rattle.std.proofs.lemmas.Int.{ints}
 use Rattle.std.proofs.lemmas.List.Elements.{All-from_get_or}
 use Rattle.std.proofs.Math.ListN.{get_or-map}
 use Rattle.std.proofs.lemmas.List.{length-map}
-use Rattle.board_base.specs.Potentials.{IsWithinLimit}
-use Rattle.assignment.specs.Tables.{IsTable, cost_at}
-use Rattle.assignment.specs.Pairings.{IsMatched, IsReadOff, cost_between}
-use Rattle.assignment.specs.Assignments.{IsBounded, IsInjection, assignment_cost, least_cost, total}
+use Rattle.assignment.specs.Tables.{IsLimit, IsTable, cost_at}
+use Rattle.assignment.specs.Pairings.{ArePlaces, IsMatched, cost_between}
+use Rattle.assignment.specs.Assignments.{IsBounded, IsInjection, IsWithin, assignment_cost, least_cost, total}
 use Rattle.assignment.specs.declared.pairing.Pairing.{Pairing}
 use Rattle.assignment.proofs.Duality.{sums-along, total-is_along, weak_duality}
 use Rattle.assignment.proofs.Injections.{least_cost-reached}
+use Rattle.assignment.proofs.ReadOff.{IsReadOff, IsReadOff-places}
+
+pub IsInjection-solved : (table : List (List ℕ)) (width : ℕ) (p : Pairing width) → IsMatched table width p (length table) → (columns : List ℕ) → IsReadOff width (length table) p.rows p.columns columns
+    → IsInjection width (length table) columns
+IsInjection-solved table width p h columns by_row = record {
+  size = by_row.size;
+  within = All-from_get_or (λ j. j < width) columns 0 (λ i lt.
+      let at = by_row.at i (omega (arith, by_row.size)) in
+      let low = h.sound.columns_below at.0 at.1 in
+      let is = at.3 in
+      omega arith);
+  apart = λ i k li lk same.
+      let at_i = by_row.at i (omega (arith, by_row.size)) in
+      let at_k = by_row.at k (omega (arith, by_row.size)) in
+      let place : at_i.0 ≡ at_k.0 = h.sound.columns_apart at_i.0 at_k.0 at_i.1 at_k.1 (sym at_i.3 ∙ same ∙ at_k.3) in
+      sym at_i.2 ∙ ap (slice_index p.rows) place ∙ at_k.2;
+}
 
 module _ (table : List (List ℕ)) (width : ℕ) (p : Pairing width) (few : length table ≤ width) (h : IsMatched table width p (length table))
     (columns us ws : List ℕ)
@@ -27,32 +43,20 @@ module _ (table : List (List ℕ)) (width : ℕ) (p : Pairing width) (few : leng
     | inr ge ↦ let untouched = h.rest.rows m ge lm in omega arith
   ]
 
-  pub IsInjection-solved : IsInjection width (length table) columns
-  IsInjection-solved = record {
-    size = by_row.size;
-    within = All-from_get_or (λ j. j < width) columns 0 (λ i lt.
-        let at = by_row.at i (omega (arith, by_row.size)) in
-        let low = h.sound.columns_below at.0 at.1 in
-        let is = at.3 in
-        omega arith);
-    apart = λ i k li lk same.
-        let at_i = by_row.at i (omega (arith, by_row.size)) in
-        let at_k = by_row.at k (omega (arith, by_row.size)) in
-        let place : at_i.0 ≡ at_k.0 = h.sound.columns_apart at_i.0 at_k.0 at_i.1 at_k.1 (sym at_i.3 ∙ same ∙ at_k.3) in
-        sym at_i.2 ∙ ap (slice_index p.rows) place ∙ at_k.2;
-  }
+  injection : IsInjection width (length table) columns
+  injection = IsInjection-solved table width p h columns by_row
 
-  pub us_small : All (λ x. x ≤ 64) us
-  us_small = All-from_get_or (λ x. x ≤ 64) us 0 (λ i lt.
+  us_small : (limit : ℕ) → IsLimit table limit → All (λ x. x ≤ limit) us
+  us_small limit costs = All-from_get_or (λ x. x ≤ limit) us 0 (λ i lt.
       let at = of_row.at i (omega (arith, of_row.size)) in
-      let small = h.sound.u_small at.0 at.1 in
+      let small = h.sound.u_small limit costs at.0 at.1 in
       let is = at.3 in
       omega arith)
 
-  pub ws_small : All (λ x. x ≤ 64) ws
-  ws_small = All-from_get_or (λ x. x ≤ 64) ws 0 (λ i lt.
+  ws_small : (limit : ℕ) → IsLimit table limit → All (λ x. x ≤ limit) ws
+  ws_small limit costs = All-from_get_or (λ x. x ≤ limit) ws 0 (λ i lt.
       let at = of_column.at i (omega (arith, of_column.size)) in
-      let small = h.sound.prices_small at.0 at.1 in
+      let small = h.sound.prices_small limit costs at.0 at.1 in
       let is = at.3 in
       omega arith)
 
@@ -110,28 +114,28 @@ module _ (table : List (List ℕ)) (width : ℕ) (p : Pairing width) (few : leng
           omega (arith, ints);
     }
 
-    pub u_within : All IsWithinLimit u
-    u_within = All-from_get_or IsWithinLimit u (pos 0) (λ i lt.
+    pub u_within : (limit : ℕ) → IsTable table width limit → All (IsWithin limit) u
+    u_within limit costs = All-from_get_or (IsWithin limit) u (pos 0) (λ i lt.
         let at = is_u i (omega arith) in
-        let small = us_small i 0 (omega (arith, of_row.size)) in
+        let small = us_small limit costs.costs i 0 (omega (arith, of_row.size)) in
         (omega (arith, ints), omega (arith, ints)))
 
-    pub v_within : All IsWithinLimit v
-    v_within = All-from_get_or IsWithinLimit v (pos 0) (λ j lt.
+    pub v_within : (limit : ℕ) → IsTable table width limit → All (IsWithin limit) v
+    v_within limit costs = All-from_get_or (IsWithin limit) v (pos 0) (λ j lt.
         let at = is_v j (omega arith) in
-        let small = ws_small j 0 (omega (arith, of_column.size)) in
+        let small = ws_small limit costs.costs j 0 (omega (arith, of_column.size)) in
         (omega (arith, ints), omega (arith, ints)))
 
     pub total-solved : (total u +ℤ total v) ≡ pos (assignment_cost table columns)
     total-solved =
         let rows = sums-along (λ a b. a ≡ b) refl (λ a b c d first rest. cc) table u v columns size_u by_row.size (λ i li.
         let at_u = is_u i li in
-        let low : slice_index columns i < width = IsInjection-solved.within i 0 (omega (arith, by_row.size)) in
+        let low : slice_index columns i < width = injection.within i 0 (omega (arith, by_row.size)) in
         let at_v = is_v (slice_index columns i) low in
         let old = met i li in
         omega (arith, ints)) in
         let P : ℕ → Type 0 = λ n. All (λ j. j < n) columns in
-        let all = total-is_along columns v (subst P (sym size_v) IsInjection-solved.within) IsInjection-solved.apart (λ j lt none.
+        let all = total-is_along columns v (subst P (sym size_v) injection.within) injection.apart (λ j lt none.
         let low : j < width = omega arith in
         let at = is_v j low in
         let zero_price = idle j low none in
@@ -145,7 +149,7 @@ module _ (table : List (List ℕ)) (width : ℕ) (p : Pairing width) (few : leng
         omega (arith, ints)
 
     pub least_cost-solved : assignment_cost table columns ≡ least_cost width table
-    least_cost-solved = least_cost-reached width table columns IsInjection-solved least-solved
+    least_cost-solved = least_cost-reached width table columns injection least-solved
 
 -- an injection of least cost, and potentials that bound the cost and whose sum it is
 pub record IsSolved (width : ℕ) (table : List (List ℕ)) (columns : List ℕ) (u v : List ℤ) : Type 0 where
@@ -153,21 +157,29 @@ pub record IsSolved (width : ℕ) (table : List (List ℕ)) (columns : List ℕ)
   pub least : assignment_cost table columns ≡ least_cost width table
   pub bounded : IsBounded width table u v
   pub reached : (total u +ℤ total v) ≡ pos (assignment_cost table columns)
-  pub u_within : All IsWithinLimit u
-  pub v_within : All IsWithinLimit v
+  pub u_within : (limit : ℕ) → IsTable table width limit → All (IsWithin limit) u
+  pub v_within : (limit : ℕ) → IsTable table width limit → All (IsWithin limit) v
 
-pub IsSolved-read : (table : List (List ℕ)) (width : ℕ) (p : Pairing width) → IsTable table width → IsMatched table width p (length table) → (columns us ws : List ℕ) (u v : List ℤ)
-    → IsReadOff width (length table) p.rows p.columns columns → IsReadOff width (length table) p.rows p.u us → IsReadOff width width p.columns p.prices ws
-    → u ≡ map pos us → length v ≡ width → ((j : ℕ) → j < width → slice_index_or v j (pos 0) ≡ neg_ℤ (pos (slice_index ws j)))
-    → IsSolved width table columns u v
-IsSolved-read table width p few h columns us ws u v by_row of_row of_column is_u size_v is_v =
-    let size_u : length u ≡ length table = ap (λ (l : List ℤ). length l) is_u ∙ length-map us pos ∙ of_row.size in
-    let at_u : (i : ℕ) → i < length table → slice_index_or u i (pos 0) ≡ pos (slice_index us i) = λ i lt. ap (λ (l : List ℤ). slice_index_or l i (pos 0)) is_u ∙ get_or-map pos us i 0 in
+-- what is read off the places of the rows, and off those of the columns
+pub IsSolved-read : (table : List (List ℕ)) (width : ℕ) (p : Pairing width) → length table ≤ width → IsMatched table width p (length table) → (of_rows of_columns : List ℕ) (v : List ℤ)
+    → ArePlaces width (length table) p.rows of_rows → ArePlaces width width p.columns of_columns
+    → length v ≡ width → ((j : ℕ) → j < width → slice_index_or v j (pos 0) ≡ neg_ℤ (pos (slice_index (map (slice_index p.prices) of_columns) j)))
+    → IsSolved width table (map (slice_index p.columns) of_rows) (map pos (map (slice_index p.u) of_rows)) v
+IsSolved-read table width p few h of_rows of_columns v rows_at columns_at size_v is_v =
+    let columns : List ℕ = map (slice_index p.columns) of_rows in
+    let us : List ℕ = map (slice_index p.u) of_rows in
+    let ws : List ℕ = map (slice_index p.prices) of_columns in
+    let u : List ℤ = map pos us in
+    let by_row : IsReadOff width (length table) p.rows p.columns columns = IsReadOff-places width (length table) p.rows p.columns of_rows rows_at in
+    let of_row : IsReadOff width (length table) p.rows p.u us = IsReadOff-places width (length table) p.rows p.u of_rows rows_at in
+    let of_column : IsReadOff width width p.columns p.prices ws = IsReadOff-places width width p.columns p.prices of_columns columns_at in
+    let size_u : length u ≡ length table = length-map us pos ∙ of_row.size in
+    let at_u : (i : ℕ) → i < length table → slice_index_or u i (pos 0) ≡ pos (slice_index us i) = λ i lt. get_or-map pos us i 0 in
     record {
-      injection = IsInjection-solved table width p few.rows h columns us ws by_row of_row of_column;
-      least = least_cost-solved table width p few.rows h columns us ws by_row of_row of_column u v size_u size_v at_u is_v;
-      bounded = IsBounded-solved table width p few.rows h columns us ws by_row of_row of_column u v size_u size_v at_u is_v;
-      reached = total-solved table width p few.rows h columns us ws by_row of_row of_column u v size_u size_v at_u is_v;
-      u_within = u_within table width p few.rows h columns us ws by_row of_row of_column u v size_u size_v at_u is_v;
-      v_within = v_within table width p few.rows h columns us ws by_row of_row of_column u v size_u size_v at_u is_v;
+      injection = IsInjection-solved table width p h columns by_row;
+      least = least_cost-solved table width p few h columns us ws by_row of_row of_column u v size_u size_v at_u is_v;
+      bounded = IsBounded-solved table width p few h columns us ws by_row of_row of_column u v size_u size_v at_u is_v;
+      reached = total-solved table width p few h columns us ws by_row of_row of_column u v size_u size_v at_u is_v;
+      u_within = u_within table width p few h columns us ws by_row of_row of_column u v size_u size_v at_u is_v;
+      v_within = v_within table width p few h columns us ws by_row of_row of_column u v size_u size_v at_u is_v;
     }

@@ -1,6 +1,8 @@
 -- What stays sound where places or columns change places.
-use Rattle.std.proofs.Common.{◌≡◌, ℕ, ◌<◌, ◌==◌, cond, List, slice_index, sym, refl, ap, ◌∙◌, arith}
+use Rattle.std.proofs.Common.{◌≡◌, ℕ, ◌<◌, ◌==◌, cond, List, length, slice_index, sym, refl, ap, ◌∙◌, arith}
+use Rattle.std.specs.List.{swap}
 use Rattle.std.proofs.lemmas.Bool.Decides.{nat_tests}
+use Rattle.std.proofs.lemmas.List.Edits.{swapped_from_swap}
 use Rattle.assignment.specs.Tables.{cost_at}
 use Rattle.assignment.specs.Pairings.{IsColumnSwap, IsPlaceSwap, IsSound, IsSwapped, Meets, cost_between}
 use Rattle.assignment.specs.declared.pairing.Pairing.{Pairing}
@@ -30,6 +32,11 @@ swapped a b old new h m =
     let at_b = h.at_second in
     let other = h.others m in
     grind (arith, nat_tests)
+
+pub IsSwapped-swap : (a b : ℕ) (xs : List ℕ) → a < length xs → b < length xs → IsSwapped a b xs (swap xs a b)
+IsSwapped-swap a b xs la lb =
+    let swapped = swapped_from_swap xs (swap xs a b) a b 0 la lb refl in
+    record { at_first = swapped.0; at_second = swapped.1; others = swapped.2 }
 
 -- rows are in the places that r tells and columns in those that s tells, each with its number
 pub record IsMoved (r s : ℕ → ℕ) (width : ℕ) (p q : Pairing width) : Type 0 where
@@ -100,6 +107,6 @@ module _ (table : List (List ℕ)) (r s : ℕ → ℕ) (width : ℕ) (p q : Pair
         let u = moved.u m in
         let price = moved.prices e in
         omega arith;
-    u_small = λ m lm. let old = h.u_small (r m) (xr.within m lm) in let u = moved.u m in omega arith;
-    prices_small = λ m lm. let old = h.prices_small (s m) (xs.within m lm) in let price = moved.prices m in omega arith;
+    u_small = λ limit most m lm. let old = h.u_small limit most (r m) (xr.within m lm) in let u = moved.u m in omega arith;
+    prices_small = λ limit most m lm. let old = h.prices_small limit most (s m) (xs.within m lm) in let price = moved.prices m in omega arith;
   }

@@ -1,7 +1,6 @@
 -- The assignment problem: each row of a table of costs is given a column of its own, so that the sum of the costs is least.
-use Rattle.std.specs.Prelude.{ℕ, ◌≡◌, ◌+◌, ◌<◌, ◌==◌, not, List, [], ◌∷◌, length, map, slice_index, slice_index_or, ℤ, pos, ◌+ℤ◌, ◌≤ℤ◌, ◌<ℤ◌, zero, suc, min, Bool}
+use Rattle.std.specs.Prelude.{ℕ, ◌≡◌, ◌+◌, ◌<◌, ◌==◌, not, List, [], ◌∷◌, length, map, slice_index, slice_index_or, ℤ, pos, neg_ℤ, ◌+ℤ◌, ◌≤ℤ◌, ◌<ℤ◌, zero, suc, min, Bool}
 use Rattle.std.specs.List.{All, list_any, filter, flat_map, fold, range_with_len}
-use Rattle.board_base.specs.Potentials.{IsWithinLimit}
 use Rattle.assignment.specs.Tables.{cost_at}
 
 -- a column below the width for each of so many rows, and no column for two rows
@@ -48,9 +47,13 @@ pub record IsBounded (width : ℕ) (table : List (List ℕ)) (u v : List ℤ) : 
   pub below : All (λ x. x ≤ℤ pos 0) v
   pub pairs : (i j : ℕ) → i < length table → j < width → (slice_index_or u i (pos 0) +ℤ slice_index_or v j (pos 0)) ≤ℤ pos (cost_at table i j)
 
--- potentials from -64 to 64 that bound the costs, with a sum above n
-pub record IsBoundedAbove (n : ℤ) (width : ℕ) (table : List (List ℕ)) (u v : List ℤ) : Type 0 where
+-- the number is from -limit to limit
+abbrev pub IsWithin : ℕ → ℤ → Type 0
+IsWithin limit x = (neg_ℤ (pos limit) ≤ℤ x) × (x ≤ℤ pos limit)
+
+-- potentials from -limit to limit that bound the costs, with a sum above n
+pub record IsBoundedAbove (n : ℤ) (width limit : ℕ) (table : List (List ℕ)) (u v : List ℤ) : Type 0 where
   pub bounded : IsBounded width table u v
-  pub u_within : All IsWithinLimit u
-  pub v_within : All IsWithinLimit v
+  pub u_within : All (IsWithin limit) u
+  pub v_within : All (IsWithin limit) v
   pub above : n <ℤ (total u +ℤ total v)

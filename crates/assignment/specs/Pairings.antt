@@ -1,7 +1,8 @@
 -- Inner: no public clause cites this file.
 -- Rows and columns in places: what holds while one row after another gets a column.
 use Rattle.std.specs.Prelude.{ℕ, ◌≡◌, ◌+◌, ◌-◌, ◌<◌, ◌≤◌, List, length, slice_index}
-use Rattle.assignment.specs.Tables.{cost_at}
+use Rattle.std.specs.List.{All}
+use Rattle.assignment.specs.Tables.{IsLimit, cost_at}
 use Rattle.assignment.specs.declared.pairing.Pairing.{Pairing}
 
 -- a table of costs, and the row and the column, the potential and the price in each of the places
@@ -18,7 +19,7 @@ module _ (table : List (List ℕ)) (width : ℕ) (p : Pairing width) where
   abbrev pub Meets : ℕ → ℕ → Type 0
   Meets m e = slice_index p.u m ≡ cost_between m e + slice_index p.prices e
 
-  -- each row and each column has a place, no potential is above what a column would cost the row, and the numbers are small
+  -- each row and each column has a place, no potential is above what a column would cost the row, and none is above a limit of the costs
   pub record IsSound : Type 0 where
     pub columns_below : (m : ℕ) → m < width → slice_index p.columns m < width
     pub columns_apart : (m e : ℕ) → m < width → e < width → slice_index p.columns m ≡ slice_index p.columns e → m ≡ e
@@ -26,8 +27,8 @@ module _ (table : List (List ℕ)) (width : ℕ) (p : Pairing width) where
     pub columns_reached : (j : ℕ) → j < width → (m : ℕ) × (m < width) × (slice_index p.columns m ≡ j)
     pub rows_reached : (i : ℕ) → i < width → (m : ℕ) × (m < width) × (slice_index p.rows m ≡ i)
     pub fair : (m e : ℕ) → m < width → e < width → slice_index p.u m ≤ cost_between m e + slice_index p.prices e
-    pub u_small : (m : ℕ) → m < width → slice_index p.u m ≤ 64
-    pub prices_small : (m : ℕ) → m < width → slice_index p.prices m ≤ 64
+    pub u_small : (limit : ℕ) → IsLimit table limit → (m : ℕ) → m < width → slice_index p.u m ≤ limit
+    pub prices_small : (limit : ℕ) → IsLimit table limit → (m : ℕ) → m < width → slice_index p.prices m ≤ limit
 
   -- the places from this one on are as in the beginning
   pub record IsUntouchedFrom (n : ℕ) : Type 0 where
@@ -112,7 +113,8 @@ pub record IsPlaceSwap (a b width : ℕ) (p q : Pairing width) : Type 0 where
   pub columns : IsSwapped a b p.columns q.columns
   pub prices : IsSwapped a b p.prices q.prices
 
--- for each number below the count, the value in the place where that number is among the keys
-pub record IsReadOff (width count : ℕ) (keys values read : List ℕ) : Type 0 where
-  pub size : length read ≡ count
-  pub at : (i : ℕ) → i < count → (m : ℕ) × (m < width) × (slice_index keys m ≡ i) × (slice_index read i ≡ slice_index values m)
+-- for each number below the count, a place where it is among the keys
+pub record ArePlaces (width count : ℕ) (keys places : List ℕ) : Type 0 where
+  pub size : length places ≡ count
+  pub within : All (λ m. m < width) places
+  pub at : (i : ℕ) → i < count → slice_index keys (slice_index places i) ≡ i

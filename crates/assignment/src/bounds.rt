@@ -49,7 +49,7 @@ fn total(numbers: &[i8]) -> i32
 
 /// The sum of the potentials, where they bound the cost; None exactly where they don't.
 pub fn bound<const W: usize>(costs: &[[u8; W]], u: &[i8], v: &[i8; W]) -> Option<i32>
-    requires { IsTable costs.now W }
+    requires { IsTable costs.now W 64 }
     ensures { SomeIff result (IsBounded W costs.now u.now v.now) (total u.now +ℤ total v.now) }
 {
     if u.len() == costs.len() && none_above_zero(v) && rows_are_bounded(costs, u, v) {

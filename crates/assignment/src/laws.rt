@@ -16,8 +16,8 @@ pub fn least_cost_is_least()
     ensures below { (width : ℕ) (table : List (List ℕ)) (columns : List ℕ) → IsInjection width (length table) columns → least_cost width table ≤ assignment_cost table columns }
 {}
 
-/// The law of strong duality: where no cost is above 64, potentials from -64 to 64 that bound the costs, with a sum above a number, exist exactly
-/// where the least cost is above that number.
+/// The law of strong duality: where no cost is above a limit, potentials from -limit to limit that bound the costs, with a sum above a number,
+/// exist exactly where the least cost is above that number.
 pub fn potentials_decide()
-    ensures { (width : ℕ) (table : List (List ℕ)) → IsTable table width → (n : ℤ) → ((u : List ℤ) × (v : List ℤ) × IsBoundedAbove n width table u v) ↔ (n <ℤ pos (least_cost width table)) }
+    ensures { (width limit : ℕ) (table : List (List ℕ)) → IsTable table width limit → (n : ℤ) → ((u : List ℤ) × (v : List ℤ) × IsBoundedAbove n width limit table u v) ↔ (n <ℤ pos (least_cost width table)) }
 {}

@@ -8,9 +8,11 @@ mod nearest;
 mod pairing;
 mod path;
 mod reading;
+mod small;
 mod solving;
 mod tree;
 
 pub use bounds::bound;
 pub use laws::{least_cost_is_least, no_injection_costs_less, potentials_decide};
-pub use solving::{Solution, solve};
+pub use small::{Solution, solve};
+pub use solving::{LargeSolution, solve_large};

@@ -9,11 +9,11 @@ use crate::pairing::Pairing;
 pub(crate) struct Link {
     pub(crate) from: usize,
     pub(crate) to: usize,
-    pub(crate) slack: u8,
+    pub(crate) slack: u16,
 }
 
 /// What it costs to give this row this column.
-pub(crate) fn cost_at<const W: usize>(costs: &[[u8; W]], row: u8, column: u8) -> u8
+pub(crate) fn cost_at<const W: usize>(costs: &[[u16; W]], row: u8, column: u8) -> u16
     requires row { row < length costs.now }
     requires column { column < W }
     ensures { result ≡ cost_at costs.now row column }
@@ -22,8 +22,8 @@ pub(crate) fn cost_at<const W: usize>(costs: &[[u8; W]], row: u8, column: u8) ->
 }
 
 /// By how much the potential of the row in place `m` may rise before it meets the column in place `e`.
-fn slack<const W: usize>(costs: &[[u8; W]], p: &Pairing<W>, m: usize, e: usize) -> u8
-    requires table { IsTable costs.now W }
+fn slack<const W: usize>(costs: &[[u16; W]], p: &Pairing<W>, m: usize, e: usize) -> u16
+    requires table { IsTable costs.now W 32767 }
     requires sound { IsSound costs.now W p.now }
     requires row { slice_index p.now.rows m < length costs.now }
     requires from { m < W }
@@ -34,8 +34,8 @@ fn slack<const W: usize>(costs: &[[u8; W]], p: &Pairing<W>, m: usize, e: usize) 
 }
 
 /// The least slack between the row in place `m` and the columns in place 0 and in the places from `k` on.
-fn nearest_to_row<const W: usize>(costs: &[[u8; W]], p: &Pairing<W>, k: usize, m: usize) -> Link
-    requires table { IsTable costs.now W }
+fn nearest_to_row<const W: usize>(costs: &[[u16; W]], p: &Pairing<W>, k: usize, m: usize) -> Link
+    requires table { IsTable costs.now W 32767 }
     requires sound { IsSound costs.now W p.now }
     requires row { slice_index p.now.rows m < length costs.now }
     requires within { k ≤ W }
@@ -59,8 +59,8 @@ fn nearest_to_row<const W: usize>(costs: &[[u8; W]], p: &Pairing<W>, k: usize, m
 }
 
 /// The least slack between the rows in the first `k` places and the columns in place 0 and in the places from `k` on.
-pub(crate) fn nearest<const W: usize>(costs: &[[u8; W]], p: &Pairing<W>, k: usize) -> Link
-    requires table { IsTable costs.now W }
+pub(crate) fn nearest<const W: usize>(costs: &[[u16; W]], p: &Pairing<W>, k: usize) -> Link
+    requires table { IsTable costs.now W 32767 }
     requires sound { IsSound costs.now W p.now }
     requires rows { (m : ℕ) → m < k → slice_index p.now.rows m < length costs.now }
     requires some { 0 < k }

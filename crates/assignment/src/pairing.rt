@@ -1,35 +1,26 @@
 ghost use Rattle.std.specs.Prelude.{◌≡◌, ℕ, ◌+◌, ◌<◌, ◌≤◌, List, length, slice_index};
-ghost use Rattle.assignment.specs.Pairings.{IsRaised, IsSwapped};
+ghost use Rattle.assignment.specs.Pairings.{IsRaised};
 
 /// The rows and the columns in places: the row in a place is paired with the column in the same place. Beside each row stands its
 /// potential, and beside each column its price, which is the column's potential with the sign turned.
 #[derive(Clone, Copy)]
 pub(crate) struct Pairing<const W: usize> {
     pub(crate) rows: [u8; W],
-    pub(crate) u: [u8; W],
+    pub(crate) u: [u16; W],
     pub(crate) columns: [u8; W],
-    pub(crate) prices: [u8; W],
+    pub(crate) prices: [u16; W],
 }
 
 /// Adds to the numbers at the places from `from` up to `to`.
-pub(crate) fn raise<const W: usize>(numbers: &mut [u8; W], from: usize, to: usize, by: u8)
+pub(crate) fn raise<const W: usize>(numbers: &mut [u16; W], from: usize, to: usize, by: u16)
     requires order { from ≤ to }
     requires within { to ≤ W }
-    requires small { (m : ℕ) → from ≤ m → m < to → slice_index numbers.old m + by < 256 }
+    requires small { (m : ℕ) → from ≤ m → m < to → slice_index numbers.old m + by < 65536 }
     ensures { IsRaised from to by numbers.old numbers.new }
 {
     for i in from..to {
         numbers[i] += by;
     }
-}
-
-/// Lets two numbers change places.
-fn swap<const W: usize>(numbers: &mut [u8; W], a: usize, b: usize)
-    requires first { a < W }
-    requires second { b < W }
-    ensures { IsSwapped a b numbers.old numbers.new }
-{
-    numbers.swap(a, b);
 }
 
 /// The numbers from 0 up, in order.
@@ -66,8 +57,8 @@ impl<const W: usize> Pairing<W> {
         requires second { b < W }
         ensures { IsColumnSwap a b W self.old self.new }
     {
-        swap(&mut self.columns, a, b);
-        swap(&mut self.prices, a, b);
+        self.columns.swap(a, b);
+        self.prices.swap(a, b);
     }
 
     /// Lets what stands in two places change places.
@@ -76,8 +67,8 @@ impl<const W: usize> Pairing<W> {
         requires second { b < W }
         ensures { IsPlaceSwap a b W self.old self.new }
     {
-        swap(&mut self.rows, a, b);
-        swap(&mut self.u, a, b);
+        self.rows.swap(a, b);
+        self.u.swap(a, b);
         self.swap_columns(a, b);
     }
 }

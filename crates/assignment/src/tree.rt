@@ -16,13 +16,13 @@ pub(crate) struct Path<const W: usize> {
 
 /// Lets the potentials of the rows of the tree rise, and the prices of its columns, until one row meets one more column.
 fn widen<const W: usize>(
-    costs: &[[u8; W]],
+    costs: &[[u16; W]],
     p: &mut Pairing<W>,
     k: usize,
     n: usize,
     parents: &[u8; W],
 ) -> Link
-    requires table { IsTable costs.now W }
+    requires table { IsTable costs.now W 32767 }
     requires row { n < length costs.now }
     requires tree { IsTree costs.now W p.old n k parents.now }
     ensures tree { IsTree costs.now W p.new n k parents.now }
@@ -36,8 +36,8 @@ fn widen<const W: usize>(
 }
 
 /// Puts row `n` in place 0 and lets a tree grow from there until it meets a free column.
-pub(crate) fn grow<const W: usize>(costs: &[[u8; W]], p: &mut Pairing<W>, n: usize) -> Path<W>
-    requires table { IsTable costs.now W }
+pub(crate) fn grow<const W: usize>(costs: &[[u16; W]], p: &mut Pairing<W>, n: usize) -> Path<W>
+    requires table { IsTable costs.now W 32767 }
     requires row { n < length costs.now }
     requires matched { IsMatched costs.now W p.old n }
     ensures { IsHanding costs.now W p.new n result.from result.to result.parents }

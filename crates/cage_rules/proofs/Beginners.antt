@@ -1,6 +1,6 @@
 -- The whole array.
-use Rattle.std.proofs.Common.{◌≡◌, ℕ, ◌<◌, zero, suc, inl, inr, Bool, true, false, cond, ◌||◌, arith, List, length, refl, ap, sym, ◌∙◌, ◌==◌, ◌&&◌, not}
-use Rattle.std.specs.Prelude.{Option, None, replicate}
+use Rattle.std.proofs.Common.{◌≡◌, ℕ, ◌<◌, inl, inr, Bool, true, false, cond, ◌||◌, arith, List, length, refl, ap, sym, ◌∙◌, ◌==◌, ◌&&◌, not}
+use Rattle.std.specs.Prelude.{Option, None}
 use Rattle.board_base.specs.Board.{Places, array_of, at, file, initial_array, is_in, is_a, no_men}
 use Rattle.board_base.specs.declared.men.Man.{Man}
 use Rattle.board_base.proofs.Without.{at-without}

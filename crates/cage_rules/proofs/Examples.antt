@@ -115,7 +115,7 @@ unfolding squares_of
 c1_home = refl
 
 c1_alone : squares 4 ≡ region (squares 2560) 2
-c1_alone = only-region (squares 2560) 2 (squares 4) (omega arith) (record {
+c1_alone = only-region (squares 2560) (beginner 2) 2 (squares 4) (omega arith) (record {
   size = length-squares_of 4;
   home = c1_home;
   closed = c1_closed;

@@ -58,8 +58,8 @@ roams-less inner outer (Some man) t u within inside h =
 -- a larger set leaves a smaller region
 pub region-less : (inner outer : List Bool) (h : ℕ) → h < 64 → length inner ≡ 64 → IsWithin inner outer → IsWithin (region outer h) (region inner h)
 region-less inner outer h inside size within =
-    region-least outer h (region inner h) inside (region-home inner h inside)
-    (closed-tells outer (beginner h) (region inner h) (λ t u ti ui member goes. region-goes inner h t u ui member (roams-less inner outer (beginner h) t u within (λ s there. member-inside inner s size there) goes)))
+    region-least outer (beginner h) h (region inner h) inside (region-home inner (beginner h) h inside)
+    (closed-tells outer (beginner h) (region inner h) (λ t u ti ui member goes. region-goes inner (beginner h) h t u ui member (roams-less inner outer (beginner h) t u within (λ s there. member-inside inner s size there) goes)))
 
 -- so a home that is dead stays dead
 pub dead-more : (board : Places) (inner outer : List Bool) (h : ℕ) → is_officer_home h ≡ true → length inner ≡ 64 → IsWithin inner outer → is_dead board inner h ≡ true → is_dead board outer h ≡ true

@@ -39,18 +39,18 @@ dead-gone o g q set h caged home there dead s label =
     let alive : is_like (beginner h) (at q.board s) ≡ true =
     ap (λ (b : Places). is_like (beginner h) (at b s)) (sym caged.leads.board) ∙ ap (is_like (beginner h)) (here.1 ∙ first.1) ∙ ap (λ (p : Option Man). is_like p (Some first.0)) first.1
     ∙ and_from _ _ (same_colour-self first.0.colour) (same_kind-self first.0.kind) in
-    let none = not-true _ (at_board (λ t. not (is_in (region set h) t && is_like (beginner h) (at q.board t))) s dead (member-inside (region set h) s (length-region set h) here.0)) in
+    let none = not-true _ (at_board (λ t. not (is_in (region set h) t && is_like (beginner h) (at q.board t))) s dead (member-inside (region set h) s (length-region set (beginner h) h) here.0)) in
     both_ways _ none (and_from _ _ here.0 alive)
 
 came-none : (from to : ℕ) (taken at_to at_from : Bool) → at_to ≡ false → at_from ≡ true → cond taken None (cond at_to (Some from) (cond at_from None (Some from))) ≡ None
 came-none from to true at_to at_from a b = refl
 came-none from to false at_to at_from a b = rw (a, b) refl
 
-from-inside : (board : Places) (s : ℕ) → length board ≡ 64 → is_a Pawn (at board s) ≡ true → s < 64
+pub from-inside : (board : Places) (s : ℕ) → length board ≡ 64 → is_a Pawn (at board s) ≡ true → s < 64
 from-inside board s len pawn = rw (← len) (within (is_a Pawn) board s refl pawn)
 
 -- a square that a legal move leaves is in no frozen set
-left-out : (m : Move) (castle : Option Castle) (board : Places) → castling board m ≡ castle → is_a Pawn (at board m.from) ≡ true → Stays m castle (goes_en_passant board m) m.from → ⊥
+pub left-out : (m : Move) (castle : Option Castle) (board : Places) → castling board m ≡ castle → is_a Pawn (at board m.from) ≡ true → Stays m castle (goes_en_passant board m) m.from → ⊥
 left-out m None board e pawn stay =
     none-some m.from (sym (came-none m.from m.to (goes_en_passant board m && (m.from == en_passant_victim m)) (m.from == m.to) (m.from == m.from) stay.elsewhere (eq-eqb m.from m.from refl)) ∙ stay.from)
 left-out m (Some c) board e pawn stay = both_ways _ (another_kind King Pawn (at board m.from) pawn) (castle-ends board m c e).king

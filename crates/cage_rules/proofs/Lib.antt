@@ -3,12 +3,12 @@ mod Rays
 mod Entries
 mod PawnEntries
 mod Arrivals
-mod Stays
+pub mod Stays
 pub mod Histories
-mod FrozenLabels
+pub mod FrozenLabels
 pub mod Tested
 pub mod Filling
-mod SetAlgebra
+pub mod SetAlgebra
 mod Shifts
 mod Near
 mod Adjacent
@@ -18,12 +18,12 @@ pub mod Greatest
 pub mod Existing
 pub mod Beginners
 pub mod Regions
-mod Walls
+pub mod Walls
 mod Spread
 mod Struck
-mod Goings
-mod Roamers
-mod Gone
+pub mod Goings
+pub mod Roamers
+pub mod Gone
 pub mod Gains
 mod Examples
 pub mod Refuted

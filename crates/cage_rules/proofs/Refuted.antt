@@ -46,7 +46,7 @@ officer-home true c place h = absurd (both_ways false refl h)
 officer-home false c None h = absurd (both_ways false refl h)
 officer-home false c (Some m) h = (refl, officer-kind m.kind (and_parts (same_colour c m.colour) (is_officer m.kind) h).1)
 
-home-there : (o : List Bool) (c : Colour) (h : ℕ) → is_officer_of c (at (array_of o) h) ≡ true → (is_in o h ≡ false) × (is_officer_home h ≡ true)
+pub home-there : (o : List Bool) (c : Colour) (h : ℕ) → is_officer_of c (at (array_of o) h) ≡ true → (is_in o h ≡ false) × (is_officer_home h ≡ true)
 unfolding array_of beginner
 home-there o c h officer = officer-home (is_in o h) c (at initial_array h) (sym (ap (is_officer_of c) (at-without o initial_array h)) ∙ officer)
 

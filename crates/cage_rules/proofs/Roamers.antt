@@ -111,7 +111,7 @@ stays-in-region o g q set h caged home there =
     let inside : h < 64 = officer-inside h home in
     let first = officer-of h home in
     in_every_game o (λ k. (after : List Move) → g ≡ k ++ after → (s : ℕ) → label_at (labels_after o k) s ≡ Some h → is_in (region set h) s ≡ true)
-    (λ after whole s label. ap (is_in (region set h)) (first-own o s h label) ∙ region-home set h inside)
+    (λ after whole s label. ap (is_in (region set h)) (first-own o s h label) ∙ region-home set (beginner h) h inside)
     (λ k m game legal here after whole s label.
     let e : g ≡ k ++ m ∷ after = whole ∙ append_assoc k (m ∷ []) after in
     let l : Legality (board_after o k) (turn_after k) (unmoved o k) (last_move k) m = legality _ _ _ _ _ legal in
@@ -127,7 +127,7 @@ stays-in-region o g q set h caged home there =
         | inl same ↦ ap (is_in (region set h)) (sym same) ∙ before
         | inr hits ↦
             let more : IsGame o (k ++ m ∷ []) = game-begins o (k ++ m ∷ []) after (subst (IsGame o) whole caged.leads.game) in
-            region-goes set h u s (label-inside (labels_after o (k ++ m ∷ [])) s h (length-labels o (k ++ m ∷ []) more) label) before
+            region-goes set (beginner h) h u s (label-inside (labels_after o (k ++ m ∷ [])) s h (length-labels o (k ++ m ∷ []) more) label) before
             (roams set (beginner h) first.0 u s first.1 (goes-between (board_after o k) set first.0.colour first.0.kind u s (frozen-begun o g k (m ∷ after) q set caged e).occupied hits) out)
       ]
     ])

@@ -17,7 +17,7 @@ use Rattle.general_lemmas.proofs.Ranges.{all_in_range}
 use Rattle.general_lemmas.proofs.Rounds.{count, count-le, fewer}
 use Rattle.play_rules.specs.Reach.{IsWithin}
 use Rattle.cage_rules.specs.Frozen.{is_next}
-use Rattle.cage_rules.specs.Regions.{IsLeastClosed, beginner, is_closed, is_officer_home, may_roam, wall, walls}
+use Rattle.cage_rules.specs.Regions.{IsLeastFrom, beginner, is_closed, is_officer_home, wall, walls}
 use Rattle.cage_rules.specs.Sets.{union}
 use Rattle.cage_rules.specs.Steps.{both, is_diagonal_step, is_line_step, is_near, is_spread, is_step, near, outside, spread}
 use Rattle.cage_rules.proofs.Adjacent.{next-step}
@@ -122,13 +122,13 @@ step-goes board c Queen s t officer h =
     and_from _ _ (and_from _ _ (next-other s t h) on) (next-open board s t h)
 
 -- what is known of a set on the way to the region
-pub record Grown (frozen : List Bool) (h : ℕ) (within : List Bool) : Type 0 where
+pub record Grown (frozen : List Bool) (man : Man) (h : ℕ) (within : List Bool) : Type 0 where
   pub size : length within ≡ 64
   pub home : is_in within h ≡ true
-  pub least : (outer : List Bool) → is_in outer h ≡ true → is_closed frozen (beginner h) outer ≡ true → IsWithin within outer
+  pub least : (outer : List Bool) → is_in outer h ≡ true → is_closed frozen (Some man) outer ≡ true → IsWithin within outer
 
-pub grown-start : (frozen : List Bool) (h : ℕ) (within : List Bool) → h < 64 → within ≡ set (squares_of 0) h true → Grown frozen h within
-grown-start frozen h within inside e =
+pub grown-start : (frozen : List Bool) (man : Man) (h : ℕ) (within : List Bool) → h < 64 → within ≡ set (squares_of 0) h true → Grown frozen man h within
+grown-start frozen man h within inside e =
     let full : length (squares_of 0) ≡ 64 = length-squares_of 0 in
     record {
       size = ap length e ∙ length-set (squares_of 0) h true ∙ full;
@@ -166,9 +166,9 @@ spread-told k frozen within s member =
       ],
     )
 
-pub grown-more : (frozen : List Bool) (h : ℕ) (man : Man) (within more : List Bool) → beginner h ≡ Some man → is_officer man.kind ≡ true → more ≡ spread man.kind frozen within → Grown frozen h within → Grown frozen h more
-grown-more frozen h man within more first officer e grown =
-    subst (Grown frozen h) (sym e) (record {
+pub grown-more : (frozen : List Bool) (man : Man) (h : ℕ) (within more : List Bool) → is_officer man.kind ≡ true → more ≡ spread man.kind frozen within → Grown frozen man h within → Grown frozen man h more
+grown-more frozen man h within more officer e grown =
+    subst (Grown frozen man h) (sym e) (record {
       size = length-spread man.kind frozen within;
       home = spread-more man.kind frozen within grown.size h grown.home;
       least = λ outer home closed s member.
@@ -177,13 +177,13 @@ grown-more frozen h man within more first officer e grown =
             | inl before ↦ grown.least outer home closed s before
             | inr new ↦
                 let from = new.0 in
-                closed-told frozen (beginner h) outer from.square s closed from.inside here.0 (grown.least outer home closed from.square from.member)
-                (subst (λ (p : Option Man). may_roam frozen p from.square s ≡ true) (sym first) (and_from _ _ (step-goes (walls frozen) man.colour man.kind s from.square officer from.placed) (not_from_false _ new.1)))
+                closed-told frozen (Some man) outer from.square s closed from.inside here.0 (grown.least outer home closed from.square from.member)
+                (and_from _ _ (step-goes (walls frozen) man.colour man.kind s from.square officer from.placed) (not_from_false _ new.1))
           ];
     })
 
-pub grown-less : (frozen : List Bool) (h : ℕ) (man : Man) (within more : List Bool) → more ≡ spread man.kind frozen within → (more ≡ within → ⊥) → Grown frozen h within → 64 - count more < 64 - count within
-grown-less frozen h man within more e changed grown =
+pub grown-less : (frozen : List Bool) (man : Man) (h : ℕ) (within more : List Bool) → more ≡ spread man.kind frozen within → (more ≡ within → ⊥) → Grown frozen man h within → 64 - count more < 64 - count within
+grown-less frozen man h within more e changed grown =
     let size : length more ≡ 64 = ap length e ∙ length-spread man.kind frozen within in
     elim (fewer within more (grown.size ∙ sym size) (λ s member. ap (λ (l : List Bool). is_in l s) e ∙ spread-more man.kind frozen within grown.size s member)) [
       | inl same ↦ absurd (changed (sym same))
@@ -206,11 +206,11 @@ fixed-closed frozen man within full officer fixed =
     officer-goes man.colour man.kind frozen within t u officer ti ui (fixed-stepped man.kind frozen within full fixed) parts.0 (not-true _ parts.1) member)
 
 -- what no step makes larger is the region
-pub grown-least : (frozen : List Bool) (h : ℕ) (man : Man) (within more : List Bool) → beginner h ≡ Some man → is_officer man.kind ≡ true → more ≡ spread man.kind frozen within → more ≡ within → Grown frozen h within → IsLeastClosed frozen h within
-grown-least frozen h man within more first officer e fixed grown = record {
+pub grown-least : (frozen : List Bool) (man : Man) (h : ℕ) (within more : List Bool) → is_officer man.kind ≡ true → more ≡ spread man.kind frozen within → more ≡ within → Grown frozen man h within → IsLeastFrom frozen (Some man) h within
+grown-least frozen man h within more officer e fixed grown = record {
   size = grown.size;
   home = grown.home;
-  closed = subst (λ (p : Option Man). is_closed frozen p within ≡ true) (sym first) (fixed-closed frozen man within grown.size officer (sym e ∙ fixed));
+  closed = fixed-closed frozen man within grown.size officer (sym e ∙ fixed);
   least = grown.least;
 }
 

@@ -7,10 +7,10 @@ use Rattle.board_base.specs.Squares.{squares_of}
 use Rattle.board_base.specs.declared.men.Man.{Man}
 use Rattle.play_rules.specs.Laws.{is_end}
 use Rattle.cage_rules.specs.Regions.{beginner, is_exposed, is_shielded, may_strike, region}
-use Rattle.cage_rules.specs.Sets.{union}
-use Rattle.cage_rules.specs.Steps.{are_apart, is_near, is_strike, near, outside}
+use Rattle.cage_rules.specs.Sets.{squares_that, union}
+use Rattle.cage_rules.specs.Steps.{are_apart, both, is_near, is_strike, near, outside}
 use Rattle.cage_rules.proofs.Near.{is_in-near, near-tells, near-told}
-use Rattle.cage_rules.proofs.SetAlgebra.{is_in-outside, is_in-union}
+use Rattle.cage_rules.proofs.SetAlgebra.{is_in-both, is_in-outside, is_in-union, length-both, that-is}
 use Rattle.general_lemmas.proofs.Truth.{same_truth}
 use Rattle.general_lemmas.proofs.Ranges.{any-found}
 use Rattle.cage_rules.proofs.Tested.{all_board, any-told, at_board}
@@ -48,3 +48,11 @@ shielded-made frozen h man first =
     same_truth _ _
     (λ apart. all_board (λ t. not (is_in (region frozen h) t && is_exposed frozen (beginner h) t)) (λ t inside. ap (λ (x : Bool). not (is_in (region frozen h) t && x)) (sym (here t inside)) ∙ at_board (λ t. not (is_in (region frozen h) t && is_in struck t)) t apart inside))
     (λ shielded. all_board (λ t. not (is_in (region frozen h) t && is_in struck t)) (λ t inside. ap (λ (x : Bool). not (is_in (region frozen h) t && x)) (here t inside) ∙ at_board (λ t. not (is_in (region frozen h) t && is_exposed frozen (beginner h) t)) t shielded inside))
+
+-- the squares outside the set on which such a man is exposed
+pub exposed-made : (frozen : List Bool) (man : Man) → both (outside frozen) (near (is_strike (opponent man.colour)) (outside (union (squares_of 18374686479671623935) frozen))) ≡ squares_that (λ s. not (is_in frozen s) && is_exposed frozen (Some man) s)
+exposed-made frozen man =
+    let struck : List Bool = near (is_strike (opponent man.colour)) (outside (union ends frozen)) in
+    that-is (λ s. not (is_in frozen s) && is_exposed frozen (Some man) s) (both (outside frozen) struck) (length-both (outside frozen) struck) (λ s inside.
+    is_in-both (outside frozen) struck s inside ∙ ap (λ (x : Bool). x && is_in struck s) (is_in-outside frozen s inside)
+    ∙ ap (λ (x : Bool). not (is_in frozen s) && x) (is_in-near (is_strike (opponent man.colour)) (outside (union ends frozen)) s inside ∙ exposed-is frozen man s))

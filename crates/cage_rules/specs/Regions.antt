@@ -39,16 +39,24 @@ is_left set man within t u = is_in within t && may_roam set man t u && not (is_i
 unfoldable pub is_closed : List Bool → Option Man → List Bool → Bool
 is_closed set man within = list_all (λ t. list_all (λ u. not (is_left set man within t u)) (range_with_len 0 64)) (range_with_len 0 64)
 
--- The region of h is the least set of squares that has h and that the array's man on h doesn't leave: the squares that each such set has.
-unfoldable pub region : List Bool → ℕ → List Bool
-region set h = squares_that (λ s. each_set (λ within. not (is_in within h && is_closed set (beginner h) within) || is_in within s))
+-- The region of this man from h is the least set of squares that has h and that he doesn't leave: the squares that each such set has.
+unfoldable pub region_from : List Bool → Option Man → ℕ → List Bool
+region_from set man h = squares_that (λ s. each_set (λ within. not (is_in within h && is_closed set man within) || is_in within s))
 
--- The set has h, the array's man on h doesn't leave it, and it is within each set of which both are true. Only the region is so.
-pub record IsLeastClosed (set : List Bool) (h : ℕ) (found : List Bool) : Type 0 where
+-- the region of h is that of the array's man on h
+abbrev pub region : List Bool → ℕ → List Bool
+region set h = region_from set (beginner h) h
+
+-- The set has h, this man doesn't leave it, and it is within each set of which both are true. Only his region from h is so.
+pub record IsLeastFrom (set : List Bool) (man : Option Man) (h : ℕ) (found : List Bool) : Type 0 where
   pub size : length found ≡ 64
   pub home : IsTrue (is_in found h)
-  pub closed : IsTrue (is_closed set (beginner h) found)
-  pub least : (within : List Bool) → IsTrue (is_in within h) → IsTrue (is_closed set (beginner h) within) → IsWithin found within
+  pub closed : IsTrue (is_closed set man found)
+  pub least : (within : List Bool) → IsTrue (is_in within h) → IsTrue (is_closed set man within) → IsWithin found within
+
+-- the same of the array's man on h; only the region of h is so
+abbrev pub IsLeastClosed : List Bool → ℕ → List Bool → Type 0
+IsLeastClosed set h found = IsLeastFrom set (beginner h) h found
 
 -- a man of the colour and kind of the first stands on the second place
 abbrev pub is_like : Option Man → Option Man → Bool

@@ -1,12 +1,13 @@
-ghost use Rattle.std.specs.Prelude.{◌≡◌, ℕ, Bool, false, IsTrue, List, length};
+ghost use Rattle.std.specs.Prelude.{◌≡◌, ◌<◌, ℕ, Bool, false, IsTrue, List, Option, length};
 ghost use Rattle.board_base.specs.Board.{Places, is_in};
 ghost use Rattle.play_rules.specs.Reach.{IsWithin};
+ghost use Rattle.board_base.specs.declared.men.Man.{Man as AMan};
 ghost use Rattle.board_base.specs.declared.moves.Move.{Move};
 ghost use Rattle.query_base.specs.Asked.{Asked};
 ghost use Rattle.query_base.specs.Reach.{Reaches};
 ghost use Rattle.cage_rules.specs.Frozen.{IsAsArray, IsFrozen};
 ghost use Rattle.cage_rules.specs.Laws.{Caged, IsGone, IsNotPawned, IsSafeFromPawns, KeepLabels, StaysInRegion, StoodSo};
-ghost use Rattle.cage_rules.specs.Regions.{IsLeastClosed, is_dead, is_officer_home, is_shielded, region};
+ghost use Rattle.cage_rules.specs.Regions.{IsLeastClosed, IsLeastFrom, is_dead, is_officer_home, is_shielded, region, region_from};
 ghost use Rattle.cage_rules.specs.Sets.{union};
 ghost use Rattle.cage_rules.specs.Reach.{LeadsTo};
 
@@ -27,10 +28,13 @@ pub fn frozen_refutes()
     ensures reached { (q : Asked) (set : List Bool) → IsFrozen q set → (IsAsArray q.odds q.board set → ⊥) → (g : List Move) → Reaches g q → ⊥ }
 {}
 
-/// The law that a region is the least set that has its home and that the array's man there doesn't leave, and the only one.
+/// The law that a region is the least set that has its home and that the array's man there doesn't leave, and the only one; and so is
+/// the region of any man from any square of the board.
 pub fn regions_are_least()
     ensures least { (set : List Bool) (h : ℕ) → IsTrue (is_officer_home h) → IsLeastClosed set h (region set h) }
     ensures only { (set : List Bool) (h : ℕ) (found : List Bool) → IsTrue (is_officer_home h) → IsLeastClosed set h found → found ≡ region set h }
+    ensures least_from { (set : List Bool) (man : Option AMan) (h : ℕ) → h < 64 → IsLeastFrom set man h (region_from set man h) }
+    ensures only_from { (set : List Bool) (man : Option AMan) (h : ℕ) (found : List Bool) → h < 64 → IsLeastFrom set man h found → found ≡ region_from set man h }
 {}
 
 /// The law of regions, for every game that leads to a query in which a set is frozen, and for each home of a knight, a bishop, a

@@ -18,4 +18,4 @@ pub use laws::{
     frozen_men_stood, frozen_refutes, larger_sets_gain, officers_stay_in_regions, regions_are_least,
 };
 pub use refutations::{captures_refute, promotions_refute};
-pub use roaming::{is_dead, is_officer_home, is_shielded, region};
+pub use roaming::{exposed, is_dead, is_officer_home, is_shielded, region, region_from};

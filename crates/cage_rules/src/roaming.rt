@@ -1,12 +1,15 @@
-ghost use Rattle.std.specs.Prelude.{◌≡◌, ◌&&◌, ◌<◌, IsTrue};
-ghost use Rattle.board_base.specs.Board.{at, is_in};
+ghost use Rattle.std.specs.Prelude.{◌≡◌, ◌&&◌, ◌<◌, IsTrue, Some, not};
+ghost use Rattle.board_base.specs.Board.{at, is_in, man};
+ghost use Rattle.board_base.specs.Legal.{is_officer};
 ghost use Rattle.play_rules.specs.Laws.{is_end};
-ghost use Rattle.cage_rules.specs.Regions.{IsLeastClosed, beginner, is_dead, is_like, is_officer_home, is_shielded, region};
+ghost use Rattle.cage_rules.specs.Regions.{IsLeastClosed, IsLeastFrom, beginner, is_dead, is_exposed, is_like, is_officer_home, is_shielded, region, region_from};
+ghost use Rattle.board_base.specs.declared.men.Kind.TheVariants.{Pawn};
+ghost use Rattle.cage_rules.specs.Sets.{squares_that};
 ghost use Rattle.cage_rules.specs.Steps.{spread};
 
 use crate::sets::{both, either, is_apart, is_same, outside};
 use crate::steps::{pawn_strikes, piece_steps};
-use board_base::{Board, Kind, Man, Square, SquareSet, is_the};
+use board_base::{Board, Colour, Kind, Man, Square, SquareSet, is_the};
 
 /// The squares of ranks 1 and 8, on which no pawn stands.
 const ENDS: u64 = 0xff00_0000_0000_00ff;
@@ -52,23 +55,32 @@ fn spread(kind: Kind, frozen: SquareSet, within: SquareSet) -> SquareSet
     either(within, both(piece_steps(kind, within), outside(frozen)))
 }
 
-/// The squares to which the array's man on `home` can have gone while the men of a frozen set stood: the least set that has `home`,
-/// and with each square those to which he goes from there over squares outside `frozen` (articles 3.2 to 3.6). Other men don't
-/// count. A knight, a bishop, a rook or a queen begins on `home`.
-pub fn region(frozen: SquareSet, home: Square) -> SquareSet
-    requires { IsTrue (is_officer_home home) }
-    ensures squares { result ≡ region frozen home }
-    ensures least { IsLeastClosed frozen home result }
+/// The squares to which a knight, a bishop, a rook or a queen can have gone from a square while the men of a frozen set stood: the
+/// least set that has `from`, and with each square those to which he goes from there over squares outside `frozen` (articles 3.2 to
+/// 3.6). Other men don't count.
+pub fn region_from(frozen: SquareSet, man: Man, from: Square) -> SquareSet
+    requires { IsTrue (is_officer man.kind) }
+    ensures squares { result ≡ region_from frozen (Some man) from }
+    ensures least { IsLeastFrom frozen (Some man) from result }
 {
-    let kind = officer(home).kind;
-    let mut within = SquareSet::from_bits(0).with(home);
+    let mut within = SquareSet::from_bits(0).with(from);
     'steps: loop {
-        let more = spread(kind, frozen, within);
+        let more = spread(man.kind, frozen, within);
         if is_same(more, within) {
             return within;
         }
         within = more;
     }
+}
+
+/// The squares to which the array's man on `home` can have gone while the men of a frozen set stood: his region from there. A knight,
+/// a bishop, a rook or a queen begins on `home`.
+pub fn region(frozen: SquareSet, home: Square) -> SquareSet
+    requires { IsTrue (is_officer_home home) }
+    ensures squares { result ≡ region frozen home }
+    ensures least { IsLeastClosed frozen home result }
+{
+    region_from(frozen, officer(home), home)
 }
 
 /// A man of the colour and kind of the first stands on the second place.
@@ -111,4 +123,13 @@ pub fn is_shielded(frozen: SquareSet, home: Square) -> bool
     let enemy = officer(home).colour.other();
     let stands = outside(either(SquareSet::from_bits(ENDS), frozen));
     is_apart(region(frozen, home), pawn_strikes(enemy, stands))
+}
+
+/// The squares outside `frozen` on which some enemy pawn may capture a man of this colour, whatever he is (article 3.7.3): from a
+/// square that is neither on rank 1 or 8 nor in `frozen`.
+pub fn exposed(frozen: SquareSet, colour: Colour) -> SquareSet
+    ensures { result ≡ squares_that (λ s. not (is_in frozen s) && is_exposed frozen (man colour Pawn) s) }
+{
+    let stands = outside(either(SquareSet::from_bits(ENDS), frozen));
+    both(outside(frozen), pawn_strikes(colour.other(), stands))
 }

@@ -9,7 +9,7 @@ ghost use Rattle.cage_rules.specs.Tests.{as_pawn, kept, loose, on_diagonals, on_
 
 use crate::sets::{both, either, outside, with_if};
 use crate::steps::{diagonal_steps, knight_steps, line_steps, pawn_steps};
-use board_base::{Board, Castle, CastleSet, Colour, Kind, Man, Square, SquareSet};
+use board_base::{Castle, CastleSet, Colour, Kind, Man, Square, SquareSet};
 use castle_history::home;
 use query_base::Query;
 

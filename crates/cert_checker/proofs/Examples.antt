@@ -1,7 +1,7 @@
 -- Trees that prove that no game reaches a query, and trees that don't.
-use Rattle.std.proofs.Common.{◌≡◌, ◌==◌, ℕ, zero, suc, true, false, List, [], ◌∷◌, refl, ap, subst}
+use Rattle.std.proofs.Common.{◌≡◌, ◌==◌, ℕ, true, false, List, [], ◌∷◌, refl, ap, subst}
 use Rattle.std.proofs.lemmas.Bool.{both_ways}
-use Rattle.std.specs.Prelude.{None, replicate, slice_set}
+use Rattle.std.specs.Prelude.{None, slice_set}
 use Rattle.std.specs.List.{Contains}
 use Rattle.general_lemmas.proofs.Lists.{contains-first, contains-none}
 use Rattle.board_base.specs.Board.{Places, array_of, at, initial_array, is_empty, is_of, man, no_men, no_odds}
@@ -21,6 +21,7 @@ use Rattle.play_rules.proofs.Games.{game_more, no_moves}
 use Rattle.query_base.specs.Asked.{Asked}
 use Rattle.query_base.specs.Reach.{Reaches}
 use Rattle.query_base.specs.declared.rule_lines.RuleLine.TheVariants.{Kings}
+use Rattle.cert_text.specs.declared.reasons.Reason.TheVariants.{Line}
 use Rattle.query_base.proofs.Meeting.{reaches_nothing}
 use Rattle.unmove_gen.specs.Listed.{is_listed, unmoves}
 use Rattle.unmove_gen.specs.Predecessor.{unmove_after}
@@ -45,11 +46,11 @@ abbrev the_array : Asked
 the_array = asked initial_array
 
 -- the board without men has no kings, and so no game reaches it
-kings_missing : Proves (rule Kings) (asked no_men) []
+kings_missing : Proves (rule (Line Kings)) (asked no_men) []
 kings_missing = λ each. let missing : false ≡ true = ap (λ (n : ℕ). n == 1) (each White) in cc
 
 -- the array has its kings
-kings_there : Proves (rule Kings) the_array [] → ⊥
+kings_there : Proves (rule (Line Kings)) the_array [] → ⊥
 unfolding initial_array
 kings_there proves = proves (λ c. elim c as (λ d. kings d initial_array ≡ 1) [ White ↦ refl | Black ↦ refl ])
 

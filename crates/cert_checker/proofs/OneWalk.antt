@@ -6,7 +6,7 @@ use Rattle.board_base.specs.Texts.{unmove_order}
 use Rattle.board_base.specs.declared.unmoves.Unmove.{Unmove}
 use Rattle.query_base.specs.Asked.{Asked}
 use Rattle.query_base.specs.Ancestors.{CoversAt}
-use Rattle.static_rules.specs.Supports.{Supports}
+use Rattle.cert_checker.specs.Reasons.{ReasonSupports}
 use Rattle.unmove_gen.specs.Listed.{unmoves}
 use Rattle.unmove_gen.specs.Predecessor.{predecessor}
 use Rattle.cert_text.specs.Tree.{Tree, Forest, rule, back, expand, none, more}
@@ -32,7 +32,7 @@ one_onwards (next_line n) Rest a b rest x y = rest n x y
 
 mutual
   pub one_walk : (t : Tree) (q : Asked) (ancestors : List Asked) (n : ℕ) (a b : Walked) → Walks t q ancestors n a → Walks t q ancestors n b → a ≡ b
-  one_walk (rule r) q ancestors n a b x y = one_unless (Supports q r) why.Rule n a b x y
+  one_walk (rule r) q ancestors n a b x y = one_unless (ReasonSupports q r) why.Rule n a b x y
   one_walk (back k) q ancestors n a b x y = one_unless (CoversAt q ancestors k) why.Back n a b x y
   one_walk (expand kids) q ancestors n a b (inl x) (inl y) = x.1 ∙ sym y.1
   one_walk (expand kids) q ancestors n a b (inl x) (inr y) = absurd (y.0 x.0)

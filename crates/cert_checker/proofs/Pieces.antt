@@ -58,12 +58,12 @@ cut_long b (c ∷ g) others none =
     let o = cut_long c g others none.1 in
     (b ∷ o.0, o.1, cond-false (b == 10) _ _ (ne_eqb b 10 none.0) ∙ ap (onto_first b) o.2, let h = o.3 in omega arith)
 
-cut_longer : (g others : List ℕ) → NoEnd g → 128 < length g → (line : List ℕ) × (lines : List (List ℕ)) × (cut (g ++ others) ≡ line ∷ lines) × (128 < length line)
+cut_longer : (g others : List ℕ) → NoEnd g → 256 < length g → (line : List ℕ) × (lines : List (List ℕ)) × (cut (g ++ others) ≡ line ∷ lines) × (256 < length line)
 cut_longer [] others none long = absurd (omega arith)
 cut_longer (b ∷ g) others none long = let o = cut_long b g others none in (o.0, o.1, o.2, omega (arith, o.3))
 
 -- what is gathered, and a part with which it is longer than a line may be
-over : (g part others : List ℕ) (ends : Bool) → NoEnd g → IsPart ends part → 128 < length g + length part → (line : List ℕ) × (lines : List (List ℕ)) × (cut (g ++ (part ++ others)) ≡ line ∷ lines) × (128 < length line)
+over : (g part others : List ℕ) (ends : Bool) → NoEnd g → IsPart ends part → 256 < length g + length part → (line : List ℕ) × (lines : List (List ℕ)) × (cut (g ++ (part ++ others)) ≡ line ∷ lines) × (256 < length line)
 over g part others true none is long = (g ++ part, cut others, ended_line g part others none is, omega (arith, length-append g part))
 over g part others false none plain long =
     let o = cut_longer (g ++ part) others (no_end_both g part none plain) (omega (arith, length-append g part)) in
@@ -116,7 +116,7 @@ stopped_moved (at.Counting claim q found) frames due k m n lines others a rest =
 stopped_moved (at.Bad j) frames due k m n lines others a rest = bad_moved lines others j m n a rest
 
 -- the gathered line is too long
-pub rest_long : ((line : List ℕ) → 128 < length line → IsMute line) → (s t : Step) (frames : List Frame) (due : List ℕ) (n : ℕ) (g part after others : List ℕ) (ends : Bool) (a : Answer) → NoEnd g → IsPart ends part → 128 < length g + length part → t ≡ stop_at s n → Rest (stage_of t frames due) n (cut (after ++ others)) a → Rest (stage_of s frames due) n (cut (g ++ (part ++ others))) a
+pub rest_long : ((line : List ℕ) → 256 < length line → IsMute line) → (s t : Step) (frames : List Frame) (due : List ℕ) (n : ℕ) (g part after others : List ℕ) (ends : Bool) (a : Answer) → NoEnd g → IsPart ends part → 256 < length g + length part → t ≡ stop_at s n → Rest (stage_of t frames due) n (cut (after ++ others)) a → Rest (stage_of s frames due) n (cut (g ++ (part ++ others))) a
 rest_long mutes s t frames due n g part after others ends a none is long stop rest =
     let o = over g part others ends none is long in
     let stopped = subst (λ (u : Step). Rest (stage_of u frames due) n (cut (after ++ others)) a) stop rest in

@@ -10,6 +10,10 @@ use Rattle.query_base.specs.Targets.{Covers}
 use Rattle.query_base.specs.Ancestors.{ancestor}
 use Rattle.query_base.proofs.Covering.{reached}
 use Rattle.static_rules.proofs.Unreached.{unreached}
+use Rattle.balance_rule.proofs.Sound.{balance-unreached}
+use Rattle.cert_checker.specs.Reasons.{ReasonSupports}
+use Rattle.cert_text.specs.declared.reasons.Reason.{Reason}
+use Rattle.cert_text.specs.declared.reasons.Reason.TheVariants.{Line, Balance}
 use Rattle.unmove_gen.specs.Listed.{unmoves}
 use Rattle.unmove_gen.specs.Predecessor.{predecessor, unmove_after}
 use Rattle.unmove_gen.proofs.Taken.{listed_after, reached_after}
@@ -55,9 +59,14 @@ by_game n q elsewhere before g short reaches = elim (by_last g) [
       before h (unmove_after q.odds h m) (omega (arith, ap length e, length-append h (m ∷ []))) (listed_after h m q whole) (reached_after h m q whole)
 ]
 
+-- no game reaches what a reason supports
+reason_unreached : (q : Asked) (r : Reason) → ReasonSupports q r → (g : List Move) → Reaches g q → ⊥
+reason_unreached q (Line r) p g = unreached q r p g
+reason_unreached q (Balance set d) p g = balance-unreached q set d p g
+
 -- no game of at most n moves reaches what is proved below ancestors that none reaches
 safe : (n : ℕ) (t : Tree) (q : Asked) (ancestors : List Asked) → Proves t q ancestors → AllSafe n ancestors → Safe n q
-safe n (rule r) q ancestors p all = λ g short. unreached q r p g
+safe n (rule r) q ancestors p all = λ g short. reason_unreached q r p g
 safe n (back k) q ancestors p all = λ g short reaches.
     let a = ancestor_safe n ancestors k (λ b. Covers b q) all p in a.1 g short (reached a.0 q g a.2 reaches)
 safe zero (expand kids) q ancestors p all = by_game zero q p.0 (λ g u short. absurd (omega arith))

@@ -7,7 +7,7 @@ use Rattle.board_base.specs.Texts.{unmove_order}
 use Rattle.board_base.specs.declared.unmoves.Unmove.{Unmove}
 use Rattle.query_base.specs.Asked.{Asked}
 use Rattle.query_base.specs.Targets.{Covers}
-use Rattle.static_rules.specs.Supports.{Supports}
+use Rattle.cert_checker.specs.Reasons.{ReasonSupports}
 use Rattle.unmove_gen.specs.Listed.{unmoves}
 use Rattle.unmove_gen.specs.Predecessor.{predecessor}
 use Rattle.cert_text.specs.Tree.{Tree, Forest, rule, back, expand, none, more, count}
@@ -87,7 +87,7 @@ mutual
   -- the lines of a tree
   pub tree_walk : (t : Tree) (q : Asked) (frames : List Frame) (n : ℕ) (front lines : Lines) (after last : Walking) → AreBelow t (length frames) front → OnBody (body_of t) q frames n after → WalksOn after (n + 1) (front ++ lines) last → (kid : Walked) × Walks t q (map query_of_frame frames) n kid × Carries kid (GoesOn frames lines) last
   tree_walk (rule r) q frames n front lines after last below on walks =
-      stays_walk (Supports q r) why.Rule frames n lines after last on (subst (λ (l : Lines). WalksOn after (n + 1) (l ++ lines) last) below walks)
+      stays_walk (ReasonSupports q r) why.Rule frames n lines after last on (subst (λ (l : Lines). WalksOn after (n + 1) (l ++ lines) last) below walks)
   tree_walk (back k) q frames n front lines after last below on walks =
       stays_walk (IsSomeAnd (ancestor (map query_of_frame frames) k) (λ a. Covers a q)) why.Back frames n lines after last on (subst (λ (l : Lines). WalksOn after (n + 1) (l ++ lines) last) below walks)
   tree_walk (expand kids) q frames n front lines (going fs) last below (elsewhere, same) walks =

@@ -8,7 +8,7 @@ use Rattle.board_base.specs.declared.unmoves.Unmove.{Unmove}
 use Rattle.query_base.specs.Asked.{Asked}
 use Rattle.query_base.specs.Reach.{Reaches}
 use Rattle.query_base.specs.Targets.{Covers}
-use Rattle.static_rules.specs.Supports.{Supports}
+use Rattle.cert_checker.specs.Reasons.{ReasonSupports}
 use Rattle.unmove_gen.specs.Listed.{unmoves}
 use Rattle.unmove_gen.specs.Predecessor.{predecessor}
 use Rattle.cert_text.specs.Lines.{said}
@@ -64,7 +64,7 @@ Opens IsArray frames n (stopped m f) = IsArray × (m ≡ n) × (f ≡ unsupporte
 
 -- a node with this body and query on line n, below these frames
 abbrev pub OnBody : BodyLine → Asked → List Frame → ℕ → Walking → Type 0
-OnBody (Rule r) q frames n after = Stays (Supports q r) why.Rule frames n after
+OnBody (Rule r) q frames n after = Stays (ReasonSupports q r) why.Rule frames n after
 OnBody (Back k) q frames n after = Stays (IsSomeAnd (ancestor (map query_of_frame frames) k) (λ a. Covers a q)) why.Back frames n after
 OnBody (Expand c) q frames n after = Opens (Reaches [] q) (record { query = q; left = unmoves q; due = c; line = n } ∷ frames) n after
 

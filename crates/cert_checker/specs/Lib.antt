@@ -1,3 +1,4 @@
+pub mod Reasons
 pub mod Proving
 pub mod Walk
 pub mod Answers

@@ -5,18 +5,18 @@ use Rattle.query_base.specs.Asked.{Asked}
 use Rattle.query_base.specs.Reach.{Reaches}
 use Rattle.query_base.specs.Targets.{target}
 use Rattle.query_base.specs.Ancestors.{CoversAt}
-use Rattle.static_rules.specs.Supports.{Supports}
+use Rattle.cert_checker.specs.Reasons.{ReasonSupports}
 use Rattle.unmove_gen.specs.Listed.{unmoves}
 use Rattle.unmove_gen.specs.Predecessor.{predecessor}
 use Rattle.cert_text.specs.Tree.{Tree, Forest, rule, back, expand, none, more}
 use Rattle.cert_text.specs.Certificate.{Certificate}
 
 abbrev mutual
-  -- The tree proves that no game reaches the query, below these ancestors, the parent first: a rule line supports the query; an
+  -- The tree proves that no game reaches the query, below these ancestors, the parent first: a reason supports the query; an
   -- ancestor covers it; or the game of no moves doesn't reach it, the labels are exactly its unmoves, and each child proves the
   -- predecessor.
   pub Proves : Tree → Asked → List Asked → Type 0
-  Proves (rule r) q ancestors = Supports q r
+  Proves (rule r) q ancestors = ReasonSupports q r
   Proves (back k) q ancestors = CoversAt q ancestors k
   Proves (expand kids) q ancestors = (Reaches [] q → ⊥) × ProvesEach kids q (unmoves q) ancestors
 

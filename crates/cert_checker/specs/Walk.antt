@@ -7,7 +7,7 @@ use Rattle.board_base.specs.declared.unmoves.Unmove.{Unmove}
 use Rattle.query_base.specs.Asked.{Asked}
 use Rattle.query_base.specs.Reach.{Reaches}
 use Rattle.query_base.specs.Ancestors.{CoversAt}
-use Rattle.static_rules.specs.Supports.{Supports}
+use Rattle.cert_checker.specs.Reasons.{ReasonSupports}
 use Rattle.unmove_gen.specs.Listed.{unmoves}
 use Rattle.unmove_gen.specs.Predecessor.{predecessor}
 use Rattle.cert_text.specs.Tree.{Tree, Forest, rule, back, expand, none, more}
@@ -46,7 +46,7 @@ ByLabel Equal u n walked Kid = Kid
 abbrev mutual
   -- what the walk of a tree whose first line is n comes to, at this query and below these ancestors, the parent first
   pub Walks : Tree → Asked → List Asked → ℕ → Walked → Type 0
-  Walks (rule r) q ancestors n walked = Unless (Supports q r) why.Rule n walked
+  Walks (rule r) q ancestors n walked = Unless (ReasonSupports q r) why.Rule n walked
   Walks (back k) q ancestors n walked = Unless (CoversAt q ancestors k) why.Back n walked
   Walks (expand kids) q ancestors n walked =
       (Reaches [] q × (walked ≡ fault_at n (unsupported why.Array))) ⊎ ((Reaches [] q → ⊥) × WalksEach kids q (unmoves q) ancestors n (n + 1) walked)

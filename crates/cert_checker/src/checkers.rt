@@ -28,8 +28,8 @@ fn first_part(bytes: &[u8]) -> (usize, bool)
 }
 
 /// Puts a part of a line behind what is gathered.
-fn gather(gathered: &mut ArrayVec<u8, 128>, part: &[u8])
-    requires { array_vec_len gathered.old + length part.now ≤ 128 }
+fn gather(gathered: &mut ArrayVec<u8, 256>, part: &[u8])
+    requires { array_vec_len gathered.old + length part.now ≤ 256 }
     ensures { gathered.new.items ≡ gathered.old.items ++ part.now }
 {
     let _ = gathered.try_extend_from_slice(part);
@@ -40,7 +40,7 @@ fn take_part(
     step: &mut Step,
     frames: &mut ArrayVec<Frame, 256>,
     counts: &mut ArrayVec<u32, 256>,
-    gathered: &mut ArrayVec<u8, 128>,
+    gathered: &mut ArrayVec<u8, 256>,
     number: &mut u32,
     part: &[u8],
     ended: bool,
@@ -56,7 +56,7 @@ fn take_part(
     ensures number { number.new ≤ number.old + 1 }
 {
     no_long_lines();
-    if gathered.len() + part.len() > 128 {
+    if gathered.len() + part.len() > 256 {
         *step = stop(step, *number);
         return;
     }
@@ -100,7 +100,7 @@ pub struct Checker {
     step: Step,
     frames: ArrayVec<Frame, 256>,
     counts: ArrayVec<u32, 256>,
-    gathered: ArrayVec<u8, 128>,
+    gathered: ArrayVec<u8, 256>,
     number: u32,
     fed: u32,
 }

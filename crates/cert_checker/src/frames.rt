@@ -15,12 +15,12 @@ ghost use Rattle.cert_checker.specs.Staging.{taken};
 ghost use Rattle.cert_checker.specs.declared.frames.Frame.{Frame as AnyFrame};
 
 use crate::left_unmoves::LeftUnmoves;
+use crate::reasons::reason_supports;
 use crate::refusals::Why;
 use arrayvec::ArrayVec;
 use board_base::{Board, CastleSet, Colour, Odds, Unmove, cmp_unmove};
 use cert_text::{BodyLine, read_kid_line};
 use query_base::{Query, covers, is_array};
-use static_rules::supports;
 use std::cmp::Ordering;
 use unmove_gen::pred;
 
@@ -113,8 +113,8 @@ pub(crate) fn body_fault(
     ensures { OnBody body.now query.now (reverse frames.now) line (walking result (with_body body.now query.now (reverse frames.now) line)) }
 {
     match body {
-        BodyLine::Rule(rule) => {
-            if supports(query, rule) {
+        BodyLine::Rule(reason) => {
+            if reason_supports(query, reason) {
                 None
             } else {
                 Some(Found::Unsupported {

@@ -9,6 +9,7 @@ mod counting;
 mod frames;
 mod laws;
 mod left_unmoves;
+mod reasons;
 mod refusals;
 mod stages;
 mod streams;

@@ -13,7 +13,7 @@ pub struct Accepted {
 /// Why a node doesn't prove that no game reaches its query.
 #[derive(Clone, Copy, PartialEq, Eq, Debug)]
 pub enum Why {
-    /// `rule`: the rule line doesn't support the query.
+    /// `rule`: what stands behind it doesn't support the query.
     Rule,
     /// `back`: the ancestor doesn't cover the query.
     Back,

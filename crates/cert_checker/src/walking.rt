@@ -9,11 +9,11 @@ ghost use Rattle.query_base.specs.Ancestors.{ancestor};
 ghost use Rattle.cert_checker.specs.Walk.{Walks, WalksEach};
 ghost use Rattle.cert_checker.specs.Walking.{IsFault, IsLabelFault, IsWalked};
 
+use crate::reasons::reason_supports;
 use crate::refusals::{Refused, Why};
 use board_base::{Unmove, cmp_unmove};
 use cert_text::{Body, Kids, Node};
 use query_base::{Query, covers, is_array};
-use static_rules::supports;
 use std::cmp::Ordering;
 use unmove_gen::{Unmoves, pred};
 
@@ -61,8 +61,8 @@ pub fn check_node(
     ensures near { IfOk result (λ n. n ≤ line + size (tree_of node.now)) }
 {
     match &node.body {
-        Body::Rule(rule) => {
-            if supports(query, rule) {
+        Body::Rule(reason) => {
+            if reason_supports(query, reason) {
                 Ok(line + 1)
             } else {
                 Err(Refused::Unsupported {

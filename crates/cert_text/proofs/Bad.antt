@@ -7,6 +7,7 @@ use Rattle.general_lemmas.proofs.Lists.{same_first, same_rest}
 use Rattle.query_base.specs.Asked.{Asked}
 use Rattle.query_base.specs.declared.claims.Claim.{Claim}
 use Rattle.query_base.specs.declared.rule_lines.RuleLine.TheVariants.{Kings}
+use Rattle.cert_text.specs.declared.reasons.Reason.TheVariants.{Line}
 use Rattle.cert_text.specs.Tree.{Tree, rule, back, expand}
 use Rattle.cert_text.specs.Lines.{ended, said}
 use Rattle.cert_text.specs.Texts.{Begins, IsBadAt, IfBadText}
@@ -27,7 +28,7 @@ use Rattle.cert_text.proofs.HeadSteps.{GoesOn, at_root, closes, goes_on, head_le
 some_root : List ℕ
 some_root = ended (codes "root rule kings")
 
-root_known : said root_body some_root ≡ Some (Rule Kings)
+root_known : said root_body some_root ≡ Some (Rule (Line Kings))
 unfolding said root_body body_at some_root
 root_known = refl
 
@@ -36,7 +37,7 @@ begins : (front : Lines) (h : Head) → Leads FormatDue front h → Begins AreLi
 begins front h leads =
     let c = closes h in (
       c.lines ++ some_root ∷ [],
-      record { claim = c.claim; query = c.query; root = rule Kings },
+      record { claim = c.claim; query = c.query; root = rule (Line Kings) },
       record {
         head = front ++ c.lines;
         root_line = some_root;

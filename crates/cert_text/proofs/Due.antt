@@ -6,6 +6,7 @@ use Rattle.std.specs.Option.{option_map}
 use Rattle.std.proofs.lemmas.Option.{same_Some}
 use Rattle.cert_text.specs.Tree.{Tree, Forest, rule, back, expand, none, more, count, with_last}
 use Rattle.query_base.specs.declared.rule_lines.RuleLine.TheVariants.{Kings}
+use Rattle.cert_text.specs.declared.reasons.Reason.TheVariants.{Line}
 use Rattle.board_base.specs.Texts.{unmove_from}
 use Rattle.board_base.specs.declared.unmoves.Unmove.{Unmove}
 use Rattle.fen_text.specs.Parts.{parted}
@@ -62,7 +63,7 @@ sure = ended (codes "a1a1 rule kings")
 abbrev sure_unmove : Unmove
 sure_unmove = record { mv = record { from = 0; to = 0; promo = None }; captured = None; ep = false }
 
-sure_kid : (depth : ℕ) → said (kid_body depth) sure ≡ Some (sure_unmove, Rule Kings)
+sure_kid : (depth : ℕ) → said (kid_body depth) sure ≡ Some (sure_unmove, Rule (Line Kings))
 unfolding said kid_body parted unmove_from body_at
 sure_kid depth = refl
 
@@ -75,7 +76,7 @@ same_runs : (c : ℕ) (due : List ℕ) (n : ℕ) (lines : Lines) → refused (c 
 same_runs zero due n lines = nothing_due due n lines ∙ ap (λ (k : ℕ). refused due k lines) (sym (add-zero n))
 same_runs (suc c) due n lines =
     let size : n + 1 + c ≡ n + suc c = omega arith in
-    goes_on c n due sure (replicate c sure ++ lines) sure_unmove (Rule Kings) (sure_kid (suc (length due))) ∙ same_runs c due (n + 1) lines ∙ ap (λ (k : ℕ). refused due k lines) size
+    goes_on c n due sure (replicate c sure ++ lines) sure_unmove (Rule (Line Kings)) (sure_kid (suc (length due))) ∙ same_runs c due (n + 1) lines ∙ ap (λ (k : ℕ). refused due k lines) size
 
 pub closes : (due : List ℕ) (n : ℕ) → refused due n (closing due) ≡ None
 closes [] n = refl

@@ -9,6 +9,7 @@ use Rattle.fen_text.specs.Parts.{parted}
 use Rattle.fen_text.specs.Ranks.{is_symbol, places_of, rank}
 use Rattle.fen_text.specs.Fen.{asked, fen, fen_of_four, from_en_passant, from_rights, from_turn, no_rights, placement, ranks, rights}
 use Rattle.cert_text.specs.Tree.{rule}
+use Rattle.cert_text.specs.declared.reasons.Reason.TheVariants.{Line}
 use Rattle.cert_text.specs.Lines.{ended, said}
 use Rattle.cert_text.specs.Texts.{IsBadAt}
 use Rattle.cert_text.specs.NodeLines.{body_at, root_body}
@@ -27,7 +28,7 @@ use Rattle.board_base.specs.Squares.{squares_of}
 
 -- no game at these odds and with this clock, if any, leads to the board without men, for want of kings
 abbrev no_kings_at : List Bool → Option ℕ → Certificate
-no_kings_at odds clock = record { claim = Illegal; query = record (asked no_men White no_rights None) { odds = odds; clock = clock }; root = rule Kings }
+no_kings_at odds clock = record { claim = Illegal; query = record (asked no_men White no_rights None) { odds = odds; clock = clock }; root = rule (Line Kings) }
 
 abbrev no_kings : Certificate
 no_kings = no_kings_at no_odds None

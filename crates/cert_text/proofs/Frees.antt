@@ -20,7 +20,7 @@ use Rattle.cert_text.specs.NodeLines.{body_text}
 use Rattle.cert_text.specs.declared.node_lines.BodyLine.{BodyLine}
 use Rattle.cert_text.specs.declared.node_lines.BodyLine.TheVariants.{Rule, Back, Expand}
 use Rattle.fen_text.proofs.Decimals.{model}
-use Rattle.cert_text.proofs.RuleTexts.{name_free}
+use Rattle.cert_text.proofs.ReasonTexts.{reason_free}
 use Rattle.fen_text.proofs.MoveFrees.{higher}
 
 pub decimal_free : (n : ℕ) → n ≤ 999999 → Free 10 (decimal n)
@@ -28,7 +28,7 @@ decimal_free n few = digits_free 10 (decimal n) (omega arith) (digits_decimal mo
 
 -- the text of a body has no line end
 pub body_free : (depth : ℕ) (b : BodyLine) → depth ≤ 255 → fits_depth depth b ≡ true → Free 10 (body_text b)
-body_free depth (Rule r) low fits = name_free r fits
+body_free depth (Rule r) low fits = reason_free r fits
 body_free depth (Back k) low fits =
     let parts = and_parts (nat_le 1 k) (nat_le k depth) fits in
     let k-low = leb-true k depth parts.1 in

@@ -2,7 +2,7 @@
 use Rattle.std.proofs.Common.{◌≡◌, ℕ, suc, List, [], ◌∷◌, ◌++◌, Some, refl, sym, ap, ◌∙◌, arith, append_assoc}
 use Rattle.std.proofs.lemmas.Option.{same_Some, some_pair_parts}
 use Rattle.board_base.specs.declared.unmoves.Unmove.{Unmove}
-use Rattle.query_base.specs.declared.rule_lines.RuleLine.{RuleLine}
+use Rattle.cert_text.specs.declared.reasons.Reason.{Reason}
 use Rattle.cert_text.specs.Tree.{Tree, Forest, rule, back, expand, none, more, count}
 use Rattle.cert_text.specs.Lines.{said}
 use Rattle.cert_text.specs.NodeLines.{root_body, kid_body}
@@ -28,7 +28,7 @@ nothing_before a b x y e f same = sym (ap (λ (l : Lines). l ++ x) e) ∙ same �
 same_kid : (depth : ℕ) (k l : List ℕ) (u v : Unmove) (a b : BodyLine) → k ≡ l → said (kid_body depth) k ≡ Some (u, a) → said (kid_body depth) l ≡ Some (v, b) → (u ≡ v) × (a ≡ b)
 same_kid depth k l u v a b same p q = some_pair_parts u v a b (sym p ∙ ap (said (kid_body depth)) same ∙ q)
 
-same_rule : (r s : RuleLine) → body_of (rule r) ≡ body_of (rule s) → r ≡ s
+same_rule : (r s : Reason) → body_of (rule r) ≡ body_of (rule s) → r ≡ s
 same_rule r s e = cc
 
 same_back : (k l : ℕ) → body_of (back k) ≡ body_of (back l) → k ≡ l

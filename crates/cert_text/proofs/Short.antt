@@ -35,8 +35,13 @@ use Rattle.cert_text.proofs.HeadTexts.{format_text_read}
 use Rattle.cert_text.specs.ClaimLines.{claim_of, claim_text}
 use Rattle.cert_text.specs.Lines.{ended, said}
 use Rattle.cert_text.specs.Mute.{IsMute}
-use Rattle.cert_text.specs.NodeLines.{body_text, kid_body, root_body, rule_name}
-use Rattle.cert_text.specs.Writable.{are_near, fits_depth, is_near, is_rule}
+use Rattle.cert_text.specs.NodeLines.{body_text, kid_body, reason_name, root_body, rule_name}
+use Rattle.cert_text.specs.Writable.{are_near, fits_depth, is_near, is_reason, is_rule}
+use Rattle.capture_prices.specs.Prices.{are_prices}
+use Rattle.cert_text.specs.PriceTexts.{prices_text}
+use Rattle.cert_text.specs.declared.reasons.Reason.{Reason}
+use Rattle.cert_text.specs.declared.reasons.Reason.TheVariants.{Line, Balance}
+use Rattle.cert_text.proofs.PricesWritten.{prices_short}
 use Rattle.cert_text.specs.declared.node_lines.BodyLine.{BodyLine}
 use Rattle.cert_text.specs.declared.node_lines.BodyLine.TheVariants.{Rule, Back, Expand}
 use Rattle.fen_text.proofs.Begun.{begun}
@@ -68,19 +73,25 @@ duals_short width d near =
     let n = near_parts width d near in
     omega (arith, ap length (joined-both d.u d.v), leb-true (length d.u) width n.u_few, eqb-true (length d.v) width n.v_size, behind_short d.u n.u, before_short d.v n.v, length-append (spaced_behind d.u) (47 ∷ spaced_before d.v))
 
-name_short : (r : RuleLine) → is_rule r ≡ true → length (rule_name r) ≤ 89
-name_short Kings known = omega arith
-name_short Ranks known = omega arith
-name_short Check known = omega arith
-name_short Rights known = omega arith
-name_short (Count side) known = omega arith
-name_short (Frozen set) known = omega (arith, set_length set)
-name_short (Caps side set p) known =
+rule_short : (r : RuleLine) → is_rule r ≡ true → length (rule_name r) ≤ 89
+rule_short Kings known = omega arith
+rule_short Ranks known = omega arith
+rule_short Check known = omega arith
+rule_short Rights known = omega arith
+rule_short (Count side) known = omega arith
+rule_short (Frozen set) known = omega (arith, set_length set)
+rule_short (Caps side set p) known =
     let parts = and_parts (is_whole set) (are_near 8 p) known in
     omega (arith, set_length set, duals_short 8 p parts.1, length-append (set_text set) (32 ∷ potentials_text p))
-name_short (Promo side set) known = omega (arith, set_length set)
+rule_short (Promo side set) known = omega (arith, set_length set)
 
-body_short : (depth : ℕ) (b : BodyLine) → fits_depth depth b ≡ true → number_in b ≤ 999999 → length (body_text b) ≤ 94
+name_short : (r : Reason) → is_reason r ≡ true → length (reason_name r) ≤ 220
+name_short (Line r) known = omega (arith, rule_short r known)
+name_short (Balance set p) known =
+    let parts = and_parts (is_whole set) (are_prices p) known in
+    omega (arith, set_length set, prices_short p parts.1, length-append (set_text set) (32 ∷ prices_text p))
+
+body_short : (depth : ℕ) (b : BodyLine) → fits_depth depth b ≡ true → number_in b ≤ 999999 → length (body_text b) ≤ 225
 body_short depth (Rule r) fits few = omega (arith, name_short r fits)
 body_short depth (Back k) fits few = omega (arith, length-decimal-le 6 k (omega arith) (omega arith) (omega arith))
 body_short depth (Expand n) fits few = omega (arith, length-decimal-le 6 n (omega arith) (omega arith) (omega arith))
@@ -91,7 +102,7 @@ claim_short (Last m) = omega (arith, move_short m)
 claim_short (Lost x) = omega arith
 claim_short (Ep m) = omega (arith, move_short m)
 
--- no text of a grammar has more than 102 bytes
+-- no text of a grammar has more than 233 bytes
 
 pub query_text_short : (text : List ℕ) (q : Asked) → query_of text ≡ Some q → length text ≤ 85
 unfolding query_of
@@ -102,12 +113,12 @@ query_text_short text q e =
 claim_text_short : (text : List ℕ) (claim : Claim) → claim_of text ≡ Some claim → length text ≤ 16
 claim_text_short text claim e = omega (arith, ap length (text_read text claim e).text_is, claim_short claim)
 
-root_text_short : (text : List ℕ) (b : BodyLine) → root_body text ≡ Some b → length text ≤ 99
+root_text_short : (text : List ℕ) (b : BodyLine) → root_body text ≡ Some b → length text ≤ 230
 root_text_short text b e =
     let read = root_text_read text b e in
     omega (arith, ap length read.text_is, body_short 0 b read.fits read.few)
 
-kid_text_short : (depth : ℕ) (text : List ℕ) (u : Unmove) (b : BodyLine) → kid_body depth text ≡ Some (u, b) → length text ≤ 102
+kid_text_short : (depth : ℕ) (text : List ℕ) (u : Unmove) (b : BodyLine) → kid_body depth text ≡ Some (u, b) → length text ≤ 233
 kid_text_short depth text u b e =
     let read = kid_text_read depth text u b e in
     omega (arith, ap length read.text_is, length-append (unmove_text u) (32 ∷ body_text b), unmove_short u, body_short depth b read.fits read.few)
@@ -151,8 +162,8 @@ no_step line f c o k q (ClockOrFenDue claim odds) =
 no_step line f c o k q (FenDue claim odds clock) = no_fen_step claim odds clock line q
 no_step line f c o k q (RootDue claim query) = refl
 
--- a line of more than 128 bytes
-pub long_mute : (line : List ℕ) → 128 < length line → IsMute line
+-- a line of more than 256 bytes
+pub long_mute : (line : List ℕ) → 256 < length line → IsMute line
 long_mute line long = record {
   head = no_step line
       (nothing_said format_of line (λ x e. let short = line_short format_of 7 line x (λ text. format_text_short text x) e in omega arith))
@@ -160,9 +171,37 @@ long_mute line long = record {
       (nothing_said odds_line line (λ x e. let short = line_short odds_line 21 line x (λ text. odds_text_short text x) e in omega arith))
       (nothing_said clock_line line (λ x e. let short = line_short clock_line 10 line x (λ text. clock_text_short text x) e in omega arith))
       (nothing_said query_of line (λ x e. let short = line_short query_of 85 line x (λ text. query_text_short text x) e in omega arith));
-  root = nothing_said root_body line (λ x e. let short = line_short root_body 99 line x (λ text. root_text_short text x) e in omega arith);
-  kid = λ depth. nothing_said (kid_body depth) line (λ x e. let short = line_short (kid_body depth) 102 line x (λ text. kid_text_short depth text x.0 x.1) e in omega arith);
+  root = nothing_said root_body line (λ x e. let short = line_short root_body 230 line x (λ text. root_text_short text x) e in omega arith);
+  kid = λ depth. nothing_said (kid_body depth) line (λ x e. let short = line_short (kid_body depth) 233 line x (λ text. kid_text_short depth text x.0 x.1) e in omega arith);
 }
+
+-- lines whose reason, if there is one, is a rule line
+
+abbrev pub IsBrief : BodyLine → Type 0
+IsBrief (Rule (Line r)) = Unit {0}
+IsBrief (Rule (Balance set p)) = ⊥
+IsBrief (Back k) = Unit {0}
+IsBrief (Expand n) = Unit {0}
+
+body_brief : (depth : ℕ) (b : BodyLine) → IsBrief b → fits_depth depth b ≡ true → number_in b ≤ 999999 → length (body_text b) ≤ 94
+body_brief depth (Rule (Line r)) brief fits few = omega (arith, rule_short r fits)
+body_brief depth (Rule (Balance set p)) brief fits few = absurd brief
+body_brief depth (Back k) brief fits few = omega (arith, length-decimal-le 6 k (omega arith) (omega arith) (omega arith))
+body_brief depth (Expand n) brief fits few = omega (arith, length-decimal-le 6 n (omega arith) (omega arith) (omega arith))
+
+-- they have at most 128 bytes
+
+pub root_line_brief : (line : List ℕ) (b : BodyLine) → IsBrief b → said root_body line ≡ Some b → length line ≤ 128
+root_line_brief line b brief e =
+    let s = said_read root_body line b e in
+    let read = root_text_read s.text b s.stands in
+    omega (arith, ap length s.line_is, length-append s.text (10 ∷ []), ap length read.text_is, body_brief 0 b brief read.fits read.few)
+
+pub kid_line_brief : (depth : ℕ) (line : List ℕ) (u : Unmove) (b : BodyLine) → IsBrief b → said (kid_body depth) line ≡ Some (u, b) → length line ≤ 128
+kid_line_brief depth line u b brief e =
+    let s = said_read (kid_body depth) line (u, b) e in
+    let read = kid_text_read depth s.text u b s.stands in
+    omega (arith, ap length s.line_is, length-append s.text (10 ∷ []), ap length read.text_is, length-append (unmove_text u) (32 ∷ body_text b), unmove_short u, body_brief depth b brief read.fits read.few)
 
 -- a line with no end
 unended_said : {A : Type 0} (grammar : List ℕ → Option A) (line : List ℕ) → ((text : List ℕ) → line ≢ ended text) → said grammar line ≡ None

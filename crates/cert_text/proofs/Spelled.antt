@@ -6,21 +6,22 @@ use Rattle.std.proofs.lemmas.Bool.Decides.{nat_tests}
 use Rattle.std.proofs.lemmas.Option.{cond_some, same_Some}
 use Rattle.std.specs.List.{starts_with}
 use Rattle.std.specs.Option.{option_map, option_and_then}
-use Rattle.query_base.specs.declared.rule_lines.RuleLine.{RuleLine}
+use Rattle.cert_text.specs.declared.reasons.Reason.{Reason}
 use Rattle.fen_text.specs.Numbers.{number}
-use Rattle.cert_text.specs.NodeLines.{rule_of, back_at, expand_at, body_at, body_text}
-use Rattle.cert_text.specs.Writable.{fits_depth, is_rule}
+use Rattle.cert_text.specs.NodeLines.{reason_of, back_at, expand_at, body_at, body_text}
+use Rattle.cert_text.specs.Writable.{fits_depth, is_reason}
 use Rattle.cert_text.specs.declared.node_lines.BodyLine.{BodyLine}
 use Rattle.cert_text.specs.declared.node_lines.BodyLine.TheVariants.{Rule, Back, Expand}
 use Rattle.fen_text.proofs.Begun.{begun}
 use Rattle.fen_text.proofs.Decimals.{number_back, number_read}
-use Rattle.cert_text.proofs.RuleTexts.{Only, name_back, name_read, only_none}
+use Rattle.cert_text.proofs.ReasonTexts.{reason_back, reason_read}
+use Rattle.cert_text.proofs.RuleTexts.{Only, only_none}
 
 -- bodies
 
-rule_back : (depth : ℕ) (r : RuleLine) → is_rule r ≡ true → body_at depth (body_text (Rule r)) ≡ Some (Rule r)
+rule_back : (depth : ℕ) (r : Reason) → is_reason r ≡ true → body_at depth (body_text (Rule r)) ≡ Some (Rule r)
 unfolding body_at
-rule_back depth r known = ap (option_map (λ (r : RuleLine). Rule r)) (name_back r known)
+rule_back depth r known = ap (option_map (λ (r : Reason). Rule r)) (reason_back r known)
 
 back_read : (depth k : ℕ) → k ≤ 999999 → body_at depth (body_text (Back k)) ≡ back_at depth k
 unfolding body_at
@@ -52,11 +53,11 @@ pub record IsTextOfBody (depth : ℕ) (text : List ℕ) (b : BodyLine) : Type 0 
   pub fits : fits_depth depth b ≡ true
   pub few : number_in b ≤ 999999
 
-after_rule : (depth : ℕ) (text : List ℕ) (o : Option RuleLine) → text ≡ codes "rule " ++ drop 5 text → rule_of (drop 5 text) ≡ o → Only (IsTextOfBody depth text) (option_map (λ r. Rule r) o)
+after_rule : (depth : ℕ) (text : List ℕ) (o : Option Reason) → text ≡ codes "rule " ++ drop 5 text → reason_of (drop 5 text) ≡ o → Only (IsTextOfBody depth text) (option_map (λ r. Rule r) o)
 after_rule depth text None whole e b is = absurd cc
 after_rule depth text (Some r) whole e b is =
     let same : Rule r ≡ b = same_Some _ _ is in
-    let name = name_read (drop 5 text) r e in
+    let name = reason_read (drop 5 text) r e in
     record {
       text_is = whole ∙ ap (λ (l : List ℕ). codes "rule " ++ l) name.name_is ∙ ap body_text same;
       fits = ap (fits_depth depth) (sym same) ∙ name.known;
@@ -89,7 +90,7 @@ after_expand depth text (Some n) whole e b is =
 pub body_read : (depth : ℕ) (text : List ℕ) → Only (IsTextOfBody depth text) (body_at depth text)
 unfolding body_at
 body_read depth text =
-    cond_both (starts_with nat_eq text (codes "rule ")) _ _ (Only (IsTextOfBody depth text)) (λ t. after_rule depth text (rule_of (drop 5 text)) (begun text (codes "rule ") t) refl)
+    cond_both (starts_with nat_eq text (codes "rule ")) _ _ (Only (IsTextOfBody depth text)) (λ t. after_rule depth text (reason_of (drop 5 text)) (begun text (codes "rule ") t) refl)
     (λ f. cond_both (starts_with nat_eq text (codes "back ")) _ _ (Only (IsTextOfBody depth text)) (λ t. after_back depth text (number (drop 5 text)) (begun text (codes "back ") t) refl)
     (λ f. cond_both (starts_with nat_eq text (codes "expand ")) _ _ (Only (IsTextOfBody depth text)) (λ t. after_expand depth text (number (drop 7 text)) (begun text (codes "expand ") t) refl)
     (λ f. only_none (IsTextOfBody depth text))))

@@ -43,7 +43,7 @@ pub cut_word : (text word : List ℕ) (after : Option (Bor (List ℕ))) → Free
 cut_word text word None free e = ap words e ∙ words_alone word free
 cut_word text word (Some r) free e = ap words e ∙ words_at word r.now free
 
-some_words : (text : List ℕ) → 1 ≤ length (words text)
+pub some_words : (text : List ℕ) → 1 ≤ length (words text)
 some_words text = omega (arith, length-slice_split (λ (x : ℕ). x == 32) text)
 
 -- lists of numbers
@@ -323,7 +323,7 @@ duals_read width text d e =
     option_and_then_some (λ (p : List (List ℕ) × List (List ℕ)). both_of width p.0 p.1) (halves (words text)) d (sym (in_words width text) ∙ e) (λ p is stands.
     both_read width text p.0 p.1 d (halves_read (words text) p is).whole stands)
 
-abbrev are_free : ℕ → List (List ℕ) → Bool
+abbrev pub are_free : ℕ → List (List ℕ) → Bool
 are_free c ws = list_all (λ w. list_all (λ b. not (b == c)) w) ws
 
 words_back : (w : List ℕ) (ws : List (List ℕ)) → are_free 32 (w ∷ ws) ≡ true → words (join_with_byte 32 (w ∷ ws)) ≡ w ∷ ws
@@ -332,7 +332,7 @@ words_back w (v ∷ ws) free =
     let parts = and_parts _ _ free in
     words_at w (join_with_byte 32 (v ∷ ws)) parts.0 ∙ ap (λ (l : List (List ℕ)). w ∷ l) (words_back v ws parts.1)
 
-joined_free : (ws : List (List ℕ)) → are_free 10 ws ≡ true → Free 10 (join_with_byte 32 ws)
+pub joined_free : (ws : List (List ℕ)) → are_free 10 ws ≡ true → Free 10 (join_with_byte 32 ws)
 joined_free [] free = refl
 joined_free (w ∷ []) free = (and_parts _ _ free).0
 joined_free (w ∷ v ∷ ws) free =
@@ -382,7 +382,7 @@ words_free width c d low near =
     list_all-append (λ (w : List ℕ). list_all (λ b. not (b == c)) w) (map signed_decimal d.u) (codes "/" ∷ map signed_decimal d.v)
     ∙ and_from _ _ (texts_free c d.u low near.u) (and_from _ _ (and_from _ _ (ap not (ne_eqb 47 c (λ e. omega arith))) refl) (texts_free c d.v low near.v))
 
-all_back_words : (ws : List (List ℕ)) → are_free 32 ws ≡ true → 1 ≤ length ws → words (join_with_byte 32 ws) ≡ ws
+pub all_back_words : (ws : List (List ℕ)) → are_free 32 ws ≡ true → 1 ≤ length ws → words (join_with_byte 32 ws) ≡ ws
 all_back_words [] free some = absurd (omega arith)
 all_back_words (w ∷ ws) free some = words_back w ws free
 

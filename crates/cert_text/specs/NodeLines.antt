@@ -15,6 +15,9 @@ use Rattle.fen_text.specs.Numbers.{number}
 use Rattle.fen_text.specs.Parts.{parted}
 use Rattle.fen_text.specs.Sets.{set_of, set_text}
 use Rattle.cert_text.specs.Arguments.{potentials_of, potentials_text}
+use Rattle.cert_text.specs.PriceTexts.{prices_of, prices_text}
+use Rattle.cert_text.specs.declared.reasons.Reason.{Reason}
+use Rattle.cert_text.specs.declared.reasons.Reason.TheVariants.{Line, Balance}
 use Rattle.cert_text.specs.declared.node_lines.BodyLine.{BodyLine}
 use Rattle.cert_text.specs.declared.node_lines.BodyLine.TheVariants.{Rule, Back, Expand}
 use Rattle.cert_text.specs.declared.node_lines.NodeLine.{NodeLine}
@@ -43,6 +46,14 @@ rule_of name =
     cond (starts_with nat_eq name (codes "caps ")) (caps_of (drop 5 name)) (
     cond (starts_with nat_eq name (codes "promo ")) (promo_of (drop 6 name)) None)))))))
 
+-- behind `balance`: a set, a space, prices and gates
+unfoldable pub balance_of : List ℕ → Option Reason
+balance_of text = parted 32 set_of (λ set. None) (λ set rest. option_map (λ p. Balance set p) (prices_of rest)) text
+
+-- the reason of this name, with what stands behind it: `balance`, or a rule's
+abbrev pub reason_of : List ℕ → Option Reason
+reason_of name = cond (starts_with nat_eq name (codes "balance ")) (balance_of (drop 8 name)) (option_map (λ r. Line r) (rule_of name))
+
 -- from 1 to the node's depth
 abbrev pub back_at : ℕ → ℕ → Option BodyLine
 back_at depth k = cond (nat_le 1 k && nat_le k depth) (Some (Back k)) None
@@ -54,7 +65,7 @@ expand_at depth n = cond ((n == 0) || nat_lt depth 255) (Some (Expand n)) None
 -- the body of a text at this depth: `rule` and a name, `back` or `expand` and a number
 unfoldable pub body_at : ℕ → List ℕ → Option BodyLine
 body_at depth text =
-    cond (starts_with nat_eq text (codes "rule ")) (option_map (λ r. Rule r) (rule_of (drop 5 text))) (
+    cond (starts_with nat_eq text (codes "rule ")) (option_map (λ r. Rule r) (reason_of (drop 5 text))) (
     cond (starts_with nat_eq text (codes "back ")) (option_and_then (back_at depth) (number (drop 5 text))) (
     cond (starts_with nat_eq text (codes "expand ")) (option_and_then (expand_at depth) (number (drop 7 text))) None))
 
@@ -82,9 +93,14 @@ rule_name (Frozen set) = codes "frozen " ++ set_text set
 rule_name (Caps side set p) = codes "caps " ++ turn_letter side ∷ 32 ∷ (set_text set ++ 32 ∷ potentials_text p)
 rule_name (Promo side set) = codes "promo " ++ turn_letter side ∷ 32 ∷ set_text set
 
+-- the one text of a reason
+abbrev pub reason_name : Reason → List ℕ
+reason_name (Line r) = rule_name r
+reason_name (Balance set p) = codes "balance " ++ (set_text set ++ 32 ∷ prices_text p)
+
 -- the one text of a body
 abbrev pub body_text : BodyLine → List ℕ
-body_text (Rule r) = codes "rule " ++ rule_name r
+body_text (Rule r) = codes "rule " ++ reason_name r
 body_text (Back k) = codes "back " ++ decimal k
 body_text (Expand n) = codes "expand " ++ decimal n
 

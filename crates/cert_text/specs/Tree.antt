@@ -2,12 +2,12 @@
 use Rattle.std.specs.Prelude.{ℕ, ◌+◌, Option, Some, None}
 use Rattle.std.proofs.Common.{zero, suc}
 use Rattle.board_base.specs.declared.unmoves.Unmove.{Unmove}
-use Rattle.query_base.specs.declared.rule_lines.RuleLine.{RuleLine}
+use Rattle.cert_text.specs.declared.reasons.Reason.{Reason}
 
 mutual
-  -- a rule line, a number of steps back, or a list of children
+  -- a reason, a number of steps back, or a list of children
   pub data Tree : Type 0 where
-    rule : RuleLine → Tree
+    rule : Reason → Tree
     back : ℕ → Tree
     expand : Forest → Tree
 

@@ -5,14 +5,14 @@ use Rattle.std.specs.Coded.{Coded, code_by, coded×, coded⊎, coded_list, coded
 use Rattle.std.proofs.Common.{zero, suc, ap, ◌∙◌, inl, inr, arith}
 use Rattle.board_base.specs.declared.unmoves.Unmove.{Unmove}
 use Rattle.board_base.specs.contracts.unmoves.Unmove as unmoves
-use Rattle.query_base.specs.declared.rule_lines.RuleLine.{RuleLine}
-use Rattle.query_base.specs.contracts.rule_lines.RuleLine as rules
+use Rattle.cert_text.specs.declared.reasons.Reason.{Reason}
+use Rattle.cert_text.specs.contracts.reasons.Reason as reasons
 use Rattle.cert_text.specs.Tree.{Tree, Forest, rule, back, expand, none, more}
 use Rattle.cert_text.specs.Sizes.{size, size_all}
 
--- 0 for a list, or one more than a number of steps; a rule; a label
+-- 0 for a list, or one more than a number of steps; a reason; a label
 abbrev pub Token : Type 0
-Token = ℕ ⊎ (RuleLine ⊎ Unmove)
+Token = ℕ ⊎ (Reason ⊎ Unmove)
 
 -- a tree, in front of a list
 abbrev mutual
@@ -89,4 +89,4 @@ forest_from-tokens f =
 
 abbrev pub forest_code : Coded Forest
 forest_code =
-    code_by (ℕ × List Token) (coded× coded_ℕ (coded_list (coded⊎ coded_ℕ (coded⊎ rules.the_row.coded unmoves.the_row.coded)))) tokens forest_from forest_from-tokens
+    code_by (ℕ × List Token) (coded× coded_ℕ (coded_list (coded⊎ coded_ℕ (coded⊎ reasons.the_row.coded unmoves.the_row.coded)))) tokens forest_from forest_from-tokens

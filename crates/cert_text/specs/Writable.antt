@@ -12,9 +12,12 @@ use Rattle.query_base.specs.declared.claims.Claim.TheVariants.{Illegal, Last, Lo
 use Rattle.query_base.specs.declared.rule_lines.RuleLine.{RuleLine}
 use Rattle.query_base.specs.declared.rule_lines.RuleLine.TheVariants.{Kings, Ranks, Check, Rights, Count, Frozen, Caps, Promo}
 use Rattle.query_base.specs.Asked.{Asked, IsShortClock, is_of_other_side}
+use Rattle.capture_prices.specs.Prices.{are_prices}
 use Rattle.fen_text.specs.Sets.{is_whole}
 use Rattle.cert_text.specs.ClaimLines.{promotes_well}
 use Rattle.cert_text.specs.Tree.{Tree, Forest, rule, back, expand, none, more, count}
+use Rattle.cert_text.specs.declared.reasons.Reason.{Reason}
+use Rattle.cert_text.specs.declared.reasons.Reason.TheVariants.{Line, Balance}
 use Rattle.cert_text.specs.declared.node_lines.BodyLine.{BodyLine}
 use Rattle.cert_text.specs.declared.node_lines.BodyLine.TheVariants.{Rule, Back, Expand}
 
@@ -52,20 +55,25 @@ is_rule (Frozen set) = is_whole set
 is_rule (Caps side set p) = is_whole set && are_near 8 p
 is_rule (Promo side set) = is_whole set
 
+-- what is known of each reason
+abbrev pub is_reason : Reason → Bool
+is_reason (Line r) = is_rule r
+is_reason (Balance set p) = is_whole set && are_prices p
+
 -- the unmove has a text
 abbrev pub has_text : Unmove → Bool
 has_text u = nat_lt u.mv.from 64 && nat_lt u.mv.to 64 && can_promote u.mv.promo && can_capture u.mv.promo u.captured u.ep
 
 -- the grammar admits the body at this depth
 abbrev pub fits_depth : ℕ → BodyLine → Bool
-fits_depth depth (Rule r) = is_rule r
+fits_depth depth (Rule r) = is_reason r
 fits_depth depth (Back k) = nat_le 1 k && nat_le k depth
 fits_depth depth (Expand n) = ((n == 0) || nat_lt depth 255) && nat_le n 999999
 
 abbrev mutual
   -- the grammar admits the tree at this depth
   pub fits : ℕ → Tree → Bool
-  fits depth (rule r) = is_rule r
+  fits depth (rule r) = is_reason r
   fits depth (back k) = fits_depth depth (Back k)
   fits depth (expand kids) = fits_depth depth (Expand (count kids)) && all_fit (suc depth) kids
 

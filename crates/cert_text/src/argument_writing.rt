@@ -12,8 +12,8 @@ use fen_text::set_text;
 use itoa::Buffer;
 
 /// Puts the text of a set after the others.
-pub(crate) fn push_set(set: SquareSet, out: &mut ArrayVec<u8, 128>)
-    requires { length out.old.items + 16 ≤ 128 }
+pub(crate) fn push_set(set: SquareSet, out: &mut ArrayVec<u8, 256>)
+    requires { length out.old.items + 16 ≤ 256 }
     ensures text { out.new.items ≡ out.old.items ++ set_text set }
     ensures longer { length out.new.items ≡ length out.old.items + 16 }
 {
@@ -52,8 +52,8 @@ pub fn push_duals<const N: usize>(u: &[i8], v: &[i8], out: &mut ArrayVec<u8, N>)
 }
 
 /// Puts the text of potentials after the others.
-pub(crate) fn push_potentials(p: &Potentials, out: &mut ArrayVec<u8, 128>)
-    requires { length out.old.items + 65 ≤ 128 }
+pub(crate) fn push_potentials(p: &Potentials, out: &mut ArrayVec<u8, 256>)
+    requires { length out.old.items + 65 ≤ 256 }
     ensures text { out.new.items ≡ out.old.items ++ potentials_text p.now }
     ensures short { length out.new.items ≤ length out.old.items + 65 }
 {

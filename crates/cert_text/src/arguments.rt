@@ -70,7 +70,7 @@ fn read_columns<const W: usize>(text: &[u8]) -> Option<[i8; W]>
     Some(v)
 }
 
-fn is_slash(word: &[u8]) -> bool
+pub(crate) fn is_slash(word: &[u8]) -> bool
     ensures { result ≡ is_slash word.now }
 {
     is_text(word, b"/")

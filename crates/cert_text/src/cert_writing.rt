@@ -45,7 +45,7 @@ fn push_own(label: Option<Unmove>, node: &Node, out: &mut Vec<u8>) -> Result<(),
     requires fits { (depth : ℕ) × (fits depth (tree_of node.now) ≡ true) }
     ensures { OnOk result (out.new.items ≡ out.old.items ++ ended (labelled_text label (body_of (tree_of node.now)))) }
 {
-    let mut text: ArrayVec<u8, 128> = ArrayVec::new();
+    let mut text: ArrayVec<u8, 256> = ArrayVec::new();
     let body = body_line(node);
     push_line(&NodeLine { label, body }, &mut text);
     push_ended(text.as_slice(), out)

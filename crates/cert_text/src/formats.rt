@@ -4,13 +4,15 @@ ghost use Rattle.cert_text.specs.Tree.{count};
 ghost use Rattle.cert_text.specs.Seen.{tree_of};
 ghost use Rattle.cert_text.specs.SeenCert.{cert_of};
 ghost use Rattle.cert_text.specs.Certificate.{HasText};
-ghost use Rattle.cert_text.specs.Writable.{is_on_board, is_written, IsQuery, all_fit, fits, fits_depth, has_text, is_rule};
+ghost use Rattle.cert_text.specs.Writable.{is_on_board, is_written, IsQuery, all_fit, fits, fits_depth, has_text, is_reason, is_rule};
 ghost use Rattle.cert_text.specs.declared.node_lines.BodyLine.TheVariants.{Back, Expand};
 
 use crate::arguments::{are_near, is_whole};
 use crate::certificates::Cert;
 use crate::nodes::{Body, Kids, Node};
+use crate::price_reading::are_priced;
 use crate::query_lines::is_known;
+use crate::reasons::Reason;
 use board_base::{Kind, Move, Unmove};
 use query_base::{Claim, Query, RuleLine};
 
@@ -66,13 +68,22 @@ fn is_rule(rule: &RuleLine) -> bool
     }
 }
 
+fn is_reason(reason: &Reason) -> bool
+    ensures { result ≡ is_reason reason.now }
+{
+    match reason {
+        Reason::Line(rule) => is_rule(rule),
+        Reason::Balance(set, prices) => is_whole(*set) && are_priced(prices),
+    }
+}
+
 /// Whether the grammar admits the node at this depth, with all that is below it.
 #[cycle(formats)]
 fn fits_node(node: &Node, depth: u8) -> bool
     ensures { result ≡ fits depth (tree_of node.now) }
 {
     match &node.body {
-        Body::Rule(rule) => is_rule(rule),
+        Body::Rule(reason) => is_reason(reason),
         Body::Back(steps) => is_back(*steps, depth),
         Body::Expand(kids) => is_expand(kids.len(), depth) && all_fit(kids, depth),
     }

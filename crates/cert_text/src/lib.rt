@@ -17,8 +17,11 @@ mod line_writing;
 mod lines;
 mod node_lines;
 mod nodes;
+mod price_reading;
+mod price_writing;
 mod query_lines;
 mod reading;
+mod reasons;
 
 pub use argument_writing::push_duals;
 pub use arguments::read_duals;
@@ -41,3 +44,4 @@ pub use node_lines::{BodyLine, NodeLine, read_line};
 pub use nodes::{Body, Kid, Kids, Node};
 pub use query_lines::write_query_lines;
 pub use reading::{read_cert, read_kid_line};
+pub use reasons::Reason;

@@ -1,11 +1,13 @@
 ghost use Rattle.std.specs.Prelude.{ℕ, List, ◌≡◌, ◌+◌, ◌≤◌, ◌++◌, [], Some, length};
 ghost use Rattle.std.specs.Fmt.{decimal};
 ghost use Rattle.fen_text.specs.Spelling.{turn_letter};
-ghost use Rattle.cert_text.specs.NodeLines.{node_line, body_text, line_text, rule_name, IsLine};
+ghost use Rattle.cert_text.specs.NodeLines.{node_line, body_text, line_text, reason_name, rule_name, IsLine};
 ghost use Rattle.cert_text.specs.Written.{IsLabel, label_text};
 
 use crate::argument_writing::{push_potentials, push_set};
 use crate::node_lines::{BodyLine, NodeLine};
+use crate::price_writing::push_prices;
+use crate::reasons::Reason;
 use arrayvec::ArrayVec;
 use board_base::{Colour, Unmove, write_unmove};
 use itoa::Buffer;
@@ -20,8 +22,8 @@ pub(crate) fn push_all<const N: usize>(bytes: &[u8], out: &mut ArrayVec<u8, N>)
     let _ = out.try_extend_from_slice(bytes);
 }
 
-fn push_number(number: u32, out: &mut ArrayVec<u8, 128>)
-    requires { length out.old.items + 10 ≤ 128 }
+fn push_number(number: u32, out: &mut ArrayVec<u8, 256>)
+    requires { length out.old.items + 10 ≤ 256 }
     ensures text { out.new.items ≡ out.old.items ++ decimal number }
     ensures short { length out.new.items ≤ length out.old.items + 10 }
 {
@@ -39,8 +41,8 @@ fn letter(side: Colour) -> u8
 }
 
 /// Puts the name of the rule, with what stands behind it, after the others.
-fn push_rule(rule: &RuleLine, out: &mut ArrayVec<u8, 128>)
-    requires { length out.old.items + 89 ≤ 128 }
+fn push_rule(rule: &RuleLine, out: &mut ArrayVec<u8, 256>)
+    requires { length out.old.items + 89 ≤ 256 }
     ensures text { out.new.items ≡ out.old.items ++ rule_name rule.now }
     ensures short { length out.new.items ≤ length out.old.items + 89 }
 {
@@ -74,15 +76,32 @@ fn push_rule(rule: &RuleLine, out: &mut ArrayVec<u8, 128>)
     }
 }
 
-fn push_body(body: &BodyLine, out: &mut ArrayVec<u8, 128>)
-    requires { length out.old.items + 94 ≤ 128 }
+/// Puts the name of the reason, with what stands behind it, after the others.
+fn push_reason(reason: &Reason, out: &mut ArrayVec<u8, 256>)
+    requires { length out.old.items + 220 ≤ 256 }
+    ensures text { out.new.items ≡ out.old.items ++ reason_name reason.now }
+    ensures short { length out.new.items ≤ length out.old.items + 220 }
+{
+    match reason {
+        Reason::Line(rule) => push_rule(rule, out),
+        Reason::Balance(set, prices) => {
+            push_all(b"balance ", out);
+            push_set(*set, out);
+            out.push(b' ');
+            push_prices(prices, out);
+        }
+    }
+}
+
+fn push_body(body: &BodyLine, out: &mut ArrayVec<u8, 256>)
+    requires { length out.old.items + 225 ≤ 256 }
     ensures text { out.new.items ≡ out.old.items ++ body_text body.now }
-    ensures short { length out.new.items ≤ length out.old.items + 94 }
+    ensures short { length out.new.items ≤ length out.old.items + 225 }
 {
     match body {
-        BodyLine::Rule(rule) => {
+        BodyLine::Rule(reason) => {
             push_all(b"rule ", out);
-            push_rule(rule, out);
+            push_reason(reason, out);
         }
         BodyLine::Back(steps) => {
             push_all(b"back ", out);
@@ -95,7 +114,7 @@ fn push_body(body: &BodyLine, out: &mut ArrayVec<u8, 128>)
     }
 }
 
-fn push_label(label: &Option<Unmove>, out: &mut ArrayVec<u8, 128>)
+fn push_label(label: &Option<Unmove>, out: &mut ArrayVec<u8, 256>)
     requires empty { out.old.items ≡ [] }
     requires label { IsLabel label.now }
     ensures text { out.new.items ≡ label_text label.now }
@@ -113,23 +132,23 @@ fn push_label(label: &Option<Unmove>, out: &mut ArrayVec<u8, 128>)
 }
 
 /// Writes the text of a node's line whose label, if it has one, has a text.
-pub(crate) fn push_line(line: &NodeLine, out: &mut ArrayVec<u8, 128>)
+pub(crate) fn push_line(line: &NodeLine, out: &mut ArrayVec<u8, 256>)
     requires empty { out.old.items ≡ [] }
     requires label { IsLabel line.now.label }
     ensures text { out.new.items ≡ line_text line.now }
-    ensures short { length out.new.items ≤ 102 }
+    ensures short { length out.new.items ≤ 233 }
 {
     push_label(&line.label, out);
     push_body(&line.body, out);
 }
 
-/// Writes the one text of a node's line, without its end, of at most 102 bytes. `out` is empty before, and the line is one of the
+/// Writes the one text of a node's line, without its end, of at most 233 bytes. `out` is empty before, and the line is one of the
 /// grammar: `read_line` reads some text at some depth as this line. At each such depth it reads what is written as this line.
-pub fn write_line(line: &NodeLine, out: &mut ArrayVec<u8, 128>)
+pub fn write_line(line: &NodeLine, out: &mut ArrayVec<u8, 256>)
     requires empty { out.old.items ≡ [] }
     requires line { IsLine line.now }
     ensures text { out.new.items ≡ line_text line.now }
-    ensures short { length out.new.items ≤ 102 }
+    ensures short { length out.new.items ≤ 233 }
     ensures read { (depth : ℕ) (text : List ℕ) → node_line depth text ≡ Some line.now → node_line depth out.new.items ≡ Some line.now }
 {
     push_line(line, out);

@@ -4,6 +4,7 @@ ghost use Rattle.cert_text.specs.NodeLines.{back_at, body_at, caps_of, expand_at
 
 use crate::arguments::read_potentials;
 use crate::lines::is_text;
+use crate::reasons::{Reason, read_reason};
 use board_base::{Colour, Unmove, read_unmove};
 use fen_text::{read_number, read_set, read_turn, split_part};
 use query_base::RuleLine;
@@ -11,8 +12,8 @@ use query_base::RuleLine;
 /// What the line of a node says of its body.
 #[derive(Clone, Copy, PartialEq, Eq, Debug)]
 pub enum BodyLine {
-    /// `rule` and the name of a rule.
-    Rule(RuleLine),
+    /// `rule` and the name of a reason.
+    Rule(Reason),
     /// `back` and a number of steps, from 1 to the node's depth.
     Back(u8),
     /// `expand` and the number of the node's children, from 0 to 999,999; 0 at depth 255.
@@ -79,9 +80,7 @@ fn read_caps(text: &[u8]) -> Option<RuleLine>
     }
 }
 
-// It is long, and most lines name no rule.
-#[inline(never)]
-fn read_rule(name: &[u8]) -> Option<RuleLine>
+pub(crate) fn read_rule(name: &[u8]) -> Option<RuleLine>
     ensures { result ≡ rule_of name.now }
 {
     if is_text(name, b"kings") {
@@ -137,8 +136,8 @@ fn read_body(depth: u8, text: &[u8]) -> Option<BodyLine>
     ensures { result ≡ body_at depth text.now }
 {
     if text.starts_with(b"rule ") {
-        return match read_rule(&text[5..]) {
-            Some(rule) => Some(BodyLine::Rule(rule)),
+        return match read_reason(&text[5..]) {
+            Some(reason) => Some(BodyLine::Rule(reason)),
             None => None,
         };
     }
@@ -188,9 +187,11 @@ pub(crate) fn read_kid(depth: u8, text: &[u8]) -> Option<(Unmove, BodyLine)>
 
 /// Reads the line of a node at this depth, without its end: at depth 0 `root`, and below it the unmove that leads to the node;
 /// then a space, and its body. That is `rule` with one of the names `kings`, `ranks`, `check`, `rights`, `count w` and `count b`, or with
-/// `frozen` and a set, `promo` with `w` or `b` and a set, or `caps` with `w` or `b`, a set, zero to eight numbers, `/` and eight numbers;
+/// `frozen` and a set, `promo` with `w` or `b` and a set, `caps` with `w` or `b`, a set, zero to eight numbers, `/` and eight numbers, or
+/// `balance` with a set, sixteen numbers, `/`, sixteen numbers, `/`, and at most sixteen squares in ascending order, each with a number;
 /// `back` with a number from 1 to the depth, or `expand` with one from 0 to 999,999, which at depth 255 is 0. Numbers are decimal,
-/// with no leading zero other than `0` itself; those of `caps` are from -64 to 64, with a `-` in front of those below 0; a set is its number
+/// with no leading zero other than `0` itself; those of `caps` are from -64 to 64, with a `-` in front of those below 0, those of `balance` from 0 to 96,
+/// and behind a square from 1; a set is its number
 /// of sixteen hexadecimal digits, with letters in lower case. One space parts two words. None comes exactly where the text is none of these.
 pub fn read_line(line: &[u8], depth: u8) -> Option<NodeLine>
     ensures line { result ≡ node_line depth line.now }

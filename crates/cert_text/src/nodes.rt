@@ -1,8 +1,8 @@
 ghost use Rattle.std.specs.Prelude.{◌≡◌, ◌≤◌, ◌↔◌, OnOk, OnErr, IsNone, MatchOption, None, Some};
 ghost use Rattle.cert_text.specs.Tree.{none, kid_at, with_last, count};
 
+use crate::reasons::Reason;
 use board_base::{Memory, Unmove};
-use query_base::RuleLine;
 use std::alloc::Global;
 use std::marker::Model;
 
@@ -19,8 +19,8 @@ pub struct Node {
 #[derive(Drop)]
 #[cycle(node)]
 pub enum Body {
-    /// This rule supports it.
-    Rule(RuleLine),
+    /// This reason supports it.
+    Rule(Reason),
     /// The ancestor so many steps up covers it; the parent is one step up.
     Back(u8),
     /// The array isn't its board, and no game reaches any of the queries before it.

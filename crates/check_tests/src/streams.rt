@@ -98,13 +98,13 @@ fn answers_alike_at_each_cut(rt: HostRuntime) {
 
 #[test]
 fn takes_no_long_line_for_two(rt: HostRuntime) {
-    // Behind 127, 128 or 129 blanks stands what would be the line of the claim alone.
-    for blanks in [127, 128, 129] {
+    // Behind 255, 256 or 257 blanks stands what would be the line of the claim alone.
+    for blanks in [255, 256, 257] {
         let rest = b"claim illegal\nfen 4k3/8/8/8/8/8/8/4K3 w - -\nroot rule kings\n";
         assert!(rt; with_blanks(b"retro 1\n", blanks, rest) == Err(Fault::BadText { line: 2 }));
     }
-    // Lines of 127, 128 and 129 bytes with their ends.
-    for blanks in [126, 127, 128] {
+    // Lines of 255, 256 and 257 bytes with their ends.
+    for blanks in [254, 255, 256] {
         assert!(rt; with_blanks(b"", blanks, b"\nretro 1\n") == Err(Fault::BadText { line: 1 }));
     }
 }

@@ -9,9 +9,12 @@ use Rattle.board_base.specs.declared.moves.Move.{Move}
 use Rattle.board_base.specs.declared.unmoves.Unmove.{Unmove}
 use Rattle.general_lemmas.proofs.Lists.{contains-first}
 use Rattle.query_base.specs.Asked.{Asked}
+use Rattle.query_base.specs.Targets.{target}
+use Rattle.query_base.specs.declared.claims.Claim.{Claim}
 use Rattle.unmove_gen.specs.Listed.{unmoves}
 use Rattle.unmove_gen.specs.Predecessor.{predecessor}
 use Rattle.retro_search.specs.Lines.{IsFirstNot, IsFirstOpen, forwards}
+use Rattle.balance_search.specs.Unsettled.{IsAgainst, IsOpenLine, StaysUnsettled}
 use Rattle.command_answers.specs.Told.{IsSpelled}
 
 -- each unmove of a query has a text
@@ -30,6 +33,12 @@ first_open-spelled law (suc depth) q ancestors [] first = All-nil IsSpelled
 first_open-spelled law (suc depth) q ancestors (u ∷ line) first =
     All-cons IsSpelled u line (law q u (first_not-listed _ (unmoves q) u first.1)) (first_open-spelled law depth (predecessor q u) (q ∷ ancestors) line first.2)
 
+open_line-spelled : AreSpelled → (line : List Unmove) (q : Asked) (depth : ℕ) (ancestors : List Asked) → IsOpenLine q depth ancestors line → All IsSpelled line
+open_line-spelled law [] q depth ancestors o = All-nil IsSpelled
+open_line-spelled law (u ∷ line) q zero ancestors o = absurd o
+open_line-spelled law (u ∷ line) q (suc depth) ancestors o =
+    All-cons IsSpelled u line (law q u o.2) (open_line-spelled law line (predecessor q u) depth (q ∷ ancestors) o.3)
+
 All-reverse : {A : Type 0} (P : A → Type 0) (xs : List A) → All P xs → All P (reverse xs)
 All-reverse {A} P xs all k d inside =
     let within : k < length xs = omega (arith, length-reverse xs) in
@@ -39,3 +48,10 @@ pub forwards-spelled : (line : List Unmove) → All IsSpelled line → All (λ m
 forwards-spelled line all =
     let promotes : Move → Type 0 = λ m. IsTrue (can_promote m.promo) in
     All-reverse promotes (map (λ u. u.mv) line) (All-map promotes (λ (u : Unmove). u.mv) line (All-weaker IsSpelled (λ u. promotes u.mv) (λ u s. s.promotion) line all))
+
+pub unsettled-spelled : AreSpelled → (line : List Unmove) (q : Asked) (depth : ℕ) → StaysUnsettled line q depth → All IsSpelled line
+unsettled-spelled law line q depth h = open_line-spelled law line q depth [] h.open_line
+
+pub against-spelled : AreSpelled → (game : List Move) (claim : Claim) (q : Asked) (depth : ℕ) → IsAgainst game claim q depth → All (λ m. IsTrue (can_promote m.promo)) game
+against-spelled law game claim q depth h =
+    subst (All (λ (m : Move). IsTrue (can_promote m.promo))) (sym h.forwards_is) (forwards-spelled h.line (open_line-spelled law h.line (target q claim) h.back [] h.open_line))

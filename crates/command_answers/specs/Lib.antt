@@ -8,6 +8,7 @@ pub mod Statements
 pub mod Sans
 pub mod Spells
 pub mod Solves
+pub mod Settles
 pub mod Retractions
 pub mod Verdicts
 pub mod Trees

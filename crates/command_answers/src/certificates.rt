@@ -32,12 +32,12 @@ fn head_text(claim: &Claim, query: &Query) -> ArrayVec<u8, 512>
 }
 
 /// The own line of a node with this label.
-fn own_line(label: Option<Unmove>, node: &Node) -> ArrayVec<u8, 128>
+fn own_line(label: Option<Unmove>, node: &Node) -> ArrayVec<u8, 256>
     requires { IsLine (record { label = label; body = body_of (tree_of node.now) }) }
     ensures { result.items ≡ ended (labelled_text label (body_of (tree_of node.now))) }
 {
     let body = body_line(node);
-    let mut line: ArrayVec<u8, 128> = ArrayVec::new();
+    let mut line: ArrayVec<u8, 256> = ArrayVec::new();
     write_line(&NodeLine { label, body }, &mut line);
     line.push(b'\n');
     line

@@ -39,7 +39,7 @@ fn push_move(text: &mut Vec<u8>, m: &Move) -> Result<(), AllocError>
 }
 
 /// The line `undecided`, with the unmoves behind it.
-fn write_undecided(alloc: Global, line: &UnmoveList) -> Result<Vec<u8>, AllocError>
+pub(crate) fn write_undecided(alloc: Global, line: &UnmoveList) -> Result<Vec<u8>, AllocError>
     requires { All IsSpelled line.now }
     ensures { IfOk result (λ v. v.items ≡ undecided_line line.now) }
 {
@@ -52,7 +52,7 @@ fn write_undecided(alloc: Global, line: &UnmoveList) -> Result<Vec<u8>, AllocErr
 }
 
 /// The line `countered`, with the moves behind it.
-fn write_countered(alloc: Global, game: &MoveList) -> Result<Vec<u8>, AllocError>
+pub(crate) fn write_countered(alloc: Global, game: &MoveList) -> Result<Vec<u8>, AllocError>
     requires { All (λ m. IsTrue (can_promote m.promo)) game.now }
     ensures { IfOk result (λ v. v.items ≡ countered_line game.now) }
 {

@@ -3,6 +3,7 @@ ghost use Rattle.cert_text.specs.Certificate.{HasText, IsTextOf};
 ghost use Rattle.cert_text.specs.ClaimLines.{promotes_well};
 ghost use Rattle.cert_text.specs.SeenCert.{cert_of};
 ghost use Rattle.retro_search.specs.Sizes.{nodes_in};
+ghost use Rattle.retro_search.specs.Lined.{IsLined};
 ghost use Rattle.retro_search.specs.Lone.{IsDear};
 ghost use Rattle.dossier_search.specs.ReachedParts.{IsPartRefutable};
 ghost use Rattle.dossier_search.specs.PartAnswers.{IfDear, IfOpen, IfProof, IsPartProof};
@@ -24,9 +25,10 @@ pub(crate) enum Part {
     Dear,
 }
 
-/// The text of a certificate with few nodes, which may stand in a dossier.
+/// The text of a certificate with few nodes, whose reasons are rule lines. It may stand in a dossier.
 fn few_bytes(alloc: Global, cert: &Cert) -> Result<Vec<u8>, Memory>
     requires text { HasText (cert_of cert.now) }
+    requires lined { IsLined (cert_of cert.now).root }
     requires few { nodes_in (cert_of cert.now).root ≤ 500000 }
     ensures text { IfOk result (λ text. IsTextOf text.items (cert_of cert.now)) }
     ensures some { IfOk result (λ text. 1 ≤ length text.items) }

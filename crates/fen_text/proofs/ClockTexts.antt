@@ -1,5 +1,5 @@
 -- The line of a clock is read as this clock.
-use Rattle.std.proofs.Common.{◌≡◌, ℕ, ◌≤◌, true, Option, List, ◌++◌, drop, Some, None, inl, inr, refl, sym, ap, ◌∙◌, arith, nat_eq, nat_le}
+use Rattle.std.proofs.Common.{◌≡◌, ℕ, ◌≤◌, Option, List, ◌++◌, drop, Some, None, inl, inr, refl, sym, ap, ◌∙◌, arith, nat_eq, nat_le}
 use Rattle.std.specs.Prelude.{◌↔◌, codes}
 use Rattle.std.proofs.lemmas.Bool.{cases_Bool, cond-true, cond-false, le-leb, leb-true}
 use Rattle.std.proofs.lemmas.Option.{cond_some}

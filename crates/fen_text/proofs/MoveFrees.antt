@@ -1,5 +1,5 @@
 -- Texts of squares, moves and unmoves, without a byte below that of 0, such as a space or a line end.
-use Rattle.std.proofs.Common.{◌≡◌, ℕ, ◌+◌, ◌/◌, ◌%◌, ◌<◌, ◌≤◌, ◌==◌, Bool, true, false, not, List, [], ◌∷◌, ◌++◌, Option, Some, None, refl, ap, arith}
+use Rattle.std.proofs.Common.{ℕ, ◌+◌, ◌/◌, ◌%◌, ◌<◌, ◌≤◌, Bool, true, false, not, List, [], ◌∷◌, ◌++◌, Option, Some, None, refl, ap, arith}
 use Rattle.std.proofs.lemmas.Bool.{and_from, ne_eqb}
 use Rattle.board_base.specs.Texts.{square_text, letter_of, promo_text, move_text, capture_text, unmove_text}
 use Rattle.board_base.specs.declared.men.Kind.{Kind}

@@ -52,6 +52,7 @@ const USAGE: &str = "usage:
   retractor spell < MOVES                        the game in algebraic notation
   retractor unmoves < FEN                        each move that may have been the last, and the position before it
   retractor solve DEPTH NODES < CLAIM-AND-FEN    a certificate of the claim, or a game against it
+  retractor settle DEPTH NODES < CLAIM-AND-FEN   the same, by the balance of captures too, at depth 0, 1, .. up to DEPTH
   retractor verdict DEPTH NODES < FEN            what the conventions say of castling and en passant
   retractor tree DEPTH NODES < FEN               the moves that may lead to the position, as a tree
   retractor length < FEN                         how many half-moves each game to the position has at least

@@ -6,7 +6,6 @@ pub mod Bound
 pub mod Direct
 pub mod LeastWay
 pub mod Duals
-mod Tables
 pub mod Shown
 mod Examples
 mod Chains

@@ -46,7 +46,7 @@ fn man_row(odds: Odds, side: Colour, place: Option<Man>, s: Square) -> [u8; 16]
 /// from each home of the side, in ascending order. None exactly where it has more than sixteen men.
 pub(crate) fn costs(board: &Board, side: Colour, odds: Odds) -> Option<ArrayVec<[u8; 16], 16>>
     ensures items { SomeIff (option_map (λ costs. costs.items) result) (length (men_squares side board.now) ≤ 16) (move_costs odds side board.now) }
-    ensures table { IfSome result (λ costs. IsTable costs.items 16) }
+    ensures table { IfSome result (λ costs. IsTable costs.items 16 64) }
 {
     let mut costs: ArrayVec<[u8; 16], 16> = ArrayVec::new();
     for i in 0..64 {

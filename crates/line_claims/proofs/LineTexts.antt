@@ -1,25 +1,22 @@
 -- The lines of claims of several steps: what is written is read again, and what is read is the one line of it.
-use Rattle.std.proofs.Common.{◌≡◌, ℕ, zero, suc, ◌+◌, ◌-◌, ◌*◌, ◌/◌, ◌%◌, ◌<◌, ◌≤◌, ◌==◌, Bool, true, false, not, nat_eq, List, [], ◌∷◌, ◌++◌, length, take, drop, get_or, inl, inr, refl, sym, ap, ◌∙◌, subst, arith, append_assoc, length-append, length-drop, take_all, Option, Some, None}
-use Rattle.std.proofs.lemmas.Bool.{and_from, both_ways, cases_Bool, cond-false, cond-true, cond_both, eqb-true, ne_eqb}
+use Rattle.std.proofs.Common.{◌≡◌, ℕ, zero, suc, ◌+◌, ◌-◌, ◌*◌, ◌<◌, ◌≤◌, ◌==◌, Bool, true, nat_eq, List, [], ◌∷◌, ◌++◌, length, take, drop, get_or, inl, inr, refl, sym, ap, ◌∙◌, subst, arith, append_assoc, length-append, length-drop, take_all, Option, Some, None}
+use Rattle.std.proofs.lemmas.Bool.{and_from, both_ways, cases_Bool, cond-false, cond-true, cond_both, eqb-true}
 use Rattle.std.proofs.lemmas.Grind.{get_or_after_one}
-use Rattle.std.proofs.lemmas.List.{length-take-le, take_more}
+use Rattle.std.proofs.lemmas.List.{length-take-le}
 use Rattle.std.proofs.lemmas.List.Elements.{All-head, All-more, All-tail}
 use Rattle.std.proofs.lemmas.List.Folds.{list_all_at}
 use Rattle.std.proofs.lemmas.Option.{cond_some, same_Some}
 use Rattle.std.specs.Prelude.{IfSome, codes}
 use Rattle.std.specs.List.{All, list_all, starts_with}
 use Rattle.std.specs.Option.{option_map}
-use Rattle.board_base.specs.Texts.{◌>>=◌, capture_text, letter_of, move_text, promo_text, square_text, unmove_from, unmove_text}
+use Rattle.board_base.specs.Texts.{◌>>=◌, unmove_from, unmove_text}
 use Rattle.board_base.specs.declared.castles.Castle.{Castle}
 use Rattle.board_base.specs.declared.castles.Castle.TheVariants.{WhiteShort, WhiteLong, BlackShort, BlackLong}
-use Rattle.board_base.specs.declared.men.Kind.{Kind}
-use Rattle.board_base.specs.declared.men.Kind.TheVariants.{Pawn, Knight, Bishop, Rook, Queen, King}
 use Rattle.board_base.specs.declared.unmoves.Unmove.{Unmove}
 use Rattle.board_base.proofs.OneText.{unmove_read}
 use Rattle.board_base.proofs.TextLemmas.{bound_some, mapped_some, unmove_short}
-use Rattle.fen_text.specs.Parts.{Free}
 use Rattle.fen_text.proofs.Begun.{begun}
-use Rattle.fen_text.proofs.PartLemmas.{free_append, parted_end, parted_known, parted_next}
+use Rattle.fen_text.proofs.PartLemmas.{parted_end, parted_known, parted_next}
 use Rattle.line_claims.specs.declared.claims.LineClaim.{LineClaim}
 use Rattle.line_claims.specs.declared.claims.LineClaim.TheVariants.{NotBoth, Line}
 use Rattle.line_claims.specs.Lines.{HasLine, both_claimed, castling_lettered, castles_lettered, castles_of, has_text, in_order, line_claim_of, line_claim_text, steps_of, steps_text}

@@ -2,16 +2,14 @@
 use Rattle.std.proofs.Common.{◌≡◌, Bool, true, ◌&&◌, ℕ, List, refl, ap, sym, ◌∙◌}
 use Rattle.std.proofs.lemmas.Bool.{le-leb}
 use Rattle.std.proofs.Math.Bool.{and-true}
-use Rattle.std.specs.Prelude.{nat_le}
-use Rattle.board_base.specs.Board.{Places, no_odds}
+use Rattle.board_base.specs.Board.{Places}
 use Rattle.board_base.specs.Game.{IsGame, board_after}
 use Rattle.board_base.specs.declared.men.Colour.{Colour}
 use Rattle.board_base.specs.declared.men.Kind.TheVariants.{Bishop}
 use Rattle.board_base.specs.declared.moves.Move.{Move}
-use Rattle.men_account.specs.Account.{accounts_for, allowance_of, counts_of, excess_of, full_allowance, is_any, is_dark, is_light, men}
+use Rattle.men_account.specs.Account.{accounts_for, allowance_of, counts_of, is_any, is_dark, is_light, men}
 use Rattle.men_account.specs.declared.tallies.Allowance.{Allowance}
 use Rattle.men_account.specs.declared.tallies.Counts.{Counts}
-use Rattle.men_account.proofs.FirstMen.{full}
 use Rattle.men_account.proofs.Homes.{promotions-most}
 
 pub accounts_hold : (o : List Bool) (g : List Move) → IsGame o g → (c : Colour) → accounts_for o (board_after o g) c ≡ true

@@ -1,12 +1,12 @@
 -- Each man on the board after a move stood there before it, or is the man who moved, or the rook of a castling.
-use Rattle.std.proofs.Common.{◌≡◌, ◌≢◌, ℕ, ◌<◌, ◌==◌, Bool, true, false, cond, ◌&&◌, not, List, length, refl, sym, ◌∙◌, subst}
-use Rattle.std.proofs.lemmas.Bool.{and_parts, both_ways, eqb-true, eqb-false, ne_eqb}
+use Rattle.std.proofs.Common.{◌≡◌, ◌≢◌, ℕ, ◌<◌, ◌==◌, Bool, true, false, cond, not, List, length, refl, sym, ◌∙◌, subst}
+use Rattle.std.proofs.lemmas.Bool.{and_parts, eqb-true, eqb-false, ne_eqb}
 use Rattle.std.proofs.lemmas.Option.{same_Some}
 use Rattle.std.specs.Prelude.{Option, Some, None}
 use Rattle.board_base.specs.Board.{Places, array_of, at, is_of, is_a, is_the}
 use Rattle.board_base.specs.Texts.{◌>>=◌}
 use Rattle.board_base.specs.Play.{play, promoted, castling, goes_en_passant, en_passant_victim, king_home, king_target, rook_home, crossed}
-use Rattle.board_base.specs.Legal.{is_officer, promotion_fits}
+use Rattle.board_base.specs.Legal.{promotion_fits}
 use Rattle.board_base.specs.Game.{IsGame, board_after, turn_after, unmoved, last_move}
 use Rattle.board_base.specs.declared.men.Colour.{Colour}
 use Rattle.board_base.specs.declared.men.Kind.{Kind}

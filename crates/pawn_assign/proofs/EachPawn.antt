@@ -1,9 +1,10 @@
 -- The squares of a side's pawns, and their costs.
 use Rattle.std.proofs.Common.{◌≡◌, ◌↔◌, ℕ, ◌<◌, ◌≤◌, ◌||◌, Bool, not, List, [], length, slice_index, slice_index_or, sym, ap, ◌∙◌, subst, inl, inr, arith}
 use Rattle.std.specs.Prelude.{ℤ, pos, ◌+ℤ◌, ◌≤ℤ◌, ◌<ℤ◌}
-use Rattle.std.specs.List.{range_with_len}
-use Rattle.std.proofs.lemmas.Bool.{cases_Bool, cases_lt, cond-true, cond-false}
-use Rattle.std.proofs.lemmas.List.{get_or-map, get_or_past, length-map}
+use Rattle.std.specs.List.{All, range_with_len}
+use Rattle.std.proofs.lemmas.Bool.{cases_Bool, cond-true, cond-false}
+use Rattle.std.proofs.lemmas.List.{get_or-map, length-map}
+use Rattle.std.proofs.lemmas.List.Elements.{All-map}
 use Rattle.std.proofs.lemmas.List.FromFn.{get_or-range_with_len, length-range_with_len}
 use Rattle.board_base.specs.Attacks.{distance}
 use Rattle.board_base.specs.Board.{Places, file, is_in}
@@ -13,6 +14,7 @@ use Rattle.assignment.specs.Tables.{IsTable, cost_at}
 use Rattle.assignment.specs.Assignments.{IsBounded, IsInjection, assignment_cost, least_cost, total}
 use Rattle.assignment.proofs.Decided.{decided}
 use Rattle.assignment.proofs.Duality.{weak_duality}
+use Rattle.assignment.proofs.Tables.{IsTable-rows}
 use Rattle.pawn_assign.specs.PawnCosts.{can_come, pawn_cost, pawn_costs, pawn_home, pawn_row, pawn_squares}
 
 pub rows : (o : List Bool) (c : Colour) (board : Places) → length (pawn_costs o c board) ≡ length (pawn_squares c board)
@@ -32,25 +34,13 @@ small o c s f low = elim (cases_Bool (is_in o (pawn_home c f) || not (can_come c
   | inr come ↦ let is = cond-false (is_in o (pawn_home c f) || not (can_come c s f)) 64 (distance (file s) f) come in omega arith
 ]
 
-pub table : (o : List Bool) (c : Colour) (board : Places) → length (pawn_squares c board) ≤ 8 → IsTable (pawn_costs o c board) 8
-table o c board few = record {
-  rows = omega (arith, rows o c board);
-  few = omega arith;
-  costs = λ i f. elim (cases_lt i (length (pawn_squares c board))) [
-    | inl low ↦ elim (cases_lt f 8) [
-      | inl high ↦ let is = costs o c board i f low high in let at_most = small o c (slice_index (pawn_squares c board) i) f high in omega arith
-      | inr past ↦
-          let row : slice_index_or (pawn_costs o c board) i [] ≡ pawn_row o c (slice_index (pawn_squares c board) i) = get_or-map (pawn_row o c) (pawn_squares c board) i 0 [] low in
-          let none = get_or_past (pawn_row o c (slice_index (pawn_squares c board) i)) f 0 (omega (arith, length-map (range_with_len 0 8) (pawn_cost o c (slice_index (pawn_squares c board) i)), length-range_with_len 0 8)) in
-          let is : cost_at (pawn_costs o c board) i f ≡ 0 = ap (λ (row : List ℕ). slice_index row f) row ∙ none in
-          omega arith
-    ]
-    | inr past ↦
-        let none : slice_index_or (pawn_costs o c board) i [] ≡ [] = get_or_past (pawn_costs o c board) i [] (omega (arith, rows o c board)) in
-        let is : cost_at (pawn_costs o c board) i f ≡ 0 = ap (λ (row : List ℕ). slice_index row f) none in
-        omega arith
-  ];
-}
+pub table : (o : List Bool) (c : Colour) (board : Places) → length (pawn_squares c board) ≤ 8 → IsTable (pawn_costs o c board) 8 64
+table o c board few = IsTable-rows (pawn_costs o c board) 8 64 (omega (arith, rows o c board)) (omega arith)
+    (All-map (λ row. All (λ cost. cost ≤ 64) row) (pawn_row o c) (pawn_squares c board) (λ i d _.
+    All-map (λ cost. cost ≤ 64) (pawn_cost o c (slice_index_or (pawn_squares c board) i d)) (range_with_len 0 8) (λ f e high.
+    let low : f < 8 = omega (arith, length-range_with_len 0 8) in
+    let is = get_or-range_with_len 0 8 f e low in
+    small o c (slice_index_or (pawn_squares c board) i d) (slice_index_or (range_with_len 0 8) f e) (omega arith))))
 
 pub no_less : (o : List Bool) (c : Colour) (board : Places) (u v : List ℤ) (files : List ℕ) → IsBounded 8 (pawn_costs o c board) u v → IsInjection 8 (length (pawn_squares c board)) files
     → (total u +ℤ total v) ≤ℤ pos (assignment_cost (pawn_costs o c board) files)
@@ -60,7 +50,7 @@ no_less o c board u v files bounded injection =
 pub decides : (o : List Bool) (c : Colour) (board : Places) (n : ℤ) → length (pawn_squares c board) ≤ 8
     → ((d : Duals) × ArePotentials d × IsBounded 8 (pawn_costs o c board) d.u d.v × (n <ℤ (total d.u +ℤ total d.v))) ↔ (n <ℤ pos (least_cost 8 (pawn_costs o c board)))
 decides o c board n few =
-    let both = decided 8 (pawn_costs o c board) (table o c board few) n in (
+    let both = decided 8 64 (pawn_costs o c board) (table o c board few) n in (
       λ some. both.0 (some.0.u, some.0.v, record { bounded = some.2; u_within = some.1.u_within; v_within = some.1.v_within; above = some.3 }),
       λ above.
           let some = both.1 above in (

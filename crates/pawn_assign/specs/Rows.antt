@@ -12,4 +12,4 @@ rows_seen a = take a.count a.table
 pub record IsStored (a : Inside) : Type 0 where
   pub count : a.count ≤ 8
   pub size : length a.table ≡ 8
-  pub table : IsTable (rows_seen a) 8
+  pub table : IsTable (rows_seen a) 8 64

@@ -16,7 +16,7 @@ pub fn rows_are_of_the_pawns()
     ensures pawns { (c : AColour) (board : Places) (s : ℕ) → Contains (pawn_squares c board) s ↔ ((s < 64) × (at board s ≡ man c Pawn)) }
     ensures rows { (o : List Bool) (c : AColour) (board : Places) → length (pawn_costs o c board) ≡ length (pawn_squares c board) }
     ensures costs { (o : List Bool) (c : AColour) (board : Places) (i f : ℕ) → i < length (pawn_squares c board) → f < 8 → cost_at (pawn_costs o c board) i f ≡ pawn_cost o c (slice_index (pawn_squares c board) i) f }
-    ensures table { (o : List Bool) (c : AColour) (board : Places) → length (pawn_squares c board) ≤ 8 → IsTable (pawn_costs o c board) 8 }
+    ensures table { (o : List Bool) (c : AColour) (board : Places) → length (pawn_squares c board) ≤ 8 → IsTable (pawn_costs o c board) 8 64 }
 {}
 
 /// The law of weak duality for the pawns of a side: wherever they began, each on a file of its own, their costs are no less than the sum of

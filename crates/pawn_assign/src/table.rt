@@ -48,7 +48,7 @@ impl Costs {
     /// How many pawns there are.
     pub fn rows(&self) -> u8
         ensures value { result ≡ length self.now }
-        ensures table { IsTable self.now 8 }
+        ensures table { IsTable self.now 8 64 }
     {
         self.count
     }
@@ -66,7 +66,7 @@ impl Costs {
     /// The rows.
     pub(crate) fn table(&self) -> &[[u8; 8]]
         ensures value { result.now ≡ self.now }
-        ensures table { IsTable self.now 8 }
+        ensures table { IsTable self.now 8 64 }
     {
         &self.table[..self.count as usize]
     }

@@ -1,5 +1,5 @@
 -- What reaches a query reaches each query that covers it.
-use Rattle.std.proofs.Common.{◌≡◌, ℕ, Bool, List, ap, sym, ◌∙◌, subst}
+use Rattle.std.proofs.Common.{◌≡◌, Bool, List, ap, sym, ◌∙◌, subst}
 use Rattle.std.specs.Prelude.{Option, Some, None, IfSome, IsTrue}
 use Rattle.board_base.specs.Board.{AreOdds, Places, at, is_a}
 use Rattle.board_base.specs.Game.{IsGame, board_after, unmoved}

@@ -1,5 +1,5 @@
 -- What can be settled: whether a query covers another, and whether the game of no moves reaches it.
-use Rattle.std.proofs.Common.{rules, ◌≡◌, ◌==◌, ℕ, true, false, inl, inr, [], refl}
+use Rattle.std.proofs.Common.{rules, ◌≡◌, ℕ, true, false, inl, inr, [], refl}
 use Rattle.std.specs.Bool.{Decides}
 use Rattle.std.specs.Cmp.{unsigned_Decides}
 use Rattle.std.specs.Option.{option_eq}

@@ -15,6 +15,7 @@ use Rattle.board_base.proofs.Without.{are-no-odds}
 use Rattle.query_base.specs.Reach.{Reaches}
 use Rattle.query_base.specs.declared.claims.Claim.TheVariants.{Illegal}
 use Rattle.query_base.specs.declared.rule_lines.RuleLine.TheVariants.{Kings}
+use Rattle.cert_text.specs.declared.reasons.Reason.TheVariants.{Line}
 use Rattle.query_base.proofs.Meeting.{reaches_nothing}
 use Rattle.static_rules.specs.Supports.{IsClosed}
 use Rattle.static_rules.proofs.Unreached.{unreached}
@@ -81,7 +82,7 @@ nothing_dear : IsAfforded 1 0 Illegal nothing → ⊥
 nothing_dear afforded = absurd (omega (arith, afforded 1 1 nothing_lone nothing_memo_cost))
 
 -- one node proves that it is illegal, without going back
-nothing_proved : IsProofOf 0 (record { claim = Illegal; query = nothing; root = rule Kings }) Illegal nothing
+nothing_proved : IsProofOf 0 (record { claim = Illegal; query = nothing; root = rule (Line Kings) }) Illegal nothing
 unfolding nothing_closed
 nothing_proved = record { claim_is = refl; query_is = refl; proves = nothing_closed.1; low = omega arith; few = omega arith }
 
@@ -143,14 +144,14 @@ first_of_three = (
 )
 
 -- three nodes, of which the root's children are two
-three_nodes : nodes_in (expand (more (unmoved 8 16) (rule Kings) (more (unmoved 12 28) (back 1) none))) ≡ 3
+three_nodes : nodes_in (expand (more (unmoved 8 16) (rule (Line Kings)) (more (unmoved 12 28) (back 1) none))) ≡ 3
 three_nodes = refl
 
 -- a node without children is one high, as is one whose children are rules and steps back
 no_children : height (expand none) ≡ 1
 no_children = refl
 
-low_children : height (expand (more (unmoved 8 16) (rule Kings) (more (unmoved 12 28) (back 1) none))) ≡ 1
+low_children : height (expand (more (unmoved 8 16) (rule (Line Kings)) (more (unmoved 12 28) (back 1) none))) ≡ 1
 low_children = refl
 
 -- a query differs from another that demands more

@@ -14,7 +14,9 @@ use Rattle.retro_search.specs.Refutable.{IsRefutable, IsShut}
 use Rattle.retro_search.specs.Costs.{IsCost, SumsUpTo}
 use Rattle.retro_search.specs.Searched.{IsCostBelow, IsOpen}
 use Rattle.retro_search.specs.Stops.{IfOpen, IfSpent, IfTooLarge, IsLengthened}
-use Rattle.retro_search.specs.Kept.{AreChildren, IsRefutation, IsSound}
+use Rattle.retro_search.specs.Lined.{AreLined, IsLined, KeepsLines}
+use Rattle.retro_search.specs.Grown.{AreChildren}
+use Rattle.retro_search.specs.Kept.{IsRefutation, IsSound}
 use Rattle.retro_search.specs.Runs.{GoesOn}
 use Rattle.retro_search.specs.Heights.{height, height_of_all}
 use Rattle.retro_search.specs.Sizes.{nodes_in, nodes_in_all}
@@ -26,7 +28,7 @@ use Rattle.retro_search.specs.declared.stops.Stop.{Stop}
 use Rattle.retro_search.specs.declared.stops.Stop.TheVariants as stop
 use Rattle.retro_search.proofs.Trees.Ancestors.{each_below, proves_below, take_extends, whole_extends}
 use Rattle.retro_search.proofs.Costs.CostSums.{cost_below, first_number, later_numbers}
-use Rattle.retro_search.proofs.Trees.Forests.{height_last, nodes_more, proves_more}
+use Rattle.retro_search.proofs.Trees.Forests.{height_last, lined_more, nodes_more, proves_more}
 use Rattle.retro_search.proofs.Trees.Heights.{refutable_each}
 use Rattle.retro_search.proofs.Lines.OpenLines.{longer_open, stop_large, stop_open, stop_spent}
 use Rattle.retro_search.proofs.Trees.Refuting.{refuted, refutes_by_kids}
@@ -51,6 +53,8 @@ pub record Expands (q : Asked) (below : ℕ) (ancestors : List Asked) (rest : Li
   pub are : AreChildren c q done below ancestors
   pub plain : first.memo.on ≡ false → c.lines + now.left ≤ first.left
   pub on : GoesOn first now
+  pub lined : AreLined c.kids
+  pub keeps : KeepsLines now.memo
   pub cost : (n : ℕ) → IsCostBelow q below ancestors n → IsCostLeft q below ancestors rest now.left first.left n
 
 pub no_children : (c : Children) (q : Asked) (below : ℕ) (ancestors : List Asked) → c.kids ≡ none → (c.lean ≡ 0) × (c.highest ≡ 0) × (c.lines ≡ 0) → AreChildren c q [] below ancestors
@@ -62,14 +66,16 @@ no_children c q below ancestors empty numbers = record {
   few = omega (arith, numbers.2);
 }
 
-pub expands_none : (q : Asked) (below : ℕ) (ancestors : List Asked) (rest : List Unmove) (c : Children) (run : Run) → rest ≡ unmoves q → c.kids ≡ none → (c.lean ≡ 0) × (c.highest ≡ 0) × (c.lines ≡ 0) → IsSound run.memo → Expands q below ancestors rest c run run
-expands_none q below ancestors rest c run all empty numbers sound =
+pub expands_none : (q : Asked) (below : ℕ) (ancestors : List Asked) (rest : List Unmove) (c : Children) (run : Run) → rest ≡ unmoves q → c.kids ≡ none → (c.lean ≡ 0) × (c.highest ≡ 0) × (c.lines ≡ 0) → IsSound run.memo → KeepsLines run.memo → Expands q below ancestors rest c run run
+expands_none q below ancestors rest c run all empty numbers sound keeps =
     subst (λ (us : List Unmove). Expands q below ancestors us c run run) (sym all) (record {
       done = [];
       parts = refl;
       are = no_children c q below ancestors empty numbers;
       plain = λ off. omega (arith, numbers.2);
       on = record { sound = sound; mode = refl; fewer = omega arith };
+      lined = subst AreLined (sym empty) tt;
+      keeps = keeps;
       cost = λ n sums. record { later = n; sums = sums; total = omega arith };
     })
 
@@ -81,7 +87,7 @@ pub record Adds (c : Children) (u : Unmove) (r : Refutation) (more : Children) :
   pub lines : more.lines ≡ c.lines + r.lines
   pub room : more.lines < 500000
 
-one_more : (c more : Children) (q p : Asked) (done : List Unmove) (u : Unmove) (r : Refutation) (below : ℕ) (ancestors above : List Asked) → p ≡ predecessor q u → above ≡ q ∷ ancestors → AreChildren c q done below ancestors → IsRefutation r p below above → Adds c u r more → AreChildren more q (done ++ u ∷ []) below ancestors
+pub one_more : (c more : Children) (q p : Asked) (done : List Unmove) (u : Unmove) (r : Refutation) (below : ℕ) (ancestors above : List Asked) → p ≡ predecessor q u → above ≡ q ∷ ancestors → AreChildren c q done below ancestors → IsRefutation r p below above → Adds c u r more → AreChildren more q (done ++ u ∷ []) below ancestors
 one_more c more q p done u r below ancestors above here up are f a =
     let wider : c.lean ≤ more.lean = omega (arith, a.lean) in
     let leans : r.lean ≤ suc more.lean = omega (arith, a.lean) in
@@ -98,16 +104,18 @@ one_more c more q p done u r below ancestors above here up are f a =
       few = omega (arith, a.room);
     }
 
-pub expands_more : (q : Asked) (below : ℕ) (ancestors : List Asked) (rest others : List Unmove) (c more : Children) (run now first : Run) (u : Unmove) (r : Refutation) (p : Asked) (above : List Asked) → p ≡ predecessor q u → above ≡ q ∷ ancestors → Expands q below ancestors rest c run first → rest ≡ u ∷ others → Adds c u r more → IsRefutation r p below above → (run.memo.on ≡ false → r.lines + now.left ≤ run.left) → GoesOn run now → ((n : ℕ) → IsCost p below above n → run.left ≤ now.left + n) → Expands q below ancestors others more now first
-expands_more q below ancestors rest others c more run now first u r p above here up x next a f plain on cost =
+pub expands_more : (q : Asked) (below : ℕ) (ancestors : List Asked) (rest others : List Unmove) (c more : Children) (run now first : Run) (u : Unmove) (r : Refutation) (p : Asked) (above : List Asked) → p ≡ predecessor q u → above ≡ q ∷ ancestors → Expands q below ancestors rest c run first → rest ≡ u ∷ others → Adds c u r more → IsRefutation r p below above → IsLined (tree_of r.node) → KeepsLines now.memo → (run.memo.on ≡ false → r.lines + now.left ≤ run.left) → GoesOn run now → ((n : ℕ) → IsCost p below above n → run.left ≤ now.left + n) → Expands q below ancestors others more now first
+expands_more q below ancestors rest others c more run now first u r p above here up x next a f lined keeps plain on cost =
     let kid_cost : (n : ℕ) → CostBy q below ancestors u n → run.left ≤ now.left + n = λ n h. cost n (subst (λ (b : Asked). IsCost b below above n) (sym here) (subst (λ (l : List Asked). IsCost (predecessor q u) below l n) (sym up) h)) in
-    let kid_refuted : IsRefutableBy q below ancestors u = subst (λ (b : Asked). IsRefutable b below (q ∷ ancestors)) here (subst (λ (l : List Asked). IsRefutable p below l) up (refuted r p below above f)) in
+    let kid_refuted : IsRefutableBy q below ancestors u = subst (λ (b : Asked). IsRefutable b below (q ∷ ancestors)) here (subst (λ (l : List Asked). IsRefutable p below l) up (refuted r p below above f lined)) in
     record {
       done = x.done ++ u ∷ [];
       parts = x.parts ∙ ap (λ (l : List Unmove). x.done ++ l) next ∙ sym (append_assoc x.done (u ∷ []) others);
       are = one_more c more q p x.done u r below ancestors above here up x.are f a;
       plain = λ off. omega (arith, a.lines, x.plain off, plain (x.on.mode ∙ off));
       on = record { sound = on.sound; mode = on.mode ∙ x.on.mode; fewer = omega (arith, on.fewer, x.on.fewer) };
+      lined = subst AreLined (sym a.kids) (lined_more c.kids u (tree_of r.node) x.lined lined);
+      keeps = keeps;
       cost = λ n sums.
           let before = x.cost n sums in
           let s = later_numbers (CostBy q below ancestors) (IsRefutableBy q below ancestors) u rest others before.later next kid_refuted before.sums in
@@ -119,7 +127,7 @@ expands_open q below ancestors rest others c run first u p above s t here up x n
     let each : ProvesEach c.kids q x.done ancestors = each_below c.kids q x.done (take c.lean ancestors) ancestors (whole_extends c.lean ancestors) x.are.each in
     let low : height_of_all c.kids ≤ below = omega (arith, x.are.high, x.are.low) in
     stop_open s t u (λ line. IsOpen line p below above) (λ line. IsOpen line q (suc below) ancestors) (λ kid line grown same o.
-    longer_open kid line q u x.done others below ancestors (x.parts ∙ ap (λ (l : List Unmove). x.done ++ l) next) (refutable_each c.kids q x.done below ancestors each low) elsewhere unshut grown same (
+    longer_open kid line q u x.done others below ancestors (x.parts ∙ ap (λ (l : List Unmove). x.done ++ l) next) (refutable_each c.kids q x.done below ancestors each x.lined low) elsewhere unshut grown same (
     subst (λ (a : Asked). IsOpen kid a below (q ∷ ancestors)) here (subst (λ (l : List Asked). IsOpen kid p below l) up o))) longer open_
 
 pub expands_spent : (q : Asked) (below : ℕ) (ancestors : List Asked) (rest others : List Unmove) (c : Children) (run first : Run) (u : Unmove) (p : Asked) (above : List Asked) (s t : Stop) → p ≡ predecessor q u → above ≡ q ∷ ancestors → Expands q below ancestors rest c run first → rest ≡ u ∷ others → IsLengthened s u t → IfSpent s ((n : ℕ) → IsCost p below above n → run.left < n) → IfSpent t ((n : ℕ) → IsCostBelow q below ancestors n → first.left < n)

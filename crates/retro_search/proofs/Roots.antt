@@ -16,6 +16,7 @@ use Rattle.cert_text.proofs.CertTexts as texts
 use Rattle.cert_checker.proofs.Contradicted.{contradiction-reaches}
 use Rattle.cert_checker.proofs.Sound.{sound}
 use Rattle.retro_search.specs.Refutable.{IsRefutable}
+use Rattle.retro_search.specs.Lined.{IsLined}
 use Rattle.retro_search.specs.Searched.{Refutes}
 use Rattle.retro_search.specs.Sizes.{nodes_in}
 use Rattle.retro_search.specs.Answers.{IfCountered, IfProved, IfUndecided, IfUnspent, IsProofOf, IsProved}
@@ -31,8 +32,8 @@ certified claim q t = record { claim = claim; query = q; root = t }
 pub proof_of : (t : Tree) (claim : Claim) (q : Asked) (depth : ℕ) → Refutes t (target q claim) depth [] → nodes_in t ≤ 500000 → IsProofOf depth (certified claim q t) claim q
 proof_of t claim q depth r few = record { claim_is = refl; query_is = refl; proves = r.proves; low = r.low; few = few }
 
-pub refutable_root : (t : Tree) (q : Asked) (depth : ℕ) → Refutes t q depth [] → IsRefutable q depth []
-refutable_root t q depth r = refutable_by t q depth [] r.proves r.low
+pub refutable_root : (t : Tree) (q : Asked) (depth : ℕ) → Refutes t q depth [] → IsLined t → IsRefutable q depth []
+refutable_root t q depth r lined = refutable_by t q depth [] r.proves lined r.low
 
 pub written : (t : Tree) (claim : Claim) (q : Asked) (depth : ℕ) → IsQuery q → IsTrue (stays_on_board claim) → IsTrue (promotes_well claim) → q.barred ≡ None → depth ≤ 64 → nodes_in t ≤ 500000 → Refutes t (target q claim) depth [] → HasText (certified claim q t)
 written t claim q depth known on_board well plain shallow few r =

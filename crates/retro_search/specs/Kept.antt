@@ -1,17 +1,14 @@
--- Inner: no public clause cites this file.
 -- Refutations that lean on few ancestors, or none, and those that are kept.
 use Rattle.std.specs.Prelude.{ℕ, ◌≡◌, ◌≤◌, List, [], length, take}
 use Rattle.std.specs.List.{All}
 use Rattle.indexmap.specs.IndexMap.{values}
-use Rattle.board_base.specs.declared.unmoves.Unmove.{Unmove}
 use Rattle.query_base.specs.Asked.{Asked}
 use Rattle.cert_text.specs.Tree.{Tree}
 use Rattle.cert_text.specs.Seen.{tree_of}
-use Rattle.cert_checker.specs.Proving.{Proves, ProvesEach}
-use Rattle.retro_search.specs.Heights.{height, height_of_all}
-use Rattle.retro_search.specs.Sizes.{nodes_in, nodes_in_all}
+use Rattle.cert_checker.specs.Proving.{Proves}
+use Rattle.retro_search.specs.Heights.{height}
+use Rattle.retro_search.specs.Sizes.{nodes_in}
 use Rattle.retro_search.specs.declared.refutations.Refutation.{Refutation}
-use Rattle.retro_search.specs.declared.refutations.Children.{Children}
 use Rattle.retro_search.specs.declared.memos.Kept.{Kept as AKept}
 use Rattle.retro_search.specs.declared.memos.Memo.{Memo as AMemo}
 
@@ -22,14 +19,6 @@ pub record IsRefutation (r : Refutation) (q : Asked) (depth : ℕ) (ancestors : 
   pub low : r.height ≤ depth
   pub counted : nodes_in (tree_of r.node) ≡ r.lines
   pub few : r.lines ≤ 500000
-
--- the children prove the predecessors of the query by these unmoves, and have the height and the lines that are noted
-pub record AreChildren (c : Children) (q : Asked) (done : List Unmove) (below : ℕ) (ancestors : List Asked) : Type 0 where
-  pub each : ProvesEach c.kids q done (take c.lean ancestors)
-  pub high : height_of_all c.kids ≡ c.highest
-  pub low : c.highest ≤ below
-  pub counted : nodes_in_all c.kids ≡ c.lines
-  pub few : c.lines ≤ 499999
 
 -- the tree proves the query, and leans on no ancestor
 pub record StandsAlone (t : Tree) (q : Asked) (h n : ℕ) : Type 0 where

@@ -6,9 +6,11 @@ pub mod Sizes
 pub mod Answers
 pub mod Heights
 pub mod Stops
-pub mod Searched
 pub mod Kept
+pub mod Lined
 pub mod Runs
 pub mod Eager
 pub mod Tidy
+pub mod Grown
+pub mod Searched
 pub mod Good

@@ -1,4 +1,3 @@
--- Inner: no public clause cites this file.
 -- Searches on their way.
 use Rattle.std.specs.Prelude.{◌≡◌, ◌≤◌}
 use Rattle.retro_search.specs.Kept.{IsSound}

@@ -16,4 +16,10 @@ mod stops;
 
 pub use answers::Found;
 pub use laws::{one_cost_each, one_memo_cost_each, one_open_line_each};
-pub use solving::solve;
+pub use memos::{Kept, Memo};
+pub use refutations::{Children, MOST_NODES, Refutation};
+pub use runs::Run;
+pub use searching::{keep_alone, taken};
+pub use shutting::shut;
+pub use solving::{open_answer, solve};
+pub use stops::{OpenLine, Stop, lengthened};

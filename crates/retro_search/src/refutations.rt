@@ -9,7 +9,7 @@ use cert_text::{Body, Kid, Kids, Node};
 use std::alloc::Global;
 
 /// The most nodes that a certificate may have.
-pub(crate) const MOST_NODES: u32 = 500_000;
+pub const MOST_NODES: u32 = 500_000;
 
 /// A tree that refutes a query.
 #[derive(Drop)]
@@ -39,7 +39,7 @@ pub struct Children {
 
 impl Children {
     /// No children.
-    pub(crate) fn new(alloc: Global) -> Children
+    pub fn new(alloc: Global) -> Children
         ensures kids { result.kids ≡ none }
         ensures numbers { (result.lean ≡ 0) × (result.highest ≡ 0) × (result.lines ≡ 0) }
     {
@@ -52,7 +52,7 @@ impl Children {
     }
 
     /// Puts a child after the others, where the tree then has at most 500,000 nodes.
-    pub(crate) fn add(&mut self, label: Unmove, kid: Refutation) -> Result<(), Stop>
+    pub fn add(&mut self, label: Unmove, kid: Refutation) -> Result<(), Stop>
         requires few { self.old.lines < MOST_NODES }
         requires kid { kid.lines ≤ MOST_NODES }
         ensures kids { OnOk result (self.new.kids ≡ with_last self.old.kids label (tree_of kid.node)) }
@@ -80,7 +80,7 @@ impl Children {
     }
 
     /// The refutation by these children.
-    pub(crate) fn finish(self) -> Refutation
+    pub fn finish(self) -> Refutation
         requires low { self.highest < 255 }
         requires few { self.lines < MOST_NODES }
         ensures tree { tree_of result.node ≡ expand self.kids }

@@ -6,6 +6,7 @@ ghost use Rattle.retro_search.specs.Costs.{IsCost};
 ghost use Rattle.retro_search.specs.Searched.{IsCostBelow, IsOpen};
 ghost use Rattle.retro_search.specs.Stops.{IfOpen, IfSpent, IfTooLarge};
 ghost use Rattle.retro_search.specs.Kept.{IsRefutation, IsSound, StandsAlone};
+ghost use Rattle.retro_search.specs.Lined.{IsLined, KeepsLines};
 ghost use Rattle.retro_search.specs.Runs.{GoesOn};
 ghost use Rattle.retro_search.specs.Tidy.{HasRoomFor, Keeps};
 ghost use Rattle.retro_search.specs.Good.{GoesWell, GoesWellBelow, IsGood, IsGoodBelow, IsPaid};
@@ -22,7 +23,7 @@ use std::alloc::Global;
 use unmove_gen::{Unmoves, pred};
 
 /// A refutation by a copy of the tree that is kept.
-fn taken(alloc: Global, kept: &Kept) -> Result<Refutation, Stop>
+pub fn taken(alloc: Global, kept: &Kept) -> Result<Refutation, Stop>
     ensures tree { IfOk result (λ found. tree_of found.node ≡ tree_of kept.now.node) }
     ensures numbers { IfOk result (λ found. (found.lean ≡ 0) × (found.height ≡ kept.now.height) × (found.lines ≡ kept.now.lines)) }
     ensures unrefuted { IfErr result (λ stop. stop ≡ Stop.Memory) }
@@ -39,10 +40,11 @@ fn taken(alloc: Global, kept: &Kept) -> Result<Refutation, Stop>
 }
 
 /// Keeps the refutation, if it leans on no ancestor. False where memory is wanting.
-fn settle(alloc: Global, query: &Query, found: &Refutation, run: &mut Run) -> bool
+pub fn keep_alone(alloc: Global, query: &Query, found: &Refutation, run: &mut Run) -> bool
     requires sound { IsSound run.old.memo }
     requires alone { found.now.lean ≡ 0 → StandsAlone (tree_of found.now.node) query.now found.now.height found.now.lines }
     ensures on { IsTrue result → (GoesOn run.old run.new × (run.new.left ≡ run.old.left)) }
+    ensures lined { IsTrue result → KeepsLines run.old.memo → IsLined (tree_of found.now.node) → KeepsLines run.new.memo }
     ensures kept { IsTrue result → found.now.lean ≡ 0 → HasRoomFor run.old.memo query.now found.now.lines → Keeps run.old.memo query.now found.now run.new.memo }
 {
     if found.lean != 0 {
@@ -66,6 +68,7 @@ pub(crate) fn search(
 ) -> Result<Refutation, Stop>
     requires shallow { length ancestors.old.items + depth ≤ 64 }
     requires sound { IsSound run.old.memo }
+    requires lined { KeepsLines run.old.memo }
     requires few { run.old.left ≤ MOST_NODES }
     ensures refuted { IfOk result (λ found. IsRefutation found query.now depth (reverse ancestors.old.items)) }
     ensures unrefuted { IfErr result (λ stop. IfOpen stop (λ line. IsOpen line query.now depth (reverse ancestors.old.items))) }
@@ -75,6 +78,8 @@ pub(crate) fn search(
     ensures spent { IfErr result (λ stop. IfSpent stop ((n : ℕ) → IsCost query.now depth (reverse ancestors.old.items) n → run.old.left < n)) }
     ensures deep { IfErr result (λ stop. IfOpen stop (λ line. length line.back.items < run.old.left)) }
     ensures on { OnOk result (GoesOn run.old run.new) }
+    ensures lined { IfOk result (λ found. IsLined (tree_of found.node)) }
+    ensures keeps { OnOk result (KeepsLines run.new.memo) }
     ensures kept { OnOk result (ancestors.new.items ≡ ancestors.old.items) }
     ensures well { IfOk result (λ found. (ps : List Asked) (n : ℕ) → IsGood ps n query.now depth (reverse ancestors.old.items) run.old → GoesWell ps n query.now depth (reverse ancestors.old.items) found run.old run.new) }
     ensures paid { IfErr result (λ stop. (ps : List Asked) (n : ℕ) → IsGood ps n query.now depth (reverse ancestors.old.items) run.old → IfSpent stop (IsPaid ps (reverse ancestors.old.items) run.old.left run.old.memo)) }
@@ -99,7 +104,7 @@ pub(crate) fn search(
     }
     match expand(alloc, query, depth - 1, ancestors, run) {
         Ok(found) => {
-            if settle(alloc, query, &found, run) {
+            if keep_alone(alloc, query, &found, run) {
                 Ok(found)
             } else {
                 Err(Stop::Memory)
@@ -122,6 +127,7 @@ fn expand(
     requires unshut { IsShut query.now (reverse ancestors.old.items) → ⊥ }
     requires elsewhere { Reaches [] query.now → ⊥ }
     requires sound { IsSound run.old.memo }
+    requires lined { KeepsLines run.old.memo }
     requires few { run.old.left < MOST_NODES }
     ensures refuted { IfOk result (λ found. IsRefutation found query.now (suc below) (reverse ancestors.old.items)) }
     ensures unrefuted { IfErr result (λ stop. IfOpen stop (λ line. IsOpen line query.now (suc below) (reverse ancestors.old.items))) }
@@ -131,6 +137,8 @@ fn expand(
     ensures spent { IfErr result (λ stop. IfSpent stop ((n : ℕ) → IsCostBelow query.now below (reverse ancestors.old.items) n → run.old.left < n)) }
     ensures deep { IfErr result (λ stop. IfOpen stop (λ line. length line.back.items ≤ run.old.left)) }
     ensures on { OnOk result (GoesOn run.old run.new) }
+    ensures lined { IfOk result (λ found. IsLined (tree_of found.node)) }
+    ensures keeps { OnOk result (KeepsLines run.new.memo) }
     ensures kept { OnOk result (ancestors.new.items ≡ ancestors.old.items) }
     ensures well { IfOk result (λ found. (ps : List Asked) (m : ℕ) → IsGoodBelow ps m query.now below (reverse ancestors.old.items) run.old → GoesWellBelow ps m query.now below (reverse ancestors.old.items) found run.old run.new) }
     ensures paid { IfErr result (λ stop. (ps : List Asked) (m : ℕ) → IsGoodBelow ps m query.now below (reverse ancestors.old.items) run.old → IfSpent stop (IsPaid ps (reverse ancestors.old.items) (run.old.left + 1) run.old.memo)) }

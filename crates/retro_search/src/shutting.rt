@@ -1,24 +1,26 @@
 ghost use Rattle.std.specs.Prelude.{◌≡◌, ◌<◌, IfSome, MatchOption, length, reverse};
 ghost use Rattle.query_base.specs.Ancestors.{IsCovered};
 ghost use Rattle.cert_text.specs.Tree.{back, rule};
+ghost use Rattle.cert_text.specs.declared.reasons.Reason.TheVariants.{Line};
+ghost use Rattle.retro_search.specs.Lined.{IsLined};
 ghost use Rattle.cert_text.specs.Seen.{tree_of};
 ghost use Rattle.retro_search.specs.Refutable.{IsShut};
 ghost use Rattle.retro_search.specs.Eager.{IsEager};
 ghost use Rattle.retro_search.specs.Kept.{IsRefutation};
 
 use crate::refutations::Refutation;
-use cert_text::{Body, Node};
+use cert_text::{Body, Node, Reason};
 use query_base::{Query, RuleLine, steps_back};
 use static_rules::close;
 
 /// The refutation by a rule line that supports the query.
-fn by_rule(reason: RuleLine) -> Refutation
-    ensures tree { tree_of result.node ≡ rule reason }
+fn by_rule(line: RuleLine) -> Refutation
+    ensures tree { tree_of result.node ≡ rule (Line line) }
     ensures numbers { (result.lean ≡ 0) × (result.height ≡ 0) × (result.lines ≡ 1) }
 {
     Refutation {
         node: Node {
-            body: Body::Rule(reason),
+            body: Body::Rule(Reason::Line(line)),
         },
         lean: 0,
         height: 0,
@@ -41,12 +43,13 @@ fn by_ancestor(steps: u8) -> Refutation
     }
 }
 
-/// A tree of one node that refutes the query: a rule line that supports it, or a step back to an ancestor that covers it. None
-/// where neither is there. The parent comes last.
-pub(crate) fn shut(query: &Query, ancestors: &[Query]) -> Option<Refutation>
+/// A tree of one node that refutes the query below these fewer than 256 ancestors, the parent last: a rule line that supports it, or a
+/// step back to an ancestor that covers it. None exactly where neither is there.
+pub fn shut(query: &Query, ancestors: &[Query]) -> Option<Refutation>
     requires { length ancestors.now < 256 }
     ensures shut { MatchOption result (IsShut query.now (reverse ancestors.now) → ⊥) (λ found. IsRefutation found query.now 0 (reverse ancestors.now)) }
     ensures one { IfSome result (λ found. found.lines ≡ 1) }
+    ensures lined { IfSome result (λ found. IsLined (tree_of found.node)) }
     ensures lone { IfSome result (λ found. (IsCovered query.now (reverse ancestors.now) → ⊥) → (found.lean ≡ 0) × IsEager (tree_of found.node) query.now) }
 {
     if let Some(rule) = close(query) {

@@ -12,6 +12,8 @@ ghost use Rattle.retro_search.specs.Lone.{AreExpanded, IsAfforded, IsLoneSearch,
 ghost use Rattle.retro_search.specs.Stops.{IfOpen, IfSpent, IfTooLarge};
 ghost use Rattle.retro_search.specs.Searched.{IsOpen};
 ghost use Rattle.retro_search.specs.Kept.{IsRefutation};
+ghost use Rattle.retro_search.specs.Lined.{IsLined};
+ghost use Rattle.cert_text.specs.Seen.{tree_of};
 ghost use Rattle.retro_search.specs.Answers.{IfCountered, IfProved, IfSpentAt, IfUndecided, IfUnspent, IsCounter, IsProofOf, IsProved, IsUndecided};
 
 use crate::answers::Found;
@@ -47,8 +49,8 @@ fn reversed(alloc: Global, unmoves: &[Unmove]) -> Result<UnmoveList, Memory>
     Ok(line)
 }
 
-/// The answer where this line stays open.
-fn open_answer(alloc: Global, line: &OpenLine) -> Result<Found, Memory>
+/// The answer where this line stays open: a game where it ends at the array.
+pub fn open_answer(alloc: Global, line: &OpenLine) -> Result<Found, Memory>
     ensures proved { IfOk result (λ found. IfProved found (λ cert. ⊥)) }
     ensures undecided { IfOk result (λ found. IfUndecided found (λ l. (l ≡ reverse line.now.back.items) × (line.now.at_array ≡ false))) }
     ensures countered { IfOk result (λ found. IfCountered found (λ g. (g ≡ map (λ u. u.mv) line.now.back.items) × (line.now.at_array ≡ true))) }
@@ -90,6 +92,7 @@ fn attempt(
     requires few { nodes ≤ MOST_NODES }
     ensures refuted { IfOk result (λ found. IsRefutation found target.now depth []) }
     ensures unrefuted { IfErr result (λ stop. IfOpen stop (λ line. IsOpen line target.now depth [])) }
+    ensures lined { IfOk result (λ found. IsLined (tree_of found.node)) }
     ensures deep { IfErr result (λ stop. IfOpen stop (λ line. length line.back.items < nodes)) }
     ensures spent { IfErr result (λ stop. IfSpent stop ((n : ℕ) → IsCost target.now depth [] n → nodes < n)) }
     ensures too_large { IfErr result (λ stop. IfTooLarge stop (with_memo ≡ false → ⊥)) }
@@ -111,6 +114,7 @@ fn refute(alloc: Global, target: &Query, depth: u8, nodes: u32) -> Result<Refuta
     requires few { nodes ≤ MOST_NODES }
     ensures refuted { IfOk result (λ found. IsRefutation found target.now depth []) }
     ensures unrefuted { IfErr result (λ stop. IfOpen stop (λ line. IsOpen line target.now depth [])) }
+    ensures lined { IfOk result (λ found. IsLined (tree_of found.node)) }
     ensures deep { IfErr result (λ stop. IfOpen stop (λ line. length line.back.items < nodes)) }
     ensures spent { IfErr result (λ stop. IfSpent stop ((n : ℕ) → IsCost target.now depth [] n → nodes < n)) }
     ensures small { IfErr result (λ stop. IfTooLarge stop ⊥) }
@@ -131,7 +135,7 @@ fn refute(alloc: Global, target: &Query, depth: u8, nodes: u32) -> Result<Refuta
 /// still be taken back, it isn't the array from which games begin, and each of its predecessors is refutable with one move less.
 ///
 /// - `Proved` comes exactly where the target is refutable at the depth and `Spent` doesn't come. The certificate is of this claim and
-///   this query, proves it, goes back at most `depth` moves, has at most 500,000 nodes, and has a text where the claim has one. No
+///   this query, proves it by rule lines, goes back at most `depth` moves, has at most 500,000 nodes, and has a text where the claim has one. No
 ///   game of any length contradicts the claim; of `Illegal` this says that the position is illegal (article 3.10.3).
 /// - `Undecided` comes only where the target isn't refutable, with its first open line. That has as many unmoves as the depth, and
 ///   doesn't end at the array.
@@ -157,6 +161,7 @@ pub fn solve(
     ensures proved { IfOk result (λ found. IfProved found (λ cert. IsProofOf depth (cert_of cert) claim.now query.now)) }
     ensures holds { IfOk result (λ found. IfProved found (λ cert. Holds claim.now query.now)) }
     ensures written { IsTrue (promotes_well claim.now) → IfOk result (λ found. IfProved found (λ cert. HasText (cert_of cert))) }
+    ensures lined { IfOk result (λ found. IfProved found (λ cert. IsLined (tree_of cert.root))) }
     ensures exactly { IfOk result (λ found. IfUnspent found (IsProved found ↔ IsRefutable (target query.now claim.now) depth [])) }
     ensures undecided { IfOk result (λ found. IfUndecided found (λ line. IsUndecided line (target query.now claim.now) depth)) }
     ensures countered { IfOk result (λ found. IfCountered found (λ game. IsCounter game claim.now query.now depth)) }

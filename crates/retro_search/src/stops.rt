@@ -24,8 +24,9 @@ pub enum Stop {
     Memory,
 }
 
-/// What stops the search of a query where this stops that of its predecessor by the unmove.
-pub(crate) fn lengthened(stop: Stop, u: Unmove) -> Stop
+/// What stops the search of a query where this stops that of its predecessor by the unmove: the open line is longer by it. Memory may
+/// be wanting.
+pub fn lengthened(stop: Stop, u: Unmove) -> Stop
     ensures { IsLengthened stop u result }
 {
     match stop {

@@ -25,13 +25,14 @@ use Rattle.command_answers.specs.Dossiers.{AnswersLineClaim}
 use Rattle.command_answers.specs.LineChecks.{TellsDossier}
 use Rattle.command_answers.specs.Lengths.{AnswersLengthOf}
 use Rattle.command_answers.specs.Questions.{AnswersOne}
+use Rattle.command_answers.specs.Settles.{AnswersSettling}
 use Rattle.command_answers.specs.Solves.{AnswersClaim}
 use Rattle.command_answers.specs.Retractions.{ListsUnmoves}
 use Rattle.command_answers.specs.Statuses.{IsAnswer}
 use Rattle.command_answers.specs.Trees.{AnswersTreeOf}
 use Rattle.command_answers.specs.Verdicts.{AnswersPosition, AnswersRights}
 use Rattle.retro_top.specs.declared.commands.Command.{Command}
-use Rattle.retro_top.specs.declared.commands.Command.TheVariants.{Check, Play, San, Spell, Unmoves, Solve, Verdict, Tree, Length, AtLeast, Line, Dossier, Sample}
+use Rattle.retro_top.specs.declared.commands.Command.TheVariants.{Check, Play, San, Spell, Unmoves, Solve, Settle, Verdict, Tree, Length, AtLeast, Line, Dossier, Sample}
 use Rattle.command_answers.specs.declared.statuses.Status.{Status}
 use Rattle.command_answers.specs.declared.statuses.Status.TheVariants.{Done, Refused, Undecided, Spent, Countered, BadInput}
 
@@ -77,6 +78,13 @@ claim-answered depth nodes claim q Undecided text answers = tt
 claim-answered depth nodes claim q Spent text answers = tt
 claim-answered depth nodes claim q Countered text answers = tt
 claim-answered depth nodes claim q _ text answers = absurd answers
+
+settling-answered : (depth nodes : ℕ) (claim : Claim) (q : Asked) (ending : Status) (text : List ℕ) → AnswersSettling depth nodes claim q ending text → IsAnswer ending
+settling-answered depth nodes claim q Done text answers = tt
+settling-answered depth nodes claim q Undecided text answers = tt
+settling-answered depth nodes claim q Spent text answers = tt
+settling-answered depth nodes claim q Countered text answers = tt
+settling-answered depth nodes claim q _ text answers = absurd answers
 
 rights-answered : (depth nodes : ℕ) (q : Asked) (rights : List Right) (ending : Status) (text : List ℕ) → AnswersRights depth nodes q rights ending text → IsAnswer ending
 rights-answered depth nodes q rights Done text answers = tt
@@ -138,6 +146,10 @@ answered Spell input ending text answers = elim answers [
 answered Unmoves input ending text answers = one-answered (AsksAlone input) (IsNoLoneQuestion input) ListsUnmoves (λ q other lines said. as-answer Done other said.0 tt) ending text answers
 answered (Solve depth nodes) input ending text answers = elim answers [
   | inl said ↦ claim-answered depth nodes said.0 said.1 ending text said.3
+  | inr none ↦ as-answer BadInput ending none.2 tt
+]
+answered (Settle depth nodes) input ending text answers = elim answers [
+  | inl said ↦ settling-answered depth nodes said.0 said.1 ending text said.3
   | inr none ↦ as-answer BadInput ending none.2 tt
 ]
 answered (Verdict depth nodes) input ending text answers =

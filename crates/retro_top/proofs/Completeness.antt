@@ -6,7 +6,7 @@ use Rattle.command_answers.specs.Retractions.{ListsUnmoves}
 use Rattle.command_answers.specs.Trees.{AnswersTreeOf}
 use Rattle.command_answers.specs.Verdicts.{AnswersPosition}
 use Rattle.retro_top.specs.declared.commands.Command.{Command}
-use Rattle.retro_top.specs.declared.commands.Command.TheVariants.{Check, Play, San, Spell, Unmoves, Solve, Verdict, Tree, Length, AtLeast, Line, Dossier, Sample}
+use Rattle.retro_top.specs.declared.commands.Command.TheVariants.{Check, Play, San, Spell, Unmoves, Solve, Settle, Verdict, Tree, Length, AtLeast, Line, Dossier, Sample}
 use Rattle.command_answers.specs.declared.statuses.Status.{Status}
 use Rattle.command_answers.specs.declared.statuses.Status.TheVariants.{Done}
 use Rattle.retro_top.proofs.Gaming.{NoGameFault, OneGame, done-game, done-moves, done-notation, play-done, san-done, spell-done}
@@ -14,6 +14,7 @@ use Rattle.retro_top.proofs.Input.{of_left}
 use Rattle.retro_top.proofs.Asking.{done-alone, said-alone}
 use Rattle.retro_top.proofs.Searching.{OneTextEach, cheap-done, few-done}
 use Rattle.retro_top.proofs.Solving.{cheap-unspent, done-refutable, refutable-done}
+use Rattle.retro_top.proofs.Settling.{done-provable-claim, settle-done}
 use Rattle.retro_top.proofs.LineProofs.{AcceptedAreDossiers, OneDossier, done-line, done-provable, line-done, making-done, making-unspent}
 use Rattle.retro_top.proofs.Lengthy.{OneLength, done-length, done-shown, length-done, shown-done}
 use Rattle.retro_top.proofs.Headline.{OneAnswer, CertificatesProve, done-proved, proves-done}
@@ -26,6 +27,7 @@ succeeds-done law length dossier accepted one game sound San input ending text a
 succeeds-done law length dossier accepted one game sound Spell input ending text answers good = spell-done input ending text answers good
 succeeds-done law length dossier accepted one game sound Unmoves input ending text answers good = let said = said-alone ListsUnmoves (λ q. Unit {0}) input good.0 ending text answers good.1 tt in said.2.0
 succeeds-done law length dossier accepted one game sound (Solve depth nodes) input ending text answers good = refutable-done depth nodes input ending text answers good.0 good.1
+succeeds-done law length dossier accepted one game sound (Settle depth nodes) input ending text answers good = settle-done depth nodes input ending text answers good.0 good.1
 succeeds-done law length dossier accepted one game sound (Verdict depth nodes) input ending text answers good = cheap-done depth nodes input ending text answers good
 succeeds-done law length dossier accepted one game sound (Tree depth nodes) input ending text answers good = few-done one depth nodes input ending text answers good
 succeeds-done law length dossier accepted one game sound Length input ending text answers good = length-done input ending text answers good
@@ -37,6 +39,7 @@ succeeds-done law length dossier accepted one game sound (Sample start games pli
 -- where the nodes suffice, no search is spent
 pub suffices-unspent : OneTextEach → (command : Command) (input : List ℕ) (ending : Status) (text : List ℕ) → AnswersAs command input ending text → Suffices command input → IsUnspent ending
 suffices-unspent one (Solve depth nodes) input ending text answers enough = cheap-unspent depth nodes input ending text answers enough
+suffices-unspent one (Settle depth nodes) input ending text answers enough = subst IsUnspent (sym (settle-done depth nodes input ending text answers enough.0 enough.1)) tt
 suffices-unspent one (Verdict depth nodes) input ending text answers enough = subst IsUnspent (sym (cheap-done depth nodes input ending text answers enough)) tt
 suffices-unspent one (Tree depth nodes) input ending text answers enough = subst IsUnspent (sym (few-done one depth nodes input ending text answers enough)) tt
 suffices-unspent one (Dossier depth nodes) input ending text answers enough = making-unspent depth nodes input ending text answers enough
@@ -50,6 +53,7 @@ done-succeeds law accepted San input text answers = done-notation input text ans
 done-succeeds law accepted Spell input text answers = done-moves input text answers
 done-succeeds law accepted Unmoves input text answers = let alone = done-alone ListsUnmoves input text answers in (alone.0, alone.1)
 done-succeeds law accepted (Solve depth nodes) input text answers = done-refutable depth nodes input text answers
+done-succeeds law accepted (Settle depth nodes) input text answers = done-provable-claim depth nodes input text answers
 done-succeeds law accepted (Verdict depth nodes) input text answers = let alone = done-alone (AnswersPosition depth nodes) input text answers in (alone.0, alone.1)
 done-succeeds law accepted (Tree depth nodes) input text answers = let alone = done-alone (AnswersTreeOf depth nodes) input text answers in (alone.0, alone.2.0, text, alone.1, alone.2.1, alone.2.2)
 done-succeeds law accepted Length input text answers = done-length input text answers

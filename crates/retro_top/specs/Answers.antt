@@ -16,6 +16,7 @@ use Rattle.cert_text.specs.Certificate.{Certificate, IsTextOf}
 use Rattle.game_text.specs.Words.{words, AreTextsOf}
 use Rattle.san_text.specs.FromArray.{Tells}
 use Rattle.cert_checker.specs.Proving.{ProvesClaim}
+use Rattle.retro_search.specs.Answers.{IsProofOf}
 use Rattle.retro_search.specs.Refutable.{IsRefutable}
 use Rattle.codex_verdict.specs.Rights.{AreRights, claim_of}
 use Rattle.codex_verdict.specs.declared.kinds.Right.{Right}
@@ -36,6 +37,7 @@ use Rattle.question_text.specs.Questions.{Asks, AsksAlone, AsksForOne, after_que
 use Rattle.command_answers.specs.Retractions.{AnswersUnmoves}
 use Rattle.command_answers.specs.Samples.{AnswersSample}
 use Rattle.command_answers.specs.Statements.{States, StatesLine}
+use Rattle.command_answers.specs.Settles.{AnswersSettle}
 use Rattle.command_answers.specs.Solves.{AnswersSolve, IsCheap, countered_line}
 use Rattle.command_answers.specs.Trees.{AnswersTree, AsksForFewLines}
 use Rattle.command_answers.specs.Lengths.{AnswersHowLong, AsksForLength, TellsLength}
@@ -46,7 +48,7 @@ use Rattle.command_answers.specs.Verdicts.{AnswersVerdict, AsksForCheap, Each, v
 use Rattle.command_answers.specs.declared.statuses.Status.{Status}
 use Rattle.command_answers.specs.declared.statuses.Status.TheVariants.{Done, Undecided, Countered, Memory}
 use Rattle.retro_top.specs.declared.commands.Command.{Command}
-use Rattle.retro_top.specs.declared.commands.Command.TheVariants.{Check, Play, San, Spell, Unmoves, Solve, Verdict, Tree, Length, AtLeast, Line, Dossier, Sample}
+use Rattle.retro_top.specs.declared.commands.Command.TheVariants.{Check, Play, San, Spell, Unmoves, Solve, Settle, Verdict, Tree, Length, AtLeast, Line, Dossier, Sample}
 
 -- the status and the text with which a command answers an input
 abbrev pub AnswersAs : Command → List ℕ → Status → List ℕ → Type 0
@@ -56,6 +58,7 @@ AnswersAs San input status text = AnswersSan input status text
 AnswersAs Spell input status text = AnswersSpell input status text
 AnswersAs Unmoves input status text = AnswersUnmoves input status text
 AnswersAs (Solve depth nodes) input status text = AnswersSolve depth nodes input status text
+AnswersAs (Settle depth nodes) input status text = AnswersSettle depth nodes input status text
 AnswersAs (Verdict depth nodes) input status text = AnswersVerdict depth nodes input status text
 AnswersAs (Tree depth nodes) input status text = AnswersTree depth nodes input status text
 AnswersAs Length input status text = AnswersHowLong input status text
@@ -132,6 +135,10 @@ abbrev pub StatesCheap : ℕ → ℕ → List ℕ → Type 0
 StatesCheap depth nodes input =
     (claim : Claim) × (q : Asked) × States input claim q × IsCheap depth nodes claim q
 
+-- the input states a claim that a certificate proves, of at most 500,000 nodes, which goes back no further than the depth
+abbrev pub StatesProved : ℕ → List ℕ → Type 0
+StatesProved depth input = (claim : Claim) × (q : Asked) × (cert : Certificate) × States input claim q × IsProofOf depth cert claim q
+
 -- only with such an input does the command succeed
 abbrev pub Succeeds : Command → List ℕ → Type 0
 Succeeds Check input = ProvesSome input
@@ -140,6 +147,7 @@ Succeeds San input = TellsNotation input
 Succeeds Spell input = TellsMoves input
 Succeeds Unmoves input = AsksForOne input
 Succeeds (Solve depth nodes) input = StatesRefutable depth input
+Succeeds (Settle depth nodes) input = StatesProved depth input
 Succeeds (Verdict depth nodes) input = AsksForOne input
 Succeeds (Tree depth nodes) input = AsksForFewLines depth nodes input
 Succeeds Length input = AsksForLength input
@@ -151,6 +159,7 @@ Succeeds (Sample start games plies) input = Unit {0}
 -- with such an input the command succeeds: a search, where the nodes suffice
 abbrev pub MustSucceed : Command → List ℕ → Type 0
 MustSucceed (Solve depth nodes) input = StatesRefutable depth input × StatesCheap depth nodes input
+MustSucceed (Settle depth nodes) input = StatesRefutable depth input × StatesCheap depth nodes input
 MustSucceed (Dossier depth nodes) input = StatesProvable depth input × StatesCheapLine depth nodes input
 MustSucceed (Verdict depth nodes) input = AsksForCheap depth nodes input
 MustSucceed command input = Succeeds command input
@@ -207,6 +216,7 @@ WritesDossier input old new =
 -- the nodes suffice for what the command searches with this input
 abbrev pub Suffices : Command → List ℕ → Type 0
 Suffices (Solve depth nodes) input = StatesCheap depth nodes input
+Suffices (Settle depth nodes) input = StatesRefutable depth input × StatesCheap depth nodes input
 Suffices (Verdict depth nodes) input = AsksForCheap depth nodes input
 Suffices (Dossier depth nodes) input = StatesCheapLine depth nodes input
 Suffices (Tree depth nodes) input = AsksForFewLines depth nodes input

@@ -4,7 +4,7 @@ use Rattle.std.specs.Global.{Global}
 use Rattle.std.specs.Fmt.{decimal}
 use Rattle.command_answers.specs.Limits.{AreLimits, AreSampleNumbers}
 use Rattle.retro_top.specs.declared.commands.Command.{Command}
-use Rattle.retro_top.specs.declared.commands.Command.TheVariants.{Check, Play, San, Spell, Unmoves, Solve, Verdict, Tree, Length, AtLeast, Line, Dossier, Sample}
+use Rattle.retro_top.specs.declared.commands.Command.TheVariants.{Check, Play, San, Spell, Unmoves, Solve, Settle, Verdict, Tree, Length, AtLeast, Line, Dossier, Sample}
 
 -- the words, as bytes, by which each command is called
 abbrev pub words_of : Command → List (List ℕ)
@@ -14,6 +14,7 @@ words_of San = codes "san" ∷ []
 words_of Spell = codes "spell" ∷ []
 words_of Unmoves = codes "unmoves" ∷ []
 words_of (Solve depth nodes) = codes "solve" ∷ decimal depth ∷ decimal nodes ∷ []
+words_of (Settle depth nodes) = codes "settle" ∷ decimal depth ∷ decimal nodes ∷ []
 words_of (Verdict depth nodes) = codes "verdict" ∷ decimal depth ∷ decimal nodes ∷ []
 words_of (Tree depth nodes) = codes "tree" ∷ decimal depth ∷ decimal nodes ∷ []
 words_of Length = codes "length" ∷ []
@@ -25,6 +26,7 @@ words_of (Sample start games plies) = codes "sample" ∷ decimal start ∷ decim
 -- the command's numbers, if it has any, are in their ranges
 abbrev pub IsInRange : Command → Type 0
 IsInRange (Solve depth nodes) = AreLimits depth nodes
+IsInRange (Settle depth nodes) = AreLimits depth nodes
 IsInRange (Verdict depth nodes) = AreLimits depth nodes
 IsInRange (Tree depth nodes) = AreLimits depth nodes
 IsInRange (Dossier depth nodes) = AreLimits depth nodes

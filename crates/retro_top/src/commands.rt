@@ -36,6 +36,13 @@ pub enum Command {
         /// How many queries are visited at most, from 1 to 500,000.
         nodes: u32,
     },
+    /// A certificate that proves a claim by rule lines and the balance of captures, or a game that contradicts it.
+    Settle {
+        /// How many moves are taken back at most, from 0 to 64.
+        depth: u8,
+        /// How many queries are visited at most at each depth, from 1 to 500,000.
+        nodes: u32,
+    },
     /// What the conventions of chess problems say of each right that a position seems to give.
     Verdict {
         /// How many moves are taken back at most, from 0 to 64.
@@ -155,6 +162,8 @@ fn read_three(word: &String, depth: &String, nodes: &String) -> Option<Command>
     };
     if is_word(word, b"solve") {
         Some(Command::Solve { depth, nodes })
+    } else if is_word(word, b"settle") {
+        Some(Command::Settle { depth, nodes })
     } else if is_word(word, b"verdict") {
         Some(Command::Verdict { depth, nodes })
     } else if is_word(word, b"tree") {

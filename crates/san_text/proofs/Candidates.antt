@@ -1,9 +1,9 @@
 -- What a text fits is the candidate from its square.
-use Rattle.std.proofs.Common.{◌≡◌, ◌<◌, ℕ, ◌==◌, Bool, true, false, ◌&&◌, not, length, refl, sym}
+use Rattle.std.proofs.Common.{◌≡◌, ◌<◌, ℕ, ◌==◌, Bool, true, length, refl, sym}
 use Rattle.std.proofs.lemmas.Bool.{and_parts, eqb-true}
-use Rattle.std.specs.Prelude.{Option, Some, None}
+use Rattle.std.specs.Prelude.{Option, None}
 use Rattle.board_base.specs.Board.{at, is_a, is_of, rank}
-use Rattle.board_base.specs.Legal.{promotion_fits, is_officer, last_rank}
+use Rattle.board_base.specs.Legal.{promotion_fits, last_rank}
 use Rattle.board_base.specs.declared.men.Kind.{Kind}
 use Rattle.board_base.specs.declared.men.Kind.TheVariants.{Pawn, King}
 use Rattle.board_base.specs.declared.moves.Move.{Move}

@@ -2,7 +2,7 @@
 
 use crate::asking::{ask, certificate, count_nodes, open_line};
 use board_base::read_unmove;
-use cert_text::Body;
+use cert_text::{Body, Reason};
 use query_base::{Claim, RuleLine};
 use retro_search::Found;
 use std::test::Fail;
@@ -20,7 +20,7 @@ fn closes_the_empty_board(rt: HostRuntime) -> Result<(), Fail> {
     let cert = certificate(rt.alloc(), ILLEGAL, "8/8/8/8/8/8/8/8 w - -", 0, 1)?;
     assert!(rt; cert.claim == Claim::Illegal);
     match &cert.root.body {
-        Body::Rule(rule) => assert!(rt; *rule == RuleLine::Kings),
+        Body::Rule(rule) => assert!(rt; *rule == Reason::Line(RuleLine::Kings)),
         _ => return Err(Fail::from("no rule")),
     }
     Ok(())

@@ -65,7 +65,7 @@ alive-at-home o board set h home full stayed =
     let inside : h < 64 = officer-inside h home in
     false_from_ne_true _ (λ dead.
     both_ways _ (not-true _ (at_board (λ t. not (is_in (region set h) t && is_like (beginner h) (at board t))) h dead inside))
-    (and_from _ _ (region-home set h inside) (subst (λ (p : Option Man). is_like (beginner h) p ≡ true) (sym (stayed-there o board h full stayed)) (like-self (beginner h) home))))
+    (and_from _ _ (region-home set (beginner h) h inside) (subst (λ (p : Option Man). is_like (beginner h) p ≡ true) (sym (stayed-there o board h full stayed)) (like-self (beginner h) home))))
 
 -- Officers who stand where they began
 
@@ -111,7 +111,7 @@ unexposed : (set : List Bool) (h : ℕ) → is_officer_home h ≡ true → is_sh
 unfolding is_shielded
 unexposed set h home shielded =
     let inside : h < 64 = officer-inside h home in
-    false_from_ne_true _ (λ exposed. both_ways _ (not-true _ (at_board (λ t. not (is_in (region set h) t && is_exposed set (beginner h) t)) h shielded inside)) (and_from _ _ (region-home set h inside) exposed))
+    false_from_ne_true _ (λ exposed. both_ways _ (not-true _ (at_board (λ t. not (is_in (region set h) t && is_exposed set (beginner h) t)) h shielded inside)) (and_from _ _ (region-home set (beginner h) h inside) exposed))
 
 -- a square from which the man at home would be struck is in the set
 in-front : (set : List Bool) (h u : ℕ) → u < 64 → is_exposed set (beginner h) h ≡ false → strikes h u ≡ true → is_in set u ≡ true

@@ -2,7 +2,7 @@
 
 use board_base::{Colour, Kind, Memory, Move, Square, Unmove, read_unmove};
 use cert_text::{
-    Body, BodyLine, Cert, CertFault, Kid, Kids, Node, fits_format, read_cert, read_line,
+    Body, BodyLine, Cert, CertFault, Kid, Kids, Node, Reason, fits_format, read_cert, read_line,
 };
 use query_base::{Claim, RuleLine};
 use std::alloc::Global;
@@ -137,28 +137,88 @@ fn names_the_line_that_is_bad(rt: HostRuntime) -> Result<(), Fail> {
 }
 
 /// A line, its depth, and its body.
-const LINES: [(&[u8], u8, Option<BodyLine>); 22] = [
-    (b"root rule kings", 0, Some(BodyLine::Rule(RuleLine::Kings))),
-    (b"root rule ranks", 0, Some(BodyLine::Rule(RuleLine::Ranks))),
+const LINES: [(&[u8], u8, Option<BodyLine>); 34] = [
+    (b"root rule balance", 0, None),
+    (b"root rule balance 0000000000004080", 0, None),
+    (
+        b"root rule balance 0000000000004080 0 0 0 0 0 0 0 0 0 0 0 0 0 0 0 0 / 0 0 0 0 0 0 0 0 0 0 0 0 0 0 0 0",
+        0,
+        None,
+    ),
+    (
+        b"root rule balance 0000000000004080 0 0 0 0 0 0 0 0 0 0 0 0 0 0 0 / 0 0 0 0 0 0 0 0 0 0 0 0 0 0 0 0 0 /",
+        0,
+        None,
+    ),
+    (
+        b"root rule balance 0000000000004080 0 0 0 0 0 0 0 0 0 0 0 0 0 0 0 97 / 0 0 0 0 0 0 0 0 0 0 0 0 0 0 0 0 /",
+        0,
+        None,
+    ),
+    (
+        b"root rule balance 0000000000004080 00 0 0 0 0 0 0 0 0 0 0 0 0 0 0 0 / 0 0 0 0 0 0 0 0 0 0 0 0 0 0 0 0 /",
+        0,
+        None,
+    ),
+    (
+        b"root rule balance 0000000000004080 0 0 0 0 0 0 0 0 0 0 0 0 0 0 0 0 / 0 0 0 0 0 0 0 0 0 0 0 0 0 0 0 0 / ",
+        0,
+        None,
+    ),
+    (
+        b"root rule balance 0000000000004080 0 0 0 0 0 0 0 0 0 0 0 0 0 0 0 0 / 0 0 0 0 0 0 0 0 0 0 0 0 0 0 0 0 / e3",
+        0,
+        None,
+    ),
+    (
+        b"root rule balance 0000000000004080 0 0 0 0 0 0 0 0 0 0 0 0 0 0 0 0 / 0 0 0 0 0 0 0 0 0 0 0 0 0 0 0 0 / e3 0",
+        0,
+        None,
+    ),
+    (
+        b"root rule balance 0000000000004080 0 0 0 0 0 0 0 0 0 0 0 0 0 0 0 0 / 0 0 0 0 0 0 0 0 0 0 0 0 0 0 0 0 / e3 97",
+        0,
+        None,
+    ),
+    (
+        b"root rule balance 0000000000004080 0 0 0 0 0 0 0 0 0 0 0 0 0 0 0 0 / 0 0 0 0 0 0 0 0 0 0 0 0 0 0 0 0 / e4 12 e3 12",
+        0,
+        None,
+    ),
+    (
+        b"root rule balance 0000000000004080 0 0 0 0 0 0 0 0 0 0 0 0 0 0 0 0 / 0 0 0 0 0 0 0 0 0 0 0 0 0 0 0 0 / e3 12 e3 12",
+        0,
+        None,
+    ),
+    (
+        b"root rule kings",
+        0,
+        Some(BodyLine::Rule(Reason::Line(RuleLine::Kings))),
+    ),
+    (
+        b"root rule ranks",
+        0,
+        Some(BodyLine::Rule(Reason::Line(RuleLine::Ranks))),
+    ),
     (
         b"d7d8nxr rule rights",
         1,
-        Some(BodyLine::Rule(RuleLine::Rights)),
+        Some(BodyLine::Rule(Reason::Line(RuleLine::Rights))),
     ),
     (
         b"c5d6ep rule check",
         1,
-        Some(BodyLine::Rule(RuleLine::Check)),
+        Some(BodyLine::Rule(Reason::Line(RuleLine::Check))),
     ),
     (
         b"root rule count w",
         0,
-        Some(BodyLine::Rule(RuleLine::Count(Colour::White))),
+        Some(BodyLine::Rule(Reason::Line(RuleLine::Count(Colour::White)))),
     ),
     (
         b"d7d5 rule count b",
         1,
-        Some(BodyLine::Rule(RuleLine::Count(Colour::Black))),
+        Some(BodyLine::Rule(Reason::Line(RuleLine::Count(Colour::Black)))),
     ),
     (b"root rule count", 0, None),
     (b"root rule count x", 0, None),

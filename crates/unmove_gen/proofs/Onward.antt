@@ -1,5 +1,5 @@
 -- A listed move after a game that reaches the predecessor.
-use Rattle.std.proofs.Common.{◌≡◌, ℕ, ◌<◌, Bool, true, false, ◌&&◌, not, cond, List, [], ◌∷◌, ◌++◌, length, refl, ap, sym, ◌∙◌, subst, arith}
+use Rattle.std.proofs.Common.{◌≡◌, ℕ, ◌<◌, Bool, true, false, not, List, [], ◌∷◌, ◌++◌, length, refl, ap, sym, ◌∙◌, subst, arith}
 use Rattle.std.proofs.lemmas.Bool.{and_parts, both_ways, cond-false}
 use Rattle.std.specs.Prelude.{Option, Some, None, IsTrue, IfSome, is_some}
 use Rattle.std.specs.Bool.{beq}
@@ -32,7 +32,7 @@ use Rattle.play_rules.specs.Clocks as moves
 use Rattle.play_rules.proofs.Left.{placed}
 use Rattle.unmove_gen.specs.TakenBack.{capture_square, captured_by}
 use Rattle.unmove_gen.proofs.Back.{came}
-use Rattle.unmove_gen.proofs.Clocked.{Arrived, after-one, clock-onward, next, promotes-pawn, same-reset}
+use Rattle.unmove_gen.proofs.Clocked.{Arrived, after-one, clock-onward, promotes-pawn, same-reset}
 use Rattle.unmove_gen.proofs.Members.{at-capture, length-back}
 use Rattle.unmove_gen.proofs.Castlings.{castled}
 use Rattle.unmove_gen.proofs.Demands.{barred-met, held-keeps, only-met, untouched}

@@ -1,6 +1,6 @@
 -- The last move of a game that reaches a query is listed, and the moves before it reach its predecessor.
 use Rattle.std.proofs.Common.{◌≡◌, ℕ, ◌<◌, ◌==◌, Bool, true, false, cond, ◌&&◌, not, List, [], ◌∷◌, ◌++◌, length, inl, inr, refl, ap, sym, ◌∙◌, subst, arith}
-use Rattle.std.proofs.lemmas.Bool.{and_from, and_parts}
+use Rattle.std.proofs.lemmas.Bool.{and_from}
 use Rattle.std.specs.Prelude.{Option, Some, None, IsTrue, IfSome, is_some}
 use Rattle.std.specs.Bool.{beq}
 use Rattle.std.specs.List.{Contains}

@@ -22,6 +22,8 @@ use Rattle.retro_search.specs.Refutable.{IsRefutable, IsShut}
 use Rattle.retro_search.specs.Costs.{IsCost}
 use Rattle.retro_search.specs.Lone.{AreDifferent, AreExpanded, IsLone, IsLoneSearch, IsMemoCost, StandsIn, unmoves_in_all}
 use Rattle.retro_search.specs.Eager.{IsEager}
+use Rattle.retro_search.specs.Lined.{IsLined}
+use Rattle.cert_text.specs.declared.reasons.Reason.TheVariants.{Line, Balance}
 use Rattle.retro_search.specs.Heights.{height}
 use Rattle.retro_search.specs.Kept.{IsKept, IsRefutation, IsSound, StandsAlone}
 use Rattle.retro_search.specs.Tidy.{HasRoomFor, IsKeptLow, Keeps, kept_in}
@@ -54,10 +56,11 @@ leaf_eager (back k) q above p low lone covers = absurd (lone (covers k refl))
 leaf_eager (expand kids) q above p low lone covers = absurd (omega arith)
 
 -- it is a rule line that supports the query
-eager-closed : (t : Tree) (q : Asked) (above : List Asked) → Proves t q above → height t ≡ 0 → IsEager t q → IsClosed q
-eager-closed (rule r) q above p low eager = (r, p)
-eager-closed (back k) q above p low eager = absurd eager
-eager-closed (expand kids) q above p low eager = absurd (omega arith)
+eager-closed : (t : Tree) (q : Asked) (above : List Asked) → Proves t q above → height t ≡ 0 → IsEager t q → IsLined t → IsClosed q
+eager-closed (rule (Line r)) q above p low eager lined = (r, p)
+eager-closed (rule (Balance set d)) q above p low eager lined = absurd lined
+eager-closed (back k) q above p low eager lined = absurd eager
+eager-closed (expand kids) q above p low eager lined = absurd (omega arith)
 
 stay : (ps : List Asked) (n : ℕ) (q : Asked) (depth : ℕ) (ancestors : List Asked) (run : Run) (r : Refutation) → run.left ≢ 0 → IsGood ps n q depth ancestors run → IsEager (tree_of r.node) q → r.lean ≡ 0 → r.lines ≤ n → IsDone (kept_in run.memo) q → GoesWell ps n q depth ancestors r run (visited run)
 stay ps n q depth ancestors run r some g eager alone small done = record {
@@ -73,10 +76,10 @@ stay ps n q depth ancestors run r some g eager alone small done = record {
 }
 
 -- a query that is shut
-pub shut_well : (ps : List Asked) (n : ℕ) (q : Asked) (depth : ℕ) (ancestors : List Asked) (run : Run) (r : Refutation) → run.left ≢ 0 → IsGood ps n q depth ancestors run → IsRefutation r q 0 ancestors → r.lines ≡ 1 → ((IsCovered q ancestors → ⊥) → (r.lean ≡ 0) × IsEager (tree_of r.node) q) → GoesWell ps n q depth ancestors r run (visited run)
-shut_well ps n q depth ancestors run r some g is one own =
+pub shut_well : (ps : List Asked) (n : ℕ) (q : Asked) (depth : ℕ) (ancestors : List Asked) (run : Run) (r : Refutation) → run.left ≢ 0 → IsGood ps n q depth ancestors run → IsRefutation r q 0 ancestors → r.lines ≡ 1 → IsLined (tree_of r.node) → ((IsCovered q ancestors → ⊥) → (r.lean ≡ 0) × IsEager (tree_of r.node) q) → GoesWell ps n q depth ancestors r run (visited run)
+shut_well ps n q depth ancestors run r some g is one lined own =
     let o = own (lone-here depth q ancestors g.lone) in
-    let closed = eager-closed (tree_of r.node) q _ is.proves (omega (arith, is.high, is.low)) o.1 in
+    let closed = eager-closed (tree_of r.node) q _ is.proves (omega (arith, is.high, is.low)) o.1 lined in
     stay ps n q depth ancestors run r some g o.1 o.0 (omega (arith, one, cost_positive depth q ancestors n g.cost)) (inl closed)
 
 -- a query of which a tree is kept

@@ -6,7 +6,6 @@ use Rattle.std.proofs.lemmas.List.Elements.{All-head, All-tail, Contains-append_
 use Rattle.board_base.specs.declared.unmoves.Unmove.{Unmove}
 use Rattle.general_lemmas.proofs.Lists.{contains-cases, contains-first, contains-later, contains-none}
 use Rattle.query_base.specs.Asked.{Asked}
-use Rattle.static_rules.specs.Supports.{IsClosed}
 use Rattle.unmove_gen.specs.Listed.{unmoves}
 use Rattle.unmove_gen.specs.Predecessor.{predecessor}
 use Rattle.retro_search.specs.Lone.{StandsIn}

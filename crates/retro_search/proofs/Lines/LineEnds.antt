@@ -29,7 +29,7 @@ ends (suc depth) q ancestors (u ∷ line) first = elim (ends depth (predecessor 
   | inr here ↦ inr here
 ]
 
-forwards-last : (u : Unmove) (line : List Unmove) → forwards line ++ u.mv ∷ [] ≡ forwards (u ∷ line)
+pub forwards-last : (u : Unmove) (line : List Unmove) → forwards line ++ u.mv ∷ [] ≡ forwards (u ∷ line)
 forwards-last u line = sym (reverse-append (u.mv ∷ []) (map (λ (v : Unmove). v.mv) line))
 
 -- a line that ends at the array is a game that reaches the query
@@ -41,7 +41,7 @@ game_reaches (suc depth) q ancestors (u ∷ line) (elsewhere, (before, after, pa
     let listed : Contains (unmoves q) u = subst (λ (l : List Unmove). Contains l u) (sym parts) (Contains-append_right before (u ∷ after) u (contains-first u after)) in
     subst (λ (g : List Move). Reaches g q) (forwards-last u line) (onward (forwards line) u q listed (game_reaches depth (predecessor q u) (q ∷ ancestors) line first end))
 
-forwards-reversed : (back : List Unmove) → forwards (reverse back) ≡ map (λ (u : Unmove). u.mv) back
+pub forwards-reversed : (back : List Unmove) → forwards (reverse back) ≡ map (λ (u : Unmove). u.mv) back
 forwards-reversed [] = refl
 forwards-reversed (u ∷ back) =
     let f : Unmove → Move = λ v. v.mv in

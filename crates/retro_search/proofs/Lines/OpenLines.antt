@@ -18,7 +18,7 @@ use Rattle.retro_search.specs.declared.stops.OpenLine.{OpenLine}
 use Rattle.retro_search.specs.declared.stops.Stop.{Stop}
 use Rattle.retro_search.specs.declared.stops.Stop.TheVariants as stop
 
-leaf-unrefuted : (depth : ℕ) (q : Asked) (ancestors : List Asked) → (IsShut q ancestors → ⊥) → (depth ≡ 0) ⊎ Reaches [] q → IsRefutable q depth ancestors → ⊥
+pub leaf-unrefuted : (depth : ℕ) (q : Asked) (ancestors : List Asked) → (IsShut q ancestors → ⊥) → (depth ≡ 0) ⊎ Reaches [] q → IsRefutable q depth ancestors → ⊥
 leaf-unrefuted zero q ancestors unshut end h = unshut h
 leaf-unrefuted (suc depth) q ancestors unshut (inl e) h = absurd (omega arith)
 leaf-unrefuted (suc depth) q ancestors unshut (inr here) (inl h) = unshut h

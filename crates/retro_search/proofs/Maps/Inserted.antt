@@ -1,5 +1,5 @@
 -- The values of a map after one more is inserted, and how many there are.
-use Rattle.std.proofs.Common.{ℕ, suc, ◌≤◌, Bool, true, false, List, [], ◌∷◌, length, cond, arith}
+use Rattle.std.proofs.Common.{suc, ◌≤◌, Bool, true, false, List, [], ◌∷◌, length, cond, arith}
 use Rattle.std.specs.List.{All}
 use Rattle.std.specs.Map.{values_of}
 use Rattle.std.proofs.lemmas.List.Elements.{All-cons, All-head, All-tail}

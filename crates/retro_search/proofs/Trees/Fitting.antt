@@ -14,11 +14,14 @@ use Rattle.unmove_gen.specs.Predecessor.{predecessor}
 use Rattle.unmove_gen.proofs.Numbered.{numbered}
 use Rattle.unmove_gen.proofs.Spelled.{captures_spelled, promotions_spelled}
 use Rattle.cert_text.specs.Tree.{Tree, Forest, rule, back, expand, none, more, count}
-use Rattle.cert_text.specs.Writable.{fits, all_fit, has_text, is_rule}
+use Rattle.cert_text.specs.Writable.{fits, all_fit, has_text, is_reason, is_rule}
 use Rattle.cert_text.proofs.NearNumbers.{potentials_near}
 use Rattle.query_base.specs.declared.rule_lines.RuleLine.{RuleLine}
 use Rattle.query_base.specs.declared.rule_lines.RuleLine.TheVariants.{Kings, Ranks, Check, Rights, Count, Frozen, Caps, Promo}
 use Rattle.static_rules.specs.Supports.{Supports}
+use Rattle.cert_text.specs.declared.reasons.Reason.{Reason}
+use Rattle.cert_text.specs.declared.reasons.Reason.TheVariants.{Line, Balance}
+use Rattle.cert_checker.specs.Reasons.{ReasonSupports}
 use Rattle.cert_checker.specs.Proving.{Proves, ProvesEach}
 use Rattle.retro_search.specs.Heights.{height, height_of_all}
 use Rattle.retro_search.specs.Sizes.{nodes_in, nodes_in_all}
@@ -46,6 +49,10 @@ rule_known q (Count side) h = refl
 rule_known q (Frozen set) h = eq-eqb (length set) 64 h.whole
 rule_known q (Caps side set p) h = and_from _ _ (eq-eqb (length set) 64 h.settled.whole) (potentials_near p h.numbers)
 rule_known q (Promo side set) h = eq-eqb (length set) 64 h.settled.whole
+
+reason_known : (q : Asked) (r : Reason) → ReasonSupports q r → is_reason r ≡ true
+reason_known q (Line r) h = rule_known q r h
+reason_known q (Balance set p) h = and_from _ _ (eq-eqb (length set) 64 h.settled.whole) h.prices
 
 label_fits : (q : Asked) (u : Unmove) → Contains (unmoves q) u → has_text u ≡ true
 label_fits q u has =
@@ -75,7 +82,7 @@ few_kids (more label t rest) = omega (arith, some_nodes t, few_kids rest)
 mutual
   -- a low tree of few nodes that proves a query fits the grammar at its depth
   pub tree_fits : (t : Tree) (q : Asked) (ancestors : List Asked) (depth : ℕ) → Proves t q ancestors → length ancestors ≡ depth → depth + height t ≤ 255 → nodes_in t ≤ 999999 → fits depth t ≡ true
-  tree_fits (rule r) q ancestors depth p size low few = rule_known q r p
+  tree_fits (rule r) q ancestors depth p size low few = reason_known q r p
   tree_fits (back zero) q ancestors depth p size low few = absurd p
   tree_fits (back (suc k)) q ancestors depth p size low few = back_fits (suc k) depth (omega arith) (omega (arith, within_list ancestors k _ p))
   tree_fits (expand kids) q ancestors depth p size low few =

@@ -5,8 +5,8 @@ use Rattle.query_base.specs.Asked.{Asked}
 use Rattle.query_base.specs.Reach.{Reaches}
 use Rattle.query_base.specs.Targets.{Covers}
 use Rattle.query_base.specs.Ancestors.{CoversAt}
-use Rattle.query_base.specs.declared.rule_lines.RuleLine.{RuleLine}
-use Rattle.static_rules.specs.Supports.{Supports}
+use Rattle.cert_text.specs.declared.reasons.Reason.{Reason}
+use Rattle.cert_checker.specs.Reasons.{ReasonSupports}
 use Rattle.unmove_gen.specs.Listed.{unmoves}
 use Rattle.cert_text.specs.Tree.{Tree, rule, back, expand}
 use Rattle.cert_text.specs.Seen.{tree_of}
@@ -15,7 +15,9 @@ use Rattle.retro_search.specs.Refutable.{IsRefutable}
 use Rattle.retro_search.specs.Heights.{height}
 use Rattle.retro_search.specs.Sizes.{nodes_in}
 use Rattle.retro_search.specs.Searched.{Refutes}
-use Rattle.retro_search.specs.Kept.{AreChildren, IsRefutation, StandsAlone}
+use Rattle.retro_search.specs.Lined.{IsLined}
+use Rattle.retro_search.specs.Grown.{AreChildren}
+use Rattle.retro_search.specs.Kept.{IsRefutation, StandsAlone}
 use Rattle.retro_search.specs.declared.refutations.Children.{Children}
 use Rattle.retro_search.specs.declared.refutations.Refutation.{Refutation}
 use Rattle.retro_search.proofs.Trees.Ancestors.{ancestor_near, proves_below, whole_extends}
@@ -31,7 +33,7 @@ by_tree r t q depth ancestors e proves high low counted few = record {
   few = few;
 }
 
-pub refutes_by_rule : (r : Refutation) (reason : RuleLine) (q : Asked) (ancestors : List Asked) → tree_of r.node ≡ rule reason → (r.height ≡ 0) → (r.lines ≡ 1) → Supports q reason → IsRefutation r q 0 ancestors
+pub refutes_by_rule : (r : Refutation) (reason : Reason) (q : Asked) (ancestors : List Asked) → tree_of r.node ≡ rule reason → (r.height ≡ 0) → (r.lines ≡ 1) → ReasonSupports q reason → IsRefutation r q 0 ancestors
 refutes_by_rule r reason q ancestors e high counted h = by_tree r (rule reason) q 0 ancestors e h (sym high) (omega arith) (sym counted) (omega arith)
 
 pub refutes_by_ancestor : (r : Refutation) (k : ℕ) (q : Asked) (ancestors : List Asked) → tree_of r.node ≡ back k → (r.lean ≡ k) → (r.height ≡ 0) → (r.lines ≡ 1) → CoversAt q ancestors k → IsRefutation r q 0 ancestors
@@ -61,9 +63,9 @@ refutes_whole r q depth ancestors f = record {
   low = omega (arith, f.high, f.low);
 }
 
-pub refuted : (r : Refutation) (q : Asked) (depth : ℕ) (ancestors : List Asked) → IsRefutation r q depth ancestors → IsRefutable q depth ancestors
-refuted r q depth ancestors f =
-    let w = refutes_whole r q depth ancestors f in refutable_by (tree_of r.node) q depth ancestors w.proves w.low
+pub refuted : (r : Refutation) (q : Asked) (depth : ℕ) (ancestors : List Asked) → IsRefutation r q depth ancestors → IsLined (tree_of r.node) → IsRefutable q depth ancestors
+refuted r q depth ancestors f lined =
+    let w = refutes_whole r q depth ancestors f in refutable_by (tree_of r.node) q depth ancestors w.proves lined w.low
 
 pub alone : (r : Refutation) (q : Asked) (depth : ℕ) (ancestors : List Asked) → IsRefutation r q depth ancestors → r.lean ≡ 0 → StandsAlone (tree_of r.node) q r.height r.lines
 alone r q depth ancestors f none = record {

@@ -14,3 +14,6 @@ loop-m-preserved g c =
       | else-link-best w ↦ subst (λ (b : Link). IsBestOfRows c.args.costs.now g.row.W c.args.p.now c.args.k (c.loop-m.m + 1) b) (sym w.best-is)
           (more c.loop-m.best c.loop-m.invariant link.ensures.link link.ensures.least (omega arith) (omega arith) c.loop-m.invariant.link)
     ]
+
+pub returns-clause-least : goal.returns-clause-least
+returns-clause-least g c = λ m e low high out. c.loop-m.invariant.least m e (omega arith) high out

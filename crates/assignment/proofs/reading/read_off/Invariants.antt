@@ -1,5 +1,5 @@
-use Rattle.assignment.specs.Pairings.{IsReadOff}
+use Rattle.std.proofs.Common.{◌≡◌, map, take, slice_index}
 use Rattle.assignment.proofs.reading.read_off.Given as goal
 
-abbrev pub invariant-loop-i : goal.invariant-loop-i
-invariant-loop-i g l = IsReadOff g.row.W l.i l.keys l.values l.read.items
+abbrev pub invariant-loop-m : goal.invariant-loop-m
+invariant-loop-m g l = l.read.items ≡ map (slice_index l.numbers) (take l.m-index l.places.items)

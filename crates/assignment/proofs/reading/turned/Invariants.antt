@@ -4,5 +4,5 @@ use Rattle.assignment.proofs.reading.turned.Given as goal
 abbrev pub invariant-loop-j : goal.invariant-loop-j
 invariant-loop-j g l = record {
   size : length l.turned ≡ g.row.W;
-  done : (j : ℕ) → j < l.j → slice_index_or l.turned j (pos 0) ≡ neg_ℤ (pos (slice_index l.numbers j));
+  done : (j : ℕ) → j < l.j → slice_index_or l.turned j (pos 0) ≡ neg_ℤ (pos (slice_index l.numbers (slice_index l.places j)));
 }

@@ -1,7 +1,9 @@
-use Rattle.std.proofs.Common.{◌<◌, ◌≤◌, ◌∙◌, length, arith, get_or-set_same, get_or-set_other, length-set}
+use Rattle.std.proofs.Common.{◌<◌, ◌≤◌, ◌∙◌, length, arith, rules, get_or-set_same, get_or-set_other, length-set}
 use Rattle.std.proofs.lemmas.List.{length-replicate}
 use Rattle.assignment.proofs.Growth.{IsTree-rooted, IsTree-grown}
+use Rattle.assignment.proofs.Handing.{IsHanding-begun}
 use Rattle.assignment.proofs.tree.grow.Goals as goal
+use Rattle.assignment.proofs.tree.grow.Goals.{then-link-eq0-via-then-link-eq0, then-link-eq0-via-else-link-eq0+then-n-link}
 
 pub growth-init : goal.growth-init
 growth-init g c =
@@ -26,3 +28,19 @@ growth-preserved g c =
           (λ i lt. get_or-set_other c.growth.parents c.growth.k i link.from 0 (λ is. omega arith))
           c.swap_places-in-growth.ensures;
     }
+
+pub returns-then-link-eq0 : goal.returns-then-link-eq0
+returns-then-link-eq0 g c =
+    let link = c.widen-link.result in
+    let met = c.widen-link.ensures in
+    IsHanding-begun c.args.costs.now g.row.W c.args.n c.growth.parents c.growth.k link.from link.to c.widen-link.new.p met.tree met.link.within met.link.to
+    (λ some. elim c.then-link-eq0.branch [
+      | then-link-eq0-via-then-link-eq0 w ↦ omega arith
+      | then-link-eq0-via-else-link-eq0+then-n-link w ↦ omega arith
+    ])
+    met.met
+
+pub swap_places-requires-in-growth : goal.swap_places-requires-in-growth
+swap_places-requires-in-growth g c =
+    let low : c.growth.k < g.row.W = omega (arith, c.growth.invariant.tree.size, c.growth.invariant.tree.room, c.widen-link.ensures.link.outside (omega arith)) in
+    (search rules, (low, c.widen-link.ensures.link.to))

@@ -8,10 +8,10 @@ use Rattle.cert_checker.specs.Staging.{IsPart, NoEnd, stage_of}
 use Rattle.cert_checker.proofs.Pieces.{ended_line, no_end_both, rest_long}
 use Rattle.cert_checker.proofs.checkers.take_part.Goals as goal
 
-pub returns-then-len-part-gt128-clause-rest : goal.returns-then-len-part-gt128-clause-rest
-returns-then-len-part-gt128-clause-rest c = λ others a rest.
+pub returns-then-len-part-gt256-clause-rest : goal.returns-then-len-part-gt256-clause-rest
+returns-then-len-part-gt256-clause-rest c = λ others a rest.
     rest_long c.no_long_lines.ensures.long c.args.step.now c.stop.result (reverse c.args.frames.now.items) (reverse c.args.counts.now.items) c.args.number.now c.args.gathered.now.items c.args.part.now c.args.gathered.now.items others c.args.ended a
-    c.requires.no_end c.requires.part (omega (arith, c.len.ensures.value, c.if-len-part-gt128.true)) c.stop.ensures rest
+    c.requires.no_end c.requires.part (omega (arith, c.len.ensures.value, c.if-len-part-gt256.true)) c.stop.ensures rest
 
 pub returns-then-is_empty-clause-rest : goal.returns-then-is_empty-clause-rest
 returns-then-is_empty-clause-rest c = λ others a rest.

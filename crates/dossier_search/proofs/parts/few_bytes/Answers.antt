@@ -6,4 +6,4 @@ pub returns-clause-some : goal.returns-clause-some
 returns-clause-some c = some_bytes c.in_ok-text.text.items (cert_of c.args.cert.now) c.in_ok-text.ensures.text
 
 pub returns-clause-few : goal.returns-clause-few
-returns-clause-few c = few_bytes c.in_ok-text.text.items (cert_of c.args.cert.now) c.in_ok-text.ensures.text c.requires.few
+returns-clause-few c = few_bytes c.in_ok-text.text.items (cert_of c.args.cert.now) c.in_ok-text.ensures.text c.requires.lined c.requires.few

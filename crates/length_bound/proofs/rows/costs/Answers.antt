@@ -3,8 +3,8 @@ use Rattle.std.specs.Prelude.{Option}
 use Rattle.std.proofs.lemmas.Bool.{eqb-false}
 use Rattle.board_base.specs.Board.{at, is_of}
 use Rattle.board_base.specs.declared.men.Man.{Man}
+use Rattle.assignment.proofs.Tables.{IsTable-more}
 use Rattle.general_lemmas.proofs.Rows.{AreMade-none, AreMade-takes, AreMade-skips, AreMade-too-many, AreMade-all}
-use Rattle.length_bound.proofs.Tables.{IsTable-more}
 use Rattle.length_bound.specs.SideBounds.{man_row, men_squares, move_costs}
 use Rattle.length_bound.proofs.rows.costs.Goals as goal
 use Rattle.length_bound.proofs.rows.costs.Goals.{then-is_of+else-is_full, else-is_of}
@@ -37,7 +37,7 @@ loop-i-preserved c =
           let more : c.if-is_of.costs.items ≡ c.loop-i.costs.items ++ w.man_row.result ∷ [] = search rules in
           record {
             made = AreMade-takes _ _ _ _ _ _ _ c.loop-i.invariant.made c.loop-i-test.true (test ∙ w.if-is_of.true) room (more ∙ ap (λ (r : List ℕ). c.loop-i.costs.items ++ r ∷ []) row);
-            table = IsTable-more _ _ _ 16 c.loop-i.invariant.table room w.man_row.ensures.small more;
+            table = IsTable-more _ _ _ 16 64 c.loop-i.invariant.table room w.man_row.ensures.small more;
           }
       | else-is_of w ↦ record {
         made = AreMade-skips _ _ _ _ _ _ _ c.loop-i.invariant.made c.loop-i-test.true (test ∙ w.if-is_of.false) (search rules);

@@ -7,5 +7,5 @@ use Rattle.length_bound.proofs.rows.costs.Given as goal
 abbrev pub invariant-loop-i : goal.invariant-loop-i
 invariant-loop-i l = record {
   made : AreMade (λ s. is_of l.side (at l.board s)) (λ s. man_row l.fn.odds l.side (at l.board s) s) 64 16 l.i l.costs.items;
-  table : IsTable l.costs.items 16;
+  table : IsTable l.costs.items 16 64;
 }

@@ -1,6 +1,6 @@
 use Rattle.std.proofs.Common.{◌≡◌, ◌⊎◌, inl, inr, List, [], ◌∷◌, ◌++◌, ◌+◌, ◌-◌, ◌≤◌, length, reverse, sym, ap, ◌∙◌, subst, true≢false, arith, length-append}
 use Rattle.std.proofs.lemmas.Bool.{both_ways}
-use Rattle.std.proofs.lemmas.List.Elements.{Contains-append_right}
+use Rattle.std.proofs.lemmas.List.Elements.{All-contains, Contains-append_right}
 use Rattle.std.specs.List.{Contains}
 use Rattle.board_base.specs.declared.unmoves.Unmove.{Unmove}
 use Rattle.general_lemmas.proofs.Lasts.{pushed}
@@ -13,6 +13,9 @@ use Rattle.retro_search.specs.Eager.{IsEager}
 use Rattle.retro_search.specs.Good.{IsPaid}
 use Rattle.retro_search.specs.Kept.{IsRefutation}
 use Rattle.retro_search.specs.Tidy.{IsKeptLow}
+use Rattle.retro_search.specs.Lined.{IsLined}
+use Rattle.retro_search.proofs.Roots.{if_ok}
+use Rattle.indexmap.specs.IndexMap.{values}
 use Rattle.cert_text.specs.Seen.{tree_of}
 use Rattle.retro_search.proofs.Costs.CostSums.{cost_positive}
 use Rattle.retro_search.proofs.Expansions.{deeper_open, expands_more, expands_none, expands_open, expands_spent, if_large, if_spent, no_open, ok_always, own_ok, own_spent}
@@ -29,7 +32,7 @@ listed_in us done rest others u parts first =
 
 pub expand-loop-unmove-init : goal.expand-loop-unmove-init
 expand-loop-unmove-init t c = record {
-  expands = expands_none c.args.query.now c.args.below _ c.new-unmoves.result c.new-children.result c.args.run.now c.new-unmoves.ensures c.new-children.ensures.kids c.new-children.ensures.numbers c.requires.sound;
+  expands = expands_none c.args.query.now c.args.below _ c.new-unmoves.result c.new-children.result c.args.run.now c.new-unmoves.ensures c.new-children.ensures.kids c.new-children.ensures.numbers c.requires.sound c.requires.lined;
   well = λ ps m g. good_none ps m c.args.query.now c.args.below _ c.new-unmoves.result c.new-children.result c.args.run.now c.new-unmoves.ensures c.new-children.ensures.kids c.new-children.ensures.numbers g;
   kept = c.in-Ok.ensures.items;
 }
@@ -60,7 +63,7 @@ expand-loop-unmove-preserved t c =
         highest = c.in-Ok-add.ensures.highest;
         lines = c.in-Ok-add.ensures.lines;
         room = c.in-Ok-add.ensures.room;
-      }) c.in-Ok-search.ensures.refuted c.in-Ok-search.ensures.plain c.in-Ok-search.ensures.on c.in-Ok-search.ensures.cost;
+      }) c.in-Ok-search.ensures.refuted c.in-Ok-search.ensures.lined c.in-Ok-search.ensures.keeps c.in-Ok-search.ensures.plain c.in-Ok-search.ensures.on c.in-Ok-search.ensures.cost;
       well = λ ps m g. good_more ps m c.args.query.now c.args.below _ c.loop-unmove.unmoves c.next.new.self c.loop-unmove.children c.add.new.self c.loop-unmove.run c.search.new.run c.args.run.now c.in-Some.unmove c.in-Ok-search.found c.pred.result _ c.pred.ensures up (listed_in _ _ _ _ _ c.loop-unmove.invariant.expands.parts c.in-Some.ensures) g (c.loop-unmove.invariant.well ps m g) c.in-Some.ensures (record {
         kids = c.in-Ok-add.ensures.kids;
         lean = c.in-Ok-add.ensures.lean;
@@ -102,14 +105,14 @@ pub search-returns-in-Some-find-clause-cost : goal.search-returns-in-Some-find-c
 search-returns-in-Some-find-clause-cost t c =
     ok_always c.taken.result _ (λ n h. omega (arith, cost_positive c.args.depth c.args.query.now (reverse c.args.ancestors.now.items) n h, c.if-run-eq0.false))
 
-pub search-returns-then-settle-clause-cost : goal.search-returns-then-settle-clause-cost
-search-returns-then-settle-clause-cost t c n h =
+pub search-returns-then-keep_alone-clause-cost : goal.search-returns-then-keep_alone-clause-cost
+search-returns-then-keep_alone-clause-cost t c n h =
     let q : Asked = c.args.query.now in
     let above : List Asked = reverse c.args.ancestors.now.items in
     let unshut : IsShut q above → ⊥ = subst (λ (l : List Asked). IsShut q (reverse l) → ⊥) c.deref.ensures.value c.in_default.ensures.shut in
     let elsewhere : Reaches [] q → ⊥ = λ here. both_ways _ c.if-at_array.false (c.is_array-at_array.ensures.1 here) in
     let own = own_ok c.args.depth q above c.args.run.now.left c.expand.new.run.left c.if-depth-eq0.false c.if-run-eq0.false unshut elsewhere c.in-Ok.ensures.cost n h in
-    let same : c.settle.new.run.left ≡ c.expand.new.run.left = (c.settle.ensures.on c.if-settle.true).1 in
+    let same : c.keep_alone.new.run.left ≡ c.expand.new.run.left = (c.keep_alone.ensures.on c.if-keep_alone.true).1 in
     omega (arith, own, same)
 
 pub search-returns-in-Err-clause-unrefuted : goal.search-returns-in-Err-clause-unrefuted
@@ -152,22 +155,22 @@ search-returns-in-Some-clause-well t c ps n g =
     let q : Asked = c.args.query.now in
     let own = subst (λ (l : List Asked). (IsCovered q (reverse l) → ⊥) → (c.in-Some.found.lean ≡ 0) × IsEager (tree_of c.in-Some.found.node) q) c.deref.ensures.value c.in-Some.ensures.lone in
     let is = subst (λ (l : List Asked). IsRefutation c.in-Some.found q 0 (reverse l)) c.deref.ensures.value c.in-Some.ensures.shut in
-    shut_well ps n q c.args.depth (reverse c.args.ancestors.now.items) c.args.run.now c.in-Some.found c.if-run-eq0.false g is c.in-Some.ensures.one own
+    shut_well ps n q c.args.depth (reverse c.args.ancestors.now.items) c.args.run.now c.in-Some.found c.if-run-eq0.false g is c.in-Some.ensures.one c.in-Some.ensures.lined own
 
 pub search-returns-in-Some-find-clause-well : goal.search-returns-in-Some-find-clause-well
 search-returns-in-Some-find-clause-well t c =
     if_ok_both c.taken.result _ _ _ (λ found tree numbers ps n g. kept_well ps n c.args.query.now c.args.depth (reverse c.args.ancestors.now.items) c.args.run.now found c.in-Some-find.kept.now c.if-run-eq0.false g c.requires.sound c.in-Some-find.ensures.among.0 c.in-Some-find.ensures.among.1 tree numbers.0 numbers.2) c.taken.ensures.tree c.taken.ensures.numbers
 
-pub search-returns-then-settle-clause-well : goal.search-returns-then-settle-clause-well
-search-returns-then-settle-clause-well t c ps n g =
+pub search-returns-then-keep_alone-clause-well : goal.search-returns-then-keep_alone-clause-well
+search-returns-then-keep_alone-clause-well t c ps n g =
     let q : Asked = c.args.query.now in
     let above : List Asked = reverse c.args.ancestors.now.items in
     let unshut : IsShut q above → ⊥ = subst (λ (l : List Asked). IsShut q (reverse l) → ⊥) c.deref.ensures.value c.in_default.ensures.shut in
     let elsewhere : Reaches [] q → ⊥ = λ here. both_ways _ c.if-at_array.false (c.is_array-at_array.ensures.1 here) in
     let missed : IsKeptLow c.args.run.now.memo q c.args.depth → ⊥ = λ h. true≢false (sym (c.in_default-find.ensures.complete h)) in
     let b = good_at ps n q c.args.depth above c.args.run.now c.if-depth-eq0.false g unshut elsewhere c.requires.sound missed in
-    let on = c.settle.ensures.on c.if-settle.true in
-    well_at ps n b.0 q c.args.depth above c.args.run.now c.expand.new.run c.settle.new.run c.in-Ok.found c.if-depth-eq0.false c.if-run-eq0.false b.1 g b.2 (c.in-Ok.ensures.well ps b.0 b.2) on.1 (c.settle.ensures.kept c.if-settle.true) on.0.mode
+    let on = c.keep_alone.ensures.on c.if-keep_alone.true in
+    well_at ps n b.0 q c.args.depth above c.args.run.now c.expand.new.run c.keep_alone.new.run c.in-Ok.found c.if-depth-eq0.false c.if-run-eq0.false b.1 g b.2 (c.in-Ok.ensures.well ps b.0 b.2) on.1 (c.keep_alone.ensures.kept c.if-keep_alone.true) on.0.mode
 
 pub search-returns-in-Err-clause-paid : goal.search-returns-in-Err-clause-paid
 search-returns-in-Err-clause-paid t c ps n g =
@@ -188,3 +191,11 @@ search-returns-in-Err-clause-small t c ps n g =
     let missed : IsKeptLow c.args.run.now.memo q c.args.depth → ⊥ = λ h. true≢false (sym (c.in_default-find.ensures.complete h)) in
     let b = good_at ps n q c.args.depth above c.args.run.now c.if-depth-eq0.false g unshut elsewhere c.requires.sound missed in
     c.in-Err.ensures.small ps b.0 b.2
+
+pub expand-returns-clause-lined : goal.expand-returns-clause-lined
+expand-returns-clause-lined t c = subst IsLined (sym c.finish.ensures.tree) c.loop-unmove.invariant.expands.lined
+
+pub search-returns-in-Some-find-clause-lined : goal.search-returns-in-Some-find-clause-lined
+search-returns-in-Some-find-clause-lined t c =
+    let own : IsLined (tree_of c.in-Some-find.kept.now.node) = All-contains (λ k. IsLined (tree_of k.node)) (values c.args.run.now.memo.trees) c.in-Some-find.kept.now c.requires.lined c.in-Some-find.ensures.among.1 in
+    if_ok c.taken.result _ _ (λ found tree. subst IsLined (sym tree) own) c.taken.ensures.tree

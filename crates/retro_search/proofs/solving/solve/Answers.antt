@@ -53,7 +53,7 @@ returns-in-Ok-clause-afforded c = memo_afforded c.args.nodes c.target.result _ c
 
 pub returns-in-Ok-clause-exactly : goal.returns-in-Ok-clause-exactly
 returns-in-Ok-clause-exactly c = (
-  λ proved. refutable_root _ _ c.args.depth (refutes_whole c.in-Ok.found _ c.args.depth [] (subst (λ (q : Asked). IsRefutation c.in-Ok.found q c.args.depth []) c.target.ensures.query c.in-Ok.ensures.refuted)),
+  λ proved. refutable_root _ _ c.args.depth (refutes_whole c.in-Ok.found _ c.args.depth [] (subst (λ (q : Asked). IsRefutation c.in-Ok.found q c.args.depth []) c.target.ensures.query c.in-Ok.ensures.refuted)) c.in-Ok.ensures.lined,
   λ refutable. tt,
 )
 

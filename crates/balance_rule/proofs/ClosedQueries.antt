@@ -1,0 +1,119 @@
+-- Queries that the balance of captures closes, and what their men cost.
+use Rattle.std.proofs.Common.{◌≡◌, ℕ, zero, suc, ◌==◌, Bool, true, false, ◌||◌, not, List, [], ◌∷◌, map, set, refl, arith}
+use Rattle.std.proofs.lemmas.Bool.{both_ways}
+use Rattle.std.specs.Prelude.{None, replicate}
+use Rattle.std.specs.List.{range_with_len}
+use Rattle.board_base.specs.Board.{Places, array_of, initial_array, is_in, man, no_men, no_odds}
+use Rattle.board_base.specs.Attacks.{distance}
+use Rattle.board_base.specs.declared.men.Colour.TheVariants.{White, Black}
+use Rattle.board_base.specs.declared.men.Kind.TheVariants.{Pawn, King}
+use Rattle.board_base.specs.declared.moves.Move.{Move}
+use Rattle.query_base.specs.Asked.{Asked}
+use Rattle.assignment.specs.Assignments.{injections, least_cost}
+use Rattle.cage_rules.specs.Reach.{LeadsTo}
+use Rattle.static_rules.specs.SetRules.{IsSettled}
+use Rattle.capture_prices.specs.Prices.{PriceList, priced}
+use Rattle.balance_rule.specs.Balance.{BalanceAt, cost_table, gone_row, men_squares, most_cost, side_cost, stand_row}
+use Rattle.balance_rule.specs.Costs.{pawn_stands, ways_from, ways_with_len}
+use Rattle.balance_rule.proofs.Sound.{balance-closed}
+
+-- this board, with nothing else known
+abbrev shown : Places → Asked
+shown board = record {
+  board = board;
+  turn = White;
+  odds = no_odds;
+  held = record { white_short = false; white_long = false; black_short = false; black_long = false };
+  only = None;
+  barred = None;
+  clock = None;
+}
+
+no-member : (n s : ℕ) → is_in (replicate n false) s ≡ false
+no-member zero s = refl
+no-member (suc n) zero = refl
+no-member (suc n) (suc s) = no-member n s
+
+nobody : (s : ℕ) → is_in no_odds s ≡ true → ⊥
+nobody s member = both_ways (is_in no_odds s) (no-member 64 s) member
+
+settled : (o : List Bool) (board : Places) → IsSettled o (shown board) no_odds
+settled o board = record {
+  whole = refl;
+  frozen = record { occupied = λ s member. absurd (nobody s member); caged = λ s member. absurd (nobody s member) };
+  as_array = λ s member. absurd (nobody s member);
+}
+
+-- the array without all men but the kings and the white pawn of a2
+one_pawn : List Bool
+one_pawn = map (λ s. not ((s == 4) || (s == 8) || (s == 60))) (range_with_len 0 64)
+
+-- he stands on b3, so he took a man, and there was none
+on_b3 : Places
+on_b3 = set (set (set no_men 4 (man White King)) 17 (man White Pawn)) 60 (man Black King)
+
+-- each capture by a white pawn costs 1
+priced_1 : PriceList
+priced_1 = priced (replicate 16 1) (replicate 16 0) []
+
+b3_white : side_cost one_pawn on_b3 priced_1 no_odds White ≡ 193
+unfolding one_pawn on_b3 priced_1 cost_table stand_row gone_row men_squares array_of initial_array least_cost injections pawn_stands ways_from ways_with_len distance
+b3_white = refl
+
+b3_black : side_cost one_pawn on_b3 priced_1 no_odds Black ≡ 96
+unfolding one_pawn on_b3 priced_1 cost_table stand_row gone_row men_squares array_of initial_array least_cost injections
+b3_black = refl
+
+b3_most : most_cost one_pawn priced_1 ≡ 288
+unfolding one_pawn priced_1 men_squares array_of initial_array
+b3_most = refl
+
+b3_supports : BalanceAt one_pawn (shown on_b3) no_odds priced_1
+unfolding one_pawn on_b3 priced_1 men_squares array_of initial_array
+b3_supports = record {
+  settled = settled one_pawn on_b3;
+  prices = refl;
+  white = omega arith;
+  black = omega arith;
+  above = omega (arith, b3_white, b3_black, b3_most);
+}
+
+b3_closed : (g : List Move) → LeadsTo one_pawn g (shown on_b3) → ⊥
+b3_closed = balance-closed one_pawn (shown on_b3) no_odds priced_1 b3_supports
+
+-- the array without all men but the kings and the pawns of a2 and a7
+two_pawns : List Bool
+two_pawns = map (λ s. not ((s == 4) || (s == 8) || (s == 48) || (s == 60))) (range_with_len 0 64)
+
+-- the pawns stand on a5 and a4, so one took a man to pass the other, and there was none
+passed : Places
+passed = set (set (set (set no_men 4 (man White King)) 32 (man White Pawn)) 24 (man Black Pawn)) 60 (man Black King)
+
+-- each capture by a pawn costs 1, and so does it to tread a4
+gate_on_a4 : PriceList
+gate_on_a4 = priced (replicate 16 1) (replicate 16 1) (record { square = 24; toll = 1 } ∷ [])
+
+passed_white : side_cost two_pawns passed gate_on_a4 no_odds White ≡ 193
+unfolding two_pawns passed gate_on_a4 cost_table stand_row gone_row men_squares array_of initial_array least_cost injections pawn_stands ways_from ways_with_len distance
+passed_white = refl
+
+passed_black : side_cost two_pawns passed gate_on_a4 no_odds Black ≡ 193
+unfolding two_pawns passed gate_on_a4 cost_table stand_row gone_row men_squares array_of initial_array least_cost injections pawn_stands ways_from ways_with_len distance
+passed_black = refl
+
+passed_most : most_cost two_pawns gate_on_a4 ≡ 385
+unfolding two_pawns gate_on_a4 men_squares array_of initial_array
+passed_most = refl
+
+passed_supports : BalanceAt two_pawns (shown passed) no_odds gate_on_a4
+unfolding two_pawns passed gate_on_a4 men_squares array_of initial_array
+passed_supports = record {
+  settled = settled two_pawns passed;
+  prices = refl;
+  white = omega arith;
+  black = omega arith;
+  above = omega (arith, passed_white, passed_black, passed_most);
+}
+
+passed_closed : (g : List Move) → LeadsTo two_pawns g (shown passed) → ⊥
+passed_closed = balance-closed two_pawns (shown passed) no_odds gate_on_a4 passed_supports

@@ -1,0 +1,23 @@
+pub mod Leasts
+pub mod Longer
+pub mod Listed
+pub mod Seen
+pub mod Reaching
+pub mod Gates
+pub mod Priced
+pub mod Greatests
+pub mod Filled
+pub mod Earned
+pub mod Grounded
+pub mod Brought
+pub mod Lost
+pub mod Begun
+pub mod Rowed
+pub mod Growing
+pub mod GateSums
+pub mod OnBoard
+pub mod StandingMen
+pub mod LostMen
+pub mod TrueHomes
+pub mod Sound
+mod ClosedQueries

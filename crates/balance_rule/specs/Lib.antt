@@ -1,0 +1,5 @@
+pub mod Costs
+pub mod Balance
+pub mod LeastWays
+pub mod Tariffs
+pub mod Grounds

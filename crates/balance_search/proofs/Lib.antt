@@ -1,0 +1,3 @@
+pub mod OpenEnds
+pub mod Spreads
+pub mod Answering

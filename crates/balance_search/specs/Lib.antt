@@ -1,0 +1,2 @@
+pub mod Unsettled
+pub mod Settling

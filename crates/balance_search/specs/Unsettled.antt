@@ -1,0 +1,51 @@
+-- What a search by rule lines and by the balance of captures leaves open.
+use Rattle.std.specs.Prelude.{ℕ, zero, suc, ◌≡◌, ◌<◌, ◌≤◌, ◌⊎◌, List, [], ◌∷◌, length}
+use Rattle.std.specs.List.{Contains}
+use Rattle.board_base.specs.declared.moves.Move.{Move}
+use Rattle.board_base.specs.declared.unmoves.Unmove.{Unmove}
+use Rattle.query_base.specs.Asked.{Asked}
+use Rattle.query_base.specs.Reach.{Contradicts, Reaches}
+use Rattle.query_base.specs.Targets.{target}
+use Rattle.query_base.specs.declared.claims.Claim.{Claim}
+use Rattle.unmove_gen.specs.Listed.{unmoves}
+use Rattle.unmove_gen.specs.Predecessor.{predecessor}
+use Rattle.cert_text.specs.Certificate.{Certificate}
+use Rattle.retro_search.specs.Refutable.{IsRefutable, IsShut}
+use Rattle.retro_search.specs.Costs.{IsCost}
+use Rattle.retro_search.specs.Heights.{height}
+use Rattle.retro_search.specs.Lines.{EndsAtArray, forwards}
+
+-- A line of listed unmoves, of at most the depth, on which no query is shut: no rule line supports it, and none before it on the line
+-- covers it. A shorter line ends at the array, and there alone the game of no moves reaches a query.
+abbrev pub IsOpenLine : Asked → ℕ → List Asked → List Unmove → Type 0
+IsOpenLine q depth ancestors [] = (IsShut q ancestors → ⊥) × ((depth ≡ 0) ⊎ Reaches [] q)
+IsOpenLine q zero ancestors (u ∷ line) = ⊥
+IsOpenLine q (suc depth) ancestors (u ∷ line) =
+    (IsShut q ancestors → ⊥) × (Reaches [] q → ⊥) × Contains (unmoves q) u × IsOpenLine (predecessor q u) depth (q ∷ ancestors) line
+
+-- The query isn't refutable at the depth by rule lines, and this line is open: it has as many unmoves as the depth, and ends elsewhere
+-- than at the array.
+pub record StaysUnsettled (line : List Unmove) (q : Asked) (depth : ℕ) : Type 0 where
+  pub unrefuted : IsRefutable q depth [] → ⊥
+  pub open_line : IsOpenLine q depth [] line
+  pub long : length line ≡ depth
+  pub elsewhere : EndsAtArray q line → ⊥
+
+-- An open line of the claim's target ends at the array, and this game is that line forwards; it contradicts the claim, and has no more
+-- moves than the depth.
+pub record IsAgainst (game : List Move) (claim : Claim) (q : Asked) (depth : ℕ) : Type 0 where
+  pub line : List Unmove
+  pub back : ℕ
+  pub open_line : IsOpenLine (target q claim) back [] line
+  pub at_array : EndsAtArray (target q claim) line
+  pub forwards_is : game ≡ forwards line
+  pub contradicts : Contradicts game claim q
+  pub short : length game ≤ depth
+
+-- where the query is refutable at the depth by rule lines, this holds of its cost
+abbrev pub WhereRefutable : Asked → ℕ → List Asked → (ℕ → Type 0) → Type 0
+WhereRefutable q depth ancestors P = IsRefutable q depth ancestors → (n : ℕ) → IsCost q depth ancestors n → P n
+
+-- at no depth below the certificate's height is the claim's target refutable by rule lines at a cost of at most the nodes
+abbrev pub IsLeast : ℕ → Certificate → Claim → Asked → Type 0
+IsLeast nodes cert claim q = (depth : ℕ) → depth < height cert.root → WhereRefutable (target q claim) depth [] (λ n. nodes < n)

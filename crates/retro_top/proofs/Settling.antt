@@ -1,0 +1,67 @@
+-- Which status `settle` answers, and what it says.
+use Rattle.std.proofs.Common.{◌≡◌, inl, inr, ℕ, List, [], refl, sym, subst, arith}
+use Rattle.query_base.specs.Asked.{Asked}
+use Rattle.query_base.specs.Reach.{Holds}
+use Rattle.query_base.specs.Targets.{target}
+use Rattle.query_base.specs.declared.claims.Claim.{Claim}
+use Rattle.cert_text.specs.Certificate.{Certificate}
+use Rattle.cert_checker.specs.Proving.{ProvesClaim}
+use Rattle.retro_search.specs.Refutable.{IsRefutable}
+use Rattle.retro_top.specs.Answers.{StatesCheap, StatesProved, StatesRefutable}
+use Rattle.command_answers.specs.Settles.{AnswersSettle, AnswersSettling}
+use Rattle.command_answers.specs.Solves.{IsCheap}
+use Rattle.command_answers.specs.Statements.{States}
+use Rattle.command_answers.specs.declared.statuses.Status.{Status}
+use Rattle.command_answers.specs.declared.statuses.Status.TheVariants.{Done, Undecided, Spent, Countered}
+use Rattle.retro_top.proofs.Solving.{CounteredBy, Solved}
+use Rattle.retro_top.proofs.Stated.{stated, states-some}
+
+settling-done : (depth nodes : ℕ) (claim : Claim) (q : Asked) (ending : Status) (text : List ℕ) → AnswersSettling depth nodes claim q ending text → IsRefutable (target q claim) depth [] → IsCheap depth nodes claim q → ending ≡ Done
+settling-done depth nodes claim q Done text answers ref cheap = refl
+settling-done depth nodes claim q Undecided text answers ref cheap = absurd (answers.unsettled.unrefuted ref)
+settling-done depth nodes claim q Countered text answers ref cheap = absurd (answers.unrefuted depth ref)
+settling-done depth nodes claim q Spent text answers ref cheap = absurd (omega (arith, answers.dear ref cheap.0 cheap.1, cheap.2))
+settling-done depth nodes claim q _ text answers ref cheap = absurd answers
+
+-- where the target is refutable by rule lines and the nodes suffice, a certificate is found
+pub settle-done : (depth nodes : ℕ) (input : List ℕ) (ending : Status) (text : List ℕ) → AnswersSettle depth nodes input ending text → StatesRefutable depth input → StatesCheap depth nodes input → ending ≡ Done
+settle-done depth nodes input ending text answers good cheap = elim answers [
+  | inl said ↦ settling-done depth nodes said.0 said.1 ending text said.3
+      (stated (λ claim q. IsRefutable (target q claim) depth []) input good.0 said.0 good.1 said.1 good.2 said.2 good.3)
+      (stated (IsCheap depth nodes) input cheap.0 said.0 cheap.1 said.1 cheap.2 said.2 cheap.3)
+  | inr none ↦ absurd (states-some input good.0 good.1 none.0 good.2 none.1)
+]
+
+-- a certificate is found only where one proves the claim
+pub done-provable-claim : (depth nodes : ℕ) (input text : List ℕ) → AnswersSettle depth nodes input Done text → StatesProved depth input
+done-provable-claim depth nodes input text answers = elim answers [
+  | inl said ↦ (said.0, said.1, said.3.cert, said.2, said.3.is_proof)
+  | inr none ↦ let e = none.2 in cc
+]
+
+-- where `settle` is done, its text is that of a certificate that proves the claim that the input states
+pub done-settled : ((cert : Certificate) → ProvesClaim cert → Holds cert.claim cert.query) → (depth nodes : ℕ) (input text : List ℕ) → AnswersSettle depth nodes input Done text → Solved input text
+done-settled law depth nodes input text answers = elim answers [
+  | inl said ↦ record {
+    cert = said.3.cert;
+    states = subst (λ (x : Claim). States input x said.3.cert.query) (sym said.3.is_proof.claim_is) (subst (States input said.0) (sym said.3.is_proof.query_is) said.2);
+    is_text = said.3.is_text;
+    proves = said.3.is_proof.proves;
+    holds = law said.3.cert said.3.is_proof.proves;
+  }
+  | inr none ↦ let e = none.2 in cc
+]
+
+-- where `settle` finds a game, it contradicts the claim that the input states
+pub unsettled-by : (depth nodes : ℕ) (input text : List ℕ) → AnswersSettle depth nodes input Countered text → CounteredBy input text
+unsettled-by depth nodes input text answers = elim answers [
+  | inl said ↦ record {
+    claim = said.0;
+    query = said.1;
+    game = said.3.game;
+    states = said.2;
+    contradicts = said.3.against.contradicts;
+    line = said.3.text_is;
+  }
+  | inr none ↦ let e = none.2 in cc
+]
