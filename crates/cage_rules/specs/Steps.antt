@@ -1,5 +1,5 @@
 -- Inner: no public clause cites this file.
--- For proofs alone, cited by no public clause: what steps of whole sets of squares compute.
+-- What steps of whole sets of squares compute.
 use Rattle.std.specs.Prelude.{ℕ, ◌+◌, ◌-◌, ◌*◌, Bool, false, ◌&&◌, ◌||◌, not, ◌==◌, nat_lt, nat_le, List}
 use Rattle.std.specs.List.{list_all, list_any, range_with_len}
 use Rattle.board_base.specs.Board.{file, is_in, rank}

@@ -1,5 +1,5 @@
 -- Inner: no public clause cites this file.
--- For proofs alone, cited by no public clause: the sets of squares by which men are sorted, and what a round of the loop leaves of a set.
+-- The sets of squares by which men are sorted, and what a round of the loop leaves of a set.
 use Rattle.std.specs.Prelude.{ℕ, Bool, true, false, cond, ◌&&◌, ◌||◌, not, ◌==◌, List, slice_set, Option, Some, None}
 use Rattle.board_base.specs.Board.{Places, at, is_empty, is_in, rank, same_colour, same_kind}
 use Rattle.board_base.specs.Legal.{last_rank}
