@@ -12,10 +12,12 @@ each-more {A} P items k item inside before here f none low = elim (cases_eq f k)
   | inr other ↦ subst (P f) (sym (get_or-set_other items k f item none other)) (before f none (omega arith))
 ]
 
--- the first item alone
-pub each-first : {A : Type 0} (P : ℕ → A → Type 0) (item : A) (items : List A) → P 0 item → (f : ℕ) (none : A) → f < 1 → P f (get_or (item ∷ items) f none)
-each-first {A} P item items here zero none low = here
-each-first {A} P item items here (suc f) none low = absurd (omega arith)
+-- the same items, and of one more
+pub each-same : {A : Type 0} (P : ℕ → A → Type 0) (items : List A) (k : ℕ) → ((f : ℕ) (none : A) → f < k → P f (get_or items f none)) → ((none : A) → P k (get_or items k none)) → (f : ℕ) (none : A) → f < k + 1 → P f (get_or items f none)
+each-same {A} P items k before here f none low = elim (cases_eq f k) [
+  | inl same ↦ subst (λ (n : ℕ). P n (get_or items n none)) (sym same) (here none)
+  | inr other ↦ before f none (omega arith)
+]
 
 -- within a list what stands past its end makes no difference
 pub any-default : {A : Type 0} (items : List A) (k : ℕ) (a b : A) → k < length items → get_or items k a ≡ get_or items k b

@@ -22,7 +22,7 @@ use Rattle.balance_rule.proofs.Leasts.{least-either, least-like, least-none, lea
 use Rattle.balance_rule.proofs.Listed.{least-listed, least-listed-all}
 use Rattle.balance_rule.proofs.Priced.{earned-small}
 use Rattle.balance_rule.proofs.Reaching.{fee-least, toll-least}
-use Rattle.balance_rule.proofs.Seen.{end-inside, seen-inside, seen-seen, way-up}
+use Rattle.balance_rule.proofs.Seen.{end-inside, seen-inside, seen-seen, way-ahead}
 
 most-small : (p : PriceList) (set : List Bool) (c : Colour) (among : ℕ → Bool) → IsTrue (are_prices p) → most_earned p set c among ≤ 96
 most-small p set c among known = elim (cases_lt 0 (most_earned p set c among)) [
@@ -82,7 +82,7 @@ module _ (p : PriceList) (set : List Bool) (c : Colour) (h : ℕ) (known : IsTru
   lost-none second =
       least-none c set h (ends_before 8) (loss_cost p set c h) (λ way is passes.
       let low : seen_by c (way_end h way) < 8 = ltb-true _ _ passes in
-      let up = way-up c set h way on_board is in
+      let up = (way-ahead c set h way on_board is).up in
       omega arith)
 
   pub lost-more : (i n m : ℕ) → i < 64 → IsLeast c set h (ends_before i) (loss_cost p set c h) n → IsLeast c set h (ends_on h (seen_by c i)) (loss_cost p set c h) m → IsLeast c set h (ends_before (i + 1)) (loss_cost p set c h) (min m n)

@@ -13,7 +13,7 @@ use Rattle.balance_rule.specs.LeastWays.{AreLeastTo, IsLeast, aside_to, ends_on,
 use Rattle.balance_rule.proofs.Leasts.{least-either, least-like, least-none}
 use Rattle.balance_rule.proofs.Listed.{short-way}
 use Rattle.balance_rule.proofs.Longer.{end-longer, fee-longer, fee-straight, gates-longer, gates-small, straight-longer, way-longer}
-use Rattle.balance_rule.proofs.Seen.{IsNextTo, ahead, right, left, end-inside, next-step, other-file, next-rank, same-file, seen-inside, seen-seen, step-next, step-out, way-up}
+use Rattle.balance_rule.proofs.Seen.{IsAheadOf, IsNextTo, ahead, right, left, end-inside, next-step, other-file, next-rank, same-file, seen-inside, seen-seen, step-next, step-out, way-ahead}
 
 -- the last step of a way to the square with number i: what was before, and from which square
 pub record Came (c : Colour) (set : List Bool) (h i : ℕ) (way : List ℕ) : Type 0 where
@@ -212,19 +212,27 @@ module _ (c : Colour) (set : List Bool) (h : ℕ) (inside : h < 64) where
         ];
   }
 
-  -- no way leads onto the set, but the empty one
-  none-on-set : (f : List ℕ → ℕ) (p : List ℕ → Bool) (i : ℕ) → i < 64 → seen_by c i ≢ h → is_in set (seen_by c i) ≡ true → ((way : List ℕ) → p way ≡ true → ends_on h (seen_by c i) way ≡ true) → IsLeast c set h p f never
-  none-on-set f p i on_board other member ends =
-      least-none c set h p f (λ way is passes.
-      let last = came i way on_board other is (ends way passes) in
+  -- no way leads to a square
+  pub no-way : (p : PriceList) (t : ℕ) → ((way : List ℕ) → is_way c set h way ≡ true → ends_on h t way ≡ true → ⊥) → AreLeastTo p set c h t never never
+  no-way p t none = record {
+    straight = least-none c set h (straight_to h t) (gates_on p h) (λ way is passes. none way is (and_parts (is_straight h way) (ends_on h t way) passes).1);
+    aside = least-none c set h (aside_to h t) (fee (take p c) h) (λ way is passes. none way is (and_parts (not (is_straight h way)) (ends_on h t way) passes).1);
+  }
+
+  -- none leads onto the set, but the empty one
+  pub blocked : (p : PriceList) (i : ℕ) → i < 64 → seen_by c i ≢ h → is_in set (seen_by c i) ≡ true → AreLeastTo p set c h (seen_by c i) never never
+  blocked p i on_board other member =
+      no-way p (seen_by c i) (λ way is ends.
+      let last = came i way on_board other is ends in
       let parts = and_parts (is_way c set h last.front) (is_pawn_step c set (way_end h last.front) (seen_by c i)) (sym (way-longer c set h last.front (seen_by c i)) ∙ ap (is_way c set h) (sym last.way_is) ∙ is) in
       both_ways _ (step-out c set (way_end h last.front) (seen_by c i) parts.1) member)
 
-  pub blocked : (p : PriceList) (i : ℕ) → i < 64 → seen_by c i ≢ h → is_in set (seen_by c i) ≡ true → AreLeastTo p set c h (seen_by c i) never never
-  blocked p i on_board other member = record {
-    straight = none-on-set (gates_on p h) (straight_to h (seen_by c i)) i on_board other member (λ way passes. (and_parts (is_straight h way) (ends_on h (seen_by c i) way) passes).1);
-    aside = none-on-set (fee (take p c) h) (aside_to h (seen_by c i)) i on_board other member (λ way passes. (and_parts (not (is_straight h way)) (ends_on h (seen_by c i) way) passes).1);
-  }
+  -- none leads to a square that is more files than ranks away
+  pub beside : (p : PriceList) (i : ℕ) → i < 64 → (IsAheadOf (seen_by c h) i → ⊥) → AreLeastTo p set c h (seen_by c i) never never
+  beside p i on_board aside =
+      no-way p (seen_by c i) (λ way is ends.
+      let there : seen_by c (way_end h way) ≡ i = ap (seen_by c) (eqb-true _ _ ends) ∙ seen-seen c i on_board in
+      aside (subst (IsAheadOf (seen_by c h)) there (way-ahead c set h way inside is)))
 
   -- the least fee and the least toll of all ways to a square
   pub fee-least : (p : PriceList) (t x y : ℕ) → ((s : ℕ) → gate p s ≤ 96) → AreLeastTo p set c h t x y → IsLeast c set h (ends_on h t) (fee (take p c) h) (fee_of x y)
@@ -271,7 +279,7 @@ module _ (c : Colour) (set : List Bool) (h : ℕ) (inside : h < 64) where
     | inl none ↦ inl none
     | inr (front, t, e) ↦
         let last = came-last j way front t on_board e is ends in
-        let up : rank (seen_by c h) ≤ rank (seen_by c (way_end h last.front)) = way-up c set h last.front inside last.front_is in
+        let up : rank (seen_by c h) ≤ rank (seen_by c (way_end h last.front)) = (way-ahead c set h last.front inside last.front_is).up in
         let same : seen_by c (way_end h last.front) ≡ last.number = ap (seen_by c) last.ends ∙ seen-seen c last.number last.inside in
         let next : rank j ≡ rank last.number + 1 = next-rank last.number j last.next in
         inr (let r : rank (seen_by c (way_end h last.front)) ≡ rank last.number = ap rank same in omega arith)
@@ -298,11 +306,7 @@ module _ (c : Colour) (set : List Bool) (h : ℕ) (inside : h < 64) where
   -- and no way to the others of the first two ranks
   pub not-yet : (p : PriceList) (j : ℕ) → j < 16 → 1 ≤ rank (seen_by c h) → seen_by c j ≢ h → AreLeastTo p set c h (seen_by c j) never never
   not-yet p j low second other =
-      let none : (way : List ℕ) → is_way c set h way ≡ true → ends_on h (seen_by c j) way ≡ true → ⊥ = λ way is ends. elim (end-ahead j way (omega arith) is ends) [
+      no-way p (seen_by c j) (λ way is ends. elim (end-ahead j way (omega arith) is ends) [
         | inl empty ↦ other (sym (ap (way_end h) (sym empty) ∙ eqb-true _ _ ends))
         | inr less ↦ omega arith
-      ] in
-      record {
-        straight = least-none c set h (straight_to h (seen_by c j)) (gates_on p h) (λ way is passes. none way is (and_parts (is_straight h way) (ends_on h (seen_by c j) way) passes).1);
-        aside = least-none c set h (aside_to h (seen_by c j)) (fee (take p c) h) (λ way is passes. none way is (and_parts (not (is_straight h way)) (ends_on h (seen_by c j) way) passes).1);
-      }
+      ])

@@ -45,37 +45,7 @@ unfolding men_squares
 begun-few c o =
     omega (arith, length-filter (λ s. is_of c (at (array_of o) s)) (range_with_len 0 64), counts-le (λ s. is_of c (at (array_of o) s)) (λ s. is_of c (at initial_array s)) (range_with_len 0 64) (left-of c o), whole-sixteen c)
 
--- a table gets a row
-row_small : (row : List ℕ) (j : ℕ) → All (λ cost. cost ≤ never) row → slice_index row j ≤ never
-row_small row j small = elim (cases_lt j (length row)) [
-  | inl low ↦ small j 0 low
-  | inr past ↦ let none = get_or_past row j 0 past in omega arith
-]
-
-last_small : (row : List ℕ) (i j : ℕ) → All (λ cost. cost ≤ never) row → cost_at (row ∷ []) i j ≤ never
-last_small row zero j small = row_small row j small
-last_small row (suc i) j small =
-    let none = ap (λ (r : List ℕ). slice_index r j) (get_or_past (row ∷ []) (suc i) [] (omega arith)) in
-    let nothing = get_or_past {X = ℕ} [] j 0 (omega arith) in
-    omega arith
-
-pub table-more : (table new : List (List ℕ)) (row : List ℕ) → IsTable table 16 never → length table < 16 → All (λ cost. cost ≤ never) row → new ≡ table ++ row ∷ [] → IsTable new 16 never
-table-more table new row h room small e =
-    let more : IsTable (table ++ row ∷ []) 16 never = record {
-      rows = omega (arith, length-append table (row ∷ []));
-      few = h.few;
-      costs = λ i j. elim (cases_lt i (length table)) [
-        | inl low ↦
-            let same = ap (λ (r : List ℕ). slice_index r j) (get_or_append_left table (row ∷ []) [] i low) in
-            let had : cost_at table i j ≤ never = h.costs i j in
-            omega arith
-        | inr past ↦
-            let same = ap (λ (r : List ℕ). slice_index r j) (get_or-append_right table (row ∷ []) (length table) i [] refl past) in
-            omega (arith, last_small row (i - length table) j small)
-      ];
-    } in
-    subst (λ (t : List (List ℕ)). IsTable t 16 never) (sym e) more
-
+-- a table of no rows
 pub table-none : (table : List (List ℕ)) → table ≡ [] → IsTable table 16 never
 table-none table e =
     subst (λ (t : List (List ℕ)). IsTable t 16 never) (sym e)

@@ -17,6 +17,10 @@ pub seen-seen : (c : Colour) (i : ℕ) → i < 64 → seen_by c (seen_by c i) �
 seen-seen White i inside = refl
 seen-seen Black i inside = omega arith
 
+-- the homes of its pawns
+pub home-inside : (c : Colour) (f : ℕ) → f < 8 → seen_by c (8 + f) < 64
+home-inside c f low = let inside : 8 + f < 64 = omega arith in seen-inside c (8 + f) inside
+
 -- i is a step from j, as the side sees them
 pub data IsNextTo (j i : ℕ) : Type 0 where
   ahead : i ≡ j + 8 → IsNextTo j i
@@ -107,14 +111,23 @@ end-inside c set s (t ∷ way) inside is =
     let parts = and_parts (is_pawn_step c set s t) (is_way c set t way) is in
     end-inside c set t way (step-inside c set s t parts.0) parts.1
 
+-- i is ahead of j, and no more files away than ranks
+pub record IsAheadOf (j i : ℕ) : Type 0 where
+  pub up : rank j ≤ rank i
+  pub right : i % 8 + rank j ≤ j % 8 + rank i
+  pub left : j % 8 + rank j ≤ i % 8 + rank i
+
 -- and leads ahead
-pub way-up : (c : Colour) (set : List Bool) (s : ℕ) (way : List ℕ) → s < 64 → is_way c set s way ≡ true → rank (seen_by c s) ≤ rank (seen_by c (way_end s way))
-way-up c set s [] inside is = omega arith
-way-up c set s (t ∷ way) inside is =
+pub way-ahead : (c : Colour) (set : List Bool) (s : ℕ) (way : List ℕ) → s < 64 → is_way c set s way ≡ true → IsAheadOf (seen_by c s) (seen_by c (way_end s way))
+unfolding distance
+way-ahead c set s [] inside is = record { up = omega arith; right = omega arith; left = omega arith }
+way-ahead c set s (t ∷ way) inside is =
     let parts = and_parts (is_pawn_step c set s t) (is_way c set t way) is in
     let on_board : t < 64 = step-inside c set s t parts.0 in
     let step : is_pawn_step c set (seen_by c (seen_by c s)) (seen_by c (seen_by c t)) ≡ true =
     ap (λ (u : ℕ). is_pawn_step c set u (seen_by c (seen_by c t))) (seen-seen c s inside) ∙ ap (is_pawn_step c set s) (seen-seen c t on_board) ∙ parts.0 in
-    let up = next-rank (seen_by c s) (seen_by c t) (step-next c set (seen_by c s) (seen_by c t) (seen-inside c s inside) (seen-inside c t on_board) step).0 in
-    let rest : rank (seen_by c t) ≤ rank (seen_by c (way_end t way)) = way-up c set t way on_board parts.1 in
-    omega arith
+    let next = (step-next c set (seen_by c s) (seen_by c t) (seen-inside c s inside) (seen-inside c t on_board) step).0 in
+    let ranks : rank (seen_by c t) ≡ rank (seen_by c s) + 1 = next-rank (seen_by c s) (seen_by c t) next in
+    let files : (file (seen_by c s) - file (seen_by c t)) + (file (seen_by c t) - file (seen_by c s)) < 2 = next-files (seen_by c s) (seen_by c t) next in
+    let rest = way-ahead c set t way on_board parts.1 in
+    record { up = omega (arith, ranks, rest.up); right = omega (arith, ranks, files, rest.right); left = omega (arith, ranks, files, rest.left) }

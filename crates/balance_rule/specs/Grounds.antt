@@ -26,7 +26,7 @@ pub record IsGround (o : List Bool) (p : PriceList) (g : Ground) : Type 0 where
   pub known : IsTrue (are_prices p)
   pub first : g.first ≡ array_of o
   pub tariff : IsTariff p g.frozen g.side g.tariff
-  pub reaches : (f : ℕ) (none : Reach) → f < 8 → IsReach p g.frozen g.side (seen_by g.side (8 + f)) (slice_index_or g.reaches f none)
+  pub reaches : (f : ℕ) (none : Reach) → f < 8 → is_in g.frozen (seen_by g.side (8 + f)) ≡ false → IsReach p g.frozen g.side (seen_by g.side (8 + f)) (slice_index_or g.reaches f none)
   pub regions : (f : ℕ) → f < 8 → IsTrue (is_officer_home (seen_by g.side f)) → slice_index_or g.regions f [] ≡ region g.frozen (seen_by g.side f)
   pub knights : ArePromoted g.frozen g.side Knight g.knights
   pub bishops : ArePromoted g.frozen g.side Bishop g.bishops

@@ -1,5 +1,5 @@
 ghost use Rattle.std.specs.Prelude.{◌≡◌, ◌+◌, ◌<◌, ◌≤◌, Bool, ℕ, IsTrue, List, cond, true, false};
-ghost use Rattle.board_base.specs.Board.{array_of, at, same_kind};
+ghost use Rattle.board_base.specs.Board.{array_of, at, is_in, same_kind};
 ghost use Rattle.board_base.specs.Legal.{is_officer};
 ghost use Rattle.board_base.specs.declared.men.Colour.{Colour as AColour};
 ghost use Rattle.board_base.specs.declared.men.Kind.{Kind as AKind};
@@ -37,7 +37,7 @@ fn toll_promoted(reach: &Reach, regions: &[SquareSet; 8], s: Square) -> u16
 /// The least toll of the ways that bring the pawn of this file to a square as a man of this kind.
 fn toll_to(ground: &Ground, f: u8, kind: Kind, s: Square) -> u16
     requires { f < 8 }
-    ensures { (o : List Bool) (p : PriceList) → IsGround o p ground.now → IsLeast ground.now.side ground.now.frozen (seen_by ground.now.side (8 + f)) (λ way. brings ground.now.frozen ground.now.side (seen_by ground.now.side (8 + f)) way kind s) (toll (take p ground.now.side) (gate p) (seen_by ground.now.side (8 + f))) result }
+    ensures { (o : List Bool) (p : PriceList) → IsGround o p ground.now → is_in ground.now.frozen (seen_by ground.now.side (8 + f)) ≡ false → IsLeast ground.now.side ground.now.frozen (seen_by ground.now.side (8 + f)) (λ way. brings ground.now.frozen ground.now.side (seen_by ground.now.side (8 + f)) way kind s) (toll (take p ground.now.side) (gate p) (seen_by ground.now.side (8 + f))) result }
 {
     let reach = &ground.reaches[f as usize];
     let i = number_of(ground.side, s);
@@ -55,7 +55,7 @@ fn toll_to(ground: &Ground, f: u8, kind: Kind, s: Square) -> u16
 fn pawn_stands(ground: &Ground, f: u8, kind: Kind, s: Square) -> u16
     requires { f < 8 }
     ensures small { result ≤ never }
-    ensures value { (o : List Bool) (p : PriceList) → IsGround o p ground.now → result ≡ pawn_stands p ground.now.frozen ground.now.side (seen_by ground.now.side (8 + f)) kind s }
+    ensures value { (o : List Bool) (p : PriceList) → IsGround o p ground.now → is_in ground.now.frozen (seen_by ground.now.side (8 + f)) ≡ false → result ≡ pawn_stands p ground.now.frozen ground.now.side (seen_by ground.now.side (8 + f)) kind s }
 {
     capped_sum(BASE, toll_to(ground, f, kind, s))
 }
@@ -64,7 +64,7 @@ fn pawn_stands(ground: &Ground, f: u8, kind: Kind, s: Square) -> u16
 pub(crate) fn loss_at(ground: &Ground, f: u8, i: u8) -> u16
     requires file { f < 8 }
     requires inside { i < 64 }
-    ensures { (o : List Bool) (p : PriceList) → IsGround o p ground.now → IsLeast ground.now.side ground.now.frozen (seen_by ground.now.side (8 + f)) (ends_on (seen_by ground.now.side (8 + f)) (seen_by ground.now.side i)) (loss_cost p ground.now.frozen ground.now.side (seen_by ground.now.side (8 + f))) result }
+    ensures { (o : List Bool) (p : PriceList) → IsGround o p ground.now → is_in ground.now.frozen (seen_by ground.now.side (8 + f)) ≡ false → IsLeast ground.now.side ground.now.frozen (seen_by ground.now.side (8 + f)) (ends_on (seen_by ground.now.side (8 + f)) (seen_by ground.now.side i)) (loss_cost p ground.now.frozen ground.now.side (seen_by ground.now.side (8 + f))) result }
 {
     let reach = &ground.reaches[f as usize];
     if i < 56 {
@@ -84,7 +84,7 @@ pub(crate) fn loss_at(ground: &Ground, f: u8, i: u8) -> u16
 fn pawn_gone(ground: &Ground, f: u8) -> u16
     requires { f < 8 }
     ensures small { result ≤ never }
-    ensures value { (o : List Bool) (p : PriceList) → IsGround o p ground.now → result ≡ pawn_gone p ground.now.frozen ground.now.side (seen_by ground.now.side (8 + f)) }
+    ensures value { (o : List Bool) (p : PriceList) → IsGround o p ground.now → is_in ground.now.frozen (seen_by ground.now.side (8 + f)) ≡ false → result ≡ pawn_gone p ground.now.frozen ground.now.side (seen_by ground.now.side (8 + f)) }
 {
     let mut least = NEVER;
     for i in 8..64 {

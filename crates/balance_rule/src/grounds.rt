@@ -25,7 +25,7 @@ pub(crate) struct Ground {
     pub(crate) exposed: SquareSet,
     /// What its pawns pay on each square, and what its men earn there.
     pub(crate) tariff: Tariff,
-    /// What the ways of its pawns cost at least.
+    /// What the ways of its pawns outside the set cost at least.
     pub(crate) reaches: [Reach; 8],
     /// The regions of its knights, bishops, rooks and queen from their homes.
     pub(crate) regions: [SquareSet; 8],

@@ -1,10 +1,10 @@
-ghost use Rattle.std.specs.Prelude.{◌≡◌, ◌+◌, ◌-◌, ◌<◌, ◌≤◌, ◌%◌, ℕ, Bool, IsTrue, List, cond, length, min, nat_lt, slice_index, slice_index_or, slice_set};
+ghost use Rattle.std.specs.Prelude.{◌≡◌, ◌+◌, ◌-◌, ◌*◌, ◌<◌, ◌≤◌, ◌%◌, ℕ, Bool, IsTrue, List, cond, false, length, min, nat_lt, slice_index, slice_index_or, slice_set};
 ghost use Rattle.board_base.specs.Board.{is_in};
 ghost use Rattle.capture_prices.specs.Prices.{PriceList, are_prices};
 ghost use Rattle.balance_rule.specs.Costs.{never};
 ghost use Rattle.balance_rule.specs.Tariffs.{IsTariff};
 ghost use Rattle.balance_rule.specs.declared.reaches.Reach.{Reach as AReach};
-ghost use Rattle.balance_rule.specs.LeastWays.{IsReach, fee_of, next_aside, seen_by, toll_of};
+ghost use Rattle.balance_rule.specs.LeastWays.{IsReach, IsReachTo, fee_of, next_aside, seen_by, toll_of};
 
 use crate::tariffs::Tariff;
 use crate::views::seen_by;
@@ -51,16 +51,12 @@ pub(crate) fn toll_at(reach: &Reach, i: u8) -> u16
     reach.straight[i].min(reach.aside[i])
 }
 
-/// The least fee of the ways to a square whose last step is a capture from another, where there is such a step.
-fn fee_from(reach: &Reach, is_step: bool, from: u8, take: u16) -> u16
+/// The least fee of the ways to the square from which a step to the side comes, where there is such a step.
+fn fee_behind(reach: &Reach, is_step: bool, from: u8) -> u16
     requires { from < 64 }
-    ensures { result ≡ cond is_step (min never (fee_of (slice_index reach.now.straight from) (slice_index reach.now.aside from) + take)) never }
+    ensures { result ≡ cond is_step (fee_of (slice_index reach.now.straight from) (slice_index reach.now.aside from)) never }
 {
-    if is_step {
-        capped_sum(fee_at(reach, from), take)
-    } else {
-        NEVER
-    }
+    if is_step { fee_at(reach, from) } else { NEVER }
 }
 
 /// The least fee of the ways to a square on which he captures somewhere, from those to the squares behind it.
@@ -69,9 +65,9 @@ fn next_aside(reach: &Reach, take: u16, i: u8) -> u16
     requires ahead { 16 ≤ i }
     ensures { result ≡ next_aside reach.now take i }
 {
-    let from_left = fee_from(reach, i % 8 > 0, i - 9, take);
-    let from_right = fee_from(reach, i % 8 < 7, i - 7, take);
-    reach.aside[i as usize - 8].min(from_left).min(from_right)
+    let from_left = fee_behind(reach, i % 8 > 0, i - 9);
+    let from_right = fee_behind(reach, i % 8 < 7, i - 7);
+    reach.aside[i as usize - 8].min(capped_sum(from_left.min(from_right), take))
 }
 
 /// Adds the least of the ways to a square, from those to the squares behind it.
@@ -87,6 +83,24 @@ fn add_square(reach: &mut Reach, tariff: &Tariff, i: u8)
     reach.aside[i] = aside;
 }
 
+/// Adds the squares of a rank to which the pawn of a home can come: those that are no more files than ranks away from it.
+fn add_rank(reach: &mut Reach, side: Colour, frozen: SquareSet, tariff: &Tariff, home: u8, rank: u8)
+    requires first { 8 ≤ home }
+    requires last { home < 16 }
+    requires ahead { 2 ≤ rank }
+    requires inside { rank < 8 }
+    ensures { (p : PriceList) → IsTrue (are_prices p) → IsTariff p frozen side tariff.now → IsReachTo p frozen side home reach.old (8 * rank) → IsReachTo p frozen side home reach.new (8 * rank + 8) }
+{
+    let left = (home - 8).saturating_sub(rank - 1);
+    let right = (home - 8 + rank).min(8);
+    for file in left..right {
+        let i = 8 * rank + file;
+        if !frozen.has(seen_by(side, i)) {
+            add_square(reach, tariff, i);
+        }
+    }
+}
+
 /// What the ways of a pawn of this side cost at least from this home, by its number as the side sees it.
 pub(crate) fn reach_from(side: Colour, frozen: SquareSet, tariff: &Tariff, home: u8) -> Reach
     requires first { 8 ≤ home }
@@ -98,21 +112,25 @@ pub(crate) fn reach_from(side: Colour, frozen: SquareSet, tariff: &Tariff, home:
         aside: [NEVER; 64],
     };
     reach.straight[home as usize] = tariff.gate[home as usize];
-    for i in 16..64 {
-        if !frozen.has(seen_by(side, i)) {
-            add_square(&mut reach, tariff, i);
-        }
+    for rank in 2..8 {
+        add_rank(&mut reach, side, frozen, tariff, home, rank);
     }
     reach
 }
 
-/// What the ways of each pawn of this side cost at least, file by file as the side sees them.
+/// What the ways of each pawn of this side cost at least whose home isn't in the set, file by file as the side sees them.
 pub(crate) fn reaches_of(side: Colour, frozen: SquareSet, tariff: &Tariff) -> [Reach; 8]
-    ensures { (p : PriceList) → IsTrue (are_prices p) → IsTariff p frozen side tariff.now → (f : ℕ) (none : AReach) → f < 8 → IsReach p frozen side (seen_by side (8 + f)) (slice_index_or result f none) }
+    ensures { (p : PriceList) → IsTrue (are_prices p) → IsTariff p frozen side tariff.now → (f : ℕ) (none : AReach) → f < 8 → is_in frozen (seen_by side (8 + f)) ≡ false → IsReach p frozen side (seen_by side (8 + f)) (slice_index_or result f none) }
 {
-    let mut reaches = [reach_from(side, frozen, tariff, 8); 8];
-    for f in 1..8 {
-        reaches[f as usize] = reach_from(side, frozen, tariff, 8 + f);
+    let nowhere = Reach {
+        straight: [NEVER; 64],
+        aside: [NEVER; 64],
+    };
+    let mut reaches = [nowhere; 8];
+    for f in 0..8 {
+        if !frozen.has(seen_by(side, 8 + f)) {
+            reaches[f as usize] = reach_from(side, frozen, tariff, 8 + f);
+        }
     }
     reaches
 }

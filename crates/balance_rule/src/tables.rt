@@ -119,6 +119,8 @@ pub(crate) fn cost_table(
     ensures items { (o : List Bool) (p : PriceList) → IsGround o p ground.now → begun ≡ men_on ground.now.side (array_of o) → SomeIff (option_map (λ rows. rows.items) result) (men_on ground.now.side board.now ≤ begun) (cost_table p ground.now.frozen ground.now.side (array_of o) board.now) }
 {
     let mut rows = stand_rows(ground, board, begun)?;
-    fill_up(&mut rows, gone_row(ground), begun);
+    if rows.len() < begun as usize {
+        fill_up(&mut rows, gone_row(ground), begun);
+    }
     Some(rows)
 }

@@ -29,10 +29,10 @@ use Rattle.cage_rules.proofs.Stays.{castle-from, king-comes}
 use Rattle.men_fates.proofs.Strikes.{label-some}
 use Rattle.men_fates.proofs.Treads.{passes-on}
 
-carried-there : (from to : ℕ) → carried_from from to to ≡ Some from
+pub carried-there : (from to : ℕ) → carried_from from to to ≡ Some from
 carried-there from to = cond-true (to == to) (Some from) _ (eq-eqb to to refl)
 
-carried-elsewhere : (from to u : ℕ) → u ≢ from → u ≢ to → carried_from from to u ≡ Some u
+pub carried-elsewhere : (from to u : ℕ) → u ≢ from → u ≢ to → carried_from from to u ≡ Some u
 carried-elsewhere from to u not_from not_to = cond-false (u == to) (Some from) _ (ne_eqb u to not_to) ∙ cond-false (u == from) None (Some u) (ne_eqb u from not_from)
 
 -- a king doesn't stand where nobody stands who passes a test that kings pass

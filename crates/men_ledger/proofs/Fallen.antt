@@ -28,6 +28,7 @@ use Rattle.men_account.proofs.Moved.{carried_from, moved_from, label-moved, on_s
 use Rattle.men_account.proofs.Labelled.{first-is, labels_after-more, length-labels, labels-each_man}
 use Rattle.men_account.proofs.Captured.{man-there}
 use Rattle.men_account.proofs.PawnWays.{Forward, PawnWay, straight, aslant, pawn-way}
+use Rattle.men_fates.proofs.Lasting.{carried-elsewhere, carried-there}
 use Rattle.men_fates.specs.Deeds.{is_label, way_of}
 use Rattle.men_fates.specs.Ways.{is_straight, way_end}
 use Rattle.men_fates.proofs.MoreDeeds.{label-is}
@@ -37,12 +38,6 @@ use Rattle.men_fates.proofs.Strikes.{label-some}
 use Rattle.men_ledger.specs.Files.{IsTakenAsPawn, is_there, keeps_file}
 use Rattle.men_ledger.proofs.Lines.{step-forward}
 use Rattle.men_ledger.proofs.Courses.{promoted-last}
-
-carried-there : (from to : ℕ) → carried_from from to to ≡ Some from
-carried-there from to = cond-true (to == to) (Some from) _ (eq-eqb to to refl)
-
-carried-elsewhere : (from to u : ℕ) → u ≢ from → u ≢ to → carried_from from to u ≡ Some u
-carried-elsewhere from to u not_from not_to = cond-false (u == to) (Some from) _ (ne_eqb u to not_to) ∙ cond-false (u == from) None (Some u) (ne_eqb u from not_from)
 
 is_end-king_target : (x : Castle) → is_end (king_target x) ≡ true
 is_end-king_target = each-castle (λ x. is_end (king_target x)) refl

@@ -1,7 +1,9 @@
-//! Tests of the rules on sets of squares, on promoted men and on captures by pawns, of the crates that they stand on, and of bounds
+//! Tests of the rules on sets of squares, on promoted men, on captures by pawns and on their balance, of the crates that they stand on, and of bounds
 //! on the length of games.
 #![tactic(auto)]
 
+#[cfg(test)]
+mod balances;
 #[cfg(test)]
 mod bounds;
 #[cfg(test)]

@@ -4,11 +4,8 @@ use Rattle.balance_rule.specs.Costs.{loss_cost}
 use Rattle.balance_rule.specs.LeastWays.{IsLeast, seen_by}
 use Rattle.balance_rule.specs.declared.grounds.Ground.{Ground}
 use Rattle.balance_rule.proofs.Lost.{ends_before, lost-all, lost-more, lost-none}
-use Rattle.balance_rule.proofs.Seen.{seen-inside, seen-seen}
+use Rattle.balance_rule.proofs.Seen.{home-inside, seen-inside, seen-seen}
 use Rattle.balance_rule.proofs.fates.pawn_gone.Goals as goal
-
-home-inside : (g : Ground) (f : ℕ) → f < 8 → seen_by g.side (8 + f) < 64
-home-inside g f low = let inside : 8 + f < 64 = omega arith in seen-inside g.side (8 + f) inside
 
 home-rank : (g : Ground) (f : ℕ) → f < 8 → 1 ≤ rank (seen_by g.side (seen_by g.side (8 + f)))
 home-rank g f low =
@@ -17,17 +14,17 @@ home-rank g f low =
     omega arith
 
 pub loop-i-init : goal.loop-i-init
-loop-i-init c = record { small = omega arith; least = λ o p ground. lost-none p c.args.ground.now.frozen c.args.ground.now.side _ ground.known (home-inside c.args.ground.now c.args.f c.requires) (home-rank c.args.ground.now c.args.f c.requires) }
+loop-i-init c = record { small = omega arith; least = λ o p ground out. lost-none p c.args.ground.now.frozen c.args.ground.now.side _ ground.known (home-inside c.args.ground.now.side c.args.f c.requires) (home-rank c.args.ground.now c.args.f c.requires) }
 
 pub loop-i-preserved : goal.loop-i-preserved
 loop-i-preserved c = record {
   small = omega (arith, c.min-least.ensures, c.loop-i.invariant.small);
-  least = λ o p ground.
+  least = λ o p ground out.
       let h : ℕ = seen_by c.args.ground.now.side (8 + c.args.f) in
-      let on_board = home-inside c.args.ground.now c.args.f c.requires in
+      let on_board = home-inside c.args.ground.now.side c.args.f c.requires in
       subst (IsLeast c.args.ground.now.side c.args.ground.now.frozen h (ends_before p c.args.ground.now.frozen c.args.ground.now.side h ground.known on_board (c.loop-i.i + 1)) (loss_cost p c.args.ground.now.frozen c.args.ground.now.side h)) (sym c.min-least.ensures)
-      (lost-more p c.args.ground.now.frozen c.args.ground.now.side h ground.known on_board c.loop-i.i c.loop-i.least c.loss_at.result c.loop-i-test.true (c.loop-i.invariant.least o p ground) (c.loss_at.ensures o p ground));
+      (lost-more p c.args.ground.now.frozen c.args.ground.now.side h ground.known on_board c.loop-i.i c.loop-i.least c.loss_at.result c.loop-i-test.true (c.loop-i.invariant.least o p ground out) (c.loss_at.ensures o p ground out));
 }
 
 pub returns-clause-value : goal.returns-clause-value
-returns-clause-value c = λ o p ground. lost-all p c.args.ground.now.frozen c.args.ground.now.side _ ground.known (home-inside c.args.ground.now c.args.f c.requires) c.loop-i.i c.loop-i.least (omega arith) (c.loop-i.invariant.least o p ground)
+returns-clause-value c = λ o p ground out. lost-all p c.args.ground.now.frozen c.args.ground.now.side _ ground.known (home-inside c.args.ground.now.side c.args.f c.requires) c.loop-i.i c.loop-i.least (omega arith) (c.loop-i.invariant.least o p ground out)

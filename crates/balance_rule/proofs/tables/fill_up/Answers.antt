@@ -1,6 +1,8 @@
 use Rattle.std.proofs.Common.{◌≡◌, ◌+◌, ◌-◌, ◌≤◌, ◌++◌, ◌∷◌, [], ℕ, List, length, length-append, ap, arith, ◌∙◌}
 use Rattle.std.specs.Prelude.{replicate}
-use Rattle.balance_rule.proofs.Rowed.{alike-more, table-more}
+use Rattle.balance_rule.specs.Costs.{never}
+use Rattle.balance_rule.proofs.Rowed.{alike-more}
+use Rattle.assignment.proofs.Tables.{IsTable-more}
 use Rattle.balance_rule.proofs.tables.fill_up.Goals as goal
 
 pub loop-preserved : goal.loop-preserved
@@ -9,7 +11,7 @@ loop-preserved c =
     let first : length c.args.rows.now.items ≤ c.loop.counter = omega (arith, c.len-counter.ensures.value, c.loop.auto.counter) in
     record {
       size = omega (arith, size, c.loop.invariant.size);
-      table = table-more c.loop.rows.items c.push.new.self.items c.args.row c.loop.invariant.table (omega (arith, c.loop.invariant.size)) c.requires.small c.push.ensures.items;
+      table = IsTable-more c.loop.rows.items c.push.new.self.items c.args.row 16 never c.loop.invariant.table (omega (arith, c.loop.invariant.size)) c.requires.small c.push.ensures.items;
       items = alike-more c.loop.rows.items c.args.rows.now.items c.push.new.self.items c.args.row c.loop.counter first c.loop.invariant.items c.push.ensures.items;
     }
 

@@ -6,7 +6,8 @@ use Rattle.assignment.specs.Tables.{IsTable}
 use Rattle.balance_rule.specs.Costs.{never}
 use Rattle.general_lemmas.proofs.Rows.{AreMade-all, AreMade-none, AreMade-skips, AreMade-takes, AreMade-too-many}
 use Rattle.balance_rule.specs.Balance.{men_squares, stand_row}
-use Rattle.balance_rule.proofs.Rowed.{table-more, table-none}
+use Rattle.balance_rule.proofs.Rowed.{table-none}
+use Rattle.assignment.proofs.Tables.{IsTable-more}
 use Rattle.balance_rule.proofs.tables.stand_rows.Goals as goal
 use Rattle.balance_rule.proofs.tables.stand_rows.Goals.{then-is_of+else-len-begun, else-is_of}
 
@@ -36,7 +37,7 @@ loop-i-preserved c =
           let size : length c.if-is_of.rows.items ≡ length c.loop-i.rows.items + 1 = ap (λ (l : List (List ℕ)). length l) more ∙ length-append c.loop-i.rows.items (w.stand_row.result ∷ []) in
           record {
             size = omega (arith, size, room);
-            table = table-more c.loop-i.rows.items c.if-is_of.rows.items w.stand_row.result c.loop-i.invariant.table (omega (arith, room, c.requires)) w.stand_row.ensures.small more;
+            table = IsTable-more c.loop-i.rows.items c.if-is_of.rows.items w.stand_row.result 16 never c.loop-i.invariant.table (omega (arith, room, c.requires)) w.stand_row.ensures.small more;
             made = λ o p ground.
                 let row = w.stand_row.ensures.value o p ground ∙ ap (stand_row p c.args.ground.now.frozen c.args.ground.now.side (array_of o) c.args.board.now) c.known-s.ensures in
                 AreMade-takes _ _ _ _ _ _ _ (c.loop-i.invariant.made o p ground) c.loop-i-test.true (test ∙ w.if-is_of.true) room (more ∙ ap (λ (r : List ℕ). c.loop-i.rows.items ++ r ∷ []) row);

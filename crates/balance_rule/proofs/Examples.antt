@@ -1,4 +1,4 @@
--- Queries that the balance of captures closes, and what their men cost.
+-- Small queries that the balance of captures closes, one that it doesn't with a price that is one too low, and what their men cost.
 use Rattle.std.proofs.Common.{◌≡◌, ℕ, zero, suc, ◌==◌, Bool, true, false, ◌||◌, not, List, [], ◌∷◌, map, set, refl, arith}
 use Rattle.std.proofs.lemmas.Bool.{both_ways}
 use Rattle.std.specs.Prelude.{None, replicate}
@@ -8,13 +8,14 @@ use Rattle.board_base.specs.Attacks.{distance}
 use Rattle.board_base.specs.declared.men.Colour.TheVariants.{White, Black}
 use Rattle.board_base.specs.declared.men.Kind.TheVariants.{Pawn, King}
 use Rattle.board_base.specs.declared.moves.Move.{Move}
+use Rattle.board_base.proofs.Without.{in-none}
 use Rattle.query_base.specs.Asked.{Asked}
 use Rattle.assignment.specs.Assignments.{injections, least_cost}
 use Rattle.cage_rules.specs.Reach.{LeadsTo}
 use Rattle.static_rules.specs.SetRules.{IsSettled}
 use Rattle.capture_prices.specs.Prices.{PriceList, priced}
 use Rattle.balance_rule.specs.Balance.{BalanceAt, cost_table, gone_row, men_squares, most_cost, side_cost, stand_row}
-use Rattle.balance_rule.specs.Costs.{pawn_stands, ways_from, ways_with_len}
+use Rattle.balance_rule.specs.Costs.{never, pawn_stands, ways_from, ways_with_len}
 use Rattle.balance_rule.proofs.Sound.{balance-closed}
 
 -- this board, with nothing else known
@@ -29,13 +30,8 @@ shown board = record {
   clock = None;
 }
 
-no-member : (n s : ℕ) → is_in (replicate n false) s ≡ false
-no-member zero s = refl
-no-member (suc n) zero = refl
-no-member (suc n) (suc s) = no-member n s
-
 nobody : (s : ℕ) → is_in no_odds s ≡ true → ⊥
-nobody s member = both_ways (is_in no_odds s) (no-member 64 s) member
+nobody s member = both_ways (is_in no_odds s) (in-none 64 s) member
 
 settled : (o : List Bool) (board : Places) → IsSettled o (shown board) no_odds
 settled o board = record {
@@ -80,6 +76,33 @@ b3_supports = record {
 
 b3_closed : (g : List Move) → LeadsTo one_pawn g (shown on_b3) → ⊥
 b3_closed = balance-closed one_pawn (shown on_b3) no_odds priced_1 b3_supports
+
+-- his king can have begun on e1 alone, and the pawn on a2, for the price of b3
+abbrev row : ℕ → ℕ → List ℕ
+row j cost = set (replicate 16 never) j cost
+
+b3_table : cost_table priced_1 no_odds White (array_of one_pawn) on_b3 ≡ row 4 96 ∷ row 8 97 ∷ []
+unfolding one_pawn on_b3 priced_1 cost_table stand_row gone_row men_squares array_of initial_array pawn_stands ways_from ways_with_len distance
+b3_table = refl
+
+-- with a price that is one lower, that of light squares of the b file, nothing is shown
+free_on_b3 : PriceList
+free_on_b3 = priced (set (replicate 16 1) 3 0) (replicate 16 0) []
+
+free_white : side_cost one_pawn on_b3 free_on_b3 no_odds White ≡ 192
+unfolding one_pawn on_b3 free_on_b3 cost_table stand_row gone_row men_squares array_of initial_array least_cost injections pawn_stands ways_from ways_with_len distance
+free_white = refl
+
+free_black : side_cost one_pawn on_b3 free_on_b3 no_odds Black ≡ 96
+unfolding one_pawn on_b3 free_on_b3 cost_table stand_row gone_row men_squares array_of initial_array least_cost injections
+free_black = refl
+
+free_most : most_cost one_pawn free_on_b3 ≡ 288
+unfolding one_pawn free_on_b3 men_squares array_of initial_array
+free_most = refl
+
+free_not_closed : BalanceAt one_pawn (shown on_b3) no_odds free_on_b3 → ⊥
+free_not_closed h = omega (arith, h.above, free_white, free_black, free_most)
 
 -- the array without all men but the kings and the pawns of a2 and a7
 two_pawns : List Bool

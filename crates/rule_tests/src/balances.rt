@@ -1,0 +1,56 @@
+//! The rule on the balance of captures, on a written board.
+
+use balance_rule::balances;
+use board_base::{Odds, SquareSet};
+use capture_prices::Prices;
+use fen_text::read_four_fields;
+use std::test::Fail;
+
+/// The pawns of e2, a7, f7 and g7, who have never moved.
+const AT_HOME: u64 = 0x0061_0000_0000_1000;
+
+/// The king of d7 with them.
+const WITH_KING: u64 = AT_HOME | 1 << 51;
+
+/// Before Black's last move c6xb5 in a problem by T. R. Dawson, if it took a bishop. White has two bishops on light squares, so one was
+/// promoted on such a square.
+const TWO_BISHOPS: &str = "1KRqb3/p2krpp1/2ppp3/PB6/BrPPP3/1p1P4/2p1P3/Q7 b - -";
+
+/// Case, odds, set, what white pawns pay on light squares of the g file and elsewhere, and whether these prices support the query, where
+/// black pawns pay nothing. White's pawns captured four men at least, one of them on g8, and Black is missing three.
+#[test]
+fn weighs_captures(rt: HostRuntime) -> Result<(), Fail> {
+    let query = read_four_fields(TWO_BISHOPS.as_bytes()).ok_or("unread")?;
+    let rows: [(&str, u64, u64, u8, u8, bool); 6] = [
+        ("four captures, three men", 0, AT_HOME, 1, 1, true),
+        ("the greatest prices", 0, AT_HOME, 96, 96, true),
+        ("one capture for nothing", 0, AT_HOME, 0, 1, false),
+        (
+            "a pawn of g7 that may have moved",
+            0,
+            0x0021_0000_0000_1000,
+            1,
+            1,
+            false,
+        ),
+        ("a king that isn't frozen", 0, WITH_KING, 1, 1, false),
+        (
+            "a pawn of e2 that was left out",
+            1 << 12,
+            AT_HOME,
+            1,
+            1,
+            false,
+        ),
+    ];
+    for (case, odds, set, on_g8, elsewhere, supported) in rows {
+        let mut asked = query;
+        asked.odds = Odds::new(SquareSet::from_bits(odds)).ok_or("homes")?;
+        let mut white = [elsewhere; 16];
+        white[13] = on_g8;
+        let prices = Prices::new(&white, &[0; 16], &[]).ok_or("in range")?;
+        let set = SquareSet::from_bits(set);
+        assert_eq!(rt; balances(&asked, set, &prices), supported, "{case}");
+    }
+    Ok(())
+}
