@@ -58,7 +58,7 @@ MOST_NODES = 500_000
 STRAYS = b"retro 1\nclaim illegal\nfen 4k3/8/8/8/8/8/8/4K3 w - -\n"
 STRAY = b"a1a2 back 1\n"
 MOST_CHILDREN = 999_999
-LIMITS = {"least": 20_000, "bound": 2_000}
+LIMITS = {"least": 20_000, "bound": 2_000, "balances": 100_000}
 
 
 def timed(words, text):
@@ -172,7 +172,8 @@ def stream(program):
 
 def pawns():
     with built("pawns", "pawn_assign board_base", ["--", "least", PAWNS[0], "1"]) as program:
-        for call, limit in LIMITS.items():
+        for call in ("least", "bound"):
+            limit = LIMITS[call]
             for squares in PAWNS:
                 few, many = (instructions([program, call, squares, str(times)]) for times in (100, 1100))
                 each = (many - few) / 1000
@@ -189,9 +190,10 @@ def cages():
 def balance():
     parts = "board_base query_base cage_rules fen_text capture_prices balance_rule"
     with built("balance", parts, ["--", CHAINS[0], "0", "0"]) as program:
-        for fen in CHAINS:
+        for fen in [*CHAINS, RETRACTED[3], RETRACTED[4], RETRACTED[7]]:
             none, many, found = (instructions([program, fen, a, b]) for a, b in (("0", "0"), ("20", "0"), ("0", "1")))
-            print(f"{(many - none) / 20:.0f} instructions to weigh, {found - none} to look for prices: {fen}")
+            each, limit = (many - none) / 20, LIMITS["balances"]
+            print(f"{each:.0f} instructions to weigh, {'under' if each < limit else 'NOT UNDER'} {limit}; {found - none} to look for prices: {fen}")
 
 
 def unmoves():
