@@ -4,7 +4,7 @@ use Rattle.std.proofs.Math.Seq.{take-append_seam, drop-append_seam}
 use Rattle.std.proofs.lemmas.List.{drop-replicate, length-replicate}
 use Rattle.std.proofs.lemmas.Bool.{and_parts, leb-true}
 use Rattle.capture_prices.specs.declared.prices.Gate.{Gate}
-use Rattle.capture_prices.specs.Prices.{are_ascending, are_prices, is_low, priced}
+use Rattle.capture_prices.specs.Prices.{are_ascending, are_prices, priced}
 use Rattle.capture_prices.specs.StoredPrices.{IsStored, no_gate}
 
 -- prices have at most sixteen gates
