@@ -1,5 +1,5 @@
 -- Small queries that the balance of captures closes, one that it doesn't with a price that is one too low, and what their men cost.
-use Rattle.std.proofs.Common.{◌≡◌, ℕ, zero, suc, ◌==◌, Bool, true, false, ◌||◌, not, List, [], ◌∷◌, map, set, refl, arith}
+use Rattle.std.proofs.Common.{◌≡◌, ℕ, ◌==◌, Bool, true, false, ◌||◌, not, List, [], ◌∷◌, map, set, refl, arith}
 use Rattle.std.proofs.lemmas.Bool.{both_ways}
 use Rattle.std.specs.Prelude.{None, replicate}
 use Rattle.std.specs.List.{range_with_len}
@@ -78,10 +78,10 @@ b3_closed : (g : List Move) → LeadsTo one_pawn g (shown on_b3) → ⊥
 b3_closed = balance-closed one_pawn (shown on_b3) no_odds priced_1 b3_supports
 
 -- his king can have begun on e1 alone, and the pawn on a2, for the price of b3
-abbrev row : ℕ → ℕ → List ℕ
-row j cost = set (replicate 16 never) j cost
+abbrev only_from : ℕ → ℕ → List ℕ
+only_from j cost = set (replicate 16 never) j cost
 
-b3_table : cost_table priced_1 no_odds White (array_of one_pawn) on_b3 ≡ row 4 96 ∷ row 8 97 ∷ []
+b3_table : cost_table priced_1 no_odds White (array_of one_pawn) on_b3 ≡ only_from 4 96 ∷ only_from 8 97 ∷ []
 unfolding one_pawn on_b3 priced_1 cost_table stand_row gone_row men_squares array_of initial_array pawn_stands ways_from ways_with_len distance
 b3_table = refl
 

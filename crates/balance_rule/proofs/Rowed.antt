@@ -1,10 +1,10 @@
 -- Rows of costs, one for each man.
-use Rattle.std.proofs.Common.{◌≡◌, ℕ, zero, suc, ◌+◌, ◌-◌, ◌<◌, ◌≤◌, inl, inr, Bool, true, false, cond, List, [], ◌∷◌, ◌++◌, length, map, slice_index, refl, ap, sym, subst, ◌∙◌, arith, length-append}
-use Rattle.std.proofs.lemmas.Bool.{both_ways, cases_Bool, cases_lt}
-use Rattle.std.proofs.lemmas.List.{get_or-append_right, get_or_append_left, get_or_past, append_assoc, replicate_more, length-map}
+use Rattle.std.proofs.Common.{◌≡◌, ℕ, suc, ◌+◌, ◌-◌, ◌≤◌, inl, inr, Bool, true, false, cond, List, [], ◌∷◌, ◌++◌, length, map, slice_index, refl, ap, sym, subst, ◌∙◌, arith}
+use Rattle.std.proofs.lemmas.Bool.{both_ways, cases_Bool}
+use Rattle.std.proofs.lemmas.List.{get_or_past, append_assoc, replicate_more, length-map}
 use Rattle.std.proofs.lemmas.List.Sums.{length-filter}
 use Rattle.std.specs.Prelude.{None, replicate}
-use Rattle.std.specs.List.{All, count_by, range_with_len}
+use Rattle.std.specs.List.{count_by, range_with_len}
 use Rattle.assignment.specs.Tables.{IsTable, cost_at}
 use Rattle.board_base.specs.Board.{Places, array_of, at, initial_array, is_in, is_of}
 use Rattle.board_base.specs.declared.men.Colour.{Colour}

@@ -1,5 +1,5 @@
-//! Tests of the rules on sets of squares, on promoted men, on captures by pawns and on their balance, of the crates that they stand on, and of bounds
-//! on the length of games.
+//! Tests of the rules on sets of squares, promoted men, captures by pawns and their balance, of the crates that they stand on, and of
+//! bounds on the length of games.
 #![tactic(auto)]
 
 #[cfg(test)]

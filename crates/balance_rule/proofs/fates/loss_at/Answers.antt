@@ -2,9 +2,8 @@ use Rattle.std.proofs.Common.{◌≡◌, ◌+◌, ◌-◌, ◌<◌, ℕ, min, sl
 use Rattle.balance_rule.specs.Costs.{loss_cost, most_earned, never}
 use Rattle.balance_rule.specs.Grounds.{comes_promoted}
 use Rattle.balance_rule.specs.LeastWays.{IsLeast, ends_on, seen_by}
-use Rattle.balance_rule.specs.declared.grounds.Ground.{Ground}
 use Rattle.balance_rule.proofs.Lost.{loss-last, loss-short}
-use Rattle.balance_rule.proofs.Seen.{home-inside, seen-inside}
+use Rattle.balance_rule.proofs.Seen.{home-inside}
 use Rattle.balance_rule.proofs.fates.loss_at.Goals as goal
 
 pub returns-then-i-lt56 : goal.returns-then-i-lt56

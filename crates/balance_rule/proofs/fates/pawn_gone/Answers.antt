@@ -4,7 +4,7 @@ use Rattle.balance_rule.specs.Costs.{loss_cost}
 use Rattle.balance_rule.specs.LeastWays.{IsLeast, seen_by}
 use Rattle.balance_rule.specs.declared.grounds.Ground.{Ground}
 use Rattle.balance_rule.proofs.Lost.{ends_before, lost-all, lost-more, lost-none}
-use Rattle.balance_rule.proofs.Seen.{home-inside, seen-inside, seen-seen}
+use Rattle.balance_rule.proofs.Seen.{home-inside, seen-seen}
 use Rattle.balance_rule.proofs.fates.pawn_gone.Goals as goal
 
 home-rank : (g : Ground) (f : ℕ) → f < 8 → 1 ≤ rank (seen_by g.side (seen_by g.side (8 + f)))

@@ -1,4 +1,4 @@
-use Rattle.std.proofs.Common.{◌≡◌, ◌+◌, ◌<◌, ℕ, refl, arith, sym, subst}
+use Rattle.std.proofs.Common.{◌≡◌, ◌+◌, ℕ, refl, sym, subst}
 use Rattle.board_base.specs.declared.men.Kind.{Kind}
 use Rattle.board_base.specs.declared.men.Kind.TheVariants.{Pawn, Knight, Bishop, Rook, Queen}
 use Rattle.men_fates.specs.Fates.{brings}
@@ -7,7 +7,7 @@ use Rattle.capture_prices.specs.Prices.{PriceList, gate, take}
 use Rattle.balance_rule.specs.LeastWays.{IsLeast, seen_by}
 use Rattle.balance_rule.specs.declared.grounds.Ground.{Ground}
 use Rattle.balance_rule.proofs.Brought.{pawn-brought}
-use Rattle.balance_rule.proofs.Seen.{home-inside, seen-inside}
+use Rattle.balance_rule.proofs.Seen.{home-inside}
 use Rattle.balance_rule.proofs.fates.toll_to.Goals as goal
 
 -- the kind is this one

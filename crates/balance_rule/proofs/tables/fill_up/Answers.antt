@@ -11,7 +11,7 @@ loop-preserved c =
     let first : length c.args.rows.now.items ≤ c.loop.counter = omega (arith, c.len-counter.ensures.value, c.loop.auto.counter) in
     record {
       size = omega (arith, size, c.loop.invariant.size);
-      table = IsTable-more c.loop.rows.items c.push.new.self.items c.args.row 16 never c.loop.invariant.table (omega (arith, c.loop.invariant.size)) c.requires.small c.push.ensures.items;
+      table = IsTable-more c.loop.rows.items c.push.new.self.items _ 16 never c.loop.invariant.table (omega (arith, c.loop.invariant.size)) c.requires.small c.push.ensures.items;
       items = alike-more c.loop.rows.items c.args.rows.now.items c.push.new.self.items c.args.row c.loop.counter first c.loop.invariant.items c.push.ensures.items;
     }
 
