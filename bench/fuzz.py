@@ -44,6 +44,8 @@ CLOCK = r"clock (?:0|[1-9]\d{0,3})"
 STEPS = rf"(?:notboth [KQkq] [KQkq]|line {UNMOVE}(?: {UNMOVE}){{0,15}})"
 FAULT = rf"(?:text|unlisted {UNMOVE}|unsupported (?:rule|back|array|stray))"
 SAN = r"(?:O-O(?:-O)?|[NBRQK][a-h]?[1-8]?x?[a-h][1-8]|(?:[a-h]x)?[a-h][1-8](?:=[NBRQ])?)[+#]?"
+# The commands that may say something on standard error where they refuse what they read.
+HINTING = ("check", "play", "san", "spell")
 FORMS = {
     ("check", 0): rf"accepted {CLAIM} {FEN}(?: {ODDS})?(?: {CLOCK})?\n",
     ("check", 1): rf"refused line [1-9]\d* {FAULT}\n",
@@ -158,7 +160,9 @@ def misbehaves(case, command, status, out, said):
         return f"status {status}, not one of {due(case, command)}"
     if status in (5, 7, 9, 10) and out:
         return f"status {status} with an answer"
-    if status not in (5, 7, 8, 9, 10) and said:
+    if status in (5, 6) and said.count(b"\n") != 1:
+        return "not one line on standard error"
+    if said and not (status > 4 or status == 1 and command in HINTING):
         return "something on standard error beside an answer"
     return None
 

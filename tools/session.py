@@ -1,5 +1,6 @@
 #!/usr/bin/env python3
-"""Runs each command that the README and docs/ show with a built program, and tells where it writes something else than is shown.
+"""Runs each command that the README and docs/ show with a built program, and tells where it writes something else than is shown, on
+standard output or on standard error.
 
 session.py PROGRAM
 """
@@ -21,7 +22,7 @@ def main():
             for part in re.split(r"^\$ ", block, flags=re.M)[1:]:
                 command, _, shown = part.partition("\n")
                 words = command.replace("retractor ", f"{program} ")
-                done = subprocess.run(words, shell=True, cwd=TOP, stdin=subprocess.DEVNULL, capture_output=True, text=True)
+                done = subprocess.run(words, shell=True, cwd=TOP, stdin=subprocess.DEVNULL, stdout=subprocess.PIPE, stderr=subprocess.STDOUT, text=True)
                 commands += 1
                 if done.stdout.strip("\n") != shown.strip("\n"):
                     differ += 1

@@ -4,7 +4,7 @@ ghost use Rattle.std.specs.Prelude.{◌≡◌, ◌<◌, ◌^◌, IfSome, IsTrue,
 ghost use Rattle.cert_text.specs.ClaimLines.{promotes_well};
 
 use arrayvec::ArrayVec;
-use board_base::{Castle, CastleSet, Colour, Kind, Move, Odds, Square, read_move};
+use board_base::{Castle, CastleSet, Kind, Move, Odds, Square, read_move};
 use cert_text::{read_claim, write_claim};
 use ep_history::ep_fits;
 use fen_text::read_fen;

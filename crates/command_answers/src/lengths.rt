@@ -4,7 +4,7 @@ ghost use Rattle.command_answers.specs.Lengths.{AnswersHowLong, AnswersLengthOf}
 use crate::questions::write_fault;
 use crate::statuses::Status;
 use arrayvec::ArrayVec;
-use length_bound::{LengthText, longest, write_length};
+use length_bound::{longest, write_length};
 use query_base::Query;
 use question_text::read_lone_position;
 use std::alloc::{AllocError, Global};

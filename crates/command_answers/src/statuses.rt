@@ -11,8 +11,8 @@ pub enum Status {
     Done,
     /// What was read is refused, and the line that was written says why.
     Refused,
-    /// Nothing is decided: `solve` found neither a proof nor a game against the claim, `dossier` no proof of a part, or both sides
-    /// have more than the sixteen men of whom `length` tells.
+    /// Nothing is decided: `solve` or `settle` found neither a proof nor a game against the claim, `dossier` no proof of a part, or
+    /// both sides have more than the sixteen men of whom `length` tells.
     Undecided,
     /// The search visited as many queries as it was allowed to, or the tree has more lines.
     Spent,

@@ -1,4 +1,4 @@
-//! The lines that `check`, `atleast` and `line` write, made with no memory.
+//! Lines that are made with no memory: those that `check`, `atleast` and `line` write, and how `dossier` names a step.
 
 ghost use Rattle.std.specs.Prelude.{◌≡◌, ◌≤◌, ◌+◌, ◌∷◌, ◌++◌, IsTrue, None, codes, drop, length};
 ghost use Rattle.arrayvec.specs.ArrayVec.{array_vec_len};

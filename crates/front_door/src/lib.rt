@@ -1,17 +1,37 @@
-//! The program as a whole: the words of the command line, standard input and output, and the status with which it ends.
+//! The program as a whole: the words of the command line, standard input and output, what is said on standard error, and the status
+//! with which it ends.
 #![tactic(auto)]
 
 ghost use Rattle.std.specs.Prelude.{◌≡◌};
 ghost use Rattle.std.specs.Process.{exit_status};
 ghost use Rattle.command_answers.specs.Statuses.{code_of};
 
+mod advice;
+#[cfg(test)]
+mod advice_tests;
+mod calls;
+mod certificates;
+mod fens;
+mod games;
+mod hints;
+mod inputs;
+mod lines;
+mod refusals;
 #[cfg(test)]
 mod tests;
+mod watching;
+mod words;
 
-use retro_ports::{StdSink, StdSource};
+use crate::calls::{call_of, usage};
+use crate::watching::{Overheard, Watched};
+use crate::words::{advise_words, is_option};
+pub use advice::{Advice, FenAdvice, LineAdvice, MoveAdvice, TextAdvice, WordAdvice};
+pub use calls::{Call, Number};
+pub use hints::{Hint, advise};
+use retro_ports::{Sink, StdSink, StdSource, write_all};
 use retro_top::{Status, run};
 use std::env::Env;
-use std::io::ErrorKind;
+use std::io::{ErrorKind, IsTerminal};
 use std::marker::Model;
 use std::process::{ExitCode, Termination};
 use std::{env, io};
@@ -20,6 +40,7 @@ use std::{env, io};
 /// other way.
 pub struct Ended {
     status: Status,
+    hint: Option<Hint>,
 }
 
 impl Model for Ended {
@@ -31,74 +52,144 @@ impl Model for Ended {
 }
 
 impl Termination for Ended {
-    /// Says on standard error why no answer, or a part of one, was written, where that is so; the line may fail to come.
-    /// The process then ends with the number of the status.
+    /// Says on standard error what was expected, or why no answer, or a part of one, was written, where that is so; the line may
+    /// fail to come. The process then ends with the number of the status.
     fn report<R: Eprint>(self, rt: &R) -> ExitCode
         ensures { exit_status result ≡ code_of self }
     {
-        let Ended { status } = self;
-        if let Some(line) = help(status) {
-            let _ = eprintln!(rt; "{line}");
+        let Ended { status, hint } = self;
+        if let Some(hint) = hint {
+            say_hint(rt, hint);
+        }
+        if let Some(line) = failure(status) {
+            let _ = eprintln!(rt; "retractor: {line}");
         }
         status.exit_code()
     }
 }
 
-/// How each command is called, what it reads, and what it answers.
-const USAGE: &str = "usage:
-  retractor check < CERTIFICATE                  whether the certificate proves its claim
-  retractor play < FEN-AND-MOVES                 whether the moves are a legal game that reaches the position
-  retractor san < FEN-AND-GAME                   whether the game in algebraic notation reaches the position
-  retractor spell < MOVES                        the game in algebraic notation
-  retractor unmoves < FEN                        each move that may have been the last, and the position before it
-  retractor solve DEPTH NODES < CLAIM-AND-FEN    a certificate of the claim, or a game against it
-  retractor settle DEPTH NODES < CLAIM-AND-FEN   the same, by the balance of captures too, at depth 0, 1, .. up to DEPTH
-  retractor verdict DEPTH NODES < FEN            what the conventions say of castling and en passant
-  retractor tree DEPTH NODES < FEN               the moves that may lead to the position, as a tree
-  retractor length < FEN                         how many half-moves each game to the position has at least
-  retractor atleast < LENGTH                     whether the numbers of a length show it
-  retractor line < DOSSIER                       whether the dossier proves its claim of several steps
-  retractor dossier DEPTH NODES < CLAIM-AND-FEN  a dossier of the claim of several steps
-  retractor sample START GAMES PLIES             what is counted of games that are made from a number";
+/// Says the hint on standard error, in one line.
+fn say_hint<R: Eprint>(rt: &R, hint: Hint) {
+    let text = hint.advice.text();
+    let _ = match hint.call {
+        Some(call) => {
+            let line = call.line;
+            eprintln!(rt; "retractor: {text}: retractor {line}")
+        }
+        None => eprintln!(rt; "retractor: {text}"),
+    };
+}
 
-/// What a user is told where no answer, or a part of one, was written.
-fn help(status: Status) -> Option<&'static str> {
+/// Why no answer, or a part of one, was written, where something failed.
+fn failure(status: Status) -> Option<&'static str> {
     match status {
-        Status::BadWords => Some(USAGE),
-        Status::ReadFault => Some("retractor: reading the input failed"),
-        Status::WriteFault => Some("retractor: writing the answer failed"),
-        Status::Memory => Some("retractor: not enough memory"),
-        Status::TooLong => Some("retractor: the input has more than 67108864 bytes"),
+        Status::ReadFault => Some("reading the input failed"),
+        Status::WriteFault => Some("writing the answer failed"),
+        Status::Memory => Some("not enough memory"),
+        Status::TooLong => Some("the input has more than 67108864 bytes"),
         Status::Done
         | Status::Refused
         | Status::Undecided
         | Status::Spent
         | Status::Countered
+        | Status::BadWords
         | Status::BadInput => None,
     }
 }
 
-/// The status with which the command ends: bad words where a word isn't UTF-8, want of memory where the words find none.
-fn status_of<R: Env + Input + Print + AllocGlobal>(rt: &R) -> Status {
-    let mut args = match env::args(rt) {
-        Ok(args) => args,
-        Err(e) if e.kind() == ErrorKind::OutOfMemory => return Status::Memory,
-        Err(_) => return Status::BadWords,
-    };
-    // The first is the program's name.
-    let _ = args.next();
-    let Ok(words) = args.collect::<Vec<String>>(rt.alloc()) else {
-        return Status::Memory;
-    };
-    let mut source = StdSource::new(rt.reader());
-    let mut sink = StdSink::new(io::writer(rt));
-    run(rt.alloc(), &words, &mut source, &mut sink)
+/// The name of the program, and its version.
+const VERSION: &str = "retractor 1.0\n";
+
+/// Writes a text that answers `--help` or `--version`.
+fn tell<K: Sink>(sink: &mut K, text: &str) -> Status {
+    match write_all(sink, text.as_bytes()) {
+        Ok(()) => Status::Done,
+        Err(_) => Status::WriteFault,
+    }
 }
 
-/// Does what the words of the command line ask, as `run` does it, from standard input to standard output. A word that
-/// isn't UTF-8 makes the words bad. No clause can name what the system gives, so none says which status comes.
-pub fn serve<R: Env + Input + Print + AllocGlobal>(rt: &R) -> Ended {
-    Ended {
-        status: status_of(rt),
+/// Answers `--help` or `--version`.
+fn tell_option<R: Print + AllocGlobal>(rt: &R, word: &str) -> Status {
+    let mut sink = StdSink::new(io::writer(rt));
+    if word == "--version" {
+        return tell(&mut sink, VERSION);
+    }
+    match usage(rt.alloc()) {
+        Ok(text) => tell(&mut sink, text.as_str()),
+        Err(_) => Status::Memory,
+    }
+}
+
+/// Says on standard error what the command that these words call waits for, where it reads from a terminal.
+fn say_what_is_due<R: Eprint + AllocGlobal, T: IsTerminal>(rt: &R, words: &[String], input: &T) {
+    let [name, ..] = words else {
+        return;
+    };
+    let Some(call) = call_of(name.as_bytes()) else {
+        return;
+    };
+    if call.reads && advise_words(rt.alloc(), words).is_none() && input.is_terminal() {
+        let line = call.line;
+        let _ = eprintln!(rt;
+            "retractor: reading from the terminal, to the end of the input (Ctrl-D): retractor {line}"
+        );
+    }
+}
+
+/// Does what the words ask, as `run` does it.
+fn answer<R: Input + Print + Eprint + AllocGlobal>(rt: &R, words: &[String]) -> Ended
+where
+    R::Reader: IsTerminal,
+{
+    let reader = rt.reader();
+    say_what_is_due(rt, words, &reader);
+    let mut source = Watched::new(StdSource::new(reader));
+    let mut sink = Overheard::new(StdSink::new(io::writer(rt)));
+    let status = run(rt.alloc(), words, &mut source, &mut sink);
+    let hint = advise(rt.alloc(), words, source.front(), status, sink.front());
+    Ended { status, hint }
+}
+
+/// The end of a run that began with no words.
+fn wordless(status: Status) -> Ended {
+    let hint = match status {
+        Status::BadWords => Some(Hint::plain(Advice::Words(WordAdvice::NotUtf8))),
+        _ => None,
+    };
+    Ended { status, hint }
+}
+
+/// The words of the command line but the first, which is the program's name: bad words where one isn't UTF-8, want of memory where
+/// they find none.
+fn words_of<R: Env + AllocGlobal>(rt: &R) -> Result<Vec<String>, Status> {
+    let mut args = match env::args(rt) {
+        Ok(args) => args,
+        Err(e) if e.kind() == ErrorKind::OutOfMemory => return Err(Status::Memory),
+        Err(_) => return Err(Status::BadWords),
+    };
+    let _ = args.next();
+    match args.collect::<Vec<String>>(rt.alloc()) {
+        Ok(words) => Ok(words),
+        Err(_) => Err(Status::Memory),
+    }
+}
+
+/// Does what the words of the command line ask, as `run` does it, from standard input to standard output; or writes the usage or the
+/// version, where `--help` or `--version` is the only word. A word that isn't UTF-8 makes the words bad. No clause can name what the
+/// system gives, so none says which status comes.
+pub fn serve<R: Env + Input + Print + Eprint + AllocGlobal>(rt: &R) -> Ended
+where
+    R::Reader: IsTerminal,
+{
+    let words = match words_of(rt) {
+        Ok(words) => words,
+        Err(status) => return wordless(status),
+    };
+    match words.as_slice() {
+        [word] if is_option(word.as_str()) => Ended {
+            status: tell_option(rt, word.as_str()),
+            hint: None,
+        },
+        _ => answer(rt, words.as_slice()),
     }
 }

@@ -3,7 +3,7 @@ use std::alloc::Allocator;
 use std::env::{Env, FillError};
 use std::fmt::Display;
 use std::io;
-use std::io::{BufRead, ErrorKind, Lines, Read};
+use std::io::{BufRead, ErrorKind, IsTerminal, Lines, Read};
 use std::process::{ExitCode, Termination};
 
 /// A system with these words and this input, whose reads or whose writes fail, or neither.
@@ -42,6 +42,12 @@ impl BufRead for Given {
     fn consume(&mut self, amount: usize) {
         let n = amount.min(self.left.len());
         self.left = &self.left[n..];
+    }
+}
+
+impl IsTerminal for Given {
+    fn is_terminal(&self) -> bool {
+        false
     }
 }
 
@@ -85,6 +91,17 @@ impl Env for Desk {
     }
 }
 
+impl Eprint for Desk {
+    fn eprint<D: Display + Drop>(&self, value: D) -> io::Result<()> {
+        drop(value);
+        Ok(())
+    }
+
+    fn eprintln<D: Display + Drop>(&self, value: D) -> io::Result<()> {
+        self.eprint(value)
+    }
+}
+
 impl Print for Desk {
     fn print<D: Display + Drop>(&self, value: D) -> io::Result<()> {
         drop(value);
@@ -115,6 +132,16 @@ fn ends_with_the_number_of_the_status(rt: HostRuntime) {
         (&[], KINGLESS, false, false, 5),
         (&[b"retractor", b"\xff"], KINGLESS, false, false, 5),
         (&[b"retractor", b"unmoves"], KINGLESS, false, false, 6),
+        (&[b"retractor", b"--help"], KINGLESS, true, false, 0),
+        (&[b"retractor", b"--help"], KINGLESS, false, true, 8),
+        (&[b"retractor", b"--version"], KINGLESS, true, false, 0),
+        (
+            &[b"retractor", b"--version", b"check"],
+            KINGLESS,
+            true,
+            false,
+            5,
+        ),
         (CHECK, KINGLESS, true, false, 7),
         (CHECK, KINGLESS, false, true, 8),
     ] {

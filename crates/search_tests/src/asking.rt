@@ -3,7 +3,6 @@
 use board_base::UnmoveList;
 use cert_text::{Body, Cert, Node, fits_format, read_claim};
 use fen_text::read_four_fields;
-use query_base::{Claim, Query};
 use retro_search::{Found, solve};
 use std::alloc::Global;
 use std::test::Fail;

@@ -12,14 +12,17 @@ use arrayvec::ArrayVec;
 use board_base::write_unmove;
 use query_base::Query;
 use std::alloc::Global;
+use thiserror::Error;
 use unmove_gen::{Unmoves, pred, unmoves_have_texts};
 
 /// Why no text was written.
-#[derive(Clone, Copy, PartialEq, Eq, Debug)]
+#[derive(Clone, Copy, PartialEq, Eq, Debug, Error)]
 pub enum TreeFault {
     /// The text has more lines than were allowed.
+    #[error("the tree has more lines than were allowed")]
     Spent,
     /// Want of memory.
+    #[error("out of memory")]
     Memory,
 }
 

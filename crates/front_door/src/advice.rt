@@ -1,0 +1,245 @@
+//! What a user is told whose words or whose input aren't what a command takes: the table of all texts.
+
+/// What is wrong with the words of the command line.
+#[derive(Clone, Copy, PartialEq, Eq, Debug)]
+pub enum WordAdvice {
+    NotUtf8,
+    StandsAlone,
+    ComesByInput,
+    NoCommand,
+    NearestCommand,
+    Count,
+    Depth,
+    Nodes,
+    Start,
+    Games,
+    Plies,
+    Usage,
+}
+
+impl WordAdvice {
+    pub fn text(self) -> &'static str {
+        match self {
+            WordAdvice::NotUtf8 => "a word isn't UTF-8",
+            WordAdvice::StandsAlone => "`--help` and `--version` stand alone",
+            WordAdvice::ComesByInput => {
+                "positions, claims and files aren't words: the input comes by `<` or a pipe"
+            }
+            WordAdvice::NoCommand => "there is no such command; `retractor --help` lists them",
+            WordAdvice::NearestCommand => "there is no such command; the nearest is",
+            WordAdvice::Count => "there are too many or too few words",
+            WordAdvice::Depth => "DEPTH is a number from 0 to 64",
+            WordAdvice::Nodes => "NODES is a number from 1 to 500000",
+            WordAdvice::Start => "START is a number from 0 to 18446744073709551615",
+            WordAdvice::Games => "GAMES is a number from 1 to 1000",
+            WordAdvice::Plies => "PLIES is a number from 1 to 200",
+            WordAdvice::Usage => "`retractor --help` says how each command is called",
+        }
+    }
+}
+
+/// What is wrong with the lines of an input: with the claim, the odds and the clock, or with their number.
+#[derive(Clone, Copy, PartialEq, Eq, Debug)]
+pub enum LineAdvice {
+    Empty,
+    Claim,
+    ClaimOfSteps,
+    Steps,
+    ClaimOfOne,
+    MoveOfClaim,
+    RightOfClaim,
+    Odds,
+    Clock,
+    ClockAgainstFen,
+    NoFen,
+    LineTooMany,
+    Lines,
+}
+
+impl LineAdvice {
+    pub fn text(self) -> &'static str {
+        match self {
+            LineAdvice::Empty => "the input is empty; it comes by `<` or a pipe",
+            LineAdvice::Claim => {
+                "line 1 is a claim: `claim illegal`, `claim last f3g3`, `claim lost K` (or Q, k, q) or `claim ep e5d6`"
+            }
+            LineAdvice::ClaimOfSteps => {
+                "`claim line` and `claim notboth` belong to `dossier DEPTH NODES`"
+            }
+            LineAdvice::Steps => {
+                "line 1 is a claim of several steps: `claim notboth K Q`, or `claim line` and retractions, the last move first, as `claim line f3g3xp f4g3ep`"
+            }
+            LineAdvice::ClaimOfOne => {
+                "`claim illegal`, `claim last`, `claim lost` and `claim ep` belong to `solve DEPTH NODES`"
+            }
+            LineAdvice::MoveOfClaim => {
+                "a claim's move is its origin and its target, and n, b, r or q where a pawn promotes: `claim last f3g3`, `claim last b7b8q`, `claim ep e5d6`"
+            }
+            LineAdvice::RightOfClaim => {
+                "`claim lost` names one right: K or Q of White's, k or q of Black's"
+            }
+            LineAdvice::Odds => {
+                "the line is `odds` and a number of 16 hexadecimal digits, the sum of 1 for a1, 2 for b1, 4 for c1 .. 80 for h1, 100 for a2 ..; only men of ranks 1, 2, 7 and 8 may be left out, and no king: `odds 0000000000000002` is the knight of b1"
+            }
+            LineAdvice::Clock => {
+                "the line is `clock` and a number from 0 to 9999, as `clock 12`"
+            }
+            LineAdvice::ClockAgainstFen => {
+                "the clock line and the fifth field of the FEN say different numbers; leave the line out, or let them agree"
+            }
+            LineAdvice::NoFen => {
+                "the FEN line is missing; it is the last line of a position, behind the lines of claim, odds and clock"
+            }
+            LineAdvice::LineTooMany => {
+                "nothing may follow the FEN line, and no empty line; only `play` and `san` read moves behind it"
+            }
+            LineAdvice::Lines => {
+                "the lines are, in this order: the claim where one is asked for, `odds ..` and `clock ..` where they are wanted, and the FEN"
+            }
+        }
+    }
+}
+
+/// What is wrong with the line that is due as a FEN.
+#[derive(Clone, Copy, PartialEq, Eq, Debug)]
+pub enum FenAdvice {
+    EmptyLine,
+    ClaimLine,
+    Demand,
+    OtherText,
+    Tab,
+    Blanks,
+    BlankAtEnd,
+    Knight,
+    Digits,
+    Placement,
+    NoSide,
+    Side,
+    Rights,
+    Passant,
+    Fields,
+    Numbers,
+}
+
+impl FenAdvice {
+    pub fn text(self) -> &'static str {
+        match self {
+            FenAdvice::EmptyLine => "the line that is due as a FEN is empty",
+            FenAdvice::ClaimLine => {
+                "a claim line is read by `solve`, `settle` and `dossier` alone, as line 1"
+            }
+            FenAdvice::Demand => {
+                "before the FEN may stand one `odds ..` line and behind that one `clock ..` line; `length` knows no clock"
+            }
+            FenAdvice::OtherText => {
+                "a FEN is due, and this is a certificate, a length or a dossier, which `check`, `atleast` and `line` read"
+            }
+            FenAdvice::Tab => "one space parts the fields, and no tab",
+            FenAdvice::Blanks => "one space parts the fields, and none stands before the first",
+            FenAdvice::BlankAtEnd => "a blank stands at the end of the FEN",
+            FenAdvice::Knight => "the knight is N for White and n for Black, not S",
+            FenAdvice::Digits =>
+                "no digit follows a digit: write their sum, as 8 for an empty rank",
+            FenAdvice::Placement => {
+                "field 1 is eight ranks from 8 down to 1 parted by /, each of eight squares: PNBRQK for White's men, pnbrqk for Black's, a digit for so many empty squares"
+            }
+            FenAdvice::NoSide => {
+                "side, rights and en passant square are missing: write ` w - -` or ` b - -` behind the men"
+            }
+            FenAdvice::Side => "field 2 is the side to move, w or b",
+            FenAdvice::Rights => {
+                "field 3 is -, or the rights that are still held, in the order KQkq"
+            }
+            FenAdvice::Passant => {
+                "field 4 is -, or the square that a double step has just crossed: a file and 6 where White is to move, 3 where Black is"
+            }
+            FenAdvice::Fields => {
+                "a FEN has four fields or six: men, side, rights, en passant square, and two numbers or none"
+            }
+            FenAdvice::Numbers =>
+                "fields 5 and 6 are numbers of one to nine digits; both may be left out",
+        }
+    }
+}
+
+/// What is wrong with a word of a game.
+#[derive(Clone, Copy, PartialEq, Eq, Debug)]
+pub enum MoveAdvice {
+    UseSan,
+    UsePlay,
+    CastlingLetters,
+    Marks,
+    Move,
+    San,
+}
+
+impl MoveAdvice {
+    pub fn text(self) -> &'static str {
+        match self {
+            MoveAdvice::UseSan => {
+                "a move is its origin and its target here, as g1f3; use `san` for Nf3"
+            }
+            MoveAdvice::UsePlay => "a move is written as Nf3 here; use `play` for g1f3",
+            MoveAdvice::CastlingLetters => "castling is O-O or O-O-O, with the letter O",
+            MoveAdvice::Marks => "no e.p., ! or ?, no comment, variation or tag is read",
+            MoveAdvice::Move => {
+                "a move is its origin and its target, and n, b, r or q where a pawn promotes: e2e4, e1g1, e7e8q"
+            }
+            MoveAdvice::San => {
+                "a word is a number (12.), a move (Nf3, exd5, O-O, e8=Q) or, as the last, a result (1-0, 0-1, 1/2-1/2, *)"
+            }
+        }
+    }
+}
+
+/// What was given to `check` that is no certificate.
+#[derive(Clone, Copy, PartialEq, Eq, Debug)]
+pub enum TextAdvice {
+    Dossier,
+    Length,
+    Claim,
+    CarriageReturns,
+}
+
+impl TextAdvice {
+    pub fn text(self) -> &'static str {
+        match self {
+            TextAdvice::Dossier => "this is a dossier, which `retractor line` checks",
+            TextAdvice::Length => "this is the text of a length, which `retractor atleast` checks",
+            TextAdvice::Claim => {
+                "this is a claim and a position; `retractor solve DEPTH NODES` searches for a certificate of it"
+            }
+            TextAdvice::CarriageReturns => {
+                "the lines end with \\r\\n, those of a certificate with \\n alone: `tr -d '\\r' < FILE | retractor check`"
+            }
+        }
+    }
+}
+
+/// What a user is told.
+#[derive(Clone, Copy, PartialEq, Eq, Debug)]
+pub enum Advice {
+    /// At bad words.
+    Words(WordAdvice),
+    /// At bad input.
+    Lines(LineAdvice),
+    /// At bad input.
+    Fen(FenAdvice),
+    /// Where a word of a game is refused.
+    Moves(MoveAdvice),
+    /// Where `check` refuses the first line.
+    Texts(TextAdvice),
+}
+
+impl Advice {
+    /// The text of the advice, without the line's end.
+    pub fn text(self) -> &'static str {
+        match self {
+            Advice::Words(advice) => advice.text(),
+            Advice::Lines(advice) => advice.text(),
+            Advice::Fen(advice) => advice.text(),
+            Advice::Moves(advice) => advice.text(),
+            Advice::Texts(advice) => advice.text(),
+        }
+    }
+}

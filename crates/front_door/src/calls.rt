@@ -1,0 +1,187 @@
+//! How each command is called. A new command is a row of `CALLS`.
+
+use std::alloc::{AllocError, Global};
+
+/// A number among the words of a call.
+#[derive(Clone, Copy, PartialEq, Eq, Debug)]
+pub enum Number {
+    /// How many moves are taken back at most.
+    Depth,
+    /// How many positions a search visits, or how many lines a tree has, at most.
+    Nodes,
+    /// From which number games are made.
+    Start,
+    /// How many games are made.
+    Games,
+    /// How many moves a game has at most.
+    Plies,
+}
+
+impl Number {
+    /// The least and the greatest number that may stand there.
+    pub fn range(self) -> (u64, u64) {
+        match self {
+            Number::Depth => (0, 64),
+            Number::Nodes => (1, 500_000),
+            Number::Start => (0, u64::MAX),
+            Number::Games => (1, 1_000),
+            Number::Plies => (1, 200),
+        }
+    }
+}
+
+/// How a command is called.
+#[derive(Clone, Copy, Debug)]
+pub struct Call {
+    /// Its first word.
+    pub name: &'static str,
+    /// The numbers behind it.
+    pub numbers: &'static [Number],
+    /// It reads standard input.
+    pub reads: bool,
+    /// The whole call, with what the input is.
+    pub line: &'static str,
+    /// What it answers.
+    pub answer: &'static str,
+}
+
+const NONE: &[Number] = &[];
+
+const LIMITS: &[Number] = &[Number::Depth, Number::Nodes];
+
+/// The commands, in the order in which the usage names them.
+pub const CALLS: [Call; 14] = [
+    Call {
+        name: "check",
+        numbers: NONE,
+        reads: true,
+        line: "check < CERTIFICATE",
+        answer: "whether the certificate proves its claim",
+    },
+    Call {
+        name: "play",
+        numbers: NONE,
+        reads: true,
+        line: "play < FEN-AND-MOVES",
+        answer: "whether the moves are a legal game that reaches the position",
+    },
+    Call {
+        name: "san",
+        numbers: NONE,
+        reads: true,
+        line: "san < FEN-AND-GAME",
+        answer: "whether the game in algebraic notation reaches the position",
+    },
+    Call {
+        name: "spell",
+        numbers: NONE,
+        reads: true,
+        line: "spell < MOVES",
+        answer: "the game in algebraic notation",
+    },
+    Call {
+        name: "unmoves",
+        numbers: NONE,
+        reads: true,
+        line: "unmoves < FEN",
+        answer: "each move that may have been the last, and the position before it",
+    },
+    Call {
+        name: "solve",
+        numbers: LIMITS,
+        reads: true,
+        line: "solve DEPTH NODES < CLAIM-AND-FEN",
+        answer: "a certificate of the claim, or a game against it",
+    },
+    Call {
+        name: "settle",
+        numbers: LIMITS,
+        reads: true,
+        line: "settle DEPTH NODES < CLAIM-AND-FEN",
+        answer: "the same, by the balance of captures too",
+    },
+    Call {
+        name: "verdict",
+        numbers: LIMITS,
+        reads: true,
+        line: "verdict DEPTH NODES < FEN",
+        answer: "what the conventions say of castling and en passant",
+    },
+    Call {
+        name: "tree",
+        numbers: LIMITS,
+        reads: true,
+        line: "tree DEPTH NODES < FEN",
+        answer: "the moves that may lead to the position, as a tree",
+    },
+    Call {
+        name: "length",
+        numbers: NONE,
+        reads: true,
+        line: "length < FEN",
+        answer: "how many half-moves each game to the position has at least",
+    },
+    Call {
+        name: "atleast",
+        numbers: NONE,
+        reads: true,
+        line: "atleast < LENGTH",
+        answer: "whether the numbers of a length show it",
+    },
+    Call {
+        name: "line",
+        numbers: NONE,
+        reads: true,
+        line: "line < DOSSIER",
+        answer: "whether the dossier proves its claim of several steps",
+    },
+    Call {
+        name: "dossier",
+        numbers: LIMITS,
+        reads: true,
+        line: "dossier DEPTH NODES < CLAIM-AND-FEN",
+        answer: "a dossier of the claim of several steps",
+    },
+    Call {
+        name: "sample",
+        numbers: &[Number::Start, Number::Games, Number::Plies],
+        reads: false,
+        line: "sample START GAMES PLIES",
+        answer: "what is counted of games that are made from a number",
+    },
+];
+
+/// The call of the command of this name.
+pub fn call_of(name: &[u8]) -> Option<Call> {
+    for call in CALLS {
+        if call.name.as_bytes() == name {
+            return Some(call);
+        }
+    }
+    None
+}
+
+/// What stands behind the calls in the usage.
+const FURTHER: &str = "  retractor --help | --version
+
+DEPTH: how many moves are taken back at most, from 0 to 64. NODES: how many positions a search visits, or how many lines
+a tree has, at most, from 1 to 500000. START: any number. GAMES: from 1 to 1000. PLIES: from 1 to 200.
+
+Statuses: 0 done, 1 refused, 2 undecided, 3 nodes spent, 4 a game against the claim, 5 bad words, 6 bad input, 7 reading
+failed, 8 writing failed, 9 not enough memory, 10 the input has more than 67108864 bytes.
+
+docs/COMMANDS.md has every command, its input and its answers, docs/TUTORIAL.md solved problems.
+";
+
+/// How each command is called, what it reads, and what it answers; the numbers and the statuses.
+pub fn usage(alloc: Global) -> Result<String, AllocError> {
+    let mut text = String::from_str(alloc, "usage:\n")?;
+    for call in CALLS {
+        let line = call.line;
+        let answer = call.answer;
+        let row = format!(in alloc; "  retractor {line:<36} {answer}\n")?;
+        text.push_str(row.as_str())?;
+    }
+    text.push_str(FURTHER)?;
+    Ok(text)
+}

@@ -1,0 +1,154 @@
+//! Which advice a user gets, by the words, the front of the input, the status, and the front of what was written.
+
+ghost use Rattle.std.specs.Prelude.{◌≡◌, ◌↔◌, IfSome, IsSome, IsTrue, List, String};
+ghost use Rattle.std.specs.Global.{Global as AGlobal};
+ghost use Rattle.command_answers.specs.declared.statuses.Status.TheVariants.{BadInput, BadWords, Refused};
+ghost use Rattle.front_door.specs.Hints.{AskForGame, Begin, GoesWith};
+
+use crate::advice::{Advice, LineAdvice, MoveAdvice, WordAdvice};
+use crate::calls::{Call, call_of};
+use crate::certificates::advise_text;
+use crate::fens::advise_fen;
+use crate::games::{advise_ply, advise_word};
+use crate::inputs::{after_fen, fen_line};
+use crate::lines::advise_line;
+use crate::refusals::{Refusal, refusal_of};
+use crate::words::advise_words;
+use retro_top::Status;
+use std::alloc::Global;
+
+/// What a user is told, and how the command that is meant is called.
+#[derive(Clone, Copy, Debug)]
+pub struct Hint {
+    pub advice: Advice,
+    pub call: Option<Call>,
+}
+
+impl Hint {
+    pub(crate) fn plain(advice: Advice) -> Hint
+        ensures { result.advice ≡ advice }
+    {
+        Hint { advice, call: None }
+    }
+
+    pub(crate) fn of_call(advice: Advice, call: Call) -> Hint
+        ensures { result.advice ≡ advice }
+    {
+        Hint {
+            advice,
+            call: Some(call),
+        }
+    }
+}
+
+/// The first word is this name.
+fn begin(words: &[String], name: &[u8]) -> bool
+    ensures { IsTrue result ↔ Begin words.now name.now }
+{
+    match words {
+        [] => false,
+        [word, ..] => word.as_bytes() == name,
+    }
+}
+
+/// The words ask for a command that reads a game.
+fn ask_for_game(words: &[String]) -> bool
+    ensures { IsTrue result → AskForGame words.now }
+{
+    begin(words, b"play") || begin(words, b"san") || begin(words, b"spell")
+}
+
+/// The first word, which names the command.
+fn name_of(words: &[String]) -> &[u8] {
+    match words {
+        [] => b"",
+        [word, ..] => word.as_bytes(),
+    }
+}
+
+/// What is wrong with an input that isn't of the command's form, by the line that says where.
+fn advise_input(name: &[u8], input: &[u8], answer: &[u8]) -> Advice
+    ensures { (words : List (String AGlobal)) → GoesWith result words BadInput }
+{
+    match refusal_of(answer) {
+        Some(Refusal::Fen { field, at }) => {
+            Advice::Fen(advise_fen(fen_line(name, input), field, at))
+        }
+        Some(Refusal::Line(number)) => Advice::Lines(advise_line(name, input, number)),
+        _ => Advice::Lines(LineAdvice::Lines),
+    }
+}
+
+/// What is wrong with a game that is refused, by the line that says so; None where it is a game's text.
+fn advise_game(name: &[u8], input: &[u8], answer: &[u8]) -> Option<MoveAdvice> {
+    let game = if matches!(name, b"spell") {
+        input
+    } else {
+        after_fen(name, input)
+    };
+    match refusal_of(answer) {
+        Some(Refusal::Word(number)) => Some(advise_word(name, game, number)),
+        Some(Refusal::Ply(number)) => advise_ply(game, number),
+        _ => None,
+    }
+}
+
+/// What is wrong with an input that is refused; None where it is of the command's form, or isn't known.
+fn advise_refused(words: &[String], input: &[u8], answer: &[u8]) -> Option<Advice>
+    ensures { IfSome result (λ advice. GoesWith advice words.now Refused) }
+{
+    if begin(words, b"check") && refusal_of(answer) == Some(Refusal::FirstLine) {
+        match advise_text(input) {
+            Some(advice) => Some(Advice::Texts(advice)),
+            None => None,
+        }
+    } else if ask_for_game(words) {
+        match advise_game(name_of(words), input, answer) {
+            Some(advice) => Some(Advice::Moves(advice)),
+            None => None,
+        }
+    } else {
+        None
+    }
+}
+
+/// The advice with the call of the command, where the input is empty.
+fn with_call(words: &[String], advice: Advice) -> Hint
+    ensures { result.advice ≡ advice }
+{
+    let call = match advice {
+        Advice::Lines(LineAdvice::Empty) => call_of(name_of(words)),
+        _ => None,
+    };
+    Hint { advice, call }
+}
+
+/// What a user is told after a run with these words, by the front of its input, its status, and the front of what it wrote. It comes
+/// at each bad words and each bad input; else only where a text was refused that is of another kind than a certificate or a game's.
+pub fn advise(
+    alloc: Global,
+    words: &[String],
+    input: &[u8],
+    status: Status,
+    answer: &[u8],
+) -> Option<Hint>
+    ensures fits { IfSome result (λ hint. GoesWith hint.advice words.now status) }
+    ensures bad_words { status ≡ BadWords → IsSome result }
+    ensures bad_input { status ≡ BadInput → IsSome result }
+{
+    match status {
+        Status::BadWords => match advise_words(alloc, words) {
+            Some(hint) => Some(hint),
+            None => Some(Hint::plain(Advice::Words(WordAdvice::Usage))),
+        },
+        Status::BadInput => {
+            let advice = advise_input(name_of(words), input, answer);
+            Some(with_call(words, advice))
+        }
+        Status::Refused => match advise_refused(words, input, answer) {
+            Some(advice) => Some(Hint::plain(advice)),
+            None => None,
+        },
+        _ => None,
+    }
+}

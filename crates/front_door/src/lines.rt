@@ -1,0 +1,65 @@
+//! What is wrong with the lines of an input.
+
+use crate::advice::LineAdvice;
+use crate::inputs::{asks_for_claim, fen_number, line_at};
+use fen_text::{read_clock, read_odds};
+
+/// What is wrong with a line that is due as the claim of `solve` or `settle`.
+fn advise_claim(line: &[u8]) -> LineAdvice {
+    if line.starts_with(b"claim line") || line.starts_with(b"claim notboth") {
+        LineAdvice::ClaimOfSteps
+    } else if line.starts_with(b"claim last") || line.starts_with(b"claim ep") {
+        LineAdvice::MoveOfClaim
+    } else if line.starts_with(b"claim lost") {
+        LineAdvice::RightOfClaim
+    } else {
+        LineAdvice::Claim
+    }
+}
+
+/// What is wrong with a line that is due as the claim of `dossier`.
+fn advise_steps(line: &[u8]) -> LineAdvice {
+    let of_one: [&[u8]; 4] = [b"claim illegal", b"claim last", b"claim lost", b"claim ep"];
+    if of_one.iter().any(|words| line.starts_with(words)) {
+        LineAdvice::ClaimOfOne
+    } else {
+        LineAdvice::Steps
+    }
+}
+
+/// What is wrong with a line that stands before the FEN.
+fn advise_demand(line: &[u8]) -> LineAdvice {
+    if line.starts_with(b"odds ") {
+        LineAdvice::Odds
+    } else if read_clock(line).is_some() {
+        LineAdvice::ClockAgainstFen
+    } else {
+        LineAdvice::Clock
+    }
+}
+
+/// What is wrong with the line of this number of the command's input.
+pub(crate) fn advise_line(name: &[u8], input: &[u8], number: u32) -> LineAdvice {
+    if input.is_empty() {
+        return LineAdvice::Empty;
+    }
+    let due = fen_number(name, input);
+    let Some(line) = line_at(input, number) else {
+        return if number == due {
+            LineAdvice::NoFen
+        } else {
+            LineAdvice::Lines
+        };
+    };
+    if number > due {
+        return LineAdvice::LineTooMany;
+    }
+    if number == 1 && asks_for_claim(name) {
+        return if matches!(name, b"dossier") {
+            advise_steps(line)
+        } else {
+            advise_claim(line)
+        };
+    }
+    advise_demand(line)
+}
