@@ -6,13 +6,14 @@ fuzz.py PROGRAM --again FOLDER     runs the cases again that were found and kept
 
 What is looked for: a death by a signal; a run over ten seconds; a status that the command hasn't, or that bad words, failing reads and
 writes, or too long an input don't allow; something written at a status that writes nothing; an answer that hasn't the form of its
-status; a certificate of `solve` that `check` doesn't accept; a game of `solve` that `play` doesn't call legal; a verdict that `solve`
-doesn't bear out; a legal game that `spell` doesn't spell or `san` doesn't read; a length of `length` that `atleast` doesn't accept, a
-dossier of `dossier` that `line` doesn't accept; and two runs that differ. Each finding goes into a file of FOLDER, with the words, the input and what was wrong.
+status; a certificate of `solve` or `settle` that `check` doesn't accept; a game of theirs that `play` doesn't call legal; nodes that
+`check` calls bad text at another line than fuzz_texts.py, and a balance at the root that it weighs otherwise than fuzz_rules.py; a
+verdict that `solve` doesn't bear out; a legal game that `spell` doesn't spell or `san` doesn't read; a length of `length` that `atleast` doesn't accept, a
+dossier of `dossier` that `line` doesn't accept; and two runs that differ. Each finding goes into a file of FOLDER, with the words, the
+input and what was wrong.
 The same seed gives the same cases, with any number of jobs. The exit status is 1 where something was found.
 """
 import argparse
-import functools
 import json
 import multiprocessing
 import os
@@ -23,16 +24,18 @@ import subprocess
 import sys
 import time
 
-from fuzz_cases import LIMIT, Case, Maker, mutated, parted
+from fuzz_cases import LIMIT, Case, Maker, men_of, mutated, parted
+from fuzz_rules import Prices, Query, balances
+from fuzz_texts import bad_node, prices_of, squares_of
 
 SECONDS = 10
 CHUNK = 250
-STATUSES = {"check": (0, 1), "play": (0, 1, 6), "unmoves": (0, 6), "solve": (0, 2, 3, 4, 6), "verdict": (0, 3, 6), "tree": (0, 3, 6), "sample": (0,)}
-# Commands that an older program may lack.
-FURTHER = {"san": (0, 1, 6), "spell": (0, 1), "length": (0, 2, 6), "atleast": (0, 1), "line": (0, 1), "dossier": (0, 1, 2, 3, 6)}
+STATUSES = {"check": (0, 1), "play": (0, 1, 6), "unmoves": (0, 6), "solve": (0, 2, 3, 4, 6), "settle": (0, 2, 3, 4, 6), "verdict": (0, 3, 6),
+            "tree": (0, 3, 6), "sample": (0,), "san": (0, 1, 6), "spell": (0, 1), "length": (0, 2, 6), "atleast": (0, 1), "line": (0, 1),
+            "dossier": (0, 1, 2, 3, 6)}
 RANGES = {"solve": [(0, 64), (1, 500_000)], "sample": [(0, 2**64 - 1), (1, 1000), (1, 200)]}
-RANGES["verdict"] = RANGES["tree"] = RANGES["dossier"] = RANGES["solve"]
-LAST_LINE = {"play": 3, "san": 3, "unmoves": 4, "solve": 5, "verdict": 4, "tree": 4, "length": 3, "dossier": 5}
+RANGES["settle"] = RANGES["verdict"] = RANGES["tree"] = RANGES["dossier"] = RANGES["solve"]
+LAST_LINE = {"play": 3, "san": 3, "unmoves": 4, "solve": 5, "settle": 5, "verdict": 4, "tree": 4, "length": 3, "dossier": 5}
 
 MOVE = r"[a-h][1-8][a-h][1-8][nbrq]?"
 UNMOVE = rf"(?:{MOVE}(?:x[pnbrq])?|[a-h][1-8][a-h][1-8]ep)"
@@ -72,6 +75,7 @@ FORMS = {
     ("dossier", 1): r"refused step [1-9]\d* unlisted\n",
     ("dossier", 2): r"undecided part [1-9]\d*\n",
 }
+FORMS |= {("settle", status): FORMS["solve", status] for status in (0, 2, 4)}
 FORMS = {key: re.compile(form) for key, form in FORMS.items()}
 SPENT = re.compile(r"spent \d+\n")
 BAD = re.compile(r"bad line ([1-5])\n|bad fen field [1-9]\d* byte \d+\n")
@@ -131,14 +135,6 @@ class Program:
         return self.run(Case([word.encode() for word in words], text))
 
 
-@functools.cache
-def learn(path):
-    """Adds the commands that the program knows beside the first seven."""
-    for name, statuses in FURTHER.items():
-        if Program(path).answers([name, *["1" for _ in RANGES.get(name, [])]], b"")[0] != 5:
-            STATUSES[name] = statuses
-
-
 def due(case, command):
     """The statuses that the case can end with."""
     if command is None:
@@ -188,11 +184,47 @@ def misformed(case, command, status, out):
     return check(case, text) if check else None
 
 
+def root_of(text):
+    """The number of the root's line, behind the line of the FEN; None where there is no such line among the first five."""
+    return next((at + 2 for at, line in enumerate(text.split("\n")[:5]) if line.startswith("fen ")), None)
+
+
 def wrong_accepted(case, text):
     _, claim, *lines = case.input.decode("ascii").split("\n")
     at = next(at for at, line in enumerate(lines) if line.startswith("fen "))
     said = " ".join([claim[6:], lines[at][4:], *lines[:at]])
-    return None if text == f"accepted {said}\n" else "another claim or position than the input's"
+    if text != f"accepted {said}\n":
+        return "another claim or position than the input's"
+    return "bad text that is accepted" if bad_node(case.input.decode("ascii"), at + 4) else wrong_balance(case, True)
+
+
+def wrong_refused(case, text):
+    """Whether the nodes go bad at the line of the answer, where the head is good."""
+    words = text.split()
+    given = case.input.decode("latin-1")
+    line, root = int(words[2]), root_of(given)
+    if words[3] == "text" and (root is None or line < root):
+        return None
+    if root is None:
+        return "a fault of a text without a head"
+    if bad_node(given, root) != (line if words[3] == "text" else None):
+        return "text that goes bad at another line"
+    return wrong_balance(case, False) if words[2:] == [str(root), "unsupported", "rule"] else None
+
+
+def wrong_balance(case, accepted):
+    """Whether the reason `balance` of a root that claims `illegal` is weighed as fuzz_rules.py weighs it."""
+    _, claim, *lines = case.input.decode("ascii").split("\n")
+    at = next(at for at, line in enumerate(lines) if line.startswith("fen "))
+    if claim != "claim illegal" or not lines[at + 1].startswith("root rule balance "):
+        return None
+    placement, _, rights, _ = lines[at][4:].split(" ")
+    odds = next((squares_of(line[5:]) for line in lines[:at] if line.startswith("odds ")), frozenset())
+    frozen, *words = lines[at + 1].split(" ")[3:]
+    white, black, gates = prices_of(words)
+    query = Query(men_of(placement), rights.strip("-"), odds)
+    supports = balances(query, squares_of(frozen), Prices({"w": white, "b": black}, gates))
+    return None if supports == accepted else "a balance that is weighed otherwise"
 
 
 def wrong_total(case, text):
@@ -240,6 +272,7 @@ def wrong_summary(case, text):
 
 NUMBERS = {
     ("check", 0): wrong_accepted,
+    ("check", 1): wrong_refused,
     ("line", 0): wrong_accepted,
     ("unmoves", 0): wrong_total,
     ("solve", 2): wrong_length,
@@ -258,7 +291,7 @@ def stated(case):
 def unproved(program, case, out, rng):
     """What is wrong with a certificate of `solve` or a dossier. One that is mutated may be refused, in the form of a refusal."""
     claim, demands, fen = stated(case)
-    checker = "check" if case.words[0] == b"solve" else "line"
+    checker = "line" if case.words[0] == b"dossier" else "check"
     form = "line 1" if checker == "line" else 2 if demands else 1
     head = f"retro {form}\n{claim}\n{demands}fen {' '.join(fen.split(' ')[:4])}\n"
     if not out.decode().startswith(head):
@@ -288,7 +321,7 @@ def uncountered(program, case, out):
 def misspelled(program, case):
     """What is wrong with the spelling of a game from the whole array that `play` calls legal: `san` calls it legal too."""
     demands, fen, moves = parted(case.input.decode().replace("\r\n", "\n"))
-    if "spell" not in STATUSES or "san" not in STATUSES or "odds" in demands:
+    if "odds" in demands:
         return None
     status, spelled, _ = program.answers(["spell"], moves.encode())
     if status != 0:
@@ -321,9 +354,9 @@ def wrong(program, case, rng):
     status, out, _ = ended
     found = misbehaves(case, command, *ended) or misformed(case, command, status, out)
     if not found and not case.fails:
-        if (command, status) in (("solve", 0), ("dossier", 0)):
+        if (command, status) in (("solve", 0), ("settle", 0), ("dossier", 0)):
             found = unproved(program, case, out, rng)
-        elif (command, status) == ("solve", 4):
+        elif (command, status) in (("solve", 4), ("settle", 4)):
             found = uncountered(program, case, out)
         elif (command, status) == ("verdict", 0):
             found = unborne(program, case, out, rng)
@@ -357,7 +390,6 @@ def keep(folder, seed, number, case, found, ended):
 def work(task):
     """Tries some cases, and tells how many, how many runs it took and what was found."""
     path, folder, seed, numbers = task
-    learn(path)
     program, maker, findings = Program(path), Maker(), []
     for number in numbers:
         case = maker.case(seed, number)
@@ -371,7 +403,6 @@ def work(task):
 def again(program, folder):
     """Runs the kept cases of a folder, and tells how many are still wrong."""
     left = 0
-    learn(program)
     for path in sorted(folder.glob("*.json")):
         said = json.loads(path.read_text())
         seed, number = said["seed"], said["number"]

@@ -63,6 +63,12 @@ CERTIFICATES = [
     ("illegal", "4k3/8/8/8/8/8/8/P3K3 w - -", ["root rule ranks"]),
     ("illegal", FENS[5], ["root expand 1"] + ["a1a2 expand 1"] * 254 + ["a1a2 expand 0"]),
 ]
+# Before Black's pawn took a bishop on b5: at equal prices one more is paid than earned. And before it came from b6.
+BALANCED = "1KRqb3/p2krpp1/2ppp3/PB6/BrPPP3/1p1P4/2p1P3/Q7 b - -"
+UNBALANCED = "1KRqb3/p2krpp1/1p1pp3/P7/BrPPP3/1p1P4/2p1P3/Q7 b - -"
+ONES = " ".join(["1"] * 16)
+BALANCE = f"balance 0061000000001000 {ONES} / {ONES} /"
+CERTIFICATES += [("illegal", fen, [f"root rule {BALANCE}{gates}"]) for fen in (BALANCED, UNBALANCED) for gates in ("", " e6 1", " e4 1 e6 1")]
 # Certificates of format 2: claim, lines of odds and clock, FEN, nodes.
 FORMAT_2 = [
     ("illegal", "odds 0000000000000100\n", "4k3/8/8/8/8/8/P7/4K3 w - -", ["root rule frozen 0000000000000100"]),
@@ -70,6 +76,8 @@ FORMAT_2 = [
     ("lost K", "odds 0000000000000080\n", "4k3/8/8/8/8/8/8/4K2R w - -", ["root rule rights"]),
     ("illegal", "clock 1\n", FENS[7], ["root expand 0"]),
     ("illegal", "odds 0000000000000002\nclock 1\n", FENS[7], ["root expand 0"]),
+    ("illegal", "clock 0\n", BALANCED, [f"root rule {BALANCE}"]),
+    ("illegal", "odds 0000000000000100\n", BALANCED, [f"root rule {BALANCE} d6 2"]),
     ("ep e5d6", "clock 0\n", "rnbqkbnr/ppp1pppp/8/2KpP3/8/8/PPPP1PPP/RNBQ1BNR w kq -", ["root expand 0"]),
 ]
 LENGTHS = [
@@ -98,7 +106,10 @@ SANS = [
 ]
 SAN_WORDS = ["Nf3", "Nbd2", "R1e2", "e4", "exd5", "e8=Q", "O-O", "O-O-O", "Qh4#", "Bb5+", "1.", "1...", "1.e4", "*", "1-0", "1/2-1/2", "nf3", "0-0", "e9"]
 BODIES = [b"rule kings", b"rule ranks", b"rule check", b"rule rights", b"rule count w", b"rule count b", b"rule frozen 0000000000004080",
-          b"rule promo b 0000000000000000", b"rule caps w 0000000000000000 / 0 0 0 0 0 0 0 0", b"back 1", b"back 2", b"expand 0", b"expand 1"]
+          b"rule promo b 0000000000000000", b"rule caps w 0000000000000000 / 0 0 0 0 0 0 0 0", b"back 1", b"back 2", b"expand 0", b"expand 1",
+          b"rule " + BALANCE.encode(), b"rule " + BALANCE.encode() + b" e4 1 e6 12", b"rule " + BALANCE.encode().replace(b" 1", b" 96")]
+NO_PRICES = [b"0", b"1", b"2", b"95", b"96", b"97", b"096", b"-1", b"", b"/", b"e4"]
+PLACES = [b"a1", b"h8", b"e4", b"e6", b"b5", b"i9", b"e0", b"E4", b"4e"]
 TOKENS = [b"0", b"1", b"2", b"00", b"01", b"-0", b"+1", b"-1", b"8", b"64", b"65", b"-64", b"-65", b"255", b"256", b"999999", b"1000000", b"500000",
           b"500001", b"4294967296", b"18446744073709551615", b"18446744073709551616", b"", b"-", b"/", b"w", b"b", b"K", b"KQkq", b"QK", b"e3", b"d6",
           b"e2e4", b"e7e8q", b"d7d8nxr", b"c5d6ep", b"e9e5", b"e1g1", b"retro", b"claim", b"fen", b"root", b"rule", b"back", b"expand", b"illegal",
@@ -284,6 +295,7 @@ class Maker:
 
     def certificate(self, rng):
         lines = rng.choice(self.certs).split(b"\n")
+        lines = [rebalanced(rng, line) if b" balance " in line and rng.random() < 0.4 else line for line in lines]
         head = next(at for at, line in enumerate(lines) if line.startswith(b"fen ")) + 1
         if rng.random() < 0.5:
             at = rng.randrange(head, len(lines) - 1)
@@ -300,21 +312,42 @@ class Maker:
         rng = random.Random(f"{seed} {number}")
         if rng.randrange(20_000) == 0:
             return Case([rng.choice([b"check", b"play", b"unmoves"])], b"x" * (LIMIT + rng.choice([0, 1, 2])))
-        command = rng.choice([b"check", b"check", b"check", b"check", b"play", b"play", b"unmoves", b"solve", b"solve", b"solve", b"verdict", b"tree",
-                              b"sample", b"san", b"spell", b"length", b"atleast", b"line", b"line", b"dossier"])
+        command = rng.choice([b"check", b"check", b"check", b"check", b"play", b"play", b"unmoves", b"solve", b"solve", b"settle", b"verdict",
+                              b"tree", b"sample", b"san", b"spell", b"length", b"atleast", b"line", b"line", b"dossier"])
         words = [command]
-        if command in (b"solve", b"verdict", b"tree", b"dossier"):
+        if command in (b"solve", b"settle", b"verdict", b"tree", b"dossier"):
             words += [b"%d" % rng.choice([0, 1, 1, 2, 2, 3, 4, 9, 64]), b"%d" % rng.choice([1, 2, 5, 10, 30, 100, 100])]
         if command == b"sample":
             words += [b"%d" % rng.choice([0, 1, rng.randrange(2**64), 2**64 - 1]), b"%d" % rng.randint(1, 3), b"%d" % rng.randint(1, 6)]
-        makers = {b"check": self.certificate, b"play": self.game, b"solve": self.statement, b"san": self.notation, b"spell": self.moves,
-                  b"atleast": self.length, b"line": self.dossier, b"dossier": self.line_claim}
+        makers = {b"check": self.certificate, b"play": self.game, b"solve": self.statement, b"settle": self.statement, b"san": self.notation,
+                  b"spell": self.moves, b"atleast": self.length, b"line": self.dossier, b"dossier": self.line_claim}
         text = makers.get(command, lambda rng: self.position(rng).encode())(rng)
         for _ in range(rng.choice([0, 0, 0, 0, 0, 1, 1, 2, 5])):
             text = mutated(rng, text)
         if rng.random() < 0.08:
             words = changed_words(rng, words)
         return Case(words, text, rng.choices(["", "read", "write", "pipe"], [96, 2, 1, 1])[0])
+
+
+def rebalanced(rng, line):
+    """The line of a balance with its set, a price, a slash or its gates changed."""
+    front, _, rest = line.partition(b" balance ")
+    frozen, *words = rest.split(b" ")
+    kind, at = rng.randrange(6), rng.randrange(len(words))
+    if kind == 0:
+        frozen = b"%016x" % (int(frozen, 16) ^ 1 << rng.randrange(64))
+    elif kind == 1 and words[at].isdigit():
+        words[at] = b"%d" % max(0, int(words[at]) + rng.choice([-1, -1, -2, 1]))
+    elif kind == 2:
+        words[at] = rng.choice(NO_PRICES)
+    elif kind == 3:
+        words[at : at + 1] = rng.choice([[], [words[at]] * 2])
+    elif kind == 4:
+        words += [word for _ in range(rng.choice([1, 1, 2, 16, 17])) for word in (rng.choice(PLACES), rng.choice([b"1", b"12", b"96", b"0", b"97"]))]
+    else:
+        gates = sorted(rng.sample(range(64), rng.choice([1, 2, 15, 16, 17])))
+        words[34:] = [word for s in gates for word in (b"%c%d" % (97 + s % 8, s // 8 + 1), b"%d" % rng.choice([1, 1, 2, 96]))]
+    return b" ".join([front + b" balance", frozen, *words])
 
 
 def mutated(rng, text):

@@ -15,5 +15,7 @@ pub mod Counted
 pub mod Settling
 pub mod TreeLines
 pub mod Answering
+mod ReasonsSettled
+mod OneRest
 pub mod Pieces
 pub mod Feeding

@@ -105,6 +105,9 @@ pub struct Checker {
     fed: u32,
 }
 
+// A check stands on the stack: its frames take nearly all of it.
+const _: () = prove!(size_of::<Checker>() <= 262_144);
+
 impl Model for Checker {
     ghost use Rattle.std.specs.Prelude.{◌+◌, ◌≤◌, reverse};
     ghost use Rattle.cert_checker.specs.Staging.{IsReady, stage_of, NoEnd};

@@ -1,4 +1,4 @@
-ghost use Rattle.std.specs.Prelude.{◌≡◌, ◌↔◌, ℕ, IsTrue, List, None};
+ghost use Rattle.std.specs.Prelude.{◌≡◌, ◌↔◌, ◌++◌, ℕ, IsTrue, List, None};
 ghost use Rattle.board_base.specs.Texts.{can_capture, can_promote};
 ghost use Rattle.board_base.specs.declared.unmoves.Unmove.{Unmove as AnUnmove};
 ghost use Rattle.query_base.specs.Reach.{Holds};
@@ -10,8 +10,10 @@ ghost use Rattle.cert_text.specs.ClaimLines.{promotes_well};
 ghost use Rattle.cert_checker.specs.Proving.{ProvesClaim};
 ghost use Rattle.cert_checker.specs.Walk.{Walked, Walks, WalksTo, next_line, unlisted};
 ghost use Rattle.cert_text.specs.Due.{refused};
+ghost use Rattle.cert_text.specs.Lines.{cut};
 ghost use Rattle.cert_checker.specs.Answers.{Answer, Answers, accepted, fault};
 ghost use Rattle.cert_checker.specs.Frames.{Walking};
+ghost use Rattle.cert_checker.specs.Remains.{Checking, Remains, StandsFor};
 ghost use Rattle.cert_checker.specs.Stages.{BadTextFirst, Rest, heading, nodes};
 
 /// The law that the walk of a certificate that has a text meets no fault exactly where the certificate proves its claim.
@@ -54,6 +56,14 @@ pub fn accepted_have_texts()
 /// fault of the walk, or none.
 pub fn rest_answers()
     ensures { (lines : Lines) (a : Answer) → Rest heading 1 lines a → Answers lines a }
+{}
+
+/// The law that a check of bytes, however far it has come, still answers one thing for each rest of the bytes. Where it stands for
+/// the bytes that came, that is the true answer, and no other: so no check stands for every text.
+pub fn one_answer_remains()
+    ensures some { (k : Checking) (others : List ℕ) → (a : Answer) × Remains k others a }
+    ensures one { (k : Checking) (others : List ℕ) (a b : Answer) → Remains k others a → Remains k others b → a ≡ b }
+    ensures exact { (k : Checking) (bytes others : List ℕ) (a : Answer) → StandsFor k bytes → Remains k others a ↔ Answers (cut (bytes ++ others)) a }
 {}
 
 /// The law that below the root's line bad text goes first, wherever it stands, and else the walk over the lines that follow, from

@@ -19,7 +19,7 @@ pub use checkers::Checker;
 pub use checking::check_bytes;
 pub use laws::{
     accepted_bar_no_move, accepted_have_texts, bad_text_goes_first, certificates_prove, one_answer,
-    one_walk, rest_answers, unlisted_have_texts, walk_proves,
+    one_answer_remains, one_walk, rest_answers, unlisted_have_texts, walk_proves,
 };
 pub use refusals::{Accepted, Fault, Refused, StreamRefused, Why};
 pub use streams::check_stream;

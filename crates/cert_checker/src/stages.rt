@@ -75,30 +75,34 @@ fn take_root(
 }
 
 /// The step after a line of the head, or the root's.
+// It stays out of `take`, where a line that is only counted would pay for its variables.
+#[inline(never)]
 fn take_head(
-    head: Head,
+    head: &Head,
     frames: &mut ArrayVec<Frame, 256>,
     counts: &mut ArrayVec<u32, 256>,
     number: u32,
     line: &[u8],
 ) -> Step
-    requires { BarsNothing head }
-    ensures rest { (lines : Lines) (a : Answer) → Rest (stage_of result (reverse frames.new.items) (reverse counts.new.items)) (number + 1) lines a → Rest (in_head head) number (line.now ∷ lines) a }
+    requires { BarsNothing head.now }
+    ensures rest { (lines : Lines) (a : Answer) → Rest (stage_of result (reverse frames.new.items) (reverse counts.new.items)) (number + 1) lines a → Rest (in_head head.now) number (line.now ∷ lines) a }
     ensures ready { IsReady result (reverse frames.new.items) (reverse counts.new.items) }
 {
     if let Head::RootDue(claim, query) = head {
-        return take_root(claim, query, frames, counts, number, line);
+        return take_root(*claim, *query, frames, counts, number, line);
     }
-    match read_head_line(&head, line) {
+    match read_head_line(head, line) {
         Some(next) => Step::Heading(next),
         None => Step::Bad(number),
     }
 }
 
 /// The step after the line of a node below the root, where the walk has met no fault before.
+// It stays out of `take`, as `take_head` does.
+#[inline(never)]
 fn take_node(
-    claim: Claim,
-    query: Query,
+    claim: &Claim,
+    query: &Query,
     frames: &mut ArrayVec<Frame, 256>,
     counts: &mut ArrayVec<u32, 256>,
     number: u32,
@@ -107,46 +111,16 @@ fn take_node(
     requires stack { IsStack (reverse frames.old.items) }
     requires open { IsOpen (reverse frames.old.items) }
     ensures rest { (lines : Lines) (a : Answer) → Rest (stage_of result (reverse frames.new.items) (reverse counts.new.items)) (number + 1) lines a
-        → Rest (nodes claim query (going (reverse frames.old.items)) (map due_of (reverse frames.old.items))) number (line.now ∷ lines) a }
+        → Rest (nodes claim.now query.now (going (reverse frames.old.items)) (map due_of (reverse frames.old.items))) number (line.now ∷ lines) a }
     ensures ready { IsReady result (reverse frames.new.items) (reverse counts.new.items) }
 {
     match take_line(frames, number, line) {
         Some(fault) => {
             let found = settle(frames, fault);
-            step_at(claim, query, found, frames, counts)
+            step_at(*claim, *query, found, frames, counts)
         }
         None => Step::Bad(number),
     }
-}
-
-/// Takes a line, with its end.
-// It stays out of `take`, where a line that is only counted would pay for its variables.
-#[inline(never)]
-fn take_step(
-    step: &mut Step,
-    frames: &mut ArrayVec<Frame, 256>,
-    counts: &mut ArrayVec<u32, 256>,
-    number: u32,
-    line: &[u8],
-)
-    requires { IsReady step.old (reverse frames.old.items) (reverse counts.old.items) }
-    ensures rest { (lines : Lines) (a : Answer) → Rest (stage_of step.new (reverse frames.new.items) (reverse counts.new.items)) (number + 1) lines a
-        → Rest (stage_of step.old (reverse frames.old.items) (reverse counts.old.items)) number (line.now ∷ lines) a }
-    ensures ready { IsReady step.new (reverse frames.new.items) (reverse counts.new.items) }
-{
-    let before = *step;
-    *step = match before {
-        Step::Heading(head) => take_head(head, frames, counts, number, line),
-        Step::Walking(claim, query) => take_node(claim, query, frames, counts, number, line),
-        Step::Counting(claim, query, found) => {
-            if count_line(counts, line) {
-                Step::Counting(claim, query, found)
-            } else {
-                Step::Bad(number)
-            }
-        }
-        Step::Bad(bad) => Step::Bad(bad),
-    };
 }
 
 /// Takes a line, with its end. Where only children are counted, the step stays in its place.
@@ -162,13 +136,22 @@ pub(crate) fn take(
         → Rest (stage_of step.old (reverse frames.old.items) (reverse counts.old.items)) number (line.now ∷ lines) a }
     ensures ready { IsReady step.new (reverse frames.new.items) (reverse counts.new.items) }
 {
-    if let Step::Counting(_, _, _) = step {
-        if !count_line(counts, line) {
-            *step = Step::Bad(number);
+    match step {
+        Step::Heading(head) => {
+            let next = take_head(head, frames, counts, number, line);
+            *step = next;
         }
-        return;
+        Step::Walking(claim, query) => {
+            let next = take_node(claim, query, frames, counts, number, line);
+            *step = next;
+        }
+        Step::Counting(_, _, _) => {
+            if !count_line(counts, line) {
+                *step = Step::Bad(number);
+            }
+        }
+        Step::Bad(_) => {}
     }
-    take_step(step, frames, counts, number, line);
 }
 
 /// The step where the next line is none of a certificate.

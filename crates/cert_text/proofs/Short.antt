@@ -162,8 +162,8 @@ no_step line f c o k q (ClockOrFenDue claim odds) =
 no_step line f c o k q (FenDue claim odds clock) = no_fen_step claim odds clock line q
 no_step line f c o k q (RootDue claim query) = refl
 
--- a line of more than 256 bytes
-pub long_mute : (line : List ℕ) → 256 < length line → IsMute line
+-- a line of more than 234 bytes
+pub long_mute : (line : List ℕ) → 234 < length line → IsMute line
 long_mute line long = record {
   head = no_step line
       (nothing_said format_of line (λ x e. let short = line_short format_of 7 line x (λ text. format_text_short text x) e in omega arith))

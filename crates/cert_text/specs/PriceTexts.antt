@@ -48,10 +48,11 @@ gates_from zero least (w ∷ ws) = None
 gates_from (suc n) least (w ∷ []) = None
 gates_from (suc n) least (w ∷ v ∷ ws) = option_and_then (λ g. option_map (λ gates. g ∷ gates) (gates_from n (g.square + 1) ws)) (gate_of least w v)
 
--- White's prices, and what stands behind them: Black's, and the gates
+-- these prices of White's, and Black's with the words behind them, which are those of the gates
 abbrev pub gates_in : List ℕ → List ℕ × List (List ℕ) → Option PriceList
 gates_in white p = option_map (λ gates. priced white p.0 gates) (gates_from 16 0 p.1)
 
+-- White's prices with the words behind them, which are those of Black's prices and the gates
 abbrev pub black_in : List ℕ × List (List ℕ) → Option PriceList
 black_in p = option_and_then (gates_in p.0) (takes_from 16 p.1)
 

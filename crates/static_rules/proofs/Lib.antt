@@ -6,4 +6,5 @@ mod Best
 pub mod Homes
 pub mod Unreached
 pub mod Settled
+pub mod EachLine
 pub mod AtHome

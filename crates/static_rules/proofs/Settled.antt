@@ -144,7 +144,7 @@ caps-settled q side =
 
 -- The rules without sets
 
-abbrev IsSimple : RuleLine → Type 0
+abbrev pub IsSimple : RuleLine → Type 0
 IsSimple (Frozen set) = ⊥
 IsSimple (Caps side set p) = ⊥
 IsSimple (Promo side set) = ⊥
@@ -159,17 +159,17 @@ rights-settled q =
     let at_home : Settled (HaveHomes q.board q.held) = each_castle (λ x. IsTrue (holds q.held x) → IsTrue (are_at_home q.board x)) (λ x. implied (IsTrue (holds q.held x)) (IsTrue (are_at_home q.board x)) (test (holds q.held x)) (test (are_at_home q.board x))) in
     same (((x : Castle) → IsTrue (holds q.held x) → lacks_home q.odds x ≡ false) × HaveHomes q.board q.held) (HasRightsHomes q) (λ h. record { begun = h.0; at_home = h.1 }) (λ r. (r.begun, r.at_home)) (both _ _ begun at_home)
 
-supports-settled : (q : Asked) (r : RuleLine) → IsSimple r → Settled (Supports q r)
-supports-settled q Kings simple =
+pub simple_settled : (q : Asked) (r : RuleLine) → IsSimple r → Settled (Supports q r)
+simple_settled q Kings simple =
     negated (HasOneKingEach q.board) (each_colour (λ c. kings c q.board ≡ 1) (by_test _ _ (Decides-eqb (kings White q.board) 1)) (by_test _ _ (Decides-eqb (kings Black q.board) 1)))
-supports-settled q Ranks simple =
+simple_settled q Ranks simple =
     negated (HasNoPawnOnEnds q.board) (by_test (HasNoPawnOnEnds q.board) (has_no_pawn_on_ends q.board) (answers_law q.board (has_no_pawn_on_ends q.board) refl))
-supports-settled q Check simple = test (in_check q.board (opponent q.turn))
-supports-settled q Rights simple = negated (HasRightsHomes q) (rights-settled q)
-supports-settled q (Count side) simple = negated (IsTrue (accounts_for q.odds q.board side)) (test (accounts_for q.odds q.board side))
-supports-settled q (Frozen set) simple = absurd simple
-supports-settled q (Caps side set p) simple = absurd simple
-supports-settled q (Promo side set) simple = absurd simple
+simple_settled q Check simple = test (in_check q.board (opponent q.turn))
+simple_settled q Rights simple = negated (HasRightsHomes q) (rights-settled q)
+simple_settled q (Count side) simple = negated (IsTrue (accounts_for q.odds q.board side)) (test (accounts_for q.odds q.board side))
+simple_settled q (Frozen set) simple = absurd simple
+simple_settled q (Caps side set p) simple = absurd simple
+simple_settled q (Promo side set) simple = absurd simple
 
 -- All rules
 
@@ -216,7 +216,7 @@ place-of q (Caps Black set p, h) = inr (inr (inr (inr (set, p, h))))
 
 pub closed_settled : (q : Asked) → Settled (IsClosed q)
 closed_settled q =
-    let s = supports-settled q in
+    let s = simple_settled q in
     let simple : Settled (Simple q) =
     either (Supports q Kings ⊎ Supports q Ranks) ((Supports q Check ⊎ Supports q Rights) ⊎ (Supports q (Count White) ⊎ Supports q (Count Black))) (either _ _ (s Kings tt) (s Ranks tt)) (either (Supports q Check ⊎ Supports q Rights) (Supports q (Count White) ⊎ Supports q (Count Black)) (either _ _ (s Check tt) (s Rights tt)) (either _ _ (s (Count White) tt) (s (Count Black) tt))) in
     let sets : Settled (OnSets q) =

@@ -10,7 +10,7 @@ use Rattle.cert_checker.proofs.checkers.take_part.Goals as goal
 
 pub returns-then-len-part-gt256-clause-rest : goal.returns-then-len-part-gt256-clause-rest
 returns-then-len-part-gt256-clause-rest c = λ others a rest.
-    rest_long c.no_long_lines.ensures.long c.args.step.now c.stop.result (reverse c.args.frames.now.items) (reverse c.args.counts.now.items) c.args.number.now c.args.gathered.now.items c.args.part.now c.args.gathered.now.items others c.args.ended a
+    rest_long (λ line past. c.no_long_lines.ensures.long line (omega (arith, past))) c.args.step.now c.stop.result (reverse c.args.frames.now.items) (reverse c.args.counts.now.items) c.args.number.now c.args.gathered.now.items c.args.part.now c.args.gathered.now.items others c.args.ended a
     c.requires.no_end c.requires.part (omega (arith, c.len.ensures.value, c.if-len-part-gt256.true)) c.stop.ensures rest
 
 pub returns-then-is_empty-clause-rest : goal.returns-then-is_empty-clause-rest
