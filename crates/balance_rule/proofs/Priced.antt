@@ -9,7 +9,7 @@ use Rattle.board_base.specs.declared.men.Colour.TheVariants.{White, Black}
 use Rattle.cage_rules.specs.Sets.{squares_that}
 use Rattle.cage_rules.proofs.Filling.{is_in-that}
 use Rattle.men_fates.specs.Fates.{may_fall}
-use Rattle.capture_prices.specs.Prices.{PriceList, are_ascending, are_prices, class_of, gate, is_low, take, takes, toll_at}
+use Rattle.capture_prices.specs.Prices.{PriceList, are_ascending, are_prices, class_of, gate, is_low, take, takes}
 use Rattle.balance_rule.specs.Costs.{earned}
 use Rattle.balance_rule.specs.LeastWays.{seen_by}
 use Rattle.balance_rule.specs.Tariffs.{IsTariff}

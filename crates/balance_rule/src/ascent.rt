@@ -1,5 +1,4 @@
-ghost use Rattle.std.specs.Prelude.{IfSome, Some, ◌≡◌, ◌≤◌, ◌<◌};
-ghost use Rattle.std.specs.List.{All};
+ghost use Rattle.std.specs.Prelude.{IfSome, Some, ◌<◌};
 ghost use Rattle.balance_rule.specs.Balance.{BalanceSupports};
 
 use crate::balance::{balances, most_cost};
@@ -7,7 +6,7 @@ use crate::grounds::{Ground, ground_of, set_prices};
 use crate::tables::{begun_with, cost_table};
 use crate::tallies::{Tally, tally_of};
 use assignment::solve_large;
-use board_base::{Colour, Square, SquareSet};
+use board_base::{Colour, SquareSet};
 use cage_rules::greatest_as_array;
 use capture_prices::{Gate, Prices};
 use query_base::Query;

@@ -1,12 +1,10 @@
-ghost use Rattle.std.specs.Prelude.{◌≡◌, ◌+◌, ◌<◌, ◌≤◌, Bool, ℕ, IsTrue, List, cond, true, false};
-ghost use Rattle.board_base.specs.Board.{array_of, at, is_in, same_kind};
+ghost use Rattle.std.specs.Prelude.{◌≡◌, ◌+◌, ◌<◌, ◌≤◌, Bool, ℕ, List, true, false};
+ghost use Rattle.board_base.specs.Board.{array_of, at, is_in};
 ghost use Rattle.board_base.specs.Legal.{is_officer};
 ghost use Rattle.board_base.specs.declared.men.Colour.{Colour as AColour};
 ghost use Rattle.board_base.specs.declared.men.Kind.{Kind as AKind};
-ghost use Rattle.board_base.specs.declared.men.Kind.TheVariants.{King as AKing, Pawn as APawn};
 ghost use Rattle.men_fates.specs.Fates.{brings};
 ghost use Rattle.men_fates.specs.Ways.{toll};
-ghost use Rattle.cage_rules.specs.Regions.{is_officer_home};
 ghost use Rattle.capture_prices.specs.Prices.{PriceList, gate, take};
 ghost use Rattle.balance_rule.specs.Costs.{gone, gone_as, loss_cost, never, pawn_gone, pawn_stands, piece_gone, piece_stands, stands, stands_as};
 ghost use Rattle.balance_rule.specs.Grounds.{ArePromoted, BeginsOn, IsGround};
@@ -15,7 +13,7 @@ ghost use Rattle.balance_rule.specs.LeastWays.{IsLeast, IsReach, ends_on, seen_b
 use crate::grounds::Ground;
 use crate::reaches::{NEVER, Reach, capped_sum, fee_at, toll_at};
 use crate::views::{number_of, seen_by};
-use board_base::{Colour, Kind, Man, Square, SquareSet};
+use board_base::{Kind, Man, Square, SquareSet};
 
 /// What is added to each cost.
 const BASE: u16 = 96;

@@ -1,4 +1,4 @@
-ghost use Rattle.std.specs.Prelude.{◌≡◌, ◌+◌, ◌-◌, ◌*◌, ◌<◌, ◌≤◌, ◌%◌, ℕ, Bool, IsTrue, List, cond, false, length, min, nat_lt, slice_index, slice_index_or, slice_set};
+ghost use Rattle.std.specs.Prelude.{◌≡◌, ◌+◌, ◌-◌, ◌*◌, ◌<◌, ◌≤◌, ◌%◌, ℕ, IsTrue, cond, false, min, slice_index, slice_index_or, slice_set};
 ghost use Rattle.board_base.specs.Board.{is_in};
 ghost use Rattle.capture_prices.specs.Prices.{PriceList, are_prices};
 ghost use Rattle.balance_rule.specs.Costs.{never};

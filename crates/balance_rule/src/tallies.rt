@@ -8,7 +8,7 @@ use crate::reaches::{NEVER, Reach, capped_sum, fee_at, toll_at};
 use crate::tables::number_of_home;
 use crate::tariffs::class_of;
 use crate::views::{number_of, seen_by};
-use board_base::{Board, Colour, Kind, Man, Square, SquareSet, is_of};
+use board_base::{Board, Kind, Man, Square, SquareSet};
 use capture_prices::Prices;
 
 /// What the men of a side did who are given these homes at the least cost: by classes, the captures by its pawns and its men who were

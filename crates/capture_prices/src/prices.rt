@@ -1,8 +1,8 @@
-ghost use Rattle.std.specs.Prelude.{◌≡◌, ◌<◌, ◌≤◌, ◌+◌, ◌↔◌, IsTrue, SomeIff, length};
+ghost use Rattle.std.specs.Prelude.{◌≡◌, ◌<◌, ◌+◌, IsTrue, SomeIff};
 ghost use Rattle.std.specs.List.{list_all};
-ghost use Rattle.capture_prices.specs.Prices.{are_ascending, are_prices, class_of, gate, is_low, priced, take, takes, toll_at};
+ghost use Rattle.capture_prices.specs.Prices.{are_ascending, are_prices, is_low, priced, takes};
 
-use board_base::{Colour, Square};
+use board_base::Colour;
 use std::marker::Model;
 
 /// What a pawn that never captures pays where it treads a square.

@@ -1,4 +1,4 @@
-ghost use Rattle.std.specs.Prelude.{ℕ, Bool, List, IsTrue, ◌+◌, ◌*◌, ◌≤◌, ◌≡◌, ◌≢◌, length};
+ghost use Rattle.std.specs.Prelude.{ℕ, Bool, List, IsTrue, ◌+◌, ◌*◌, ◌≤◌, ◌≢◌, length};
 ghost use Rattle.std.specs.List.{AllPairs, Contains, range_with_len, sum_by};
 ghost use Rattle.board_base.specs.Board.{array_of, at, is_of, opponent};
 ghost use Rattle.board_base.specs.declared.men.Colour.{Colour as AColour};
