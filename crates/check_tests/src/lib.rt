@@ -2,6 +2,8 @@
 #![tactic(auto)]
 
 #[cfg(test)]
+mod balance_certificates;
+#[cfg(test)]
 mod broken_certificates;
 #[cfg(test)]
 mod deep_certificates;

@@ -35,12 +35,12 @@ fn in_two(text: &[u8], first: usize) -> Result<Accepted, Fault> {
     checker.finish()
 }
 
-/// The answer to three pieces, of which the middle one is so many blanks, at most 129.
+/// The answer to three pieces, of which the middle one is so many blanks, at most 257.
 fn with_blanks(before: &[u8], blanks: usize, behind: &[u8]) -> Result<Accepted, Fault> {
-    let line = [b' '; 129];
+    let line = [b' '; 257];
     let mut checker = Checker::new();
     feed(&mut checker, before);
-    feed(&mut checker, &line[..blanks.min(129)]);
+    feed(&mut checker, &line[..blanks.min(257)]);
     feed(&mut checker, behind);
     checker.finish()
 }

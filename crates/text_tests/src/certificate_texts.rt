@@ -137,59 +137,7 @@ fn names_the_line_that_is_bad(rt: HostRuntime) -> Result<(), Fail> {
 }
 
 /// A line, its depth, and its body.
-const LINES: [(&[u8], u8, Option<BodyLine>); 34] = [
-    (b"root rule balance", 0, None),
-    (b"root rule balance 0000000000004080", 0, None),
-    (
-        b"root rule balance 0000000000004080 0 0 0 0 0 0 0 0 0 0 0 0 0 0 0 0 / 0 0 0 0 0 0 0 0 0 0 0 0 0 0 0 0",
-        0,
-        None,
-    ),
-    (
-        b"root rule balance 0000000000004080 0 0 0 0 0 0 0 0 0 0 0 0 0 0 0 / 0 0 0 0 0 0 0 0 0 0 0 0 0 0 0 0 0 /",
-        0,
-        None,
-    ),
-    (
-        b"root rule balance 0000000000004080 0 0 0 0 0 0 0 0 0 0 0 0 0 0 0 97 / 0 0 0 0 0 0 0 0 0 0 0 0 0 0 0 0 /",
-        0,
-        None,
-    ),
-    (
-        b"root rule balance 0000000000004080 00 0 0 0 0 0 0 0 0 0 0 0 0 0 0 0 / 0 0 0 0 0 0 0 0 0 0 0 0 0 0 0 0 /",
-        0,
-        None,
-    ),
-    (
-        b"root rule balance 0000000000004080 0 0 0 0 0 0 0 0 0 0 0 0 0 0 0 0 / 0 0 0 0 0 0 0 0 0 0 0 0 0 0 0 0 / ",
-        0,
-        None,
-    ),
-    (
-        b"root rule balance 0000000000004080 0 0 0 0 0 0 0 0 0 0 0 0 0 0 0 0 / 0 0 0 0 0 0 0 0 0 0 0 0 0 0 0 0 / e3",
-        0,
-        None,
-    ),
-    (
-        b"root rule balance 0000000000004080 0 0 0 0 0 0 0 0 0 0 0 0 0 0 0 0 / 0 0 0 0 0 0 0 0 0 0 0 0 0 0 0 0 / e3 0",
-        0,
-        None,
-    ),
-    (
-        b"root rule balance 0000000000004080 0 0 0 0 0 0 0 0 0 0 0 0 0 0 0 0 / 0 0 0 0 0 0 0 0 0 0 0 0 0 0 0 0 / e3 97",
-        0,
-        None,
-    ),
-    (
-        b"root rule balance 0000000000004080 0 0 0 0 0 0 0 0 0 0 0 0 0 0 0 0 / 0 0 0 0 0 0 0 0 0 0 0 0 0 0 0 0 / e4 12 e3 12",
-        0,
-        None,
-    ),
-    (
-        b"root rule balance 0000000000004080 0 0 0 0 0 0 0 0 0 0 0 0 0 0 0 0 / 0 0 0 0 0 0 0 0 0 0 0 0 0 0 0 0 / e3 12 e3 12",
-        0,
-        None,
-    ),
+const LINES: [(&[u8], u8, Option<BodyLine>); 22] = [
     (
         b"root rule kings",
         0,

@@ -2,6 +2,8 @@
 #![tactic(auto)]
 
 #[cfg(test)]
+mod balance_lines;
+#[cfg(test)]
 mod certificate_texts;
 #[cfg(test)]
 mod fens;
