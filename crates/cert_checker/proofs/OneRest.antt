@@ -25,7 +25,7 @@ use Rattle.cert_text.specs.declared.node_lines.BodyLine.TheVariants.{Rule, Back,
 use Rattle.cert_checker.specs.Answers.{Answer, Answers}
 use Rattle.cert_checker.specs.Reasons.{ReasonSupports}
 use Rattle.cert_checker.specs.Walk.{unlisted, unsupported}
-use Rattle.cert_checker.specs.Frames.{Walking, going, stopped, go_on, ended, Onto, Stays, Opens, OnBody, OnLabel, OnFirst, OnKid, OnSaid, OnOpen, OnLine, fewer, query_of_frame}
+use Rattle.cert_checker.specs.Frames.{Walking, going, stopped, go_on, ended, Onto, Stays, Opens, OnBody, OnLabel, OnFirst, OnSaid, OnOpen, OnLine, fewer, query_of_frame}
 use Rattle.cert_checker.specs.Stages.{Stage, in_head, nodes, bad, headed, Rooted, Stepped, OnHead, NextStage, Rest, answer_at}
 use Rattle.cert_checker.specs.declared.frames.Frame.{Frame}
 use Rattle.cert_checker.specs.declared.refusals.Why.{Why}

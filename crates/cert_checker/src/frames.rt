@@ -1,4 +1,4 @@
-ghost use Rattle.std.specs.Prelude.{◌≡◌, ◌+◌, ◌-◌, ◌<◌, ◌≤◌, ◌∷◌, ◌↔◌, List, IfSome, IfNone, IsSomeAnd, IsTrue, MatchOption, None, Some, drop, map, reverse, slice_get, suc};
+ghost use Rattle.std.specs.Prelude.{◌≡◌, ◌+◌, ◌-◌, ◌<◌, ◌∷◌, ◌↔◌, List, IfSome, IsSomeAnd, IsTrue, None, Some, drop, map, reverse, slice_get, suc};
 ghost use Rattle.std.specs.List.{Contains};
 ghost use Rattle.arrayvec.specs.ArrayVec.{array_vec_len};
 ghost use Rattle.query_base.specs.Asked.{Asked};

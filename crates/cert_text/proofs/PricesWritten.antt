@@ -8,7 +8,7 @@ use Rattle.std.proofs.lemmas.List.{take_more}
 use Rattle.board_base.specs.Texts.{square_text}
 use Rattle.capture_prices.specs.Prices.{PriceList, are_ascending, are_prices, is_low}
 use Rattle.capture_prices.specs.declared.prices.Gate.{Gate}
-use Rattle.cert_text.specs.PriceTexts.{gate_words, price_words, prices_text}
+use Rattle.cert_text.specs.PriceTexts.{gate_words, prices_text}
 use Rattle.cert_text.specs.Written.{with_spaces_before, with_spaces_behind}
 use Rattle.cert_text.proofs.PriceTexts.{first_parts, known_parts, low_short}
 

@@ -1,5 +1,5 @@
 -- The names of reasons, with what stands behind them.
-use Rattle.std.proofs.Common.{◌≡◌, ℕ, true, false, Bool, List, [], ◌∷◌, ◌++◌, drop, Option, Some, None, refl, sym, ap, ◌∙◌, arith, nat_eq, cond}
+use Rattle.std.proofs.Common.{◌≡◌, ℕ, true, false, Bool, List, ◌∷◌, ◌++◌, drop, Option, Some, None, refl, sym, ap, ◌∙◌, arith, nat_eq, cond}
 use Rattle.std.specs.Prelude.{codes}
 use Rattle.std.proofs.lemmas.Bool.{and_parts, and_from, cond_both}
 use Rattle.std.specs.List.{starts_with}
@@ -16,7 +16,7 @@ use Rattle.fen_text.proofs.HexTexts.{set_back, set_free, set_read}
 use Rattle.fen_text.proofs.PartLemmas.{followed, free_append, part_more, parted_next}
 use Rattle.cert_text.specs.NodeLines.{balance_of, reason_name, reason_of, rule_name, rule_of}
 use Rattle.cert_text.specs.PriceTexts.{prices_of, prices_text}
-use Rattle.cert_text.specs.Writable.{is_reason, is_rule}
+use Rattle.cert_text.specs.Writable.{is_reason}
 use Rattle.cert_text.specs.declared.reasons.Reason.{Reason}
 use Rattle.cert_text.specs.declared.reasons.Reason.TheVariants.{Line, Balance}
 use Rattle.cert_text.proofs.PartTexts.{no_part, no_rest}

@@ -1,4 +1,4 @@
-ghost use Rattle.std.specs.Prelude.{◌≡◌, ◌≤◌, ◌<◌, IsTrue, SomeIff, MatchOption, None, Some, length, pos};
+ghost use Rattle.std.specs.Prelude.{◌≡◌, ◌≤◌, ◌<◌, MatchOption, None, Some};
 ghost use Rattle.fen_text.specs.Numbers.{number};
 ghost use Rattle.board_base.specs.Potentials.{ArePotentials, duals};
 ghost use Rattle.cert_text.specs.Arguments.{columns_of, duals_of, is_slash, negative, positive, potentials_of, signed, words};

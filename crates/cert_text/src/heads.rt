@@ -1,4 +1,4 @@
-ghost use Rattle.std.specs.Prelude.{◌≡◌, IsTrue, None, length};
+ghost use Rattle.std.specs.Prelude.{◌≡◌, None, length};
 ghost use Rattle.query_base.specs.Asked.{IsShortClock};
 ghost use Rattle.cert_text.specs.Lines.{said};
 ghost use Rattle.cert_text.specs.Certificate.{format_of, lines_of_clock, lines_of_odds, query_of, root_at};

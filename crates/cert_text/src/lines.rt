@@ -1,4 +1,4 @@
-ghost use Rattle.std.specs.Prelude.{◌≡◌, ◌+◌, [], ◌∷◌, MatchOption, IfSome, None, Some, length};
+ghost use Rattle.std.specs.Prelude.{◌≡◌, ◌+◌, [], ◌∷◌, MatchOption, None, Some};
 ghost use Rattle.std.specs.Str.{bytes_eq};
 ghost use Rattle.cert_text.specs.Lines.{cut, without_end};
 

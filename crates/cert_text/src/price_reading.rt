@@ -1,4 +1,4 @@
-ghost use Rattle.std.specs.Prelude.{◌≡◌, ◌<◌, ◌≤◌, [], IfSome, MatchOption, None, Some, length};
+ghost use Rattle.std.specs.Prelude.{◌≡◌, ◌<◌, [], IfSome, MatchOption, None, Some};
 ghost use Rattle.capture_prices.specs.Prices.{are_prices};
 ghost use Rattle.cert_text.specs.Arguments.{is_slash, words};
 ghost use Rattle.cert_text.specs.PriceTexts.{from_least, gate_at, gate_of, gates_from, low, price_of, prices_of, square_of, takes_from};

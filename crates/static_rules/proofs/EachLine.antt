@@ -22,7 +22,7 @@ use Rattle.query_base.specs.declared.rule_lines.RuleLine.TheVariants.{Kings, Ran
 use Rattle.static_rules.specs.SetRules.{CapsSupports, FrozenSupports, IsAbove, IsSettled, PromoSupports}
 use Rattle.static_rules.specs.Supports.{Supports}
 use Rattle.static_rules.proofs.Settled.{simple_settled}
-use Rattle.general_lemmas.proofs.Settling.{Settled, at_most, below, both, by_test, each_below, implied, negated, same}
+use Rattle.general_lemmas.proofs.Settling.{Settled, at_most, below, both, by_test, each_below, negated, same}
 
 -- Sets
 

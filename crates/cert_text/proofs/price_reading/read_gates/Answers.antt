@@ -1,6 +1,6 @@
-use Rattle.std.proofs.Common.{◌≡◌, ◌+◌, ◌++◌, [], ◌∷◌, ℕ, List, Option, Bor, sym, ap, subst, ◌∙◌}
+use Rattle.std.proofs.Common.{◌+◌, ◌∷◌, ℕ, List, Option, Bor, sym, ap, subst, ◌∙◌}
 use Rattle.capture_prices.specs.declared.prices.Gate.{Gate}
-use Rattle.cert_text.proofs.WordTexts.{cut_word, left}
+use Rattle.cert_text.proofs.WordTexts.{left}
 use Rattle.cert_text.proofs.PriceWords.{GatesSoFar, cut_left, gates_bad, gates_next, gates_odd, gates_over}
 use Rattle.cert_text.proofs.price_reading.read_gates.Goals as goal
 

@@ -1,4 +1,4 @@
-use Rattle.std.proofs.Common.{◌≡◌, ℕ, List, [], ◌∷◌, Option, Bor, sym, ap, ◌∙◌, arith}
+use Rattle.std.proofs.Common.{◌≡◌, ℕ, List, [], ◌∷◌, Option, Bor, sym, ap, ◌∙◌}
 use Rattle.std.specs.Prelude.{Some, None, MatchOption}
 use Rattle.cert_text.specs.Arguments.{words}
 use Rattle.cert_text.specs.PriceTexts.{takes_from}

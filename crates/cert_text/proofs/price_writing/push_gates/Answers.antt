@@ -1,6 +1,5 @@
-use Rattle.std.proofs.Common.{◌≡◌, ℕ, ◌+◌, ◌<◌, ◌≤◌, ◌/◌, ◌%◌, List, [], ◌∷◌, ◌++◌, length, get_or, sym, ap, ◌∙◌, refl, arith, append_assoc}
+use Rattle.std.proofs.Common.{get_or, refl}
 use Rattle.std.specs.Fmt.{decimal}
-use Rattle.board_base.specs.Texts.{square_text}
 use Rattle.capture_prices.specs.declared.prices.Gate.{Gate}
 use Rattle.cert_text.proofs.PricesWritten.{no_gate}
 use Rattle.cert_text.proofs.PriceTexts.{low_short}

@@ -1,4 +1,3 @@
-use Rattle.std.proofs.Common.{sym, subst, refl, ◌+◌}
 use Rattle.cert_text.proofs.PricesWritten.{put_together}
 use Rattle.cert_text.proofs.price_writing.push_prices.Goals as goal
 
