@@ -4,6 +4,7 @@
 measure.py play PROGRAM     `PROGRAM play` on games of 200,000 and 1,000,000 plies, knights going to and fro
 measure.py search PROGRAM   `PROGRAM solve` on examples/, in time and by valgrind in machine instructions, and `PROGRAM check` of what it writes
 measure.py visits PROGRAM   how many positions `PROGRAM solve` visits there, and how many it would visit if it kept no refutations
+measure.py settle PROGRAM   `PROGRAM settle` beside `PROGRAM solve` on published problems: visits, nodes, lines with prices, milliseconds
 measure.py texts PROGRAM    `PROGRAM length` and `PROGRAM dossier` on examples/, and the checks of what they write, in machine instructions
 measure.py stream PROGRAM   `PROGRAM check` on certificates of stray labels: machine instructions a byte, time and memory on 64 MiB
 measure.py moves            `legal_moves` on four middle-game positions: builds legal_moves.program over a copy of the crates
@@ -53,6 +54,8 @@ RETRACTED = [
 ]
 # Claims of examples/, each with the depth that settles it.
 CLAIMS = {"loyd-1859": 1, "loyd-1891": 1, "dawson-1913": 2, "benko-1996": 2, "dawson-chess-magazine-1913": 4, "barred-kings": 9}
+# Claims of examples/ that the rule lines leave open, and `settle` proves.
+BALANCED = ["dawson-1918", "dawson-1934", "dawson-1940", "dawson-1948"]
 MOST_NODES = 500_000
 # A certificate whose first child is a stray label already: from there on only the text is checked.
 STRAYS = b"retro 1\nclaim illegal\nfen 4k3/8/8/8/8/8/8/4K3 w - -\n"
@@ -101,12 +104,12 @@ def search(program):
         print(f"{name}: {nodes} nodes, {seconds * 1000:.1f} ms; solve {found:,} instructions, check {checked:,}")
 
 
-def visited(program, depth, claim):
+def visited(program, depth, claim, command="solve"):
     """The least number of nodes with which the search isn't spent."""
     low, high = 1, MOST_NODES
     while low < high:
         middle = (low + high) // 2
-        if timed([program, "solve", str(depth), str(middle)], claim)[0] == 3:
+        if timed([program, command, str(depth), str(middle)], claim)[0] == 3:
             low = middle + 1
         else:
             high = middle
@@ -120,6 +123,17 @@ def visits(program):
         # A search that keeps nothing visits each node of the certificate.
         plain = len(certificate.split("\n")) - 3
         print(f"{name} to depth {depth}: {visited(program, depth, claim)} visits, {plain} without the memo")
+
+
+def settle(program):
+    for name in [*CLAIMS, *BALANCED]:
+        claim = (HERE.parent / "examples" / f"{name}.claim").read_bytes()
+        for command in ("solve", "settle"):
+            words = [program, command, "64", str(MOST_NODES)]
+            status, text, _ = timed(words, claim)
+            seconds = min(timed(words, claim)[2] for _ in range(5))
+            nodes = text.count("\n") - 2 if status == 0 else 0
+            print(f"{name}: {command} 64: status {status}, {visited(program, 64, claim, command)} visits, {nodes} nodes, {text.count(' rule balance ')} with prices, {seconds * 1000:.1f} ms")
 
 
 def moves():
@@ -210,6 +224,8 @@ def main():
         search(sys.argv[2])
     elif sys.argv[1:2] == ["visits"] and len(sys.argv) == 3:
         visits(sys.argv[2])
+    elif sys.argv[1:2] == ["settle"] and len(sys.argv) == 3:
+        settle(sys.argv[2])
     elif sys.argv[1:2] == ["texts"] and len(sys.argv) == 3:
         texts(sys.argv[2])
     elif sys.argv[1:2] == ["stream"] and len(sys.argv) == 3:

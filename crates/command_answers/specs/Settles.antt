@@ -1,14 +1,13 @@
 -- What `settle` answers.
-use Rattle.std.specs.Prelude.{ℕ, ◌≡◌, ◌<◌, ◌≤◌, ◌⊎◌, List, [], length}
+use Rattle.std.specs.Prelude.{ℕ, ◌≡◌, ◌<◌, ◌≤◌, ◌⊎◌, List, length}
 use Rattle.board_base.specs.declared.moves.Move.{Move}
 use Rattle.board_base.specs.declared.unmoves.Unmove.{Unmove}
 use Rattle.query_base.specs.Asked.{Asked}
 use Rattle.query_base.specs.Targets.{target}
 use Rattle.query_base.specs.declared.claims.Claim.{Claim}
 use Rattle.cert_text.specs.Certificate.{Certificate, IsTextOf}
-use Rattle.retro_search.specs.Refutable.{IsRefutable}
 use Rattle.retro_search.specs.Answers.{IsProofOf}
-use Rattle.balance_search.specs.Unsettled.{IsAgainst, IsLeast, StaysUnsettled, WhereRefutable}
+use Rattle.retro_search.specs.Unsettled.{IsAgainst, StaysUnsettled, WhereRefutable}
 use Rattle.command_answers.specs.Questions.{fault_line}
 use Rattle.command_answers.specs.Solves.{countered_line, spent_line, undecided_line}
 use Rattle.command_answers.specs.Statements.{IsNoStatement, States}
@@ -18,12 +17,12 @@ use Rattle.command_answers.specs.declared.statuses.Status.TheVariants.{BadInput}
 use Rattle.command_answers.specs.declared.statuses.Status.TheVariants as status
 
 -- The text is that of a certificate of the claim about the query, which proves it, goes back no further than the depth, and has at most
--- 500,000 nodes. At no depth below its height is the claim's target refutable by rule lines at a cost of at most the nodes.
-pub record TellsLeastProof (depth nodes : ℕ) (claim : Claim) (q : Asked) (text : List ℕ) : Type 0 where
+-- 500,000 nodes. It has at most 64 MiB, so that a check takes it.
+pub record TellsSettlingProof (depth : ℕ) (claim : Claim) (q : Asked) (text : List ℕ) : Type 0 where
   pub cert : Certificate
   pub is_proof : IsProofOf depth cert claim q
   pub is_text : IsTextOf text cert
-  pub least : IsLeast nodes cert claim q
+  pub short : length text ≤ 67108864
 
 -- The claim's target isn't refutable at the depth by rule lines. The text tells a line of it that is open at the depth, ends elsewhere
 -- than at the array, and has fewer moves than the nodes.
@@ -33,23 +32,22 @@ pub record TellsUnsettledLine (depth nodes : ℕ) (claim : Claim) (q : Asked) (t
   pub few : length line < nodes
   pub text_is : text ≡ undecided_line line
 
--- The text tells a game that contradicts the claim, and has no more moves than the depth and fewer than the nodes. The claim's target
--- is refutable at no depth by rule lines.
+-- The text tells a game that contradicts the claim, and has no more moves than the depth and fewer than the nodes.
 pub record TellsGame (depth nodes : ℕ) (claim : Claim) (q : Asked) (text : List ℕ) : Type 0 where
   pub game : List Move
   pub against : IsAgainst game claim q depth
-  pub unrefuted : (more : ℕ) → IsRefutable (target q claim) more [] → ⊥
   pub few : length game < nodes
   pub text_is : text ≡ countered_line game
 
--- where the claim's target is refutable at the depth by rule lines, it costs more than the nodes; the text says that these are spent
+-- Where the claim's target is refutable by rule lines at some depth up to this one, it costs more than the nodes. The text says that these
+-- are spent.
 pub record TellsSpentThere (depth nodes : ℕ) (claim : Claim) (q : Asked) (text : List ℕ) : Type 0 where
-  pub dear : WhereRefutable (target q claim) depth [] (λ n. nodes < n)
+  pub dear : WhereRefutable (target q claim) depth (λ n. nodes < n)
   pub text_is : text ≡ spent_line nodes
 
 -- what is said of a claim about a query
 abbrev pub AnswersSettling : ℕ → ℕ → Claim → Asked → Status → List ℕ → Type 0
-AnswersSettling depth nodes claim q status.Done text = TellsLeastProof depth nodes claim q text
+AnswersSettling depth nodes claim q status.Done text = TellsSettlingProof depth claim q text
 AnswersSettling depth nodes claim q status.Undecided text = TellsUnsettledLine depth nodes claim q text
 AnswersSettling depth nodes claim q status.Countered text = TellsGame depth nodes claim q text
 AnswersSettling depth nodes claim q status.Spent text = TellsSpentThere depth nodes claim q text

@@ -8,8 +8,7 @@ use crate::solves::{write_countered, write_spent, write_undecided};
 use crate::statements::{Statement, read_statement};
 use crate::statuses::Status;
 use crate::texts::Text;
-use balance_search::settle;
-use retro_search::Found;
+use retro_search::{Found, settle};
 use std::alloc::{AllocError, Global};
 use unmove_gen::unmoves_have_texts;
 
@@ -47,8 +46,8 @@ fn answer_settling(
     }
 }
 
-/// The status and the text with which `settle` answers these bytes: it goes back at most `depth` moves, from 0 to 64, at depth 0 first, then
-/// at depth 1, and so on, and visits at most `nodes` queries at each, from 1 to 500,000.
+/// The status and the text with which `settle` answers these bytes: it goes back at most `depth` moves, from 0 to 64, and visits at most
+/// `nodes` queries, from 1 to 500,000.
 pub fn settle_claim(
     alloc: Global,
     depth: u8,

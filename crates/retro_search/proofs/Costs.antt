@@ -1,3 +1,4 @@
 -- How many queries are visited.
 pub mod CostSums
 pub mod OneCost
+pub mod Deeper

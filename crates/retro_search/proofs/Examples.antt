@@ -1,5 +1,5 @@
 -- What the definitions say of queries and lists that are written out.
-use Rattle.std.proofs.Common.{◌≡◌, ℕ, zero, suc, inl, inr, true, false, [], ◌∷◌, refl, sym, subst, arith}
+use Rattle.std.proofs.Common.{◌≡◌, ℕ, zero, suc, inl, inr, Bool, true, false, List, [], ◌∷◌, refl, sym, subst, arith}
 use Rattle.std.specs.Prelude.{None}
 use Rattle.board_base.specs.Board.{array_of, no_men, no_odds}
 use Rattle.board_base.specs.Rights.{Rights}
@@ -15,7 +15,8 @@ use Rattle.board_base.proofs.Without.{are-no-odds}
 use Rattle.query_base.specs.Reach.{Reaches}
 use Rattle.query_base.specs.declared.claims.Claim.TheVariants.{Illegal}
 use Rattle.query_base.specs.declared.rule_lines.RuleLine.TheVariants.{Kings}
-use Rattle.cert_text.specs.declared.reasons.Reason.TheVariants.{Line}
+use Rattle.capture_prices.specs.Prices.{PriceList}
+use Rattle.cert_text.specs.declared.reasons.Reason.TheVariants.{Line, Balance}
 use Rattle.query_base.proofs.Meeting.{reaches_nothing}
 use Rattle.static_rules.specs.Supports.{IsClosed}
 use Rattle.static_rules.proofs.Unreached.{unreached}
@@ -27,6 +28,10 @@ use Rattle.retro_search.specs.Lone.{AreDifferent, IsAfforded, IsLoneSearch, IsMe
 use Rattle.retro_search.specs.Sizes.{nodes_in}
 use Rattle.retro_search.specs.Heights.{height}
 use Rattle.retro_search.specs.Answers.{IsCounter, IsProofOf}
+use Rattle.retro_search.specs.Unsettled.{IsAgainst, IsOpenLine, WhereRefutable}
+use Rattle.retro_search.specs.Outcomes.{HasProof}
+use Rattle.retro_search.specs.LineCounts.{lines_in}
+use Rattle.cert_checker.proofs.Sound.{sound}
 
 abbrev no_rights : Rights
 no_rights = record { white_short = false; white_long = false; black_short = false; black_long = false }
@@ -86,6 +91,22 @@ nothing_proved : IsProofOf 0 (record { claim = Illegal; query = nothing; root = 
 unfolding nothing_closed
 nothing_proved = record { claim_is = refl; query_is = refl; proves = nothing_closed.1; low = omega arith; few = omega arith }
 
+-- no game reaches it, and it costs one visit at each depth
+nothing_proof : HasProof nothing 0 0
+unfolding nothing_closed
+nothing_proof = record {
+  tree = rule (Line Kings);
+  proves = nothing_closed.1;
+  high = refl;
+  low = omega arith;
+  unreached = λ game reaches. sound (rule (Line Kings)) nothing nothing_closed.1 game reaches;
+}
+
+nothing_cheap : (depth : ℕ) → WhereRefutable nothing depth (λ n. n ≡ 1)
+nothing_cheap depth zero n low ref cost = cost
+nothing_cheap depth (suc k) n low ref (inl (end, e)) = e
+nothing_cheap depth (suc k) n low ref (inr (unshut, elsewhere, below)) = absurd (unshut (inl nothing_closed))
+
 -- the array from which games begin
 abbrev beginning : Asked
 beginning = record { board = array_of no_odds; turn = White; odds = no_odds; held = no_rights; only = None; barred = None; clock = None }
@@ -111,6 +132,22 @@ beginning_countered depth = record {
   at_array = begun;
   forwards_is = refl;
   contradicts = begun;
+}
+
+-- so does each line of the search by all reasons that ends there
+beginning_open : (depth : ℕ) → IsOpenLine beginning depth [] []
+beginning_open zero = (beginning_unshut, inr begun)
+beginning_open (suc depth) = (beginning_unshut, inr begun)
+
+beginning_against : (depth : ℕ) → IsAgainst [] Illegal beginning depth
+beginning_against depth = record {
+  line = [];
+  open_line = beginning_open depth;
+  at_array = begun;
+  forwards_is = refl;
+  contradicts = begun;
+  short = omega arith;
+  unrefuted = λ more. beginning_unrefutable more;
 }
 
 -- a move from one square to another, and the unmove that takes it back
@@ -146,6 +183,13 @@ first_of_three = (
 -- three nodes, of which the root's children are two
 three_nodes : nodes_in (expand (more (unmoved 8 16) (rule (Line Kings)) (more (unmoved 12 28) (back 1) none))) ≡ 3
 three_nodes = refl
+
+-- and they fill three lines, with prices at one of them four
+three_lines : lines_in (expand (more (unmoved 8 16) (rule (Line Kings)) (more (unmoved 12 28) (back 1) none))) ≡ 3
+three_lines = refl
+
+priced_lines : (set : List Bool) (p : PriceList) → lines_in (expand (more (unmoved 8 16) (rule (Balance set p)) (more (unmoved 12 28) (back 1) none))) ≡ 4
+priced_lines set p = refl
 
 -- a node without children is one high, as is one whose children are rules and steps back
 no_children : height (expand none) ≡ 1

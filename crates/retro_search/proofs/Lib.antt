@@ -6,4 +6,6 @@ pub mod Costs
 pub mod Expansions
 pub mod Bound
 pub mod Roots
+pub mod TextSizes
+pub mod Answering
 mod Examples

@@ -1,4 +1,5 @@
 -- First open lines.
 pub mod OpenLines
+pub mod OpenEnds
 pub mod LineEnds
 pub mod OneLine

@@ -1,6 +1,7 @@
 -- Trees, and what they prove.
 pub mod Ancestors
 pub mod Forests
+pub mod LineCounts
 pub mod Heights
 pub mod FirstKids
 pub mod Fitting

@@ -6,7 +6,7 @@ use Rattle.query_base.specs.Asked.{Asked}
 use Rattle.query_base.specs.Reach.{Contradicts}
 use Rattle.query_base.specs.Targets.{target}
 use Rattle.query_base.specs.declared.claims.Claim.{Claim}
-use Rattle.cert_text.specs.Certificate.{Certificate}
+use Rattle.cert_text.specs.Certificate.{Certificate, IsTextOf}
 use Rattle.cert_text.specs.declared.certificates.Cert.{Cert}
 use Rattle.cert_checker.specs.Proving.{ProvesClaim}
 use Rattle.retro_search.specs.Refutable.{IsRefutable}
@@ -79,3 +79,7 @@ IfUnspent (found.Proved cert) P = P
 IfUnspent (found.Undecided line) P = P
 IfUnspent (found.Countered game) P = P
 IfUnspent (found.Spent n) P = Unit {0}
+
+-- each text of the certificate has at most 64 MiB, as a check takes them
+abbrev pub IsShort : Certificate → Type 0
+IsShort cert = (bytes : List ℕ) → IsTextOf bytes cert → length bytes ≤ 67108864

@@ -1,3 +1,4 @@
+-- Inner: no public clause cites this file.
 -- Trees that expand no query which a rule line supports, and step back nowhere.
 use Rattle.query_base.specs.Asked.{Asked}
 use Rattle.static_rules.specs.Supports.{IsClosed}

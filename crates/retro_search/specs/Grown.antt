@@ -5,7 +5,7 @@ use Rattle.board_base.specs.declared.unmoves.Unmove.{Unmove}
 use Rattle.query_base.specs.Asked.{Asked}
 use Rattle.cert_checker.specs.Proving.{ProvesEach}
 use Rattle.retro_search.specs.Heights.{height_of_all}
-use Rattle.retro_search.specs.Sizes.{nodes_in_all}
+use Rattle.retro_search.specs.LineCounts.{lines_in_all}
 use Rattle.retro_search.specs.declared.refutations.Children.{Children}
 
 -- the children prove the predecessors of the query by these unmoves, and have the height and the lines that are noted
@@ -13,5 +13,5 @@ pub record AreChildren (c : Children) (q : Asked) (done : List Unmove) (below : 
   pub each : ProvesEach c.kids q done (take c.lean ancestors)
   pub high : height_of_all c.kids ≡ c.highest
   pub low : c.highest ≤ below
-  pub counted : nodes_in_all c.kids ≡ c.lines
+  pub counted : lines_in_all c.kids ≡ c.lines
   pub few : c.lines ≤ 499999

@@ -1,3 +1,4 @@
+-- Inner: no public clause cites this file.
 -- Refutations that lean on few ancestors, or none, and those that are kept.
 use Rattle.std.specs.Prelude.{ℕ, ◌≡◌, ◌≤◌, List, [], length, take}
 use Rattle.std.specs.List.{All}
@@ -7,7 +8,8 @@ use Rattle.cert_text.specs.Tree.{Tree}
 use Rattle.cert_text.specs.Seen.{tree_of}
 use Rattle.cert_checker.specs.Proving.{Proves}
 use Rattle.retro_search.specs.Heights.{height}
-use Rattle.retro_search.specs.Sizes.{nodes_in}
+use Rattle.retro_search.specs.LineCounts.{lines_in}
+use Rattle.retro_search.specs.Lined.{IsLined}
 use Rattle.retro_search.specs.declared.refutations.Refutation.{Refutation}
 use Rattle.retro_search.specs.declared.memos.Kept.{Kept as AKept}
 use Rattle.retro_search.specs.declared.memos.Memo.{Memo as AMemo}
@@ -17,14 +19,14 @@ pub record IsRefutation (r : Refutation) (q : Asked) (depth : ℕ) (ancestors : 
   pub proves : Proves (tree_of r.node) q (take r.lean ancestors)
   pub high : height (tree_of r.node) ≡ r.height
   pub low : r.height ≤ depth
-  pub counted : nodes_in (tree_of r.node) ≡ r.lines
+  pub counted : lines_in (tree_of r.node) ≡ r.lines
   pub few : r.lines ≤ 500000
 
 -- the tree proves the query, and leans on no ancestor
 pub record StandsAlone (t : Tree) (q : Asked) (h n : ℕ) : Type 0 where
   pub proves : Proves t q []
   pub high : height t ≡ h
-  pub counted : nodes_in t ≡ n
+  pub counted : lines_in t ≡ n
   pub few : n ≤ 500000
 
 abbrev pub IsKept : AKept → Type 0
@@ -35,3 +37,7 @@ pub record IsSound (m : AMemo) : Type 0 where
   pub each : All IsKept (values m.trees)
   pub trees : length m.trees.entries ≤ 65536
   pub few : m.lines ≤ 2000000
+
+-- the reasons of all trees that are kept are rule lines
+abbrev pub KeepsLines : AMemo → Type 0
+KeepsLines m = All (λ k. IsLined (tree_of k.node)) (values m.trees)

@@ -3,11 +3,14 @@ pub mod Lines
 pub mod Costs
 pub mod Lone
 pub mod Sizes
-pub mod Answers
 pub mod Heights
+pub mod Lined
+pub mod Answers
+pub mod Unsettled
+pub mod Outcomes
+pub mod LineCounts
 pub mod Stops
 pub mod Kept
-pub mod Lined
 pub mod Runs
 pub mod Eager
 pub mod Tidy

@@ -1,11 +1,7 @@
 -- Trees all of whose reasons are rule lines.
-use Rattle.std.specs.List.{All}
-use Rattle.indexmap.specs.IndexMap.{values}
 use Rattle.cert_text.specs.Tree.{Tree, Forest, rule, back, expand, none, more}
-use Rattle.cert_text.specs.Seen.{tree_of}
 use Rattle.cert_text.specs.declared.reasons.Reason.{Reason}
 use Rattle.cert_text.specs.declared.reasons.Reason.TheVariants.{Line, Balance}
-use Rattle.retro_search.specs.declared.memos.Memo.{Memo as AMemo}
 
 -- the reason is a rule line
 abbrev pub IsLine : Reason → Type 0
@@ -22,7 +18,3 @@ abbrev mutual
   pub AreLined : Forest → Type 0
   AreLined none = Unit {0}
   AreLined (more label tree rest) = IsLined tree × AreLined rest
-
--- all trees that are kept are so
-abbrev pub KeepsLines : AMemo → Type 0
-KeepsLines m = All (λ k. IsLined (tree_of k.node)) (values m.trees)

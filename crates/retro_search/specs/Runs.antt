@@ -1,10 +1,18 @@
+-- Inner: no public clause cites this file.
 -- Searches on their way.
 use Rattle.std.specs.Prelude.{◌≡◌, ◌≤◌}
 use Rattle.retro_search.specs.Kept.{IsSound}
 use Rattle.retro_search.specs.declared.runs.Run.{Run as ARun}
 
--- what is kept is sound as before, no more queries may be visited, and the memo is on where it was on
+-- what is kept is sound as before, no more queries may be visited, the memo is on where it was on, and the reasons stay
 pub record GoesOn (old new : ARun) : Type 0 where
   pub sound : IsSound new.memo
   pub mode : new.memo.on ≡ old.memo.on
   pub fewer : new.left ≤ old.left
+  pub reasons : new.reasons ≡ old.reasons
+
+-- the run is the same but for the queries for which no prices were found
+pub record IsSameButVain (old new : ARun) : Type 0 where
+  pub left : new.left ≡ old.left
+  pub reasons : new.reasons ≡ old.reasons
+  pub memo : new.memo ≡ old.memo

@@ -1,6 +1,8 @@
 -- Inner: no public clause cites this file.
 -- What a search of a query comes to.
-use Rattle.std.specs.Prelude.{ℕ, ◌≤◌, ◌↔◌, IsTrue, List, ◌∷◌, reverse}
+use Rattle.std.specs.Prelude.{ℕ, ◌≡◌, ◌≤◌, ◌↔◌, ◌⊎◌, IsTrue, List, ◌∷◌, reverse}
+use Rattle.std.specs.List.{Contains}
+use Rattle.board_base.specs.declared.unmoves.Unmove.{Unmove}
 use Rattle.query_base.specs.Asked.{Asked}
 use Rattle.unmove_gen.specs.Listed.{unmoves}
 use Rattle.unmove_gen.specs.Predecessor.{predecessor}
@@ -10,6 +12,9 @@ use Rattle.retro_search.specs.Refutable.{IsRefutable}
 use Rattle.retro_search.specs.Lines.{IsFirstOpen, EndsAtArray}
 use Rattle.retro_search.specs.Costs.{IsCost, SumsUpTo}
 use Rattle.retro_search.specs.Heights.{height}
+use Rattle.retro_search.specs.Unsettled.{IsOpenLine}
+use Rattle.retro_search.specs.declared.runs.Reasons.{Reasons}
+use Rattle.retro_search.specs.declared.runs.Reasons.TheVariants.{Lines}
 use Rattle.retro_search.specs.declared.stops.OpenLine.{OpenLine}
 
 -- the tree proves the query below these ancestors, and isn't higher than the depth
@@ -26,3 +31,22 @@ pub record IsOpen (line : OpenLine) (q : Asked) (depth : ℕ) (ancestors : List 
 -- the costs of the predecessors, up to and with the first that isn't refutable at this depth
 abbrev pub IsCostBelow : Asked → ℕ → List Asked → ℕ → Type 0
 IsCostBelow q depth ancestors n = SumsUpTo (λ u. IsCost (predecessor q u) depth (q ∷ ancestors)) (λ u. IsRefutable (predecessor q u) depth (q ∷ ancestors)) (unmoves q) n
+
+-- the query isn't refutable by rule lines, and this line of it is open, the last unmove first, marked where it ends at the array
+pub record IsUnsettled (line : OpenLine) (q : Asked) (depth : ℕ) (ancestors : List Asked) : Type 0 where
+  pub unrefuted : IsRefutable q depth ancestors → ⊥
+  pub open_line : IsOpenLine q depth ancestors (reverse line.back.items)
+  pub marked : IsTrue line.at_array ↔ EndsAtArray q (reverse line.back.items)
+
+-- the visits to the query are within its cost: it is searched by rule lines alone, or they refute it
+abbrev pub IsCounted : Reasons → Asked → ℕ → List Asked → Type 0
+IsCounted reasons q depth ancestors = (reasons ≡ Lines) ⊎ IsRefutable q depth ancestors
+
+-- the same of all predecessors of the query
+abbrev pub AreCounted : Reasons → Asked → ℕ → List Asked → Type 0
+AreCounted reasons q below ancestors = (reasons ≡ Lines) ⊎ ((u : Unmove) → Contains (unmoves q) u → IsRefutable (predecessor q u) below (q ∷ ancestors))
+
+-- where all predecessors are refutable at this depth by rule lines, this holds of the sum of their costs
+abbrev pub WhereEachRefutable : Asked → ℕ → List Asked → (ℕ → Type 0) → Type 0
+WhereEachRefutable q below ancestors P =
+    ((u : Unmove) → Contains (unmoves q) u → IsRefutable (predecessor q u) below (q ∷ ancestors)) → (n : ℕ) → IsCostBelow q below ancestors n → P n

@@ -1,3 +1,4 @@
+-- Inner: no public clause cites this file.
 -- Why a query wasn't refuted, by cases.
 use Rattle.std.specs.Prelude.{◌≡◌, ◌++◌, ◌∷◌, []}
 use Rattle.board_base.specs.declared.unmoves.Unmove.{Unmove}

@@ -1,3 +1,4 @@
+-- Inner: no public clause cites this file.
 -- What is kept, by its queries.
 use Rattle.std.specs.Prelude.{ℕ, ◌+◌, ◌≡◌, ◌≤◌, ◌<◌, true, List, [], ◌∷◌, ◌++◌, length}
 use Rattle.std.specs.List.{All, Contains}

@@ -1,4 +1,4 @@
-ghost use Rattle.std.specs.Prelude.{ℕ, ◌≡◌, List};
+ghost use Rattle.std.specs.Prelude.{ℕ, ◌≡◌, ◌≤◌, List};
 ghost use Rattle.board_base.specs.declared.unmoves.Unmove.{Unmove as AnUnmove};
 ghost use Rattle.query_base.specs.Asked.{Asked};
 ghost use Rattle.retro_search.specs.Refutable.{IsRefutable};
@@ -17,6 +17,12 @@ pub fn one_open_line_each()
 pub fn one_cost_each()
     ensures some { (q : Asked) (depth : ℕ) (ancestors : List Asked) → (n : ℕ) × IsCost q depth ancestors n }
     ensures one { (q : Asked) (depth : ℕ) (ancestors : List Asked) (m n : ℕ) → IsCost q depth ancestors m → IsCost q depth ancestors n → m ≡ n }
+{}
+
+/// The law that what is refutable at a depth is so at each greater one, at the same cost. This does nothing when it runs.
+pub fn deeper_searches_refute_more()
+    ensures refutable { (q : Asked) (k depth : ℕ) (ancestors : List Asked) → k ≤ depth → IsRefutable q k ancestors → IsRefutable q depth ancestors }
+    ensures cost { (q : Asked) (k depth : ℕ) (ancestors : List Asked) (n : ℕ) → k ≤ depth → IsRefutable q k ancestors → IsCost q k ancestors n → IsCost q depth ancestors n }
 {}
 
 /// The law that each query has one memo cost at each depth. This does nothing when it runs.

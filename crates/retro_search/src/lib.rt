@@ -4,22 +4,24 @@
 #![tactic(auto)]
 
 mod answers;
+mod balancing;
 mod copying;
 mod laws;
 mod memos;
 mod refutations;
 mod runs;
+mod searchers;
 mod searching;
+mod settling;
 mod shutting;
 mod solving;
 mod stops;
 
 pub use answers::Found;
-pub use laws::{one_cost_each, one_memo_cost_each, one_open_line_each};
-pub use memos::{Kept, Memo};
-pub use refutations::{Children, MOST_NODES, Refutation};
-pub use runs::Run;
-pub use searching::{keep_alone, taken};
-pub use shutting::shut;
-pub use solving::{open_answer, solve};
-pub use stops::{OpenLine, Stop, lengthened};
+pub use laws::{
+    deeper_searches_refute_more, one_cost_each, one_memo_cost_each, one_open_line_each,
+};
+pub use runs::Reasons;
+pub use searchers::{Outcome, Searcher};
+pub use settling::settle;
+pub use solving::solve;

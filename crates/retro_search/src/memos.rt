@@ -2,8 +2,8 @@ ghost use Rattle.std.specs.Prelude.{◌≡◌, ◌≤◌, ◌↔◌, [], IfSome,
 ghost use Rattle.cert_text.specs.Seen.{tree_of};
 ghost use Rattle.std.specs.List.{Contains};
 ghost use Rattle.indexmap.specs.IndexMap.{values};
-ghost use Rattle.retro_search.specs.Kept.{IsSound, StandsAlone};
-ghost use Rattle.retro_search.specs.Lined.{IsLined, KeepsLines};
+ghost use Rattle.retro_search.specs.Kept.{IsSound, KeepsLines, StandsAlone};
+ghost use Rattle.retro_search.specs.Lined.{IsLined};
 ghost use Rattle.retro_search.specs.Tidy.{HasRoomFor, IsKeptLow, Keeps};
 
 use crate::copying::copied;
@@ -29,7 +29,7 @@ pub struct Kept {
     pub node: Node,
     /// The height of the tree.
     pub height: u8,
-    /// How many nodes it has.
+    /// How many lines it fills, of which those with prices count twice.
     pub lines: u32,
 }
 
@@ -53,7 +53,7 @@ fn is_same(a: &Query, b: &Query) -> bool
 
 impl Memo {
     /// A memo that is empty, and stays so where it isn't on.
-    pub fn new(alloc: Global, on: bool) -> Memo
+    pub(crate) fn new(alloc: Global, on: bool) -> Memo
         ensures sound { IsSound result }
         ensures on { result.on ≡ on }
         ensures lined { KeepsLines result }
@@ -67,7 +67,7 @@ impl Memo {
     }
 
     /// The tree that is kept for the query, if there is one, and it isn't higher than the depth.
-    pub fn find(&self, query: &Query, depth: u8) -> Option<&Kept>
+    pub(crate) fn find(&self, query: &Query, depth: u8) -> Option<&Kept>
         ensures found { IsSound self.now → IfSome result (λ kept. StandsAlone (tree_of kept.now.node) query.now kept.now.height kept.now.lines) }
         ensures low { IfSome result (λ kept. kept.now.height ≤ depth) }
         ensures on { IfSome result (λ kept. self.now.on ≡ true) }
@@ -90,12 +90,17 @@ impl Memo {
     }
 
     /// Keeps a copy of the tree, which leans on no ancestor, if there is room.
-    pub fn keep(&mut self, alloc: Global, query: &Query, found: &Refutation) -> Result<(), Memory>
+    pub(crate) fn keep(
+        &mut self,
+        alloc: Global,
+        query: &Query,
+        found: &Refutation,
+    ) -> Result<(), Memory>
         requires sound { IsSound self.old }
         requires alone { StandsAlone (tree_of found.now.node) query.now found.now.height found.now.lines }
-        ensures sound { OnOk result (IsSound self.new) }
-        ensures on { OnOk result (self.new.on ≡ self.old.on) }
-        ensures lined { KeepsLines self.old → IsLined (tree_of found.now.node) → OnOk result (KeepsLines self.new) }
+        ensures sound { IsSound self.new }
+        ensures on { self.new.on ≡ self.old.on }
+        ensures lined { KeepsLines self.old → IsLined (tree_of found.now.node) → KeepsLines self.new }
         ensures kept { OnOk result (HasRoomFor self.old query.now found.now.lines → Keeps self.old query.now found.now self.new) }
     {
         if !self.on || self.trees.len() >= MOST_TREES || MOST_LINES - self.lines < found.lines {
@@ -107,10 +112,11 @@ impl Memo {
             height: found.height,
             lines: found.lines,
         };
-        self.lines += found.lines;
         match self.trees.insert(*query, kept) {
-            Ok(_) => Ok(()),
-            Err(_) => Err(Memory),
+            Ok(_) => {}
+            Err(_) => return Err(Memory),
         }
+        self.lines += found.lines;
+        Ok(())
     }
 }

@@ -8,7 +8,7 @@ use board_base::Unmove;
 use cert_text::{Body, Kid, Kids, Node};
 use std::alloc::Global;
 
-/// The most nodes that a certificate may have.
+/// The most lines that a certificate may have, of which those with prices count twice.
 pub const MOST_NODES: u32 = 500_000;
 
 /// A tree that refutes a query.
@@ -20,7 +20,7 @@ pub struct Refutation {
     pub lean: u8,
     /// How many unmoves it goes back at most, the last of them included that has no unmove before it.
     pub height: u8,
-    /// How many nodes it has.
+    /// How many lines it fills: one for each node, and two where prices are listed.
     pub lines: u32,
 }
 
@@ -33,13 +33,13 @@ pub struct Children {
     pub lean: u8,
     /// The height of the highest.
     pub highest: u8,
-    /// How many nodes they have together.
+    /// How many lines they fill together.
     pub lines: u32,
 }
 
 impl Children {
     /// No children.
-    pub fn new(alloc: Global) -> Children
+    pub(crate) fn new(alloc: Global) -> Children
         ensures kids { result.kids ≡ none }
         ensures numbers { (result.lean ≡ 0) × (result.highest ≡ 0) × (result.lines ≡ 0) }
     {
@@ -51,8 +51,8 @@ impl Children {
         }
     }
 
-    /// Puts a child after the others, where the tree then has at most 500,000 nodes.
-    pub fn add(&mut self, label: Unmove, kid: Refutation) -> Result<(), Stop>
+    /// Puts a child after the others, where the tree then fills at most 500,000 lines.
+    pub(crate) fn add(&mut self, label: Unmove, kid: Refutation) -> Result<(), Stop>
         requires few { self.old.lines < MOST_NODES }
         requires kid { kid.lines ≤ MOST_NODES }
         ensures kids { OnOk result (self.new.kids ≡ with_last self.old.kids label (tree_of kid.node)) }
@@ -80,7 +80,7 @@ impl Children {
     }
 
     /// The refutation by these children.
-    pub fn finish(self) -> Refutation
+    pub(crate) fn finish(self) -> Refutation
         requires low { self.highest < 255 }
         requires few { self.lines < MOST_NODES }
         ensures tree { tree_of result.node ≡ expand self.kids }

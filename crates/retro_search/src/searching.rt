@@ -1,21 +1,22 @@
-ghost use Rattle.std.specs.Prelude.{ℕ, List, ◌≡◌, ◌+◌, ◌<◌, ◌≤◌, [], IfErr, IfOk, IsTrue, OnOk, false, length, reverse, suc, true};
+ghost use Rattle.std.specs.Prelude.{ℕ, List, ◌≡◌, ◌+◌, ◌<◌, ◌≤◌, [], IfErr, IfOk, IsTrue, OnOk, false, length, reverse, suc};
 ghost use Rattle.query_base.specs.Reach.{Reaches};
 ghost use Rattle.cert_text.specs.Seen.{tree_of};
-ghost use Rattle.retro_search.specs.Refutable.{IsShut};
+ghost use Rattle.retro_search.specs.Refutable.{IsRefutable, IsShut};
 ghost use Rattle.retro_search.specs.Costs.{IsCost};
-ghost use Rattle.retro_search.specs.Searched.{IsCostBelow, IsOpen};
+ghost use Rattle.retro_search.specs.Searched.{AreCounted, IsCostBelow, IsCounted, IsOpen, IsUnsettled, WhereEachRefutable};
 ghost use Rattle.retro_search.specs.Stops.{IfOpen, IfSpent, IfTooLarge};
-ghost use Rattle.retro_search.specs.Kept.{IsRefutation, IsSound, StandsAlone};
-ghost use Rattle.retro_search.specs.Lined.{IsLined, KeepsLines};
+ghost use Rattle.retro_search.specs.Kept.{IsRefutation, IsSound, KeepsLines, StandsAlone};
+ghost use Rattle.retro_search.specs.Lined.{IsLined};
 ghost use Rattle.retro_search.specs.Runs.{GoesOn};
 ghost use Rattle.retro_search.specs.Tidy.{HasRoomFor, Keeps};
 ghost use Rattle.retro_search.specs.Good.{GoesWell, GoesWellBelow, IsGood, IsGoodBelow, IsPaid};
 ghost use Rattle.query_base.specs.Asked.{Asked};
 
+use crate::balancing::by_balance;
 use crate::copying::copied;
 use crate::memos::Kept;
 use crate::refutations::{Children, MOST_NODES, Refutation};
-use crate::runs::Run;
+use crate::runs::{Reasons, Run};
 use crate::shutting::shut;
 use crate::stops::{OpenLine, Stop, lengthened};
 use query_base::{Query, is_array};
@@ -23,7 +24,7 @@ use std::alloc::Global;
 use unmove_gen::{Unmoves, pred};
 
 /// A refutation by a copy of the tree that is kept.
-pub fn taken(alloc: Global, kept: &Kept) -> Result<Refutation, Stop>
+fn taken(alloc: Global, kept: &Kept) -> Result<Refutation, Stop>
     ensures tree { IfOk result (λ found. tree_of found.node ≡ tree_of kept.now.node) }
     ensures numbers { IfOk result (λ found. (found.lean ≡ 0) × (found.height ≡ kept.now.height) × (found.lines ≡ kept.now.lines)) }
     ensures unrefuted { IfErr result (λ stop. stop ≡ Stop.Memory) }
@@ -40,11 +41,11 @@ pub fn taken(alloc: Global, kept: &Kept) -> Result<Refutation, Stop>
 }
 
 /// Keeps the refutation, if it leans on no ancestor. False where memory is wanting.
-pub fn keep_alone(alloc: Global, query: &Query, found: &Refutation, run: &mut Run) -> bool
+fn keep_alone(alloc: Global, query: &Query, found: &Refutation, run: &mut Run) -> bool
     requires sound { IsSound run.old.memo }
     requires alone { found.now.lean ≡ 0 → StandsAlone (tree_of found.now.node) query.now found.now.height found.now.lines }
-    ensures on { IsTrue result → (GoesOn run.old run.new × (run.new.left ≡ run.old.left)) }
-    ensures lined { IsTrue result → KeepsLines run.old.memo → IsLined (tree_of found.now.node) → KeepsLines run.new.memo }
+    ensures on { GoesOn run.old run.new × (run.new.left ≡ run.old.left) }
+    ensures lined { KeepsLines run.old.memo → IsLined (tree_of found.now.node) → KeepsLines run.new.memo }
     ensures kept { IsTrue result → found.now.lean ≡ 0 → HasRoomFor run.old.memo query.now found.now.lines → Keeps run.old.memo query.now found.now run.new.memo }
 {
     if found.lean != 0 {
@@ -53,6 +54,27 @@ pub fn keep_alone(alloc: Global, query: &Query, found: &Refutation, run: &mut Ru
     match run.memo.keep(alloc, query, found) {
         Ok(()) => true,
         Err(_) => false,
+    }
+}
+
+/// The refutation, which leans on no ancestor, kept if there is room.
+fn kept_alone(
+    alloc: Global,
+    query: &Query,
+    found: Refutation,
+    run: &mut Run,
+) -> Result<Refutation, Stop>
+    requires sound { IsSound run.old.memo }
+    requires alone { found.lean ≡ 0 }
+    requires stands { StandsAlone (tree_of found.node) query.now found.height found.lines }
+    ensures on { GoesOn run.old run.new × (run.new.left ≡ run.old.left) }
+    ensures found { IfOk result (λ same. same ≡ found) }
+    ensures memory { IfErr result (λ stop. stop ≡ Stop.Memory) }
+{
+    if keep_alone(alloc, query, &found, run) {
+        Ok(found)
+    } else {
+        Err(Stop::Memory)
     }
 }
 
@@ -68,22 +90,23 @@ pub(crate) fn search(
 ) -> Result<Refutation, Stop>
     requires shallow { length ancestors.old.items + depth ≤ 64 }
     requires sound { IsSound run.old.memo }
-    requires lined { KeepsLines run.old.memo }
+    requires lined { run.old.reasons ≡ Reasons.Lines → KeepsLines run.old.memo }
     requires few { run.old.left ≤ MOST_NODES }
     ensures refuted { IfOk result (λ found. IsRefutation found query.now depth (reverse ancestors.old.items)) }
-    ensures unrefuted { IfErr result (λ stop. IfOpen stop (λ line. IsOpen line query.now depth (reverse ancestors.old.items))) }
-    ensures plain { IfOk result (λ found. run.old.memo.on ≡ false → found.lines + run.new.left ≤ run.old.left) }
-    ensures too_large { IfErr result (λ stop. IfTooLarge stop (run.old.memo.on ≡ false → ⊥)) }
-    ensures cost { OnOk result ((n : ℕ) → IsCost query.now depth (reverse ancestors.old.items) n → run.old.left ≤ run.new.left + n) }
-    ensures spent { IfErr result (λ stop. IfSpent stop ((n : ℕ) → IsCost query.now depth (reverse ancestors.old.items) n → run.old.left < n)) }
+    ensures unsettled { IfErr result (λ stop. IfOpen stop (λ line. IsUnsettled line query.now depth (reverse ancestors.old.items))) }
+    ensures unrefuted { run.old.reasons ≡ Reasons.Lines → IfErr result (λ stop. IfOpen stop (λ line. IsOpen line query.now depth (reverse ancestors.old.items))) }
+    ensures plain { run.old.reasons ≡ Reasons.Lines → IfOk result (λ found. run.old.memo.on ≡ false → found.lines + run.new.left ≤ run.old.left) }
+    ensures too_large { run.old.reasons ≡ Reasons.Lines → IfErr result (λ stop. IfTooLarge stop (run.old.memo.on ≡ false → ⊥)) }
+    ensures cost { OnOk result (IsRefutable query.now depth (reverse ancestors.old.items) → (n : ℕ) → IsCost query.now depth (reverse ancestors.old.items) n → run.old.left ≤ run.new.left + n) }
+    ensures spent { IfErr result (λ stop. IfSpent stop (IsCounted run.old.reasons query.now depth (reverse ancestors.old.items) → (n : ℕ) → IsCost query.now depth (reverse ancestors.old.items) n → run.old.left < n)) }
     ensures deep { IfErr result (λ stop. IfOpen stop (λ line. length line.back.items < run.old.left)) }
-    ensures on { OnOk result (GoesOn run.old run.new) }
-    ensures lined { IfOk result (λ found. IsLined (tree_of found.node)) }
-    ensures keeps { OnOk result (KeepsLines run.new.memo) }
+    ensures on { GoesOn run.old run.new }
+    ensures lined { run.old.reasons ≡ Reasons.Lines → IfOk result (λ found. IsLined (tree_of found.node)) }
+    ensures keeps { run.old.reasons ≡ Reasons.Lines → KeepsLines run.new.memo }
     ensures kept { OnOk result (ancestors.new.items ≡ ancestors.old.items) }
-    ensures well { IfOk result (λ found. (ps : List Asked) (n : ℕ) → IsGood ps n query.now depth (reverse ancestors.old.items) run.old → GoesWell ps n query.now depth (reverse ancestors.old.items) found run.old run.new) }
-    ensures paid { IfErr result (λ stop. (ps : List Asked) (n : ℕ) → IsGood ps n query.now depth (reverse ancestors.old.items) run.old → IfSpent stop (IsPaid ps (reverse ancestors.old.items) run.old.left run.old.memo)) }
-    ensures small { IfErr result (λ stop. (ps : List Asked) (n : ℕ) → IsGood ps n query.now depth (reverse ancestors.old.items) run.old → IfTooLarge stop ⊥) }
+    ensures well { run.old.reasons ≡ Reasons.Lines → IfOk result (λ found. (ps : List Asked) (n : ℕ) → IsGood ps n query.now depth (reverse ancestors.old.items) run.old → GoesWell ps n query.now depth (reverse ancestors.old.items) found run.old run.new) }
+    ensures paid { run.old.reasons ≡ Reasons.Lines → IfErr result (λ stop. (ps : List Asked) (n : ℕ) → IsGood ps n query.now depth (reverse ancestors.old.items) run.old → IfSpent stop (IsPaid ps (reverse ancestors.old.items) run.old.left run.old.memo)) }
+    ensures small { run.old.reasons ≡ Reasons.Lines → IfErr result (λ stop. (ps : List Asked) (n : ℕ) → IsGood ps n query.now depth (reverse ancestors.old.items) run.old → IfTooLarge stop ⊥) }
 {
     if run.left == 0 {
         return Err(Stop::Spent);
@@ -93,7 +116,7 @@ pub(crate) fn search(
         return Ok(found);
     }
     let at_array = is_array(query);
-    if depth == 0 || at_array {
+    if at_array {
         return Err(Stop::Open(OpenLine {
             back: Vec::new(alloc),
             at_array,
@@ -101,6 +124,15 @@ pub(crate) fn search(
     }
     if let Some(kept) = run.memo.find(query, depth) {
         return taken(alloc, kept);
+    }
+    if let Some(found) = by_balance(query, run) {
+        return kept_alone(alloc, query, found, run);
+    }
+    if depth == 0 {
+        return Err(Stop::Open(OpenLine {
+            back: Vec::new(alloc),
+            at_array,
+        }));
     }
     match expand(alloc, query, depth - 1, ancestors, run) {
         Ok(found) => {
@@ -127,22 +159,23 @@ fn expand(
     requires unshut { IsShut query.now (reverse ancestors.old.items) → ⊥ }
     requires elsewhere { Reaches [] query.now → ⊥ }
     requires sound { IsSound run.old.memo }
-    requires lined { KeepsLines run.old.memo }
+    requires lined { run.old.reasons ≡ Reasons.Lines → KeepsLines run.old.memo }
     requires few { run.old.left < MOST_NODES }
     ensures refuted { IfOk result (λ found. IsRefutation found query.now (suc below) (reverse ancestors.old.items)) }
-    ensures unrefuted { IfErr result (λ stop. IfOpen stop (λ line. IsOpen line query.now (suc below) (reverse ancestors.old.items))) }
-    ensures plain { IfOk result (λ found. run.old.memo.on ≡ false → found.lines + run.new.left ≤ run.old.left + 1) }
-    ensures too_large { IfErr result (λ stop. IfTooLarge stop (run.old.memo.on ≡ false → ⊥)) }
-    ensures cost { OnOk result ((n : ℕ) → IsCostBelow query.now below (reverse ancestors.old.items) n → run.old.left ≤ run.new.left + n) }
-    ensures spent { IfErr result (λ stop. IfSpent stop ((n : ℕ) → IsCostBelow query.now below (reverse ancestors.old.items) n → run.old.left < n)) }
+    ensures unsettled { IfErr result (λ stop. IfOpen stop (λ line. IsUnsettled line query.now (suc below) (reverse ancestors.old.items))) }
+    ensures unrefuted { run.old.reasons ≡ Reasons.Lines → IfErr result (λ stop. IfOpen stop (λ line. IsOpen line query.now (suc below) (reverse ancestors.old.items))) }
+    ensures plain { run.old.reasons ≡ Reasons.Lines → IfOk result (λ found. run.old.memo.on ≡ false → found.lines + run.new.left ≤ run.old.left + 1) }
+    ensures too_large { run.old.reasons ≡ Reasons.Lines → IfErr result (λ stop. IfTooLarge stop (run.old.memo.on ≡ false → ⊥)) }
+    ensures cost { OnOk result (WhereEachRefutable query.now below (reverse ancestors.old.items) (λ n. run.old.left ≤ run.new.left + n)) }
+    ensures spent { IfErr result (λ stop. IfSpent stop (AreCounted run.old.reasons query.now below (reverse ancestors.old.items) → (n : ℕ) → IsCostBelow query.now below (reverse ancestors.old.items) n → run.old.left < n)) }
     ensures deep { IfErr result (λ stop. IfOpen stop (λ line. length line.back.items ≤ run.old.left)) }
-    ensures on { OnOk result (GoesOn run.old run.new) }
-    ensures lined { IfOk result (λ found. IsLined (tree_of found.node)) }
-    ensures keeps { OnOk result (KeepsLines run.new.memo) }
+    ensures on { GoesOn run.old run.new }
+    ensures lined { run.old.reasons ≡ Reasons.Lines → IfOk result (λ found. IsLined (tree_of found.node)) }
+    ensures keeps { run.old.reasons ≡ Reasons.Lines → KeepsLines run.new.memo }
     ensures kept { OnOk result (ancestors.new.items ≡ ancestors.old.items) }
-    ensures well { IfOk result (λ found. (ps : List Asked) (m : ℕ) → IsGoodBelow ps m query.now below (reverse ancestors.old.items) run.old → GoesWellBelow ps m query.now below (reverse ancestors.old.items) found run.old run.new) }
-    ensures paid { IfErr result (λ stop. (ps : List Asked) (m : ℕ) → IsGoodBelow ps m query.now below (reverse ancestors.old.items) run.old → IfSpent stop (IsPaid ps (reverse ancestors.old.items) (run.old.left + 1) run.old.memo)) }
-    ensures small { IfErr result (λ stop. (ps : List Asked) (m : ℕ) → IsGoodBelow ps m query.now below (reverse ancestors.old.items) run.old → IfTooLarge stop ⊥) }
+    ensures well { run.old.reasons ≡ Reasons.Lines → IfOk result (λ found. (ps : List Asked) (m : ℕ) → IsGoodBelow ps m query.now below (reverse ancestors.old.items) run.old → GoesWellBelow ps m query.now below (reverse ancestors.old.items) found run.old run.new) }
+    ensures paid { run.old.reasons ≡ Reasons.Lines → IfErr result (λ stop. (ps : List Asked) (m : ℕ) → IsGoodBelow ps m query.now below (reverse ancestors.old.items) run.old → IfSpent stop (IsPaid ps (reverse ancestors.old.items) (run.old.left + 1) run.old.memo)) }
+    ensures small { run.old.reasons ≡ Reasons.Lines → IfErr result (λ stop. (ps : List Asked) (m : ℕ) → IsGoodBelow ps m query.now below (reverse ancestors.old.items) run.old → IfTooLarge stop ⊥) }
 {
     match ancestors.push(*query) {
         Ok(()) => {}

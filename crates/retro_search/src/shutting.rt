@@ -45,7 +45,7 @@ fn by_ancestor(steps: u8) -> Refutation
 
 /// A tree of one node that refutes the query below these fewer than 256 ancestors, the parent last: a rule line that supports it, or a
 /// step back to an ancestor that covers it. None exactly where neither is there.
-pub fn shut(query: &Query, ancestors: &[Query]) -> Option<Refutation>
+pub(crate) fn shut(query: &Query, ancestors: &[Query]) -> Option<Refutation>
     requires { length ancestors.now < 256 }
     ensures shut { MatchOption result (IsShut query.now (reverse ancestors.now) → ⊥) (λ found. IsRefutation found query.now 0 (reverse ancestors.now)) }
     ensures one { IfSome result (λ found. found.lines ≡ 1) }

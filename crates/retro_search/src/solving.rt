@@ -10,7 +10,7 @@ ghost use Rattle.retro_search.specs.Refutable.{IsRefutable};
 ghost use Rattle.retro_search.specs.Costs.{IsCost};
 ghost use Rattle.retro_search.specs.Lone.{AreExpanded, IsAfforded, IsLoneSearch, IsMemoCost, unmoves_in_all};
 ghost use Rattle.retro_search.specs.Stops.{IfOpen, IfSpent, IfTooLarge};
-ghost use Rattle.retro_search.specs.Searched.{IsOpen};
+ghost use Rattle.retro_search.specs.Searched.{IsOpen, IsUnsettled};
 ghost use Rattle.retro_search.specs.Kept.{IsRefutation};
 ghost use Rattle.retro_search.specs.Lined.{IsLined};
 ghost use Rattle.cert_text.specs.Seen.{tree_of};
@@ -19,11 +19,12 @@ ghost use Rattle.retro_search.specs.Answers.{IfCountered, IfProved, IfSpentAt, I
 use crate::answers::Found;
 use crate::memos::Memo;
 use crate::refutations::{MOST_NODES, Refutation};
-use crate::runs::Run;
+use crate::runs::{Reasons, Run};
 use crate::searching::search;
 use crate::stops::{OpenLine, Stop};
 use board_base::{Memory, MoveList, Unmove, UnmoveList};
 use cert_text::Cert;
+use indexmap::IndexSet;
 use query_base::{Claim, Query, target};
 use std::alloc::Global;
 
@@ -50,7 +51,7 @@ fn reversed(alloc: Global, unmoves: &[Unmove]) -> Result<UnmoveList, Memory>
 }
 
 /// The answer where this line stays open: a game where it ends at the array.
-pub fn open_answer(alloc: Global, line: &OpenLine) -> Result<Found, Memory>
+pub(crate) fn open_answer(alloc: Global, line: &OpenLine) -> Result<Found, Memory>
     ensures proved { IfOk result (λ found. IfProved found (λ cert. ⊥)) }
     ensures undecided { IfOk result (λ found. IfUndecided found (λ l. (l ≡ reverse line.now.back.items) × (line.now.at_array ≡ false))) }
     ensures countered { IfOk result (λ found. IfCountered found (λ g. (g ≡ map (λ u. u.mv) line.now.back.items) × (line.now.at_array ≡ true))) }
@@ -64,7 +65,7 @@ pub fn open_answer(alloc: Global, line: &OpenLine) -> Result<Found, Memory>
 }
 
 /// Tells the caller what every query and every claim keeps, and does nothing when it runs.
-fn are_known(query: &Query, claim: &Claim)
+pub(crate) fn are_known(query: &Query, claim: &Claim)
     ensures query { IsQuery query.now }
     ensures claim { IsTrue (stays_on_board claim.now) }
 {
@@ -79,9 +80,9 @@ fn are_known(query: &Query, claim: &Claim)
     }
 }
 
-/// Refutes the target at this depth, with at most so many visits; else says what stopped it. With a memo, refutations that lean
+/// Refutes the target at this depth by rule lines, with at most so many visits; else says what stopped it. With a memo, refutations that lean
 /// on no ancestor are kept on the way.
-fn attempt(
+pub(crate) fn attempt(
     alloc: Global,
     target: &Query,
     depth: u8,
@@ -92,6 +93,7 @@ fn attempt(
     requires few { nodes ≤ MOST_NODES }
     ensures refuted { IfOk result (λ found. IsRefutation found target.now depth []) }
     ensures unrefuted { IfErr result (λ stop. IfOpen stop (λ line. IsOpen line target.now depth [])) }
+    ensures unsettled { IfErr result (λ stop. IfOpen stop (λ line. IsUnsettled line target.now depth [])) }
     ensures lined { IfOk result (λ found. IsLined (tree_of found.node)) }
     ensures deep { IfErr result (λ stop. IfOpen stop (λ line. length line.back.items < nodes)) }
     ensures spent { IfErr result (λ stop. IfSpent stop ((n : ℕ) → IsCost target.now depth [] n → nodes < n)) }
@@ -103,7 +105,9 @@ fn attempt(
     let mut ancestors = Vec::new(alloc);
     let mut run = Run {
         left: nodes,
+        reasons: Reasons::Lines,
         memo: Memo::new(alloc, with_memo),
+        vain: IndexSet::new(alloc),
     };
     search(alloc, target, depth, &mut ancestors, &mut run)
 }

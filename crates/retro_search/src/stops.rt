@@ -18,7 +18,7 @@ pub enum Stop {
     Open(OpenLine),
     /// The nodes that were left didn't suffice.
     Spent,
-    /// The tree would have more than 500,000 nodes.
+    /// The tree would fill more than 500,000 lines.
     TooLarge,
     /// Want of memory.
     Memory,
@@ -26,7 +26,7 @@ pub enum Stop {
 
 /// What stops the search of a query where this stops that of its predecessor by the unmove: the open line is longer by it. Memory may
 /// be wanting.
-pub fn lengthened(stop: Stop, u: Unmove) -> Stop
+pub(crate) fn lengthened(stop: Stop, u: Unmove) -> Stop
     ensures { IsLengthened stop u result }
 {
     match stop {

@@ -19,8 +19,8 @@ use Rattle.retro_top.proofs.Stated.{stated, states-some}
 settling-done : (depth nodes : ℕ) (claim : Claim) (q : Asked) (ending : Status) (text : List ℕ) → AnswersSettling depth nodes claim q ending text → IsRefutable (target q claim) depth [] → IsCheap depth nodes claim q → ending ≡ Done
 settling-done depth nodes claim q Done text answers ref cheap = refl
 settling-done depth nodes claim q Undecided text answers ref cheap = absurd (answers.unsettled.unrefuted ref)
-settling-done depth nodes claim q Countered text answers ref cheap = absurd (answers.unrefuted depth ref)
-settling-done depth nodes claim q Spent text answers ref cheap = absurd (omega (arith, answers.dear ref cheap.0 cheap.1, cheap.2))
+settling-done depth nodes claim q Countered text answers ref cheap = absurd (answers.against.unrefuted depth ref)
+settling-done depth nodes claim q Spent text answers ref cheap = absurd (omega (arith, answers.dear depth cheap.0 (omega arith) ref cheap.1, cheap.2))
 settling-done depth nodes claim q _ text answers ref cheap = absurd answers
 
 -- where the target is refutable by rule lines and the nodes suffice, a certificate is found

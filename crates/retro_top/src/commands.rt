@@ -40,7 +40,7 @@ pub enum Command {
     Settle {
         /// How many moves are taken back at most, from 0 to 64.
         depth: u8,
-        /// How many queries are visited at most at each depth, from 1 to 500,000.
+        /// How many queries are visited at most, from 1 to 500,000.
         nodes: u32,
     },
     /// What the conventions of chess problems say of each right that a position seems to give.

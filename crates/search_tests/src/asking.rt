@@ -3,11 +3,22 @@
 use board_base::UnmoveList;
 use cert_text::{Body, Cert, Node, fits_format, read_claim};
 use fen_text::read_four_fields;
-use retro_search::{Found, solve};
+use query_base::{Claim, Query};
+use retro_search::{Found, settle, solve};
 use std::alloc::Global;
 use std::test::Fail;
 
-/// What is answered to a claim line and a FEN of four fields.
+/// The claim of a line and the query of a FEN of four fields.
+pub(crate) fn read(claim: &str, fen: &str) -> Result<(Claim, Query), Fail> {
+    let claim = read_claim(claim.as_bytes()).ok_or("a claim")?;
+    let query = read_four_fields(fen.as_bytes()).ok_or("a FEN")?;
+    if query.barred.is_some() {
+        return Err(Fail::from("barred"));
+    }
+    Ok((claim, query))
+}
+
+/// What `solve` answers to a claim line and a FEN of four fields.
 pub(crate) fn ask(
     alloc: Global,
     claim: &str,
@@ -15,15 +26,29 @@ pub(crate) fn ask(
     depth: u8,
     nodes: u32,
 ) -> Result<Found, Fail> {
-    let claim = read_claim(claim.as_bytes()).ok_or("a claim")?;
-    let query = read_four_fields(fen.as_bytes()).ok_or("a FEN")?;
+    let (claim, query) = read(claim, fen)?;
     if query.barred.is_some() || depth > 64 || nodes == 0 || nodes > 500_000 {
         return Err(Fail::from("out of range"));
     }
     Ok(solve(alloc, &query, &claim, depth, nodes)?)
 }
 
-/// The certificate that is answered, which has a text.
+/// What `settle` answers to them.
+pub(crate) fn ask_settle(
+    alloc: Global,
+    claim: &str,
+    fen: &str,
+    depth: u8,
+    nodes: u32,
+) -> Result<Found, Fail> {
+    let (claim, query) = read(claim, fen)?;
+    if query.barred.is_some() || depth > 64 || nodes > 500_000 {
+        return Err(Fail::from("out of range"));
+    }
+    Ok(settle(alloc, &query, &claim, depth, nodes)?)
+}
+
+/// The certificate that `solve` answers, which has a text.
 pub(crate) fn certificate(
     alloc: Global,
     claim: &str,
@@ -31,7 +56,12 @@ pub(crate) fn certificate(
     depth: u8,
     nodes: u32,
 ) -> Result<Cert, Fail> {
-    match ask(alloc, claim, fen, depth, nodes)? {
+    found_certificate(ask(alloc, claim, fen, depth, nodes)?)
+}
+
+/// The certificate that was found, which has a text.
+pub(crate) fn found_certificate(found: Found) -> Result<Cert, Fail> {
+    match found {
         Found::Proved(cert) => {
             if fits_format(&cert) {
                 Ok(cert)

@@ -13,7 +13,7 @@ const PACING_KINGS: &str = "QN2k1NR/pppppppr/7p/8/8/7P/PPPPPPPR/qn2K1nr w - -";
 /// Claim, position and the depth that proves the claim. What proves them: kings in check that can't have arisen, too many men,
 /// cages, men that must have been promoted, too many captures, circles, and positions whose last moves are all looked at, among
 /// them castlings, promotions and captures en passant.
-const CLAIMS: [(&str, &str, u8); 51] = [
+pub(crate) const CLAIMS: [(&str, &str, u8); 51] = [
     ("claim illegal", "6Bk/1ppp1pp1/8/8/8/8/4K1P1/5N2 w - -", 2),
     ("claim illegal", "7k/2p4p/8/8/7q/8/1PPP1P1P/Kb6 b - -", 2),
     (
@@ -227,10 +227,14 @@ fn text_of(alloc: Global, cert: &Cert) -> Result<Vec<u8>, Fail> {
     Ok(write_cert(alloc, cert)?)
 }
 
-/// Whether the checker accepts the text of the certificate that is found, with its claim and query.
+/// Whether the checker accepts the text of the certificate that `solve` finds, with its claim and query.
 pub(crate) fn is_accepted(alloc: Global, claim: &str, fen: &str, depth: u8) -> Result<bool, Fail> {
-    let cert = certificate(alloc, claim, fen, depth, 2_000)?;
-    let text = text_of(alloc, &cert)?;
+    accepts(alloc, &certificate(alloc, claim, fen, depth, 2_000)?)
+}
+
+/// Whether the checker accepts the text of the certificate, with its claim and query.
+pub(crate) fn accepts(alloc: Global, cert: &Cert) -> Result<bool, Fail> {
+    let text = text_of(alloc, cert)?;
     let bytes = text.as_slice();
     if bytes.len() > 1_000_000 {
         return Err(Fail::from("too long"));

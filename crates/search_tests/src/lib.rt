@@ -12,4 +12,6 @@ mod problems;
 #[cfg(test)]
 mod rows;
 #[cfg(test)]
+mod settling;
+#[cfg(test)]
 mod verdicts;

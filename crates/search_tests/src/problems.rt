@@ -5,7 +5,7 @@ use crate::certificates::is_accepted;
 use std::test::Fail;
 
 /// Claim, position and depth: Loyd 1859, Loyd 1891, Benko 1996, Dawson 1913, and Dawson in the British Chess Magazine of 1913.
-const PROBLEMS: [(&str, &str, u8); 5] = [
+pub(crate) const PROBLEMS: [(&str, &str, u8); 5] = [
     ("claim lost q", "r3k3/p1p5/Q3K3/8/8/8/8/8 w - -", 1),
     (
         "claim last f3g3",

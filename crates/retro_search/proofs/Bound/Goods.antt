@@ -38,6 +38,7 @@ use Rattle.retro_search.proofs.Expansions.{if_spent, less_one}
 use Rattle.retro_search.proofs.Costs.CostSums.{cost_below, cost_positive}
 use Rattle.retro_search.proofs.Bound.Different.{different_moved, member_moved, sum-append, sum_within}
 use Rattle.retro_search.proofs.Bound.Wholes.{tree_done, value_key, whole_more}
+use Rattle.retro_search.proofs.Trees.LineCounts.{lined_counts}
 use Rattle.retro_search.proofs.Trees.EagerTrees.{covered-by, eager_low, eager_small, lone-here, lone_unshut}
 
 -- before a visit, all visits are paid for
@@ -47,7 +48,7 @@ paid_at_none ps ancestors run f none =
 
 -- a run after a visit
 abbrev pub visited : Run → Run
-visited run = record { left = run.left - 1; memo = run.memo }
+visited run = record { left = run.left - 1; reasons = run.reasons; memo = run.memo; vain = run.vain }
 
 -- a tree of one node
 pub leaf_eager : (t : Tree) (q : Asked) (above : List Asked) → Proves t q above → height t ≡ 0 → (IsCovered q above → ⊥) → ((k : ℕ) → t ≡ back k → IsCovered q above) → IsEager t q
@@ -83,14 +84,14 @@ shut_well ps n q depth ancestors run r some g is one lined own =
     stay ps n q depth ancestors run r some g o.1 o.0 (omega (arith, one, cost_positive depth q ancestors n g.cost)) (inl closed)
 
 -- a query of which a tree is kept
-pub kept_well : (ps : List Asked) (n : ℕ) (q : Asked) (depth : ℕ) (ancestors : List Asked) (run : Run) (r : Refutation) (k : Kept) → run.left ≢ 0 → IsGood ps n q depth ancestors run → IsSound run.memo → k.query ≡ q → Contains (values run.memo.trees) k → tree_of r.node ≡ tree_of k.node → r.lean ≡ 0 → r.lines ≡ k.lines → GoesWell ps n q depth ancestors r run (visited run)
-kept_well ps n q depth ancestors run r k some g sound own among tree alone counted =
+pub kept_well : (ps : List Asked) (n : ℕ) (q : Asked) (depth : ℕ) (ancestors : List Asked) (run : Run) (r : Refutation) (k : Kept) → run.left ≢ 0 → IsGood ps n q depth ancestors run → IsSound run.memo → k.query ≡ q → Contains (values run.memo.trees) k → IsLined (tree_of k.node) → tree_of r.node ≡ tree_of k.node → r.lean ≡ 0 → r.lines ≡ k.lines → GoesWell ps n q depth ancestors r run (visited run)
+kept_well ps n q depth ancestors run r k some g sound own among lined tree alone counted =
     let eager : IsEager (tree_of k.node) q = subst (λ (a : Asked). IsEager (tree_of k.node) a) own (All-contains (λ x. IsEager (tree_of x.node) x.query) (values run.memo.trees) k g.fits.tidy.eager among) in
     let stands : StandsAlone (tree_of k.node) k.query k.height k.lines = All-contains IsKept (values run.memo.trees) k sound.each among in
     let proves : Proves (tree_of k.node) q [] = subst (λ (a : Asked). Proves (tree_of k.node) a []) own stands.proves in
     let few = eager_small (tree_of k.node) q depth ancestors [] n eager proves g.lone g.refutable g.cost in
     let there : Contains (kept_in run.memo) q = subst (λ (a : Asked). Contains (kept_in run.memo) a) own (value_key run.memo.trees.entries k g.fits.tidy.own among) in
-    stay ps n q depth ancestors run r some g (subst (λ (t : Tree). IsEager t q) (sym tree) eager) alone (omega (arith, few, stands.counted, counted)) (inr there)
+    stay ps n q depth ancestors run r some g (subst (λ (t : Tree). IsEager t q) (sym tree) eager) alone (omega (arith, few, stands.counted, counted, lined_counts (tree_of k.node) lined)) (inr there)
 
 -- what is kept for a lone and refutable query is low
 low-kept : (q : Asked) (depth : ℕ) (ancestors : List Asked) (k : Kept) → IsLone q depth ancestors → IsRefutable q depth ancestors → IsEager (tree_of k.node) k.query → StandsAlone (tree_of k.node) k.query k.height k.lines → k.query ≡ q → k.height ≤ depth

@@ -7,16 +7,16 @@ use Rattle.cert_text.specs.Tree.{Tree, Forest, none, more, with_last}
 use Rattle.cert_checker.specs.Proving.{Proves, ProvesEach}
 use Rattle.retro_search.specs.Heights.{height, height_of_all}
 use Rattle.retro_search.specs.Lined.{AreLined, IsLined}
-use Rattle.retro_search.specs.Sizes.{nodes_in, nodes_in_all}
+use Rattle.retro_search.specs.LineCounts.{lines_in, lines_in_all}
 
 pub proves_more : (f : Forest) (q : Asked) (done : List Unmove) (u : Unmove) (t : Tree) (ancestors : List Asked) → ProvesEach f q done ancestors → Proves t (predecessor q u) (q ∷ ancestors) → ProvesEach (with_last f u t) q (done ++ u ∷ []) ancestors
 proves_more none q done u t ancestors each h = ([], ap (λ (l : List Unmove). l ++ u ∷ []) each, h, refl)
 proves_more (more label s rest) q done u t ancestors (others, e, p, each) h =
     (others ++ u ∷ [], ap (λ (l : List Unmove). l ++ u ∷ []) e, p, proves_more rest q others u t ancestors each h)
 
-pub nodes_more : (f : Forest) (u : Unmove) (t : Tree) → nodes_in_all (with_last f u t) ≡ nodes_in_all f + nodes_in t
-nodes_more none u t = omega arith
-nodes_more (more label s rest) u t = omega (arith, nodes_more rest u t)
+pub lines_more : (f : Forest) (u : Unmove) (t : Tree) → lines_in_all (with_last f u t) ≡ lines_in_all f + lines_in t
+lines_more none u t = omega arith
+lines_more (more label s rest) u t = omega (arith, lines_more rest u t)
 
 pub height_last : (f : Forest) (u : Unmove) (t : Tree) → height_of_all (with_last f u t) ≡ max (height_of_all f) (height t)
 height_last none u t = omega arith

@@ -6,6 +6,7 @@ use Rattle.query_base.specs.Reach.{Reaches}
 use Rattle.query_base.specs.Targets.{Covers}
 use Rattle.query_base.specs.Ancestors.{CoversAt}
 use Rattle.cert_text.specs.declared.reasons.Reason.{Reason}
+use Rattle.cert_text.specs.declared.reasons.Reason.TheVariants.{Line, Balance}
 use Rattle.cert_checker.specs.Reasons.{ReasonSupports}
 use Rattle.unmove_gen.specs.Listed.{unmoves}
 use Rattle.cert_text.specs.Tree.{Tree, rule, back, expand}
@@ -13,7 +14,7 @@ use Rattle.cert_text.specs.Seen.{tree_of}
 use Rattle.cert_checker.specs.Proving.{Proves, ProvesEach}
 use Rattle.retro_search.specs.Refutable.{IsRefutable}
 use Rattle.retro_search.specs.Heights.{height}
-use Rattle.retro_search.specs.Sizes.{nodes_in}
+use Rattle.retro_search.specs.LineCounts.{lines_in, lines_of_reason}
 use Rattle.retro_search.specs.Searched.{Refutes}
 use Rattle.retro_search.specs.Lined.{IsLined}
 use Rattle.retro_search.specs.Grown.{AreChildren}
@@ -24,17 +25,21 @@ use Rattle.retro_search.proofs.Trees.Ancestors.{ancestor_near, proves_below, who
 use Rattle.retro_search.proofs.Trees.Heights.{refutable_by}
 
 -- a refutation by a tree whose parts are known
-by_tree : (r : Refutation) (t : Tree) (q : Asked) (depth : ℕ) (ancestors : List Asked) → tree_of r.node ≡ t → Proves t q (take r.lean ancestors) → height t ≡ r.height → r.height ≤ depth → nodes_in t ≡ r.lines → r.lines ≤ 500000 → IsRefutation r q depth ancestors
+by_tree : (r : Refutation) (t : Tree) (q : Asked) (depth : ℕ) (ancestors : List Asked) → tree_of r.node ≡ t → Proves t q (take r.lean ancestors) → height t ≡ r.height → r.height ≤ depth → lines_in t ≡ r.lines → r.lines ≤ 500000 → IsRefutation r q depth ancestors
 by_tree r t q depth ancestors e proves high low counted few = record {
   proves = subst (λ (s : Tree). Proves s q (take r.lean ancestors)) (sym e) proves;
   high = ap height e ∙ high;
   low = low;
-  counted = ap nodes_in e ∙ counted;
+  counted = ap lines_in e ∙ counted;
   few = few;
 }
 
-pub refutes_by_rule : (r : Refutation) (reason : Reason) (q : Asked) (ancestors : List Asked) → tree_of r.node ≡ rule reason → (r.height ≡ 0) → (r.lines ≡ 1) → ReasonSupports q reason → IsRefutation r q 0 ancestors
-refutes_by_rule r reason q ancestors e high counted h = by_tree r (rule reason) q 0 ancestors e h (sym high) (omega arith) (sym counted) (omega arith)
+reason_few : (reason : Reason) → lines_of_reason reason ≤ 2
+reason_few (Line r) = omega arith
+reason_few (Balance set p) = omega arith
+
+pub refutes_by_rule : (r : Refutation) (reason : Reason) (q : Asked) (ancestors : List Asked) → tree_of r.node ≡ rule reason → (r.height ≡ 0) → (r.lines ≡ lines_of_reason reason) → ReasonSupports q reason → IsRefutation r q 0 ancestors
+refutes_by_rule r reason q ancestors e high counted h = by_tree r (rule reason) q 0 ancestors e h (sym high) (omega arith) (sym counted) (omega (arith, reason_few reason))
 
 pub refutes_by_ancestor : (r : Refutation) (k : ℕ) (q : Asked) (ancestors : List Asked) → tree_of r.node ≡ back k → (r.lean ≡ k) → (r.height ≡ 0) → (r.lines ≡ 1) → CoversAt q ancestors k → IsRefutation r q 0 ancestors
 refutes_by_ancestor r k q ancestors e lean high counted h =

@@ -19,9 +19,10 @@ of_certificate-requires c = rw c.in-Proved.is at (c.in-Ok.ensures.written c.requ
 pub returns-in-Proved : goal.returns-in-Proved
 returns-in-Proved c =
     let cert = cert_of c.in-Proved.cert in
+    let told = text_written cert _ (rw c.in-Proved.is at (c.in-Ok.ensures.written c.requires.promotion)) c.of_certificate.ensures in
     record {
       cert = cert;
       is_proof = rw c.in-Proved.is at c.in-Ok.ensures.proved;
-      is_text = text_written cert _ (rw c.in-Proved.is at (c.in-Ok.ensures.written c.requires.promotion)) c.of_certificate.ensures;
-      least = rw c.in-Proved.is at c.in-Ok.ensures.least;
+      is_text = told;
+      short = (rw c.in-Proved.is at c.in-Ok.ensures.short) _ told;
     }

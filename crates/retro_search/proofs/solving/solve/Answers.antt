@@ -9,15 +9,21 @@ use Rattle.retro_search.specs.Kept.{IsRefutation}
 use Rattle.retro_search.specs.Searched.{IsOpen}
 use Rattle.retro_search.specs.Sizes.{nodes_in}
 use Rattle.retro_search.proofs.Lines.LineEnds.{countered, undecided}
+use Rattle.retro_search.proofs.Trees.LineCounts.{nodes_few}
 use Rattle.retro_search.proofs.Trees.Refuting.{refutes_whole}
-use Rattle.retro_search.proofs.Roots.{exactly_open, held, if_countered, if_ok, if_undecided, refutable_root, written}
+use Rattle.retro_search.proofs.Roots.{exactly_open, held, if_countered, if_ok, if_undecided, proof_of, refutable_root, written}
 use Rattle.retro_search.proofs.Bound.Goods.{memo_afforded, memo_spent}
 use Rattle.retro_search.proofs.solving.solve.Goals as goal
+
+pub returns-in-Ok-clause-proved : goal.returns-in-Ok-clause-proved
+returns-in-Ok-clause-proved c =
+    let f : IsRefutation c.in-Ok.found (target c.args.query.now c.args.claim.now) c.args.depth [] = subst (λ (q : Asked). IsRefutation c.in-Ok.found q c.args.depth []) c.target.ensures.query c.in-Ok.ensures.refuted in
+    proof_of (tree_of c.in-Ok.found.node) c.args.claim.now c.args.query.now c.args.depth (refutes_whole c.in-Ok.found _ c.args.depth [] f) (omega (arith, f.counted, f.few, nodes_few (tree_of c.in-Ok.found.node)))
 
 pub returns-in-Ok-clause-written : goal.returns-in-Ok-clause-written
 returns-in-Ok-clause-written c well =
     let f : IsRefutation c.in-Ok.found (target c.args.query.now c.args.claim.now) c.args.depth [] = subst (λ (q : Asked). IsRefutation c.in-Ok.found q c.args.depth []) c.target.ensures.query c.in-Ok.ensures.refuted in
-    let few : nodes_in (tree_of c.in-Ok.found.node) ≤ 500000 = omega (arith, f.counted, f.few) in
+    let few : nodes_in (tree_of c.in-Ok.found.node) ≤ 500000 = omega (arith, f.counted, f.few, nodes_few (tree_of c.in-Ok.found.node)) in
     written (tree_of c.in-Ok.found.node) c.args.claim.now c.args.query.now c.args.depth c.are_known.ensures.query c.are_known.ensures.claim well c.requires.unbarred c.requires.shallow few (refutes_whole c.in-Ok.found _ c.args.depth [] f)
 
 pub returns-in-Ok-clause-holds : goal.returns-in-Ok-clause-holds

@@ -12,8 +12,8 @@ use Rattle.indexmap.proofs.CallerLemmas.{insert_entry-new}
 use Rattle.retro_search.proofs.Maps.Lookups.{absent, eq}
 use Rattle.retro_search.proofs.memos.Memo.keep.Goals as goal
 
-pub returns-in-Ok-clause-sound : goal.returns-in-Ok-clause-sound
-returns-in-Ok-clause-sound c =
+pub returns-clause-sound : goal.returns-clause-sound
+returns-clause-sound c =
     let kept : Kept = record { query = c.args.query.now; node = c.in_ok-copied.field-0; height = c.args.found.now.height; lines = c.args.found.now.lines } in
     let alone = subst (λ (t : Tree). StandsAlone t c.args.query.now c.args.found.now.height c.args.found.now.lines) (sym c.in_ok-copied.ensures) c.requires.alone in
     record {
@@ -22,8 +22,8 @@ returns-in-Ok-clause-sound c =
       few = omega (arith, c.requires.sound.few, c.if-self-found.false);
     }
 
-pub returns-in-Ok-clause-kept : goal.returns-in-Ok-clause-kept
-returns-in-Ok-clause-kept c room =
+pub returns-clause-kept : goal.returns-clause-kept
+returns-clause-kept c room =
     let kept : Kept = record { query = c.args.query.now; node = c.in_ok-copied.field-0; height = c.args.found.now.height; lines = c.args.found.now.lines } in
     record {
       kept = kept;
@@ -33,8 +33,8 @@ returns-in-Ok-clause-kept c room =
       lines = refl;
     }
 
-pub returns-in-Ok-clause-lined : goal.returns-in-Ok-clause-lined
-returns-in-Ok-clause-lined c keeps lined =
+pub returns-clause-lined : goal.returns-clause-lined
+returns-clause-lined c keeps lined =
     let kept : Kept = record { query = c.args.query.now; node = c.in_ok-copied.field-0; height = c.args.found.now.height; lines = c.args.found.now.lines } in
     let own : IsLined (tree_of c.in_ok-copied.field-0) = subst IsLined (sym c.in_ok-copied.ensures) lined in
     subst (λ (es : List (Asked × Kept)). All (λ k. IsLined (tree_of k.node)) (values_of es)) (sym c.in-Ok.ensures.entries) (all_inserted _ (λ (k : Kept). IsLined (tree_of k.node)) _ c.args.query.now kept own keeps)

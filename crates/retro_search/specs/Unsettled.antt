@@ -1,5 +1,5 @@
 -- What a search by rule lines and by the balance of captures leaves open.
-use Rattle.std.specs.Prelude.{ℕ, zero, suc, ◌≡◌, ◌<◌, ◌≤◌, ◌⊎◌, List, [], ◌∷◌, length}
+use Rattle.std.specs.Prelude.{ℕ, zero, suc, ◌≡◌, ◌≤◌, ◌⊎◌, List, [], ◌∷◌, length}
 use Rattle.std.specs.List.{Contains}
 use Rattle.board_base.specs.declared.moves.Move.{Move}
 use Rattle.board_base.specs.declared.unmoves.Unmove.{Unmove}
@@ -9,10 +9,8 @@ use Rattle.query_base.specs.Targets.{target}
 use Rattle.query_base.specs.declared.claims.Claim.{Claim}
 use Rattle.unmove_gen.specs.Listed.{unmoves}
 use Rattle.unmove_gen.specs.Predecessor.{predecessor}
-use Rattle.cert_text.specs.Certificate.{Certificate}
 use Rattle.retro_search.specs.Refutable.{IsRefutable, IsShut}
 use Rattle.retro_search.specs.Costs.{IsCost}
-use Rattle.retro_search.specs.Heights.{height}
 use Rattle.retro_search.specs.Lines.{EndsAtArray, forwards}
 
 -- A line of listed unmoves, of at most the depth, on which no query is shut: no rule line supports it, and none before it on the line
@@ -31,21 +29,17 @@ pub record StaysUnsettled (line : List Unmove) (q : Asked) (depth : ℕ) : Type 
   pub long : length line ≡ depth
   pub elsewhere : EndsAtArray q line → ⊥
 
--- An open line of the claim's target ends at the array, and this game is that line forwards; it contradicts the claim, and has no more
--- moves than the depth.
+-- An open line of the claim's target ends at the array, and this game is that line forwards. It contradicts the claim, and has no more
+-- moves than the depth. The target is refutable at no depth by rule lines.
 pub record IsAgainst (game : List Move) (claim : Claim) (q : Asked) (depth : ℕ) : Type 0 where
   pub line : List Unmove
-  pub back : ℕ
-  pub open_line : IsOpenLine (target q claim) back [] line
+  pub open_line : IsOpenLine (target q claim) depth [] line
   pub at_array : EndsAtArray (target q claim) line
   pub forwards_is : game ≡ forwards line
   pub contradicts : Contradicts game claim q
   pub short : length game ≤ depth
+  pub unrefuted : (more : ℕ) → IsRefutable (target q claim) more [] → ⊥
 
--- where the query is refutable at the depth by rule lines, this holds of its cost
-abbrev pub WhereRefutable : Asked → ℕ → List Asked → (ℕ → Type 0) → Type 0
-WhereRefutable q depth ancestors P = IsRefutable q depth ancestors → (n : ℕ) → IsCost q depth ancestors n → P n
-
--- at no depth below the certificate's height is the claim's target refutable by rule lines at a cost of at most the nodes
-abbrev pub IsLeast : ℕ → Certificate → Claim → Asked → Type 0
-IsLeast nodes cert claim q = (depth : ℕ) → depth < height cert.root → WhereRefutable (target q claim) depth [] (λ n. nodes < n)
+-- where the query is refutable by rule lines at some depth up to this one, this holds of its cost there
+abbrev pub WhereRefutable : Asked → ℕ → (ℕ → Type 0) → Type 0
+WhereRefutable q depth P = (k n : ℕ) → k ≤ depth → IsRefutable q k [] → IsCost q k [] n → P n

@@ -1,5 +1,5 @@
 -- Open lines, from their ends, and the games that they are.
-use Rattle.std.proofs.Common.{◌≡◌, ℕ, zero, suc, ◌≤◌, ◌⊎◌, inl, inr, true, false, List, [], ◌∷◌, ◌++◌, Bool, length, map, reverse, refl, sym, ap, ◌∙◌, subst, arith}
+use Rattle.std.proofs.Common.{◌≡◌, ℕ, zero, suc, ◌≤◌, ◌⊎◌, inl, inr, true, false, List, [], ◌∷◌, ◌++◌, Bool, length, map, reverse, sym, ap, ◌∙◌, subst, arith}
 use Rattle.std.specs.Prelude.{IsTrue, ◌↔◌}
 use Rattle.std.specs.List.{Contains}
 use Rattle.std.proofs.lemmas.Bool.{both_ways}
@@ -19,8 +19,8 @@ use Rattle.retro_search.specs.Lines.{EndsAtArray, forwards}
 use Rattle.retro_search.specs.declared.stops.OpenLine.{OpenLine}
 use Rattle.retro_search.proofs.Lines.LineEnds.{forwards-last, forwards-reversed}
 use Rattle.retro_search.proofs.Lines.OpenLines.{leaf-unrefuted}
-use Rattle.balance_search.specs.Unsettled.{IsAgainst, IsOpenLine, StaysUnsettled}
-use Rattle.balance_search.specs.Settling.{IsUnsettled}
+use Rattle.retro_search.specs.Unsettled.{IsAgainst, IsOpenLine, StaysUnsettled}
+use Rattle.retro_search.specs.Searched.{IsUnsettled}
 
 open_leaf : (depth : ℕ) (q : Asked) (ancestors : List Asked) → (IsShut q ancestors → ⊥) → (depth ≡ 0) ⊎ Reaches [] q → IsOpenLine q depth ancestors []
 open_leaf zero q ancestors unshut end = (unshut, end)
@@ -101,15 +101,10 @@ countered line g p q claim depth same contradicted o is array =
     let short = line_short (reverse line.back.items) p depth [] o.open_line in
     record {
       line = reverse line.back.items;
-      back = depth;
       open_line = subst (λ (a : Asked). IsOpenLine a depth [] (reverse line.back.items)) same o.open_line;
       at_array = subst (λ (a : Asked). EndsAtArray a (reverse line.back.items)) same end;
       forwards_is = game;
       contradicts = (contradicted g).0 reaches;
       short = omega (arith, ap length is, length-map line.back.items (λ (u : Unmove). u.mv), length-reverse line.back.items);
+      unrefuted = subst (λ (a : Asked). (more : ℕ) → IsRefutable a more [] → ⊥) same (line_unrefuted (reverse line.back.items) p depth [] o.open_line end);
     }
-
-pub never_refuted : (line : OpenLine) (p q : Asked) (depth : ℕ) → p ≡ q → IsUnsettled line p depth [] → line.at_array ≡ true → (more : ℕ) → IsRefutable q more [] → ⊥
-never_refuted line p q depth same o array more h =
-    let here : IsUnsettled line q depth [] = subst (λ (a : Asked). IsUnsettled line a depth []) same o in
-    line_unrefuted (reverse line.back.items) q depth [] here.open_line (here.marked.0 array) more h

@@ -1,3 +1,0 @@
-pub mod OpenEnds
-pub mod Spreads
-pub mod Answering

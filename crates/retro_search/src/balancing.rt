@@ -1,0 +1,64 @@
+ghost use Rattle.std.specs.Prelude.{◌≡◌, IfSome, None};
+ghost use Rattle.cert_text.specs.Tree.{rule};
+ghost use Rattle.cert_text.specs.declared.reasons.Reason.TheVariants.{Balance};
+ghost use Rattle.cert_text.specs.Seen.{tree_of};
+ghost use Rattle.retro_search.specs.Kept.{StandsAlone};
+ghost use Rattle.retro_search.specs.Runs.{IsSameButVain};
+
+use crate::refutations::Refutation;
+use crate::runs::{Reasons, Run};
+use balance_rule::find_balance;
+use board_base::SquareSet;
+use capture_prices::Prices;
+use cert_text::{Body, Node, Reason};
+use indexmap::IndexSet;
+use query_base::Query;
+
+/// The most queries of which it is noted that no prices were found.
+const MOST_VAIN: usize = 65_536;
+
+/// The refutation by this set and these prices.
+fn balanced(set: SquareSet, prices: &Prices) -> Refutation
+    ensures tree { tree_of result.node ≡ rule (Balance set prices.now) }
+    ensures numbers { (result.lean ≡ 0) × (result.height ≡ 0) × (result.lines ≡ 2) }
+{
+    Refutation {
+        node: Node {
+            body: Body::Rule(Reason::Balance(set, *prices)),
+        },
+        lean: 0,
+        height: 0,
+        lines: 2,
+    }
+}
+
+/// A refutation of one node by a set and prices that support the query, if some are found. What was looked for in vain is noted, and
+/// not looked for again.
+fn priced(query: &Query, vain: &mut IndexSet<Query>) -> Option<Refutation>
+    ensures alone { IfSome result (λ found. StandsAlone (tree_of found.node) query.now 0 2) }
+    ensures numbers { IfSome result (λ found. (found.lean ≡ 0) × (found.height ≡ 0) × (found.lines ≡ 2)) }
+{
+    if vain.contains(query) {
+        return None;
+    }
+    if let Some((set, prices)) = find_balance(query) {
+        return Some(balanced(set, &prices));
+    }
+    if vain.len() < MOST_VAIN {
+        let _ = vain.insert(*query);
+    }
+    None
+}
+
+/// The same, but none where rule lines alone refute.
+pub(crate) fn by_balance(query: &Query, run: &mut Run) -> Option<Refutation>
+    ensures alone { IfSome result (λ found. StandsAlone (tree_of found.node) query.now 0 2) }
+    ensures numbers { IfSome result (λ found. (found.lean ≡ 0) × (found.height ≡ 0) × (found.lines ≡ 2)) }
+    ensures lines { run.old.reasons ≡ Reasons.Lines → (result ≡ None) × (run.new ≡ run.old) }
+    ensures same { IsSameButVain run.old run.new }
+{
+    match run.reasons {
+        Reasons::Lines => None,
+        Reasons::All => priced(query, &mut run.vain),
+    }
+}
