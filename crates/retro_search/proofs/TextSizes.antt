@@ -23,21 +23,21 @@ use Rattle.cert_text.specs.declared.reasons.Reason.TheVariants.{Line, Balance}
 use Rattle.retro_search.specs.LineCounts.{lines_in, lines_in_all, lines_of_reason}
 
 -- a line that says something is short
-not_long : (line : List ℕ) → (IsMute line → ⊥) → length line ≤ 256
-not_long line speaks = elim (cases_lt 256 (length line)) [
+not_long : (line : List ℕ) → (IsMute line → ⊥) → length line ≤ 234
+not_long line speaks = elim (cases_lt 234 (length line)) [
   | inl long ↦ absurd (speaks (long_mute line long))
   | inr few ↦ few
 ]
 
-head_line_short : (h next : Head) (line : List ℕ) → head_step h line ≡ Some next → length line ≤ 256
+head_line_short : (h next : Head) (line : List ℕ) → head_step h line ≡ Some next → length line ≤ 234
 head_line_short h next line says = not_long line (λ mute. let nothing = mute.head h in cc)
 
 -- so are those of a head together
-leads_short : (lines : Lines) (h last : Head) → Leads h lines last → length (concat lines) ≤ 256 * length lines
+leads_short : (lines : Lines) (h last : Head) → Leads h lines last → length (concat lines) ≤ 234 * length lines
 leads_short [] h last leads = omega arith
 leads_short (line ∷ lines) h last leads =
-    let first : length line ≤ 256 = head_line_short h leads.0 line leads.1 in
-    let others : length (concat lines) ≤ 256 * length lines = leads_short lines leads.0 last leads.2 in
+    let first : length line ≤ 234 = head_line_short h leads.0 line leads.1 in
+    let others : length (concat lines) ≤ 234 * length lines = leads_short lines leads.0 last leads.2 in
     omega (arith, length-append line (concat lines))
 
 one_at_most : (b : Bool) (line : List ℕ) → length (cond b [] (line ∷ [])) ≤ 1
