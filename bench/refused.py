@@ -59,7 +59,7 @@ STEPPED = b"4k3/8/8/3p4/8/8/P7/4K2R w K d6\n"
 
 
 def cases():
-    """Words and an input of each command, and of three searches."""
+    """Words and an input of each command, and of several searches."""
     yield ["check"], (EXAMPLES / "no-kings.cert").read_bytes()
     yield ["check"], (EXAMPLES / "loyd-1891.cert").read_bytes()
     yield ["play"], ARRAY + b"e2e4 e7e5 e4e5\n"
@@ -68,6 +68,7 @@ def cases():
     yield ["solve", "1", "1000"], (EXAMPLES / "loyd-1859.claim").read_bytes()
     yield ["solve", "4", "1000"], (EXAMPLES / "dawson-chess-magazine-1913.claim").read_bytes()
     yield ["solve", "9", "281"], (EXAMPLES / "barred-kings.claim").read_bytes()
+    yield ["settle", "64", "1000"], (EXAMPLES / "dawson-1940.claim").read_bytes()
     yield ["verdict", "1", "100"], b"4k3/8/8/8/8/8/P7/4K2R b - -\n"
     yield ["tree", "4", "1000"], ARRAY.replace(b" w ", b" b ")
     yield ["sample", "0", "3", "20"], b""

@@ -113,6 +113,44 @@ const UNPROVED: [Row; 9] = [
     },
 ];
 
+/// What rule lines refute is settled as it is solved; no depth below the greatest has to be tried.
+const SETTLED: [Row; 5] = [
+    Row {
+        words: &["settle", "0", "1"],
+        input: EMPTY,
+        status: Status::Done,
+        text: b"retro 1\nclaim illegal\nfen 8/8/8/8/8/8/8/8 w - -\nroot rule kings\n",
+    },
+    // The cost is 2, at each depth from 1 on.
+    Row {
+        words: &["settle", "64", "2"],
+        input: DOUBLE_STEP,
+        status: Status::Done,
+        text: b"retro 1\nclaim illegal\nfen 4k3/8/8/3p4/8/8/P7/4K2R w K d6\nroot expand 1\nd7d5 expand 0\n",
+    },
+    Row {
+        words: &["settle", "64", "1"],
+        input: DOUBLE_STEP,
+        status: Status::Spent,
+        text: b"spent 1\n",
+    },
+    Row {
+        words: &["settle", "0", "1"],
+        input: DOUBLE_STEP,
+        status: Status::Undecided,
+        text: b"undecided\n",
+    },
+    Row {
+        words: &["settle", "1", "100"],
+        input: b"claim last e2e3\nrnbqkbnr/pppppppp/8/8/4P3/8/PPPP1PPP/RNBQKBNR b KQkq e3",
+        status: Status::Countered,
+        text: b"countered e2e4\n",
+    },
+];
+
+/// T. R. Dawson, Australasian Chess Review, 1940: the double step was the last move, since captures by pawns don't balance before another.
+const DAWSON: &[u8] = b"claim ep a5b6\n1KRqb3/p2krpp1/3pp3/Pp6/BrPPP3/1p1P4/2p1P3/Q7 w - -\n";
+
 /// Inputs that don't state a claim about a position, with the line that says so.
 const NO_STATEMENTS: [(&[u8], &[u8]); 11] = [
     (b"", b"bad line 1\n"),
@@ -135,7 +173,10 @@ const NO_STATEMENTS: [(&[u8], &[u8]); 11] = [
 ];
 
 /// Words that call no search.
-const NO_SEARCHES: [&[&str]; 11] = [
+const NO_SEARCHES: [&[&str]; 14] = [
+    &["settle", "64"],
+    &["settle", "65", "10"],
+    &["settle", "64", "0"],
     &["solve"],
     &["solve", "2"],
     &["solve", "2", "10", "3"],
@@ -156,6 +197,32 @@ fn solves_claims(rt: HostRuntime) -> Result<(), Fail> {
 }
 
 #[test]
+fn settles_claims(rt: HostRuntime) -> Result<(), Fail> {
+    assert_answers(&rt, &SETTLED)?;
+    Ok(())
+}
+
+/// The eight rule lines leave Dawson's claim open. `settle` writes a certificate of it, which has a balance and which `check` accepts.
+#[test]
+fn settles_by_the_balance_of_captures(rt: HostRuntime) -> Result<(), Fail> {
+    let (status, _) = run_on(rt.alloc(), &["solve", "4", "1000"], DAWSON, WHOLE)?;
+    assert_eq!(rt; status, Status::Undecided);
+    let (status, sink) = run_on(rt.alloc(), &["settle", "64", "500000"], DAWSON, WHOLE)?;
+    assert_eq!(rt; status, Status::Done);
+    assert!(rt;
+        sink.taken()
+            .windows(13)
+            .any(|word| word == b" rule balance")
+    );
+    let (status, checked) = run_on(rt.alloc(), &["check"], sink.taken(), WHOLE)?;
+    assert_eq!(rt; status, Status::Done);
+    assert!(rt;
+        checked.taken() == b"accepted ep a5b6 1KRqb3/p2krpp1/3pp3/Pp6/BrPPP3/1p1P4/2p1P3/Q7 w - -\n"
+    );
+    Ok(())
+}
+
+#[test]
 fn leaves_claims_unproved(rt: HostRuntime) -> Result<(), Fail> {
     assert_answers(&rt, &UNPROVED)?;
     Ok(())
@@ -164,9 +231,11 @@ fn leaves_claims_unproved(rt: HostRuntime) -> Result<(), Fail> {
 #[test]
 fn tells_what_states_no_claim(rt: HostRuntime) -> Result<(), Fail> {
     for (input, text) in NO_STATEMENTS {
-        let (status, sink) = run_on(rt.alloc(), &["solve", "64", "500000"], input, WHOLE)?;
-        assert_eq!(rt; status, Status::BadInput);
-        assert!(rt; sink.taken() == text);
+        for search in ["solve", "settle"] {
+            let (status, sink) = run_on(rt.alloc(), &[search, "64", "500000"], input, WHOLE)?;
+            assert_eq!(rt; status, Status::BadInput);
+            assert!(rt; sink.taken() == text);
+        }
     }
     Ok(())
 }

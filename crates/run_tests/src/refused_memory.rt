@@ -57,6 +57,18 @@ fn solves_a_problem(rt: HostRuntime) {
     assert_whole_or_nothing(&rt, &row);
 }
 
+/// `settle` finds the same reason.
+#[test]
+fn settles_a_problem(rt: HostRuntime) {
+    let row = Row {
+        words: &["settle", "64", "1000"],
+        input: b"claim lost q\nr3k3/p1p5/Q3K3/8/8/8/8/8 w - -\n",
+        status: Status::Done,
+        text: b"retro 1\nclaim lost q\nfen r3k3/p1p5/Q3K3/8/8/8/8/8 w - -\nroot expand 0\n",
+    };
+    assert_whole_or_nothing(&rt, &row);
+}
+
 /// The kings and the rooks are barred, so pawns alone moved. Many positions are met on many ways, and their refutations are kept.
 #[test]
 fn keeps_refutations(rt: HostRuntime) -> Result<(), Fail> {
