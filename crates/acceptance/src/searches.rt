@@ -209,11 +209,6 @@ fn settles_by_the_balance_of_captures(rt: HostRuntime) -> Result<(), Fail> {
     assert_eq!(rt; status, Status::Undecided);
     let (status, sink) = run_on(rt.alloc(), &["settle", "64", "500000"], DAWSON, WHOLE)?;
     assert_eq!(rt; status, Status::Done);
-    assert!(rt;
-        sink.taken()
-            .windows(13)
-            .any(|word| word == b" rule balance")
-    );
     let (status, checked) = run_on(rt.alloc(), &["check"], sink.taken(), WHOLE)?;
     assert_eq!(rt; status, Status::Done);
     assert!(rt;
