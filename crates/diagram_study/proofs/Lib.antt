@@ -1,0 +1,9 @@
+pub mod Steps
+pub mod Plain
+pub mod Searching
+pub mod Together
+pub mod Leaving
+pub mod Forcing
+pub mod Telling
+pub mod OneMove
+pub mod Seeking

@@ -1,0 +1,73 @@
+-- What one search comes to, and the least depth at which it proves a claim.
+use Rattle.std.proofs.Common.{◌≡◌, ℕ, true, ◌-◌, ◌<◌, ◌≤◌, List, [], refl, sym, subst, arith}
+use Rattle.std.specs.Prelude.{◌↔◌}
+use Rattle.board_base.specs.declared.moves.Move.{Move}
+use Rattle.query_base.specs.Asked.{Asked}
+use Rattle.query_base.specs.Reach.{Contradicts, Reaches}
+use Rattle.query_base.specs.Targets.{target}
+use Rattle.query_base.specs.declared.claims.Claim.{Claim}
+use Rattle.retro_search.specs.Costs.{IsCost}
+use Rattle.retro_search.specs.Outcomes.{HasProof, IfRefuted}
+use Rattle.retro_search.specs.Refutable.{IsRefutable}
+use Rattle.retro_search.specs.Unsettled.{WhereRefutable}
+use Rattle.retro_search.specs.declared.searchers.Outcome.{Outcome}
+use Rattle.retro_search.specs.declared.searchers.Outcome.TheVariants.{Refuted, Open, Spent}
+use Rattle.diagram_study.specs.Findings.{IsOutcome, IsProof, IsProvedAt, is_refuted}
+
+pub outcome_is : (q a : Asked) (claim : Claim) (depth nodes : ℕ) (outcome : Outcome) → a ≡ target q claim → ((g : List Move) → Reaches g a ↔ Contradicts g claim q) → IfRefuted outcome (λ height. HasProof a height depth) → (outcome ≡ Open → IsRefutable a depth [] → ⊥) → (outcome ≡ Spent → WhereRefutable a depth (λ n. nodes < n)) → IsOutcome q claim depth nodes outcome
+outcome_is q a claim depth nodes (Refuted height) is contradicted proof opened spent = record {
+  proof = subst (λ (t : Asked). HasProof t height depth) is proof;
+  holds = λ g against. proof.unreached g ((contradicted g).1 against);
+}
+outcome_is q a claim depth nodes Open is contradicted proof opened spent = λ refutable. opened refl (subst (λ (t : Asked). IsRefutable t depth []) (sym is) refutable)
+outcome_is q a claim depth nodes Spent is contradicted proof opened spent = subst (λ (t : Asked). WhereRefutable t depth (λ n. nodes < n)) is (spent refl)
+
+-- a search that refuted the query proves it at this depth too
+pub proof_raised : (q : Asked) (lower depth : ℕ) (outcome : Outcome) → lower ≤ depth → IfRefuted outcome (λ height. HasProof q height lower) → IfRefuted outcome (λ height. HasProof q height depth)
+proof_raised q lower depth (Refuted height) less proof =
+    record { tree = proof.tree; proves = proof.proves; high = proof.high; low = omega (arith, less, proof.low); unreached = proof.unreached }
+proof_raised q lower depth Open less proof = tt
+proof_raised q lower depth Spent less proof = tt
+
+-- and neither stays open nor is spent
+pub refuted_not_open : (outcome : Outcome) → is_refuted outcome ≡ true → outcome ≡ Open → ⊥
+refuted_not_open (Refuted height) refuted opened = cc
+refuted_not_open Open refuted opened = cc
+refuted_not_open Spent refuted opened = cc
+
+pub refuted_not_spent : (outcome : Outcome) → is_refuted outcome ≡ true → outcome ≡ Spent → ⊥
+refuted_not_spent (Refuted height) refuted spent = cc
+refuted_not_spent Open refuted spent = cc
+refuted_not_spent Spent refuted spent = cc
+
+-- what is refutable at a depth is so at each greater one
+abbrev pub DeeperRefuteMore : Type 0
+DeeperRefuteMore = (q : Asked) (k depth : ℕ) (ancestors : List Asked) → k ≤ depth → IsRefutable q k ancestors → IsRefutable q depth ancestors
+
+-- a proof at a lower depth is one at this depth
+pub raised : (q : Asked) (claim : Claim) (lower depth height : ℕ) → lower ≤ depth → IsProvedAt q claim lower height → IsProvedAt q claim depth height
+raised q claim lower depth height less proved = record {
+  proof = record { tree = proved.proof.tree; proves = proved.proof.proves; high = proved.proof.high; low = omega (arith, less, proved.proof.low); unreached = proved.proof.unreached };
+  holds = proved.holds;
+}
+
+-- the search one less deep leaves the target open
+pub least_by_open : DeeperRefuteMore → (q : Asked) (claim : Claim) (most nodes depth : ℕ) → IsProvedAt q claim most depth → (IsRefutable (target q claim) (depth - 1) [] → ⊥) → IsProof q claim most nodes depth
+least_by_open law q claim most nodes depth proved unrefuted = record {
+  proved = proved;
+  least = λ k n below refutable cost. absurd (unrefuted (law (target q claim) k (depth - 1) [] (omega (arith, below)) refutable));
+}
+
+-- it is spent
+pub least_by_spent : (q : Asked) (claim : Claim) (most nodes depth : ℕ) → IsProvedAt q claim most depth → WhereRefutable (target q claim) (depth - 1) (λ n. nodes < n) → IsProof q claim most nodes depth
+least_by_spent q claim most nodes depth proved spent = record {
+  proved = proved;
+  least = λ k n below refutable cost. spent k n (omega (arith, below)) refutable cost;
+}
+
+-- there is none
+pub least_by_none : (q : Asked) (claim : Claim) (most nodes depth : ℕ) → IsProvedAt q claim most depth → depth ≤ 0 → IsProof q claim most nodes depth
+least_by_none q claim most nodes depth proved none = record {
+  proved = proved;
+  least = λ k n below refutable cost. absurd (omega (arith, below, none));
+}

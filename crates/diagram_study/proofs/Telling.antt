@@ -1,0 +1,133 @@
+-- The texts of what is found, one behind the other.
+use Rattle.std.proofs.Common.{◌≡◌, ℕ, ◌<◌, ◌≤◌, true, false, List, [], ◌∷◌, ◌++◌, length, refl, ap, sym, subst, ◌∙◌, arith, append_assoc, append-nil}
+use Rattle.std.specs.Prelude.{Option, Result, Ok, Err, OnOk, codes}
+use Rattle.std.proofs.lemmas.Bool.{cond-true, cond-false}
+use Rattle.board_base.specs.Rights.{Rights}
+use Rattle.board_base.specs.declared.castles.Castle.{Castle}
+use Rattle.board_base.specs.declared.unmoves.Unmove.{Unmove}
+use Rattle.query_base.specs.Asked.{Asked}
+use Rattle.query_base.specs.declared.claims.Claim.TheVariants.{Illegal}
+use Rattle.line_claims.specs.declared.claims.LineClaim.{LineClaim}
+use Rattle.line_claims.specs.declared.claims.LineClaim.TheVariants.{NotBoth, Line}
+use Rattle.length_bound.specs.declared.texts.LengthText.{LengthText}
+use Rattle.unmove_gen.specs.Listed.{unmoves}
+use Rattle.diagram_study.specs.Findings.{IsFound, is_proved}
+use Rattle.diagram_study.specs.Lines.{IsLineFound}
+use Rattle.diagram_study.specs.Rights.{AreFound, open_castlings}
+use Rattle.diagram_study.specs.Pairs.{TellsOpenPair, TellsPair, TellsPairs, castle_pairs}
+use Rattle.diagram_study.specs.Retractions.{HasLeft, TellsLast, one_move}
+use Rattle.diagram_study.specs.Forced.{AreForced, TellsForced, TellsSteps}
+use Rattle.diagram_study.specs.Studies.{IsStudy, TellsAgain, TellsBehind, TellsLength, TellsMore, TellsOther, TellsPlain, TellsPosition, other_side, without_demands}
+use Rattle.diagram_study.specs.Texts.{capture_lines, castling_lines, found_line, left_line, other_line, plain_line, steps_line}
+use Rattle.diagram_study.specs.declared.findings.Finding.{Finding}
+use Rattle.diagram_study.specs.declared.rights.RightFound.{RightFound}
+
+-- a piece more behind what stood there
+pub joins : (front first second old new : List ℕ) → old ≡ front ++ first → new ≡ old ++ second → new ≡ front ++ (first ++ second)
+joins front first second old new e f = f ∙ ap (λ (l : List ℕ). l ++ second) e ∙ append_assoc front first second
+
+-- the text of one pair, behind what stood there
+abbrev pub Told : (List ℕ → Type 0) → List ℕ → List ℕ → Type 0
+Told Tells old new = (own : List ℕ) × Tells own × (new ≡ old ++ own)
+
+pub pairs_first : (Tells : Castle × Castle → List ℕ → Type 0) (pair : Castle × Castle) (pairs : List (Castle × Castle)) (t u v : List ℕ) → Told (Tells pair) t u → Told (TellsPairs Tells pairs) u v → Told (TellsPairs Tells (pair ∷ pairs)) t v
+pairs_first Tells pair pairs t u v own others = (own.0 ++ others.0, (own.0, others.0, own.1, others.1, refl), joins t own.0 others.0 u v own.2 others.2)
+
+pub pairs_end : (Tells : Castle × Castle → List ℕ → Type 0) (t : List ℕ) → Told (TellsPairs Tells []) t t
+pairs_end Tells t = ([], refl, sym (append-nil t))
+
+-- the line of two castlings
+pub pair_told : (q : Asked) (most nodes : ℕ) (x y : Castle) (finding : Finding) (old new : List ℕ) → IsLineFound q (NotBoth x y) most nodes finding → new ≡ old ++ steps_line finding (NotBoth x y) → Told (TellsPair q most nodes x y) old new
+pair_told q most nodes x y finding old new found longer = (steps_line finding (NotBoth x y), record { finding = finding; found = found; text_is = refl }, longer)
+
+-- the line of the last moves, where they are proved
+pub steps_told : (q : Asked) (most nodes : ℕ) (steps : List Unmove) (claim : LineClaim) (finding : Finding) (old new : List ℕ) → claim ≡ Line steps → IsLineFound q claim most nodes finding → is_proved finding ≡ true → new ≡ old ++ steps_line finding claim → Told (TellsSteps q most nodes steps) old new
+steps_told q most nodes steps claim finding old new is found proved longer =
+    let here : IsLineFound q (Line steps) most nodes finding = subst (λ (k : LineClaim). IsLineFound q k most nodes finding) is found in (
+      steps_line finding claim,
+      record { finding = finding; found = here; text_is = ap (steps_line finding) is ∙ sym (cond-true (is_proved finding) (steps_line finding (Line steps)) [] proved) },
+      longer,
+    )
+
+-- and where they aren't
+pub steps_untold : (q : Asked) (most nodes : ℕ) (steps : List Unmove) (claim : LineClaim) (finding : Finding) (text : List ℕ) → claim ≡ Line steps → IsLineFound q claim most nodes finding → is_proved finding ≡ false → Told (TellsSteps q most nodes steps) text text
+steps_untold q most nodes steps claim finding text is found unproved = (
+  [],
+  record {
+    finding = finding;
+    found = subst (λ (k : LineClaim). IsLineFound q k most nodes finding) is found;
+    text_is = sym (cond-false (is_proved finding) (steps_line finding (Line steps)) [] unproved);
+  },
+  sym (append-nil text),
+)
+
+-- two steps or more are forced
+pub forced_told : (q : Asked) (most nodes : ℕ) (steps : List Unmove) (old new : List ℕ) → AreForced 16 q most nodes steps → 2 ≤ length steps → Told (TellsSteps q most nodes steps) old new → Told (TellsForced q most nodes) old new
+forced_told q most nodes steps old new forced several told =
+    (told.0, record { steps = steps; forced = forced; several = λ _. told.1; few = λ less. absurd (omega (arith, several, less)) }, told.2)
+
+-- fewer are
+pub forced_untold : (q : Asked) (most nodes : ℕ) (steps : List Unmove) (text : List ℕ) → AreForced 16 q most nodes steps → length steps < 2 → Told (TellsForced q most nodes) text text
+forced_untold q most nodes steps text forced few =
+    ([], record { steps = steps; forced = forced; several = λ more. absurd (omega (arith, few, more)); few = λ _. refl }, sym (append-nil text))
+
+-- the texts of a study so far, one behind the other
+pub more_told : (q : Asked) (most nodes : ℕ) (found : List RightFound) (kept : Rights) (left : List Unmove) (all : ℕ) (t u v w x y z e : List ℕ) → AreFound q most nodes found → kept ≡ open_castlings found → HasLeft q most nodes left → all ≡ length (unmoves q) → u ≡ t ++ castling_lines found
+    → Told (TellsPairs (TellsOpenPair q most nodes kept) castle_pairs) u v → w ≡ v ++ capture_lines found → Told (TellsLast q most nodes (one_move left)) w x → Told (TellsForced q most nodes) x y → z ≡ y ++ left_line left all → ((own : List ℕ) × (said : Option LengthText) × TellsLength q said own × (e ≡ z ++ own)) → Told (TellsMore q most nodes) t e
+more_told q most nodes found kept left all t u v w x y z e are set has counted castlings pairs captures last line lefts games =
+    let first = castling_lines found in
+    let second = capture_lines found in
+    let third = left_line left all in
+    let to_pairs = joins t first pairs.0 u v castlings pairs.2 in
+    let to_captures = joins t (first ++ pairs.0) second v w to_pairs captures in
+    let to_last = joins t (first ++ pairs.0 ++ second) last.0 w x to_captures last.2 in
+    let to_line = joins t (first ++ pairs.0 ++ second ++ last.0) line.0 x y to_last line.2 in
+    let to_left = joins t (first ++ pairs.0 ++ second ++ last.0 ++ line.0) third y z to_line lefts in
+    let whole = joins t (first ++ pairs.0 ++ second ++ last.0 ++ line.0 ++ third) games.0 z e to_left games.3 in (
+      first ++ pairs.0 ++ second ++ last.0 ++ line.0 ++ third ++ games.0,
+      record {
+        found = found;
+        rights = are;
+        pairs = pairs.0;
+        pairs_told = subst (λ (s : Rights). TellsPairs (TellsOpenPair q most nodes s) castle_pairs pairs.0) set pairs.1;
+        left = left;
+        are_left = has;
+        last = last.0;
+        last_told = last.1;
+        line = line.0;
+        line_told = line.1;
+        said = games.1;
+        games = games.0;
+        games_told = games.2;
+        text_is = ap (λ (n : ℕ). first ++ pairs.0 ++ second ++ last.0 ++ line.0 ++ left_line left n ++ games.0) counted;
+      },
+      whole,
+    )
+
+-- what was found with the other side to move
+pub other_told : (q other : Asked) (most nodes : ℕ) (finding : Finding) (t u v : List ℕ) → other ≡ other_side q → IsFound other Illegal most nodes finding → u ≡ t ++ codes "other side " → v ≡ u ++ found_line finding Illegal → Told (TellsOther q most nodes) t v
+other_told q other most nodes finding t u v is found front line =
+    (other_line finding, record { finding = finding; found = subst (λ (r : Asked). IsFound r Illegal most nodes finding) is found; text_is = refl }, joins t (codes "other side ") (found_line finding Illegal) u v front line)
+
+-- a position: the line of the claim that it is illegal, and what follows
+pub position_told : (q : Asked) (most nodes : ℕ) (finding : Finding) (t u v : List ℕ) → IsFound q Illegal most nodes finding → u ≡ t ++ found_line finding Illegal → Told (TellsBehind q most nodes finding) u v → Told (TellsPosition q most nodes finding) t v
+position_told q most nodes finding t u v found line behind =
+    (found_line finding Illegal ++ behind.0, record { found = found; behind = behind.0; behind_told = behind.1; text_is = refl }, joins t (found_line finding Illegal) behind.0 u v line behind.2)
+
+pub plain_told : (q plain : Asked) (most nodes : ℕ) (finding : Finding) (t u v : List ℕ) → plain ≡ without_demands q → u ≡ t ++ plain_line → Told (TellsPosition plain most nodes finding) u v → Told (TellsPlain q most nodes) t v
+plain_told q plain most nodes finding t u v is line told =
+    (plain_line ++ told.0, (finding, told.0, subst (λ (r : Asked). TellsPosition r most nodes finding told.0) is told.1, refl), joins t plain_line told.0 u v line told.2)
+
+pub study_told : (q : Asked) (most nodes : ℕ) (finding : Finding) (t u v : List ℕ) → t ≡ [] → Told (TellsPosition q most nodes finding) t u → Told (TellsAgain q most nodes finding) u v → IsStudy q most nodes v
+study_told q most nodes finding t u v none own plain = record {
+  finding = finding;
+  own = own.0;
+  plain = plain.0;
+  told = own.1;
+  again = plain.1;
+  text_is = joins t own.0 plain.0 u v own.2 plain.2 ∙ ap (λ (l : List ℕ). l ++ (own.0 ++ plain.0)) none;
+}
+
+pub ok_then : {E : Type 0} (r : Result (Unit {0}) E) (P Q : Type 0) → (P → Q) → OnOk r P → OnOk r Q
+ok_then (Ok u) P Q f p = f p
+ok_then (Err e) P Q f p = p

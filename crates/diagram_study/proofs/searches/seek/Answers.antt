@@ -1,0 +1,8 @@
+use Rattle.std.proofs.Common.{[]}
+use Rattle.query_base.specs.Targets.{target}
+use Rattle.diagram_study.proofs.searches.seek.Goals as goal
+
+pub returns-in-Open : goal.returns-in-Open
+returns-in-Open c =
+    let unrefuted = rw c.in-Open.is at c.in_ok-outcome.ensures in
+    λ k small refutable. unrefuted (c.deeper_searches_refute_more.ensures.refutable (target c.args.query.now c.args.claim.now) k c.args.most [] small refutable)

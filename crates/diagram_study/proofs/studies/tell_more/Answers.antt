@@ -1,0 +1,31 @@
+use Rattle.std.proofs.Common.{List, ap, ◌∙◌, ◌++◌}
+use Rattle.std.specs.Prelude.{IsTrue}
+use Rattle.std.proofs.lemmas.List.Elements.{All-same}
+use Rattle.cert_text.specs.ClaimLines.{promotes_well}
+use Rattle.codex_verdict.specs.Rights.{claim_of}
+use Rattle.diagram_study.specs.Rights.{open_castlings}
+use Rattle.diagram_study.specs.Texts.{capture_lines, castling_lines}
+use Rattle.diagram_study.specs.declared.rights.RightFound.{RightFound}
+use Rattle.diagram_study.proofs.Plain.{found_told}
+use Rattle.diagram_study.proofs.Telling.{more_told, ok_then}
+use Rattle.diagram_study.proofs.studies.tell_more.Goals as goal
+
+pub tell_captures-requires : goal.tell_captures-requires
+tell_captures-requires c =
+    All-same (λ (f : RightFound). IsTrue (promotes_well (claim_of f.right))) _ _ c.as_slice-3.ensures.value (found_told c.args.query.now c.in_ok-found.found.items c.in_ok-found.ensures.due)
+
+pub returns : goal.returns
+returns c =
+    ok_then c.tell_length.result _ _
+    (more_told c.args.query.now c.args.most c.args.nodes c.in_ok-found.found.items c.open_castlings-kept.result c.in_ok-retractions.retractions.left c.in_ok-retractions.retractions.all _ _ _ _ _ _ _ _
+    c.in_ok-found.ensures
+    (c.open_castlings-kept.ensures ∙ ap (λ (l : List RightFound). open_castlings l) c.as_slice.ensures.value)
+    c.in_ok-retractions.ensures.left
+    c.in_ok-retractions.ensures.all
+    (c.in_ok-tell_castlings.ensures ∙ ap (λ (l : List RightFound). c.args.text.now.items ++ castling_lines l) c.as_slice-2.ensures.value)
+    c.in_ok-tell_pairs.ensures
+    (c.in_ok-tell_captures.ensures ∙ ap (λ (l : List RightFound). c.tell_pairs.new.text.items ++ capture_lines l) c.as_slice-3.ensures.value)
+    c.in_ok-tell_last.ensures
+    c.in_ok-tell_forced.ensures
+    c.in_ok-push_left.ensures)
+    c.tell_length.ensures

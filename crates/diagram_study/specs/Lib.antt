@@ -1,0 +1,9 @@
+pub mod Budgets
+pub mod Findings
+pub mod Lines
+pub mod Rights
+pub mod Pairs
+pub mod Retractions
+pub mod Forced
+pub mod Texts
+pub mod Studies

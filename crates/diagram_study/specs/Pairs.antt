@@ -1,0 +1,31 @@
+-- What is found of two castlings together.
+use Rattle.std.specs.Prelude.{ℕ, ◌≡◌, ◌&&◌, IsTrue, List, [], ◌∷◌, ◌++◌}
+use Rattle.board_base.specs.Rights.{Rights, holds}
+use Rattle.board_base.specs.declared.castles.Castle.{Castle}
+use Rattle.board_base.specs.declared.castles.Castle.TheVariants.{WhiteShort, WhiteLong, BlackShort, BlackLong}
+use Rattle.query_base.specs.Asked.{Asked}
+use Rattle.line_claims.specs.declared.claims.LineClaim.TheVariants.{NotBoth}
+use Rattle.diagram_study.specs.Lines.{IsLineFound}
+use Rattle.diagram_study.specs.Texts.{steps_line}
+use Rattle.diagram_study.specs.declared.findings.Finding.{Finding}
+
+-- each two castlings, in the order K, Q, k, q
+abbrev pub castle_pairs : List (Castle × Castle)
+castle_pairs =
+    (WhiteShort, WhiteLong) ∷ (WhiteShort, BlackShort) ∷ (WhiteShort, BlackLong) ∷ (WhiteLong, BlackShort) ∷ (WhiteLong, BlackLong) ∷ (BlackShort, BlackLong) ∷ []
+
+-- the line of what was found of the claim that the two castlings aren't both kept
+pub record TellsPair (q : Asked) (most nodes : ℕ) (x y : Castle) (text : List ℕ) : Type 0 where
+  pub finding : Finding
+  pub found : IsLineFound q (NotBoth x y) most nodes finding
+  pub text_is : text ≡ steps_line finding (NotBoth x y)
+
+-- the text of two castlings: of two that aren't proved to be lost what was found of them, else nothing
+abbrev pub TellsOpenPair : Asked → ℕ → ℕ → Rights → Castle × Castle → List ℕ → Type 0
+TellsOpenPair q most nodes kept pair text =
+    (IsTrue (holds kept pair.0 && holds kept pair.1) → TellsPair q most nodes pair.0 pair.1 text) × ((IsTrue (holds kept pair.0 && holds kept pair.1) → ⊥) → text ≡ [])
+
+-- the text is those of pairs, in order
+abbrev pub TellsPairs : (Castle × Castle → List ℕ → Type 0) → List (Castle × Castle) → List ℕ → Type 0
+TellsPairs Tells [] text = text ≡ []
+TellsPairs Tells (pair ∷ pairs) text = (own : List ℕ) × (others : List ℕ) × Tells pair own × TellsPairs Tells pairs others × (text ≡ own ++ others)

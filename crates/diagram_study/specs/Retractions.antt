@@ -1,0 +1,46 @@
+-- Which retractions of a query are left.
+use Rattle.std.specs.Prelude.{ℕ, ◌≡◌, ◌-◌, cond, List, [], ◌∷◌, ◌++◌, Option, Some, None}
+use Rattle.std.specs.List.{Contains, list_all}
+use Rattle.board_base.specs.Legal.{is_move}
+use Rattle.board_base.specs.declared.moves.Move.{Move}
+use Rattle.board_base.specs.declared.unmoves.Unmove.{Unmove}
+use Rattle.query_base.specs.Asked.{Asked}
+use Rattle.query_base.specs.Reach.{Reaches}
+use Rattle.query_base.specs.declared.claims.Claim.TheVariants.{Illegal, Last}
+use Rattle.unmove_gen.specs.Predecessor.{predecessor, unmove_after}
+use Rattle.unmove_gen.specs.Listed.{unmoves}
+use Rattle.retro_search.specs.declared.searchers.Outcome.{Outcome}
+use Rattle.diagram_study.specs.Findings.{IsFound, IsOutcome, is_proved, is_refuted}
+use Rattle.diagram_study.specs.Texts.{found_line}
+use Rattle.diagram_study.specs.declared.findings.Finding.{Finding}
+
+-- Of these unmoves of the query those are left whose predecessor the search doesn't refute, in order.
+abbrev pub AreLeft : Asked → ℕ → ℕ → List Unmove → List Unmove → Type 0
+AreLeft q depth nodes [] left = left ≡ []
+AreLeft q depth nodes (u ∷ us) left =
+    (outcome : Outcome) × (others : List Unmove) × IsOutcome (predecessor q u) Illegal depth nodes outcome × AreLeft q depth nodes us others × (left ≡ cond (is_refuted outcome) others (u ∷ others))
+
+-- each game that reaches the query, and has a move, ends with the move of one of these unmoves, with what it captured
+abbrev pub EndsAmong : Asked → List Unmove → Type 0
+EndsAmong q left = (g : List Move) (m : Move) → Reaches (g ++ m ∷ []) q → Contains left (unmove_after q.odds g m)
+
+-- Which unmoves of the query are left where what is before them is searched one move less far; each game ends among them.
+pub record HasLeft (q : Asked) (most nodes : ℕ) (left : List Unmove) : Type 0 where
+  pub are : AreLeft q (most - 1) nodes (unmoves q) left
+  pub games : EndsAmong q left
+
+-- the move of all these unmoves, if it is one
+unfoldable pub one_move : List Unmove → Option Move
+one_move [] = None
+one_move (u ∷ us) = cond (list_all (λ v. is_move (Some u.mv) v.mv) (u ∷ us)) (Some u.mv) None
+
+-- what was found of the claim that this was the last move; the text is its line where it is proved, and empty elsewhere
+pub record TellsMove (q : Asked) (most nodes : ℕ) (m : Move) (text : List ℕ) : Type 0 where
+  pub finding : Finding
+  pub found : IsFound q (Last m) most nodes finding
+  pub text_is : text ≡ cond (is_proved finding) (found_line finding (Last m)) []
+
+-- the text of the last move: where only one is left, what was found of it, else nothing
+abbrev pub TellsLast : Asked → ℕ → ℕ → Option Move → List ℕ → Type 0
+TellsLast q most nodes None text = text ≡ []
+TellsLast q most nodes (Some m) text = TellsMove q most nodes m text

@@ -1,0 +1,44 @@
+-- What is found of the rights that a position seems to give.
+use Rattle.std.specs.Prelude.{ℕ, ◌≡◌, Bool, false, cond, not, List, map, fold}
+use Rattle.std.specs.List.{All, filter}
+use Rattle.board_base.specs.Rights.{Rights, holds, with_castling}
+use Rattle.query_base.specs.Asked.{Asked}
+use Rattle.codex_verdict.specs.Rights.{AreRights, claim_of}
+use Rattle.codex_verdict.specs.declared.kinds.Right.{Right}
+use Rattle.codex_verdict.specs.declared.kinds.Right.TheVariants.{Castling, EnPassant}
+use Rattle.diagram_study.specs.Findings.{IsFound, is_proved}
+use Rattle.diagram_study.specs.declared.findings.Finding.{Finding}
+use Rattle.diagram_study.specs.declared.rights.RightFound.{RightFound}
+
+-- the right is that of a castling which the query demands
+abbrev pub is_demanded : Asked → Right → Bool
+is_demanded q (Castling x) = holds q.held x
+is_demanded q (EnPassant m) = false
+
+-- the rights of the query's position that it doesn't demand, in order
+pub record AreDue (q : Asked) (due : List Right) : Type 0 where
+  pub all : List Right
+  pub rights : AreRights q.board q.turn all
+  pub due_are : due ≡ filter (λ r. not (is_demanded q r)) all
+
+-- this was found of the claim that decides the right
+abbrev pub IsRightFound : Asked → ℕ → ℕ → RightFound → Type 0
+IsRightFound q most nodes f = IsFound q (claim_of f.right) most nodes f.finding
+
+-- what was found of each right that isn't demanded, in order
+pub record AreFound (q : Asked) (most nodes : ℕ) (found : List RightFound) : Type 0 where
+  pub due : AreDue q (map (λ f. f.right) found)
+  pub each : All (IsRightFound q most nodes) found
+
+-- no castling
+abbrev pub no_castling : Rights
+no_castling = record { white_short = false; white_long = false; black_short = false; black_long = false }
+
+-- the set with the castling of a right that was found open, if it is one
+abbrev pub with_right : Right → Finding → Rights → Rights
+with_right (Castling x) finding set = cond (is_proved finding) set (with_castling set x)
+with_right (EnPassant m) finding set = set
+
+-- the castlings that aren't proved to be lost
+unfoldable pub open_castlings : List RightFound → Rights
+open_castlings found = fold (λ set f. with_right f.right f.finding set) no_castling found

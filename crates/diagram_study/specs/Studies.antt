@@ -1,0 +1,106 @@
+-- The text of a study.
+use Rattle.std.specs.Prelude.{ℕ, ◌≡◌, ◌≤◌, ◌<◌, Bool, ◌&&◌, ◌||◌, is_some, IsTrue, List, [], ◌++◌, length, Option, Some, None}
+use Rattle.board_base.specs.declared.castles.Castle.TheVariants.{WhiteShort, WhiteLong, BlackShort, BlackLong}
+use Rattle.board_base.specs.declared.men.Colour.TheVariants.{White, Black}
+use Rattle.board_base.specs.declared.moves.Move.{Move}
+use Rattle.board_base.specs.declared.unmoves.Unmove.{Unmove}
+use Rattle.board_base.specs.Board.{opponent}
+use Rattle.board_base.specs.Rights.{holds}
+use Rattle.query_base.specs.Asked.{Asked}
+use Rattle.query_base.specs.Reach.{Reaches}
+use Rattle.query_base.specs.declared.claims.Claim.TheVariants.{Illegal}
+use Rattle.length_bound.specs.Longest.{IsBest, longer_side, side_length}
+use Rattle.length_bound.specs.SideBounds.{men_squares}
+use Rattle.length_bound.specs.declared.texts.LengthText.{LengthText}
+use Rattle.unmove_gen.specs.Listed.{unmoves}
+use Rattle.diagram_study.specs.Findings.{IsFound, is_proved}
+use Rattle.diagram_study.specs.Rights.{AreFound, no_castling, open_castlings}
+use Rattle.diagram_study.specs.Pairs.{TellsOpenPair, TellsPairs, castle_pairs}
+use Rattle.diagram_study.specs.Retractions.{HasLeft, TellsLast, one_move}
+use Rattle.diagram_study.specs.Forced.{TellsForced}
+use Rattle.diagram_study.specs.Texts.{capture_lines, castling_lines, found_line, left_line, length_line, other_line, plain_line}
+use Rattle.diagram_study.specs.declared.findings.Finding.{Finding}
+use Rattle.diagram_study.specs.declared.findings.Finding.TheVariants.{Proved, Open, Spent}
+use Rattle.diagram_study.specs.declared.rights.RightFound.{RightFound}
+
+-- the greatest length that potentials of a side's men show, and each game that reaches the query is as long
+pub record IsLength (q : Asked) (said : LengthText) : Type 0 where
+  pub best : IsBest q said
+  pub side : longer_side (side_length White q) (side_length Black q) ≡ Some said.side
+  pub games : (g : List Move) → Reaches g q → said.at_least ≤ length g
+
+-- the line of the length of the games, or nothing where both sides have more than sixteen men
+abbrev pub TellsLength : Asked → Option LengthText → List ℕ → Type 0
+TellsLength q None text = (16 < length (men_squares White q.board)) × (16 < length (men_squares Black q.board)) × (text ≡ [])
+TellsLength q (Some said) text = IsLength q said × (text ≡ length_line said.at_least)
+
+-- What is told of a position that isn't proved to be illegal: what was found of the castlings that it seems to give and that aren't
+-- demanded, of each two of them that aren't proved to be lost, of captures en passant, of the last move and of those before it, which
+-- retractions are left, and how long games are.
+pub record TellsMore (q : Asked) (most nodes : ℕ) (text : List ℕ) : Type 0 where
+  pub found : List RightFound
+  pub rights : AreFound q most nodes found
+  pub pairs : List ℕ
+  pub pairs_told : TellsPairs (TellsOpenPair q most nodes (open_castlings found)) castle_pairs pairs
+  pub left : List Unmove
+  pub are_left : HasLeft q most nodes left
+  pub last : List ℕ
+  pub last_told : TellsLast q most nodes (one_move left) last
+  pub line : List ℕ
+  pub line_told : TellsForced q most nodes line
+  pub said : Option LengthText
+  pub games : List ℕ
+  pub games_told : TellsLength q said games
+  pub text_is : text ≡ castling_lines found ++ pairs ++ capture_lines found ++ last ++ line ++ left_line left (length (unmoves q)) ++ games
+
+-- The same board with the other side to move, at the same odds, with the same rights and the same clock demanded. The double step that
+-- an en passant square demands belongs to the side to move: it isn't demanded.
+abbrev pub other_side : Asked → Asked
+other_side q = record q { turn = opponent q.turn; only = None; barred = None }
+
+-- what was found of the claim that the position is illegal with the other side to move
+pub record TellsOther (q : Asked) (most nodes : ℕ) (text : List ℕ) : Type 0 where
+  pub finding : Finding
+  pub found : IsFound (other_side q) Illegal most nodes finding
+  pub text_is : text ≡ other_line finding
+
+-- What follows the line of the claim that the position is illegal: where it is proved, nothing more of the position, since every claim
+-- about it holds then, but whether it is illegal with the other side to move.
+abbrev pub TellsBehind : Asked → ℕ → ℕ → Finding → List ℕ → Type 0
+TellsBehind q most nodes (Proved depth) text = TellsOther q most nodes text
+TellsBehind q most nodes Open text = TellsMore q most nodes text
+TellsBehind q most nodes Spent text = TellsMore q most nodes text
+
+-- what is told of a position: what was found of the claim that it is illegal, and what follows
+pub record TellsPosition (q : Asked) (most nodes : ℕ) (finding : Finding) (text : List ℕ) : Type 0 where
+  pub found : IsFound q Illegal most nodes finding
+  pub behind : List ℕ
+  pub behind_told : TellsBehind q most nodes finding behind
+  pub text_is : text ≡ found_line finding Illegal ++ behind
+
+-- the query demands a right, a last move or a clock
+abbrev pub makes_demands : Asked → Bool
+makes_demands q =
+    holds q.held WhiteShort || holds q.held WhiteLong || holds q.held BlackShort || holds q.held BlackLong || is_some q.only || is_some q.clock
+
+-- the query without its demands, at the same odds
+abbrev pub without_demands : Asked → Asked
+without_demands q = record q { held = no_castling; only = None; barred = None; clock = None }
+
+-- what is told of the position without its demands
+abbrev pub TellsPlain : Asked → ℕ → ℕ → List ℕ → Type 0
+TellsPlain q most nodes text = (finding : Finding) × (own : List ℕ) × TellsPosition (without_demands q) most nodes finding own × (text ≡ plain_line ++ own)
+
+-- what follows of the position without its demands, or nothing
+abbrev pub TellsAgain : Asked → ℕ → ℕ → Finding → List ℕ → Type 0
+TellsAgain q most nodes finding text =
+    (IsTrue (is_proved finding && makes_demands q) → TellsPlain q most nodes text) × ((IsTrue (is_proved finding && makes_demands q) → ⊥) → text ≡ [])
+
+-- The text tells what was found of the position; and where it makes demands and is proved to be illegal, what was found without them.
+pub record IsStudy (q : Asked) (most nodes : ℕ) (text : List ℕ) : Type 0 where
+  pub finding : Finding
+  pub own : List ℕ
+  pub plain : List ℕ
+  pub told : TellsPosition q most nodes finding own
+  pub again : TellsAgain q most nodes finding plain
+  pub text_is : text ≡ own ++ plain

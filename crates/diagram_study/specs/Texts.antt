@@ -1,0 +1,80 @@
+-- The lines of a study.
+use Rattle.std.specs.Prelude.{ℕ, cond, nat_le, List, [], ◌∷◌, ◌++◌, codes, length}
+use Rattle.std.specs.List.{flat_map}
+use Rattle.std.specs.Fmt.{decimal}
+use Rattle.board_base.specs.Texts.{unmove_text}
+use Rattle.board_base.specs.declared.unmoves.Unmove.{Unmove}
+use Rattle.query_base.specs.declared.claims.Claim.{Claim}
+use Rattle.query_base.specs.declared.claims.Claim.TheVariants.{Illegal, Lost, Ep}
+use Rattle.cert_text.specs.ClaimLines.{claim_words}
+use Rattle.cert_text.specs.Lines.{ended}
+use Rattle.codex_verdict.specs.declared.kinds.Right.{Right}
+use Rattle.codex_verdict.specs.declared.kinds.Right.TheVariants.{Castling, EnPassant}
+use Rattle.fen_text.specs.Fen.{castle_letter}
+use Rattle.line_claims.specs.Lines.{steps_text}
+use Rattle.line_claims.specs.declared.claims.LineClaim.{LineClaim}
+use Rattle.line_claims.specs.declared.claims.LineClaim.TheVariants.{NotBoth, Line}
+use Rattle.diagram_study.specs.declared.findings.Finding.{Finding}
+use Rattle.diagram_study.specs.declared.findings.Finding.TheVariants.{Proved, Open, Spent}
+use Rattle.diagram_study.specs.declared.rights.RightFound.{RightFound}
+
+-- what was found, before the claim
+abbrev pub finding_words : Finding → List ℕ
+finding_words (Proved depth) = codes "proved " ++ decimal depth ++ 32 ∷ []
+finding_words Open = codes "open "
+finding_words Spent = codes "spent "
+
+-- the line that tells what was found of a claim
+abbrev pub found_line : Finding → Claim → List ℕ
+found_line finding claim = ended (finding_words finding ++ claim_words claim)
+
+-- the line of a right where it is that of a castling, and nothing of another
+abbrev pub castling_line : Finding → Right → List ℕ
+castling_line finding (Castling x) = found_line finding (Lost x)
+castling_line finding (EnPassant m) = []
+
+-- the line of a right where it is that of a capture en passant, and nothing of another
+abbrev pub capture_line : Finding → Right → List ℕ
+capture_line finding (Castling x) = []
+capture_line finding (EnPassant m) = found_line finding (Ep m)
+
+-- the lines that tell what was found of castlings, in order
+unfoldable pub castling_lines : List RightFound → List ℕ
+castling_lines found = flat_map (λ f. castling_line f.finding f.right) found
+
+-- the lines that tell what was found of captures en passant, in order
+unfoldable pub capture_lines : List RightFound → List ℕ
+capture_lines found = flat_map (λ f. capture_line f.finding f.right) found
+
+-- what the line of a claim of several steps says after `claim `
+abbrev pub steps_words : LineClaim → List ℕ
+steps_words (NotBoth x y) = codes "notboth " ++ castle_letter x ∷ 32 ∷ castle_letter y ∷ []
+steps_words (Line steps) = codes "line " ++ steps_text steps
+
+-- the line that tells what was found of a claim of several steps
+abbrev pub steps_line : Finding → LineClaim → List ℕ
+steps_line finding claim = ended (finding_words finding ++ steps_words claim)
+
+-- each unmove after a space
+unfoldable pub unmove_words : List Unmove → List ℕ
+unmove_words us = flat_map (λ u. 32 ∷ unmove_text u) us
+
+-- the unmoves themselves where they are at most 24
+abbrev pub few_words : List Unmove → List ℕ
+few_words us = cond (nat_le (length us) 24) (unmove_words us) []
+
+-- the line that tells how many of so many unmoves are left, and which
+abbrev pub left_line : List Unmove → ℕ → List ℕ
+left_line left all = ended (codes "left " ++ decimal (length left) ++ codes " of " ++ decimal all ++ few_words left)
+
+-- the line that tells how many half-moves there are at least
+abbrev pub length_line : ℕ → List ℕ
+length_line n = ended (codes "atleast " ++ decimal n)
+
+-- the line before what is found without demands
+abbrev pub plain_line : List ℕ
+plain_line = ended (codes "without demands")
+
+-- the line that tells what was found of the other side's position
+abbrev pub other_line : Finding → List ℕ
+other_line finding = codes "other side " ++ found_line finding Illegal

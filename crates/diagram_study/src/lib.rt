@@ -1,0 +1,19 @@
+//! A study of a position: everything that can be proved of it, each fact in a line of its own. Which claims are put, and to which
+//! depth, needs nobody's choice.
+//!
+//! Articles are those of the FIDE Laws of Chess, in force from 1 January 2023.
+#![tactic(auto)]
+
+mod findings;
+mod forced;
+mod line_searches;
+mod lines;
+mod pairs;
+mod retractions;
+mod rights;
+mod searchers;
+mod searches;
+mod studies;
+
+pub use findings::Finding;
+pub use studies::study;

@@ -1,0 +1,90 @@
+ghost use Rattle.std.specs.Prelude.{List, ℕ, ◌≡◌, ◌++◌, IfOk, IsTrue, None, OnOk};
+ghost use Rattle.line_claims.specs.Lines.{in_order};
+ghost use Rattle.diagram_study.specs.Budgets.{IsBudget};
+ghost use Rattle.diagram_study.specs.Pairs.{TellsOpenPair, TellsPair, TellsPairs, castle_pairs};
+
+use crate::line_searches::seek_line;
+use crate::lines::push_steps;
+use crate::searchers::Searchers;
+use board_base::Castle::{BlackLong, BlackShort, WhiteLong, WhiteShort};
+use board_base::{Castle, CastleSet};
+use line_claims::LineClaim;
+use query_base::Query;
+use std::alloc::AllocError;
+
+/// Adds the line of what is found of the claim that the two castlings aren't both kept.
+fn tell_pair(
+    searchers: &mut Searchers,
+    query: &Query,
+    first: Castle,
+    second: Castle,
+    most: u8,
+    nodes: u32,
+    text: &mut Vec<u8>,
+) -> Result<(), AllocError>
+    requires order { IsTrue (in_order first second) }
+    requires plain { query.now.barred ≡ None }
+    requires budget { IsBudget most nodes }
+    ensures { OnOk result ((own : List ℕ) × TellsPair query.now most nodes first second own × (text.new.items ≡ text.old.items ++ own)) }
+{
+    let claim = LineClaim::NotBoth(first, second);
+    let finding = seek_line(searchers, query, &claim, most, nodes)?;
+    push_steps(text, finding, &claim)
+}
+
+/// Adds what is found of two castlings, where neither is proved to be lost.
+fn tell_open_pair(
+    searchers: &mut Searchers,
+    query: &Query,
+    kept: CastleSet,
+    first: Castle,
+    second: Castle,
+    most: u8,
+    nodes: u32,
+    text: &mut Vec<u8>,
+) -> Result<(), AllocError>
+    requires order { IsTrue (in_order first second) }
+    requires plain { query.now.barred ≡ None }
+    requires budget { IsBudget most nodes }
+    ensures { OnOk result ((own : List ℕ) × TellsOpenPair query.now most nodes kept (first, second) own × (text.new.items ≡ text.old.items ++ own)) }
+{
+    if kept.has(first) && kept.has(second) {
+        tell_pair(searchers, query, first, second, most, nodes, text)
+    } else {
+        Ok(())
+    }
+}
+
+/// Adds what is found of each two of the castlings that aren't proved to be lost.
+pub(crate) fn tell_pairs(
+    searchers: &mut Searchers,
+    query: &Query,
+    kept: CastleSet,
+    most: u8,
+    nodes: u32,
+    text: &mut Vec<u8>,
+) -> Result<(), AllocError>
+    requires plain { query.now.barred ≡ None }
+    requires budget { IsBudget most nodes }
+    ensures { OnOk result ((all : List ℕ) × TellsPairs (TellsOpenPair query.now most nodes kept) castle_pairs all × (text.new.items ≡ text.old.items ++ all)) }
+{
+    tell_open_pair(
+        searchers, query, kept, WhiteShort, WhiteLong, most, nodes, text,
+    )?;
+    tell_open_pair(
+        searchers, query, kept, WhiteShort, BlackShort, most, nodes, text,
+    )?;
+    tell_open_pair(
+        searchers, query, kept, WhiteShort, BlackLong, most, nodes, text,
+    )?;
+    tell_open_pair(
+        searchers, query, kept, WhiteLong, BlackShort, most, nodes, text,
+    )?;
+    tell_open_pair(
+        searchers, query, kept, WhiteLong, BlackLong, most, nodes, text,
+    )?;
+    tell_open_pair(
+        searchers, query, kept, BlackShort, BlackLong, most, nodes, text,
+    )?;
+    Ok(())
+}

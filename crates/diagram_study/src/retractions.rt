@@ -1,0 +1,134 @@
+ghost use Rattle.std.specs.Prelude.{List, ℕ, ◌≡◌, ◌-◌, ◌≤◌, ◌++◌, IfOk, IfSome, IsTrue, None, OnOk, Some, length};
+ghost use Rattle.std.specs.List.{All, list_all};
+ghost use Rattle.board_base.specs.Legal.{is_move};
+ghost use Rattle.board_base.specs.Texts.{can_promote};
+ghost use Rattle.line_claims.specs.Lines.{has_text};
+ghost use Rattle.unmove_gen.specs.Listed.{unmoves};
+ghost use Rattle.diagram_study.specs.Budgets.{IsBudget};
+ghost use Rattle.diagram_study.specs.Retractions.{AreLeft, HasLeft, TellsLast, TellsMove, one_move};
+
+use crate::lines::push_found;
+use crate::searchers::{Searchers, is_refuted};
+use crate::searches::{search_at, seek};
+use board_base::{Move, UnmoveList, is_move};
+use query_base::{Claim, Query};
+use std::alloc::{AllocError, Global};
+use unmove_gen::{Unmoves, few_unmoves, last_moves_are_listed, pred, unmoves_have_texts};
+
+/// The unmoves that are left, and how many there are in all.
+#[derive(Drop)]
+pub(crate) struct Counted {
+    pub(crate) left: UnmoveList,
+    pub(crate) all: u32,
+}
+
+/// The unmoves of the query whose predecessors the search doesn't refute.
+pub(crate) fn retractions(
+    alloc: Global,
+    searchers: &mut Searchers,
+    query: &Query,
+    most: u8,
+    nodes: u32,
+) -> Result<Counted, AllocError>
+    requires plain { query.now.barred ≡ None }
+    requires budget { IsBudget most nodes }
+    ensures left { IfOk result (λ r. HasLeft query.now most nodes r.left) }
+    ensures all { IfOk result (λ r. r.all ≡ length (unmoves query.now)) }
+    ensures few { IfOk result (λ r. length r.left ≤ 143360) }
+    ensures texts { IfOk result (λ r. All (λ u. IsTrue (has_text u)) r.left) }
+{
+    few_unmoves();
+    unmoves_have_texts();
+    last_moves_are_listed();
+    let below = most.saturating_sub(1);
+    let mut left = UnmoveList::new(alloc);
+    let mut all: u32 = 0;
+    let mut unmoves = Unmoves::new(query);
+    while let Some(u) = unmoves.next() {
+        all += 1;
+        let before = pred(query, &u);
+        let outcome = search_at(searchers, &before, &Claim::Illegal, below, nodes)?;
+        if !is_refuted(outcome) {
+            match left.push(u) {
+                Ok(()) => {}
+                Err(_) => return Err(AllocError),
+            }
+        }
+    }
+    Ok(Counted { left, all })
+}
+
+/// All these unmoves have this move.
+fn have_move(left: &UnmoveList, m: &Move) -> bool
+    ensures { result ≡ list_all (λ u. is_move (Some m.now) u.mv) left.now }
+{
+    for i in 0..left.len() {
+        let u = left.get(i).unwrap();
+        if !is_move(&Some(*m), &u.mv) {
+            return false;
+        }
+    }
+    true
+}
+
+/// The move of all these unmoves, if it is one.
+fn one_move(left: &UnmoveList) -> Option<Move>
+    requires { All (λ u. IsTrue (has_text u)) left.now }
+    ensures value { result ≡ one_move left.now }
+    ensures text { IfSome result (λ m. IsTrue (can_promote m.promo)) }
+{
+    let first = left.get(0);
+    match first {
+        Some(u) => {
+            if have_move(left, &u.mv) {
+                Some(u.mv)
+            } else {
+                None
+            }
+        }
+        None => None,
+    }
+}
+
+/// Adds the line that this was the last move, where that is proved.
+fn tell_move(
+    searchers: &mut Searchers,
+    query: &Query,
+    m: Move,
+    most: u8,
+    nodes: u32,
+    text: &mut Vec<u8>,
+) -> Result<(), AllocError>
+    requires promotion { IsTrue (can_promote m.promo) }
+    requires plain { query.now.barred ≡ None }
+    requires budget { IsBudget most nodes }
+    ensures { OnOk result ((own : List ℕ) × TellsMove query.now most nodes m own × (text.new.items ≡ text.old.items ++ own)) }
+{
+    let claim = Claim::Last(m);
+    let finding = seek(searchers, query, &claim, most, nodes)?;
+    if finding.is_proved() {
+        push_found(text, finding, &claim)
+    } else {
+        Ok(())
+    }
+}
+
+/// Adds what is found of the last move, where only one is left.
+pub(crate) fn tell_last(
+    searchers: &mut Searchers,
+    query: &Query,
+    left: &UnmoveList,
+    most: u8,
+    nodes: u32,
+    text: &mut Vec<u8>,
+) -> Result<(), AllocError>
+    requires texts { All (λ u. IsTrue (has_text u)) left.now }
+    requires plain { query.now.barred ≡ None }
+    requires budget { IsBudget most nodes }
+    ensures { OnOk result ((own : List ℕ) × TellsLast query.now most nodes (one_move left.now) own × (text.new.items ≡ text.old.items ++ own)) }
+{
+    match one_move(left) {
+        Some(m) => tell_move(searchers, query, m, most, nodes, text),
+        None => Ok(()),
+    }
+}

@@ -1,0 +1,148 @@
+ghost use Rattle.std.specs.Prelude.{◌≡◌, ◌++◌, IfOk, IsTrue, None, OnOk};
+ghost use Rattle.std.specs.List.{All};
+ghost use Rattle.cert_text.specs.ClaimLines.{promotes_well};
+ghost use Rattle.codex_verdict.specs.Rights.{claim_of};
+ghost use Rattle.diagram_study.specs.Budgets.{IsBudget};
+ghost use Rattle.diagram_study.specs.Rights.{AreDue, AreFound, is_demanded, open_castlings, with_right};
+ghost use Rattle.diagram_study.specs.Texts.{capture_line, capture_lines, castling_line, castling_lines};
+
+use crate::findings::Finding;
+use crate::lines::push_found;
+use crate::searchers::Searchers;
+use crate::searches::seek;
+use arrayvec::ArrayVec;
+use board_base::CastleSet;
+use codex_verdict::{Right, claim_of, rights};
+use query_base::{Claim, Query};
+use std::alloc::AllocError;
+
+/// A right, and what is found of the claim that decides it.
+#[derive(Clone, Copy)]
+pub struct RightFound {
+    pub right: Right,
+    pub finding: Finding,
+}
+
+impl Default for RightFound {
+    /// What stands in the unused places of an array.
+    fn default() -> RightFound
+        ensures { result.finding ≡ Finding.Open }
+    {
+        RightFound {
+            right: Right::default(),
+            finding: Finding::Open,
+        }
+    }
+}
+
+/// The right is that of a castling which the query demands.
+fn is_demanded(query: &Query, right: &Right) -> bool
+    ensures { result ≡ is_demanded query.now right.now }
+{
+    match right {
+        Right::Castling(castle) => query.held.has(*castle),
+        Right::EnPassant(_) => false,
+    }
+}
+
+/// The rights that the position seems to give and the query doesn't demand.
+fn due_rights(query: &Query) -> ArrayVec<Right, 18>
+    ensures { AreDue query.now result.items }
+{
+    let mut due: ArrayVec<Right, 18> = ArrayVec::new();
+    let all = rights(query);
+    let each = all.as_slice();
+    for right in each {
+        if !is_demanded(query, right) {
+            due.push(*right);
+        }
+    }
+    due
+}
+
+/// What is found of each of these rights.
+pub(crate) fn seek_rights(
+    searchers: &mut Searchers,
+    query: &Query,
+    most: u8,
+    nodes: u32,
+) -> Result<ArrayVec<RightFound, 18>, AllocError>
+    requires plain { query.now.barred ≡ None }
+    requires budget { IsBudget most nodes }
+    ensures { IfOk result (λ found. AreFound query.now most nodes found.items) }
+{
+    let mut found: ArrayVec<RightFound, 18> = ArrayVec::new();
+    let due = due_rights(query);
+    let each = due.as_slice();
+    for right in each {
+        let finding = seek(searchers, query, &claim_of(right), most, nodes)?;
+        found.push(RightFound {
+            right: *right,
+            finding,
+        });
+    }
+    Ok(found)
+}
+
+/// The castlings that aren't proved to be lost.
+pub(crate) fn open_castlings(found: &[RightFound]) -> CastleSet
+    ensures { result ≡ open_castlings found.now }
+{
+    let mut kept = CastleSet::none();
+    for f in found {
+        kept = with_right(f, kept);
+    }
+    kept
+}
+
+/// The set with the castling of a right that was found open, if it is one.
+fn with_right(f: &RightFound, set: CastleSet) -> CastleSet
+    ensures { result ≡ with_right f.now.right f.now.finding set }
+{
+    match f.right {
+        Right::Castling(castle) if !f.finding.is_proved() => set.with(castle),
+        _ => set,
+    }
+}
+
+/// Adds the line of a right, where it is that of a castling.
+fn push_castling(text: &mut Vec<u8>, f: &RightFound) -> Result<(), AllocError>
+    ensures { OnOk result (text.new.items ≡ text.old.items ++ castling_line f.now.finding f.now.right) }
+{
+    match f.right {
+        Right::Castling(castle) => push_found(text, f.finding, &Claim::Lost(castle)),
+        Right::EnPassant(_) => Ok(()),
+    }
+}
+
+/// Adds the line of a right, where it is that of a capture en passant.
+fn push_capture(text: &mut Vec<u8>, f: &RightFound) -> Result<(), AllocError>
+    requires { IsTrue (promotes_well (claim_of f.now.right)) }
+    ensures { OnOk result (text.new.items ≡ text.old.items ++ capture_line f.now.finding f.now.right) }
+{
+    match f.right {
+        Right::Castling(_) => Ok(()),
+        Right::EnPassant(m) => push_found(text, f.finding, &Claim::Ep(m)),
+    }
+}
+
+/// Adds the line of each castling.
+pub(crate) fn tell_castlings(text: &mut Vec<u8>, found: &[RightFound]) -> Result<(), AllocError>
+    ensures { OnOk result (text.new.items ≡ text.old.items ++ castling_lines found.now) }
+{
+    for f in found {
+        push_castling(text, f)?;
+    }
+    Ok(())
+}
+
+/// Adds the line of each capture en passant.
+pub(crate) fn tell_captures(text: &mut Vec<u8>, found: &[RightFound]) -> Result<(), AllocError>
+    requires { All (λ f. IsTrue (promotes_well (claim_of f.right))) found.now }
+    ensures { OnOk result (text.new.items ≡ text.old.items ++ capture_lines found.now) }
+{
+    for f in found {
+        push_capture(text, f)?;
+    }
+    Ok(())
+}

@@ -1,0 +1,228 @@
+ghost use Rattle.std.specs.Prelude.{List, ℕ, ◌≡◌, ◌++◌, IfOk, IsTrue, None, OnOk, Option};
+ghost use Rattle.diagram_study.specs.Budgets.{IsBudget};
+ghost use Rattle.diagram_study.specs.Studies.{IsStudy, TellsAgain, TellsBehind, TellsLength, TellsMore, TellsOther, TellsPlain, TellsPosition, makes_demands, other_side, without_demands};
+ghost use Rattle.length_bound.specs.declared.texts.LengthText.{LengthText};
+
+use crate::findings::Finding;
+use crate::forced::tell_forced;
+use crate::lines::{push_found, push_left, push_length};
+use crate::pairs::tell_pairs;
+use crate::retractions::{retractions, tell_last};
+use crate::rights::{open_castlings, seek_rights, tell_captures, tell_castlings};
+use crate::searchers::Searchers;
+use crate::searches::seek;
+use board_base::{Castle, CastleSet};
+use length_bound::{longest, shown_lengths_hold};
+use query_base::{Claim, Query};
+use std::alloc::{AllocError, Global};
+
+/// Adds the line of the length of the games, where it can be told.
+fn tell_length(query: &Query, text: &mut Vec<u8>) -> Result<(), AllocError>
+    ensures { OnOk result ((own : List ℕ) × (said : Option LengthText) × TellsLength query.now said own × (text.new.items ≡ text.old.items ++ own)) }
+{
+    shown_lengths_hold();
+    match longest(query) {
+        Some(said) => push_length(text, said.at_least),
+        None => Ok(()),
+    }
+}
+
+/// Adds what is found of a position that isn't proved to be illegal.
+fn tell_more(
+    alloc: Global,
+    searchers: &mut Searchers,
+    query: &Query,
+    most: u8,
+    nodes: u32,
+    text: &mut Vec<u8>,
+) -> Result<(), AllocError>
+    requires plain { query.now.barred ≡ None }
+    requires budget { IsBudget most nodes }
+    ensures { OnOk result ((own : List ℕ) × TellsMore query.now most nodes own × (text.new.items ≡ text.old.items ++ own)) }
+{
+    let found = seek_rights(searchers, query, most, nodes)?;
+    let kept = open_castlings(found.as_slice());
+    tell_castlings(text, found.as_slice())?;
+    tell_pairs(searchers, query, kept, most, nodes, text)?;
+    tell_captures(text, found.as_slice())?;
+    let retractions = retractions(alloc, searchers, query, most, nodes)?;
+    tell_last(searchers, query, &retractions.left, most, nodes, text)?;
+    tell_forced(
+        alloc,
+        searchers,
+        query,
+        &retractions.left,
+        most,
+        nodes,
+        text,
+    )?;
+    push_left(text, &retractions.left, retractions.all)?;
+    tell_length(query, text)
+}
+
+/// The same board with the other side to move: without the double step that an en passant square demands.
+fn other_side(query: &Query) -> Query
+    ensures { result ≡ other_side query.now }
+{
+    let mut other = *query;
+    other.turn = query.turn.other();
+    other.only = None;
+    other.barred = None;
+    other
+}
+
+/// Adds whether the position is illegal with the other side to move.
+fn tell_other(
+    searchers: &mut Searchers,
+    query: &Query,
+    most: u8,
+    nodes: u32,
+    text: &mut Vec<u8>,
+) -> Result<(), AllocError>
+    requires budget { IsBudget most nodes }
+    ensures { OnOk result ((own : List ℕ) × TellsOther query.now most nodes own × (text.new.items ≡ text.old.items ++ own)) }
+{
+    let other = other_side(query);
+    let finding = seek(searchers, &other, &Claim::Illegal, most, nodes)?;
+    text.extend_from_slice(b"other side ")?;
+    push_found(text, finding, &Claim::Illegal)
+}
+
+/// Adds what follows the line that says whether the position is illegal.
+fn tell_behind(
+    alloc: Global,
+    searchers: &mut Searchers,
+    query: &Query,
+    finding: Finding,
+    most: u8,
+    nodes: u32,
+    text: &mut Vec<u8>,
+) -> Result<(), AllocError>
+    requires plain { query.now.barred ≡ None }
+    requires budget { IsBudget most nodes }
+    ensures { OnOk result ((own : List ℕ) × TellsBehind query.now most nodes finding own × (text.new.items ≡ text.old.items ++ own)) }
+{
+    match finding {
+        Finding::Proved(_) => tell_other(searchers, query, most, nodes, text),
+        Finding::Open => tell_more(alloc, searchers, query, most, nodes, text),
+        Finding::Spent => tell_more(alloc, searchers, query, most, nodes, text),
+    }
+}
+
+/// Adds what is found of the position: whether it is illegal, and what follows.
+fn tell_position(
+    alloc: Global,
+    searchers: &mut Searchers,
+    query: &Query,
+    most: u8,
+    nodes: u32,
+    text: &mut Vec<u8>,
+) -> Result<Finding, AllocError>
+    requires plain { query.now.barred ≡ None }
+    requires budget { IsBudget most nodes }
+    ensures { IfOk result (λ finding. (own : List ℕ) × TellsPosition query.now most nodes finding own × (text.new.items ≡ text.old.items ++ own)) }
+{
+    let finding = seek(searchers, query, &Claim::Illegal, most, nodes)?;
+    push_found(text, finding, &Claim::Illegal)?;
+    tell_behind(alloc, searchers, query, finding, most, nodes, text)?;
+    Ok(finding)
+}
+
+/// The query demands a right, a last move or a clock.
+fn makes_demands(query: &Query) -> bool
+    ensures { result ≡ makes_demands query.now }
+{
+    let held = query.held;
+    held.has(Castle::WhiteShort)
+        || held.has(Castle::WhiteLong)
+        || held.has(Castle::BlackShort)
+        || held.has(Castle::BlackLong)
+        || query.only.is_some()
+        || query.clock.is_some()
+}
+
+/// The query without its demands, at the same odds.
+fn without_demands(query: &Query) -> Query
+    ensures { result ≡ without_demands query.now }
+{
+    Query {
+        board: query.board,
+        turn: query.turn,
+        odds: query.odds,
+        held: CastleSet::none(),
+        only: None,
+        barred: None,
+        clock: None,
+    }
+}
+
+/// Adds what is found of the position without its demands.
+fn tell_plain(
+    alloc: Global,
+    searchers: &mut Searchers,
+    query: &Query,
+    most: u8,
+    nodes: u32,
+    text: &mut Vec<u8>,
+) -> Result<(), AllocError>
+    requires budget { IsBudget most nodes }
+    ensures { OnOk result ((own : List ℕ) × TellsPlain query.now most nodes own × (text.new.items ≡ text.old.items ++ own)) }
+{
+    text.extend_from_slice(b"without demands\n")?;
+    match tell_position(alloc, searchers, &without_demands(query), most, nodes, text) {
+        Ok(_) => Ok(()),
+        Err(why) => Err(why),
+    }
+}
+
+/// Adds what is found of the position without its demands, where these make it illegal.
+fn tell_again(
+    alloc: Global,
+    searchers: &mut Searchers,
+    query: &Query,
+    finding: Finding,
+    most: u8,
+    nodes: u32,
+    text: &mut Vec<u8>,
+) -> Result<(), AllocError>
+    requires budget { IsBudget most nodes }
+    ensures { OnOk result ((own : List ℕ) × TellsAgain query.now most nodes finding own × (text.new.items ≡ text.old.items ++ own)) }
+{
+    if finding.is_proved() && makes_demands(query) {
+        tell_plain(alloc, searchers, query, most, nodes, text)
+    } else {
+        Ok(())
+    }
+}
+
+/// The study of the position: its text has a line for each fact. For each claim `most` moves are taken back at most, 0 to 64, and each
+/// search visits at most `nodes` queries, 1 to 500,000, by rule lines and by the balance of captures. The query bars no move of its own.
+///
+/// - `proved D` before a claim says that it holds of every game, and that D is the least depth at which the search proves it; `open`
+///   that rule lines don't refute its target at `most` nor at any lower depth; `spent` that a search with so many nodes can't tell.
+/// - First comes what was found of the claim `illegal`. Where that is proved, every claim about the position holds, so nothing more is
+///   told of it but what was found of the same board with the other side to move. Where it makes demands, it is studied once more
+///   without them, behind a line that says so.
+/// - Else come the castlings that it seems to give and doesn't demand; each two of them of which neither is proved to be lost; the
+///   captures en passant; the last move, where it is proved, and two to sixteen last moves, where they follow one from another; how
+///   many of the retractions are left whose predecessors the search doesn't refute, and which, where they are at most 24; and how many
+///   half-moves each game has at least.
+pub fn study(alloc: Global, query: &Query, most: u8, nodes: u32) -> Result<Vec<u8>, AllocError>
+    requires plain { query.now.barred ≡ None }
+    requires budget { IsBudget most nodes }
+    ensures { IfOk result (λ text. IsStudy query.now most nodes text.items) }
+{
+    let mut searchers = Searchers::new(alloc);
+    let mut text = Vec::new(alloc);
+    let finding = tell_position(alloc, &mut searchers, query, most, nodes, &mut text)?;
+    tell_again(
+        alloc,
+        &mut searchers,
+        query,
+        finding,
+        most,
+        nodes,
+        &mut text,
+    )?;
+    Ok(text)
+}
