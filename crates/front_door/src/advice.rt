@@ -70,7 +70,7 @@ impl LineAdvice {
                 "line 1 is a claim of several steps: `claim notboth K Q`, or `claim line` and retractions, the last move first, as `claim line f3g3xp f4g3ep`"
             }
             LineAdvice::ClaimOfOne => {
-                "`claim illegal`, `claim last`, `claim lost` and `claim ep` belong to `solve DEPTH NODES`"
+                "`claim illegal`, `claim last`, `claim lost` and `claim ep` belong to `settle` and `solve DEPTH NODES`"
             }
             LineAdvice::MoveOfClaim => {
                 "a claim's move is its origin and its target, and n, b, r or q where a pawn promotes: `claim last f3g3`, `claim last b7b8q`, `claim ep e5d6`"

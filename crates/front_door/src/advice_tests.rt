@@ -122,7 +122,7 @@ const WORDS: [(&[&str], WordAdvice, &str); 35] = [
     (
         &["settle", "1", "99999999999999999999"],
         WordAdvice::Nodes,
-        "settle DEPTH NODES < CLAIM-AND-FEN",
+        "settle [DEPTH NODES] < CLAIM-AND-FEN",
     ),
     (
         &["sample", "18446744073709551616", "1", "1"],

@@ -37,6 +37,8 @@ pub struct Call {
     pub name: &'static str,
     /// The numbers behind it.
     pub numbers: &'static [Number],
+    /// It may be called without them.
+    pub alone: bool,
     /// It reads standard input.
     pub reads: bool,
     /// The whole call, with what the input is.
@@ -50,10 +52,11 @@ const NONE: &[Number] = &[];
 const LIMITS: &[Number] = &[Number::Depth, Number::Nodes];
 
 /// The commands, in the order in which the usage names them.
-pub const CALLS: [Call; 14] = [
+pub const CALLS: [Call; 15] = [
     Call {
         name: "check",
         numbers: NONE,
+        alone: false,
         reads: true,
         line: "check < CERTIFICATE",
         answer: "whether the certificate proves its claim",
@@ -61,6 +64,7 @@ pub const CALLS: [Call; 14] = [
     Call {
         name: "play",
         numbers: NONE,
+        alone: false,
         reads: true,
         line: "play < FEN-AND-MOVES",
         answer: "whether the moves are a legal game that reaches the position",
@@ -68,6 +72,7 @@ pub const CALLS: [Call; 14] = [
     Call {
         name: "san",
         numbers: NONE,
+        alone: false,
         reads: true,
         line: "san < FEN-AND-GAME",
         answer: "whether the game in algebraic notation reaches the position",
@@ -75,6 +80,7 @@ pub const CALLS: [Call; 14] = [
     Call {
         name: "spell",
         numbers: NONE,
+        alone: false,
         reads: true,
         line: "spell < MOVES",
         answer: "the game in algebraic notation",
@@ -82,13 +88,23 @@ pub const CALLS: [Call; 14] = [
     Call {
         name: "unmoves",
         numbers: NONE,
+        alone: false,
         reads: true,
         line: "unmoves < FEN",
         answer: "each move that may have been the last, and the position before it",
     },
     Call {
+        name: "study",
+        numbers: LIMITS,
+        alone: true,
+        reads: true,
+        line: "study [DEPTH NODES] < FEN",
+        answer: "all that is proved of the position, a fact a line",
+    },
+    Call {
         name: "solve",
         numbers: LIMITS,
+        alone: false,
         reads: true,
         line: "solve DEPTH NODES < CLAIM-AND-FEN",
         answer: "a certificate of the claim, or a game against it",
@@ -96,13 +112,15 @@ pub const CALLS: [Call; 14] = [
     Call {
         name: "settle",
         numbers: LIMITS,
+        alone: true,
         reads: true,
-        line: "settle DEPTH NODES < CLAIM-AND-FEN",
+        line: "settle [DEPTH NODES] < CLAIM-AND-FEN",
         answer: "the same, by the balance of captures too",
     },
     Call {
         name: "verdict",
         numbers: LIMITS,
+        alone: false,
         reads: true,
         line: "verdict DEPTH NODES < FEN",
         answer: "what the conventions say of castling and en passant",
@@ -110,6 +128,7 @@ pub const CALLS: [Call; 14] = [
     Call {
         name: "tree",
         numbers: LIMITS,
+        alone: false,
         reads: true,
         line: "tree DEPTH NODES < FEN",
         answer: "the moves that may lead to the position, as a tree",
@@ -117,6 +136,7 @@ pub const CALLS: [Call; 14] = [
     Call {
         name: "length",
         numbers: NONE,
+        alone: false,
         reads: true,
         line: "length < FEN",
         answer: "how many half-moves each game to the position has at least",
@@ -124,6 +144,7 @@ pub const CALLS: [Call; 14] = [
     Call {
         name: "atleast",
         numbers: NONE,
+        alone: false,
         reads: true,
         line: "atleast < LENGTH",
         answer: "whether the numbers of a length show it",
@@ -131,6 +152,7 @@ pub const CALLS: [Call; 14] = [
     Call {
         name: "line",
         numbers: NONE,
+        alone: false,
         reads: true,
         line: "line < DOSSIER",
         answer: "whether the dossier proves its claim of several steps",
@@ -138,6 +160,7 @@ pub const CALLS: [Call; 14] = [
     Call {
         name: "dossier",
         numbers: LIMITS,
+        alone: false,
         reads: true,
         line: "dossier DEPTH NODES < CLAIM-AND-FEN",
         answer: "a dossier of the claim of several steps",
@@ -145,6 +168,7 @@ pub const CALLS: [Call; 14] = [
     Call {
         name: "sample",
         numbers: &[Number::Start, Number::Games, Number::Plies],
+        alone: false,
         reads: false,
         line: "sample START GAMES PLIES",
         answer: "what is counted of games that are made from a number",
@@ -166,6 +190,7 @@ const FURTHER: &str = "  retractor --help | --version
 
 DEPTH: how many moves are taken back at most, from 0 to 64. NODES: how many positions a search visits, or how many lines
 a tree has, at most, from 1 to 500000. START: any number. GAMES: from 1 to 1000. PLIES: from 1 to 200.
+`settle` alone is `settle 64 500000`, and `study` alone is `study 64 20000`.
 
 Statuses: 0 done, 1 refused, 2 undecided, 3 nodes spent, 4 a game against the claim, 5 bad words, 6 bad input, 7 reading
 failed, 8 writing failed, 9 not enough memory, 10 the input has more than 67108864 bytes.

@@ -125,6 +125,9 @@ fn advise_rest(call: Call, rest: &[String]) -> Option<Hint>
     if rest.iter().any(|word| is_input(word.as_str())) {
         return Some(about(WordAdvice::ComesByInput, call));
     }
+    if rest.is_empty() && call.alone {
+        return None;
+    }
     if rest.len() != call.numbers.len() {
         return Some(about(WordAdvice::Count, call));
     }
