@@ -11,6 +11,7 @@ pub mod Solves
 pub mod Settles
 pub mod Retractions
 pub mod Verdicts
+pub mod Studies
 pub mod Trees
 pub mod Lengths
 pub mod AtLeasts

@@ -5,8 +5,10 @@ use Rattle.retro_top.specs.Answers.{AnswersAs, IsUnspent, MustSucceed, ReadsBy, 
 use Rattle.command_answers.specs.Retractions.{ListsUnmoves}
 use Rattle.command_answers.specs.Trees.{AnswersTreeOf}
 use Rattle.command_answers.specs.Verdicts.{AnswersPosition}
+use Rattle.command_answers.specs.Studies.{AnswersStudyOf}
+use Rattle.retro_top.proofs.Studying.{study-done}
 use Rattle.retro_top.specs.declared.commands.Command.{Command}
-use Rattle.retro_top.specs.declared.commands.Command.TheVariants.{Check, Play, San, Spell, Unmoves, Solve, Settle, Verdict, Tree, Length, AtLeast, Line, Dossier, Sample}
+use Rattle.retro_top.specs.declared.commands.Command.TheVariants.{Check, Play, San, Spell, Unmoves, Solve, Settle, Verdict, Study, Tree, Length, AtLeast, Line, Dossier, Sample}
 use Rattle.command_answers.specs.declared.statuses.Status.{Status}
 use Rattle.command_answers.specs.declared.statuses.Status.TheVariants.{Done}
 use Rattle.retro_top.proofs.Gaming.{NoGameFault, OneGame, done-game, done-moves, done-notation, play-done, san-done, spell-done}
@@ -29,6 +31,7 @@ succeeds-done law length dossier accepted one game sound Unmoves input ending te
 succeeds-done law length dossier accepted one game sound (Solve depth nodes) input ending text answers good = refutable-done depth nodes input ending text answers good.0 good.1
 succeeds-done law length dossier accepted one game sound (Settle depth nodes) input ending text answers good = settle-done depth nodes input ending text answers good.0 good.1
 succeeds-done law length dossier accepted one game sound (Verdict depth nodes) input ending text answers good = cheap-done depth nodes input ending text answers good
+succeeds-done law length dossier accepted one game sound (Study depth nodes) input ending text answers good = study-done depth nodes input ending text answers good
 succeeds-done law length dossier accepted one game sound (Tree depth nodes) input ending text answers good = few-done one depth nodes input ending text answers good
 succeeds-done law length dossier accepted one game sound Length input ending text answers good = length-done input ending text answers good
 succeeds-done law length dossier accepted one game sound AtLeast input ending text answers good = shown-done length input ending text answers good
@@ -41,6 +44,7 @@ pub suffices-unspent : OneTextEach → (command : Command) (input : List ℕ) (e
 suffices-unspent one (Solve depth nodes) input ending text answers enough = cheap-unspent depth nodes input ending text answers enough
 suffices-unspent one (Settle depth nodes) input ending text answers enough = subst IsUnspent (sym (settle-done depth nodes input ending text answers enough.0 enough.1)) tt
 suffices-unspent one (Verdict depth nodes) input ending text answers enough = subst IsUnspent (sym (cheap-done depth nodes input ending text answers enough)) tt
+suffices-unspent one (Study depth nodes) input ending text answers enough = subst IsUnspent (sym (study-done depth nodes input ending text answers enough)) tt
 suffices-unspent one (Tree depth nodes) input ending text answers enough = subst IsUnspent (sym (few-done one depth nodes input ending text answers enough)) tt
 suffices-unspent one (Dossier depth nodes) input ending text answers enough = making-unspent depth nodes input ending text answers enough
 suffices-unspent one _ input ending text answers enough = absurd enough
@@ -55,6 +59,7 @@ done-succeeds law accepted Unmoves input text answers = let alone = done-alone L
 done-succeeds law accepted (Solve depth nodes) input text answers = done-refutable depth nodes input text answers
 done-succeeds law accepted (Settle depth nodes) input text answers = done-provable-claim depth nodes input text answers
 done-succeeds law accepted (Verdict depth nodes) input text answers = let alone = done-alone (AnswersPosition depth nodes) input text answers in (alone.0, alone.1)
+done-succeeds law accepted (Study depth nodes) input text answers = let alone = done-alone (AnswersStudyOf depth nodes) input text answers in (alone.0, alone.1)
 done-succeeds law accepted (Tree depth nodes) input text answers = let alone = done-alone (AnswersTreeOf depth nodes) input text answers in (alone.0, alone.2.0, text, alone.1, alone.2.1, alone.2.2)
 done-succeeds law accepted Length input text answers = done-length input text answers
 done-succeeds law accepted AtLeast input text answers = done-shown input text answers

@@ -44,11 +44,13 @@ use Rattle.command_answers.specs.Lengths.{AnswersHowLong, AsksForLength, TellsLe
 use Rattle.command_answers.specs.Dossiers.{AnswersMaking, StatesCheapLine, StatesProvable}
 use Rattle.command_answers.specs.LineChecks.{AnswersLine, ProvesLine, accepted_steps_line}
 use Rattle.command_answers.specs.AtLeasts.{AnswersAtLeast, ShowsLength, bound_line}
+use Rattle.command_answers.specs.Studies.{AnswersStudy}
+use Rattle.diagram_study.specs.Studies.{IsStudy}
 use Rattle.command_answers.specs.Verdicts.{AnswersVerdict, AsksForCheap, Each, verdicts_text}
 use Rattle.command_answers.specs.declared.statuses.Status.{Status}
 use Rattle.command_answers.specs.declared.statuses.Status.TheVariants.{Done, Undecided, Countered, Memory}
 use Rattle.retro_top.specs.declared.commands.Command.{Command}
-use Rattle.retro_top.specs.declared.commands.Command.TheVariants.{Check, Play, San, Spell, Unmoves, Solve, Settle, Verdict, Tree, Length, AtLeast, Line, Dossier, Sample}
+use Rattle.retro_top.specs.declared.commands.Command.TheVariants.{Check, Play, San, Spell, Unmoves, Solve, Settle, Verdict, Study, Tree, Length, AtLeast, Line, Dossier, Sample}
 
 -- the status and the text with which a command answers an input
 abbrev pub AnswersAs : Command → List ℕ → Status → List ℕ → Type 0
@@ -60,6 +62,7 @@ AnswersAs Unmoves input status text = AnswersUnmoves input status text
 AnswersAs (Solve depth nodes) input status text = AnswersSolve depth nodes input status text
 AnswersAs (Settle depth nodes) input status text = AnswersSettle depth nodes input status text
 AnswersAs (Verdict depth nodes) input status text = AnswersVerdict depth nodes input status text
+AnswersAs (Study depth nodes) input status text = AnswersStudy depth nodes input status text
 AnswersAs (Tree depth nodes) input status text = AnswersTree depth nodes input status text
 AnswersAs Length input status text = AnswersHowLong input status text
 AnswersAs AtLeast input status text = AnswersAtLeast input status text
@@ -149,6 +152,7 @@ Succeeds Unmoves input = AsksForOne input
 Succeeds (Solve depth nodes) input = StatesRefutable depth input
 Succeeds (Settle depth nodes) input = StatesProved depth input
 Succeeds (Verdict depth nodes) input = AsksForOne input
+Succeeds (Study depth nodes) input = AsksForOne input
 Succeeds (Tree depth nodes) input = AsksForFewLines depth nodes input
 Succeeds Length input = AsksForLength input
 Succeeds AtLeast input = ShowsLength input
@@ -186,6 +190,10 @@ abbrev pub WritesVerdicts : ℕ → List ℕ → Option (List ℕ) → Option (L
 WritesVerdicts depth input old new =
     (q : Asked) × (rights : List Right) × (settled : List Bool) × AsksAlone input q × AreRights q.board q.turn rights × Appends old new (verdicts_text depth rights settled) × Each (Decides q) rights settled
 
+-- What was taken grew by the study of the query that the input asks: each fact that it tells of the query holds of every game.
+abbrev pub WritesStudy : ℕ → ℕ → List ℕ → Option (List ℕ) → Option (List ℕ) → Type 0
+WritesStudy depth nodes input old new = (q : Asked) × (text : List ℕ) × AsksAlone input q × IsStudy q depth nodes text × Appends old new text
+
 -- each game that reaches the query has at least so many half-moves
 abbrev pub BoundsGames : Asked → ℕ → Type 0
 BoundsGames q n = (g : List Move) → Reaches g q → n ≤ length g
@@ -219,6 +227,7 @@ Suffices (Solve depth nodes) input = StatesCheap depth nodes input
 Suffices (Settle depth nodes) input = StatesRefutable depth input × StatesCheap depth nodes input
 Suffices (Verdict depth nodes) input = AsksForCheap depth nodes input
 Suffices (Dossier depth nodes) input = StatesCheapLine depth nodes input
+Suffices (Study depth nodes) input = AsksForOne input
 Suffices (Tree depth nodes) input = AsksForFewLines depth nodes input
 Suffices command input = ⊥
 

@@ -1,12 +1,12 @@
 -- The words of the command line.
-use Rattle.std.specs.Prelude.{ℕ, ◌≡◌, List, [], ◌∷◌, map, codes, string_bytes, String}
+use Rattle.std.specs.Prelude.{ℕ, ◌≡◌, ◌⊎◌, List, [], ◌∷◌, map, codes, string_bytes, String}
 use Rattle.std.specs.Global.{Global}
 use Rattle.std.specs.Fmt.{decimal}
 use Rattle.command_answers.specs.Limits.{AreLimits, AreSampleNumbers}
 use Rattle.retro_top.specs.declared.commands.Command.{Command}
-use Rattle.retro_top.specs.declared.commands.Command.TheVariants.{Check, Play, San, Spell, Unmoves, Solve, Settle, Verdict, Tree, Length, AtLeast, Line, Dossier, Sample}
+use Rattle.retro_top.specs.declared.commands.Command.TheVariants.{Check, Play, San, Spell, Unmoves, Solve, Settle, Verdict, Study, Tree, Length, AtLeast, Line, Dossier, Sample}
 
--- the words, as bytes, by which each command is called
+-- the words, as bytes, by which each command is called in full
 abbrev pub words_of : Command → List (List ℕ)
 words_of Check = codes "check" ∷ []
 words_of Play = codes "play" ∷ []
@@ -16,6 +16,7 @@ words_of Unmoves = codes "unmoves" ∷ []
 words_of (Solve depth nodes) = codes "solve" ∷ decimal depth ∷ decimal nodes ∷ []
 words_of (Settle depth nodes) = codes "settle" ∷ decimal depth ∷ decimal nodes ∷ []
 words_of (Verdict depth nodes) = codes "verdict" ∷ decimal depth ∷ decimal nodes ∷ []
+words_of (Study depth nodes) = codes "study" ∷ decimal depth ∷ decimal nodes ∷ []
 words_of (Tree depth nodes) = codes "tree" ∷ decimal depth ∷ decimal nodes ∷ []
 words_of Length = codes "length" ∷ []
 words_of AtLeast = codes "atleast" ∷ []
@@ -23,11 +24,21 @@ words_of Line = codes "line" ∷ []
 words_of (Dossier depth nodes) = codes "dossier" ∷ decimal depth ∷ decimal nodes ∷ []
 words_of (Sample start games plies) = codes "sample" ∷ decimal start ∷ decimal games ∷ decimal plies ∷ []
 
+-- the words call the command without its numbers, which are the usual ones: `settle` alone, or `study` alone
+abbrev pub AreShortWordsOf : List (List ℕ) → Command → Type 0
+AreShortWordsOf words command =
+    ((words ≡ codes "settle" ∷ []) × (command ≡ Settle 64 500000)) ⊎ ((words ≡ codes "study" ∷ []) × (command ≡ Study 64 20000))
+
+-- the words, as bytes, call the command: in full, or without its numbers
+abbrev pub AreWordsOf : List (List ℕ) → Command → Type 0
+AreWordsOf words command = (words ≡ words_of command) ⊎ AreShortWordsOf words command
+
 -- the command's numbers, if it has any, are in their ranges
 abbrev pub IsInRange : Command → Type 0
 IsInRange (Solve depth nodes) = AreLimits depth nodes
 IsInRange (Settle depth nodes) = AreLimits depth nodes
 IsInRange (Verdict depth nodes) = AreLimits depth nodes
+IsInRange (Study depth nodes) = AreLimits depth nodes
 IsInRange (Tree depth nodes) = AreLimits depth nodes
 IsInRange (Dossier depth nodes) = AreLimits depth nodes
 IsInRange (Sample start games plies) = AreSampleNumbers start games plies
@@ -35,7 +46,7 @@ IsInRange command = Unit {0}
 
 -- the words call this command
 pub record Call (words : List (String Global)) (command : Command) : Type 0 where
-  pub words_are : map string_bytes words ≡ words_of command
+  pub words_are : AreWordsOf (map string_bytes words) command
   pub in_range : IsInRange command
 
 -- the words call some command

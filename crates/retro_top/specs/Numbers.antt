@@ -2,7 +2,7 @@
 -- Numbers on the command line, and words as bytes.
 use Rattle.std.specs.Prelude.{ℕ, ◌≡◌, ◌≤◌, List}
 use Rattle.std.specs.Fmt.{decimal}
-use Rattle.retro_top.specs.Commands.{IsInRange, words_of}
+use Rattle.retro_top.specs.Commands.{AreWordsOf, IsInRange}
 use Rattle.retro_top.specs.declared.commands.Command.{Command}
 
 -- the word is this number, which is in the range, in decimal
@@ -33,7 +33,7 @@ SaySomeSample start_word games_word plies_word =
 
 -- the words, as bytes, are those of the command, and its numbers are in range
 pub record Spells (words : List (List ℕ)) (command : Command) : Type 0 where
-  pub words_are : words ≡ words_of command
+  pub words_are : AreWordsOf words command
   pub in_range : IsInRange command
 
 -- the words are those of some command

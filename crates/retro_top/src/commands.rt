@@ -50,6 +50,13 @@ pub enum Command {
         /// How many queries are visited at most for each right, from 1 to 500,000.
         nodes: u32,
     },
+    /// Everything that can be proved of a position.
+    Study {
+        /// How many moves are taken back at most, from 0 to 64.
+        depth: u8,
+        /// How many queries each search visits at most, from 1 to 500,000.
+        nodes: u32,
+    },
     /// The retractions of a position as a tree.
     Tree {
         /// How many moves are taken back at most, from 0 to 64.
@@ -80,6 +87,18 @@ pub enum Command {
         plies: u32,
     },
 }
+
+/// What `settle` alone calls: the search goes as far as it may.
+const SETTLE_ALONE: Command = Command::Settle {
+    depth: 64,
+    nodes: 500_000,
+};
+
+/// What `study` alone calls: as far as a search may go, but with fewer nodes each, for there are many searches.
+const STUDY_ALONE: Command = Command::Study {
+    depth: 64,
+    nodes: 20_000,
+};
 
 /// The command reads its input: each but `sample` does.
 pub(crate) fn reads(command: Command) -> bool
@@ -142,6 +161,10 @@ fn read_one(word: &String) -> Option<Command>
         Some(Command::Spell)
     } else if is_word(word, b"unmoves") {
         Some(Command::Unmoves)
+    } else if is_word(word, b"settle") {
+        Some(SETTLE_ALONE)
+    } else if is_word(word, b"study") {
+        Some(STUDY_ALONE)
     } else if is_word(word, b"length") {
         Some(Command::Length)
     } else if is_word(word, b"atleast") {
@@ -166,6 +189,8 @@ fn read_three(word: &String, depth: &String, nodes: &String) -> Option<Command>
         Some(Command::Settle { depth, nodes })
     } else if is_word(word, b"verdict") {
         Some(Command::Verdict { depth, nodes })
+    } else if is_word(word, b"study") {
+        Some(Command::Study { depth, nodes })
     } else if is_word(word, b"tree") {
         Some(Command::Tree { depth, nodes })
     } else if is_word(word, b"dossier") {

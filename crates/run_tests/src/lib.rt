@@ -1,4 +1,4 @@
-//! Tests of runs: failing reads and writes, refused memory, wide and deep inputs, lengths and claims of several steps.
+//! Tests of runs: failing reads and writes, refused memory, wide and deep inputs, lengths, claims of several steps and studies.
 #![tactic(auto)]
 
 #[cfg(test)]
@@ -13,5 +13,7 @@ mod faults;
 mod lengths;
 #[cfg(test)]
 mod refused_memory;
+#[cfg(test)]
+mod studies;
 #[cfg(test)]
 mod wide_certificates;

@@ -69,6 +69,30 @@ fn settles_a_problem(rt: HostRuntime) {
     assert_whole_or_nothing(&rt, &row);
 }
 
+/// Nobody has a king, whoever is to move.
+#[test]
+fn studies(rt: HostRuntime) {
+    let row = Row {
+        words: &["study"],
+        input: b"8/8/8/8/8/8/8/8 w - -\n",
+        status: Status::Done,
+        text: b"proved 0 illegal\nother side proved 0 illegal\n",
+    };
+    assert_whole_or_nothing(&rt, &row);
+}
+
+/// The same for a position of which much is told: every line but those of castlings.
+#[test]
+fn studies_a_problem(rt: HostRuntime) {
+    let row = Row {
+        words: &["study", "2", "1000"],
+        input: b"6nk/2p4p/3B1P1P/5KpP/8/8/8/8 w - -\n",
+        status: Status::Done,
+        text: b"open illegal\nproved 2 ep h5g6\nproved 2 last g7g5\nleft 1 of 6 g7g5\natleast 24\n",
+    };
+    assert_whole_or_nothing(&rt, &row);
+}
+
 /// The kings and the rooks are barred, so pawns alone moved. Many positions are met on many ways, and their refutations are kept.
 #[test]
 fn keeps_refutations(rt: HostRuntime) -> Result<(), Fail> {
