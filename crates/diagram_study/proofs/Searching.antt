@@ -6,7 +6,6 @@ use Rattle.query_base.specs.Asked.{Asked}
 use Rattle.query_base.specs.Reach.{Contradicts, Reaches}
 use Rattle.query_base.specs.Targets.{target}
 use Rattle.query_base.specs.declared.claims.Claim.{Claim}
-use Rattle.retro_search.specs.Costs.{IsCost}
 use Rattle.retro_search.specs.Outcomes.{HasProof, IfRefuted}
 use Rattle.retro_search.specs.Refutable.{IsRefutable}
 use Rattle.retro_search.specs.Unsettled.{WhereRefutable}

@@ -1,4 +1,4 @@
-ghost use Rattle.std.specs.Prelude.{List, ℕ, ◌≡◌, ◌++◌, IfOk, IsTrue, None, OnOk};
+ghost use Rattle.std.specs.Prelude.{List, ℕ, ◌≡◌, ◌++◌, IsTrue, None, OnOk};
 ghost use Rattle.line_claims.specs.Lines.{in_order};
 ghost use Rattle.diagram_study.specs.Budgets.{IsBudget};
 ghost use Rattle.diagram_study.specs.Pairs.{TellsOpenPair, TellsPair, TellsPairs, castle_pairs};

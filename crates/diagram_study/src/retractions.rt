@@ -5,7 +5,7 @@ ghost use Rattle.board_base.specs.Texts.{can_promote};
 ghost use Rattle.line_claims.specs.Lines.{has_text};
 ghost use Rattle.unmove_gen.specs.Listed.{unmoves};
 ghost use Rattle.diagram_study.specs.Budgets.{IsBudget};
-ghost use Rattle.diagram_study.specs.Retractions.{AreLeft, HasLeft, TellsLast, TellsMove, one_move};
+ghost use Rattle.diagram_study.specs.Retractions.{HasLeft, TellsLast, TellsMove, one_move};
 
 use crate::lines::push_found;
 use crate::searchers::{Searchers, is_refuted};

@@ -1,4 +1,4 @@
-ghost use Rattle.std.specs.Prelude.{List, ℕ, ◌≡◌, ◌++◌, IfOk, IsTrue, None, OnOk, Option};
+ghost use Rattle.std.specs.Prelude.{List, ℕ, ◌≡◌, ◌++◌, IfOk, None, OnOk, Option};
 ghost use Rattle.diagram_study.specs.Budgets.{IsBudget};
 ghost use Rattle.diagram_study.specs.Studies.{IsStudy, TellsAgain, TellsBehind, TellsLength, TellsMore, TellsOther, TellsPlain, TellsPosition, makes_demands, other_side, without_demands};
 ghost use Rattle.length_bound.specs.declared.texts.LengthText.{LengthText};

@@ -1,7 +1,7 @@
 -- What `study` answers.
 use Rattle.std.proofs.Common.{◌≡◌, ℕ, List, refl}
 use Rattle.query_base.specs.Asked.{Asked}
-use Rattle.question_text.specs.Questions.{AsksAlone, AsksForOne}
+use Rattle.question_text.specs.Questions.{AsksForOne}
 use Rattle.command_answers.specs.Studies.{AnswersStudy, AnswersStudyOf}
 use Rattle.command_answers.specs.declared.statuses.Status.{Status}
 use Rattle.command_answers.specs.declared.statuses.Status.TheVariants.{Done}

@@ -1,4 +1,4 @@
-use Rattle.std.proofs.Common.{◌≡◌, refl, ap, ◌∙◌, arith}
+use Rattle.std.proofs.Common.{refl, ap, arith}
 use Rattle.query_base.specs.Asked.{Asked}
 use Rattle.diagram_study.proofs.Forcing.{forced_end, forced_full, forced_listed_here, forced_none, next_is, so_far_more}
 use Rattle.diagram_study.proofs.forced.forced_steps.Goals as goal

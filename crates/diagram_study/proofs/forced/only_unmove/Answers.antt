@@ -1,4 +1,4 @@
-use Rattle.std.proofs.Common.{sym, ◌∙◌, subst}
+use Rattle.std.proofs.Common.{sym, ◌∙◌}
 use Rattle.diagram_study.proofs.Forcing.{only_first}
 use Rattle.diagram_study.proofs.forced.only_unmove.Goals as goal
 

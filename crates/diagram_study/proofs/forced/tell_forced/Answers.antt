@@ -1,5 +1,5 @@
 use Rattle.std.proofs.Common.{arith}
-use Rattle.diagram_study.proofs.Telling.{forced_told, forced_untold, ok_then}
+use Rattle.diagram_study.proofs.Telling.{forced_untold}
 use Rattle.diagram_study.proofs.forced.tell_forced.Goals as goal
 
 pub returns-then-len-lt2 : goal.returns-then-len-lt2
