@@ -1,8 +1,8 @@
 //! The lines of nodes with the reason `balance`: a set, prices and gates.
 
 use crate::written_certificates::line_again;
-use board_base::{Colour, Kind, read_unmove};
-use capture_prices::Gate;
+use board_base::{Colour, read_unmove};
+use capture_prices::{Gate, Prices};
 use cert_text::{BodyLine, NodeLine, Reason, read_line};
 use std::alloc::{AllocError, Global};
 use std::test::Fail;
@@ -126,44 +126,94 @@ fn reads_no_other_prices(rt: HostRuntime) -> Result<(), Fail> {
     Ok(())
 }
 
-/// Lines with fifteen or seventeen prices, slashes left out or too many, blanks too many, and sets that are none.
+/// Fifteen prices of nothing.
+const FIFTEEN: &str = "0 0 0 0 0 0 0 0 0 0 0 0 0 0 0";
+
+/// The pieces of lines with fifteen or seventeen prices, slashes left out or too many, blanks too many, and sets that are none.
+const NO_SHAPES: [&[&str]; 31] = [
+    &["root rule balance"],
+    &["root rule balance "],
+    &[FRONT],
+    &[FRONT, " "],
+    &[FRONT, " /"],
+    &[FRONT, " / /"],
+    &[FRONT, " ", FREE],
+    &[FRONT, " ", FREE, " /"],
+    &[FRONT, " ", FREE, " / ", FREE],
+    &[FRONT, " ", FREE, " / ", FREE, " "],
+    &[FRONT, " ", FREE, " / ", FREE, " e3 12"],
+    &[FRONT, " ", FREE, " ", FREE, " / /"],
+    &[FRONT, " ", FREE, " ", FREE, " /"],
+    &[FRONT, " ", FREE, " 0 / ", FREE, " /"],
+    &[FRONT, " ", FREE, " / ", FREE, " 0 /"],
+    &[FRONT, " ", FIFTEEN, " / ", FREE, " /"],
+    &[FRONT, " ", FREE, " / ", FIFTEEN, " /"],
+    &[FRONT, " ", FIFTEEN, " / ", FREE, " 0 /"],
+    &[FRONT, " ", FREE, "/ ", FREE, " /"],
+    &[FRONT, " ", FREE, " /", FREE, " /"],
+    &[FRONT, " ", FREE, "  / ", FREE, " /"],
+    &[FRONT, " ", FREE, " /  ", FREE, " /"],
+    &[FRONT, " ", FREE, " // ", FREE, " /"],
+    &[FRONT, "  ", FREE, " / ", FREE, " /"],
+    &[FRONT, " ", FREE, " / ", FREE, " /\n"],
+    &[
+        "root rule balance  0000000000004080 ",
+        FREE,
+        " / ",
+        FREE,
+        " /",
+    ],
+    &[
+        "root rule balance 000000000000408 ",
+        FREE,
+        " / ",
+        FREE,
+        " /",
+    ],
+    &[
+        "root rule balance 000000000000408A ",
+        FREE,
+        " / ",
+        FREE,
+        " /",
+    ],
+    &[
+        "root rule balance w 0000000000004080 ",
+        FREE,
+        " / ",
+        FREE,
+        " /",
+    ],
+    &[
+        "root rule Balance 0000000000004080 ",
+        FREE,
+        " / ",
+        FREE,
+        " /",
+    ],
+    &["root balance 0000000000004080 ", FREE, " / ", FREE, " /"],
+];
+
+/// These texts, one behind the other.
+fn joined(alloc: Global, pieces: &[&str]) -> Result<String, AllocError> {
+    let mut text = String::new(alloc);
+    for piece in pieces {
+        text.push_str(piece)?;
+    }
+    Ok(text)
+}
+
 #[test]
 fn reads_no_other_shapes(rt: HostRuntime) -> Result<(), Fail> {
-    for text in [
-        format!(in rt.alloc(); "root rule balance")?,
-        format!(in rt.alloc(); "root rule balance ")?,
-        format!(in rt.alloc(); "{FRONT}")?,
-        format!(in rt.alloc(); "{FRONT} ")?,
-        format!(in rt.alloc(); "{FRONT} /")?,
-        format!(in rt.alloc(); "{FRONT} / /")?,
-        format!(in rt.alloc(); "{FRONT} {FREE}")?,
-        format!(in rt.alloc(); "{FRONT} {FREE} /")?,
-        format!(in rt.alloc(); "{FRONT} {FREE} / {FREE}")?,
-        format!(in rt.alloc(); "{FRONT} {FREE} / {FREE} ")?,
-        format!(in rt.alloc(); "{FRONT} {FREE} / {FREE} e3 12")?,
-        format!(in rt.alloc(); "{FRONT} {FREE} {FREE} / /")?,
-        format!(in rt.alloc(); "{FRONT} {FREE} {FREE} /")?,
-        format!(in rt.alloc(); "{FRONT} {FREE} 0 / {FREE} /")?,
-        format!(in rt.alloc(); "{FRONT} {FREE} / {FREE} 0 /")?,
-        format!(in rt.alloc(); "{FRONT} 0 0 0 0 0 0 0 0 0 0 0 0 0 0 0 / {FREE} /")?,
-        format!(in rt.alloc(); "{FRONT} {FREE} / 0 0 0 0 0 0 0 0 0 0 0 0 0 0 0 /")?,
-        format!(in rt.alloc(); "{FRONT} 0 0 0 0 0 0 0 0 0 0 0 0 0 0 0 / {FREE} 0 /")?,
-        format!(in rt.alloc(); "{FRONT} {FREE}/ {FREE} /")?,
-        format!(in rt.alloc(); "{FRONT} {FREE} /{FREE} /")?,
-        format!(in rt.alloc(); "{FRONT} {FREE}  / {FREE} /")?,
-        format!(in rt.alloc(); "{FRONT} {FREE} /  {FREE} /")?,
-        format!(in rt.alloc(); "{FRONT} {FREE} // {FREE} /")?,
-        format!(in rt.alloc(); "{FRONT}  {FREE} / {FREE} /")?,
-        format!(in rt.alloc(); "{FRONT} {FREE} / {FREE} /\n")?,
-        format!(in rt.alloc(); "root rule balance  0000000000004080 {FREE} / {FREE} /")?,
-        format!(in rt.alloc(); "root rule balance 000000000000408 {FREE} / {FREE} /")?,
-        format!(in rt.alloc(); "root rule balance 000000000000408A {FREE} / {FREE} /")?,
-        format!(in rt.alloc(); "root rule balance w 0000000000004080 {FREE} / {FREE} /")?,
-        format!(in rt.alloc(); "root rule Balance 0000000000004080 {FREE} / {FREE} /")?,
-        format!(in rt.alloc(); "root balance 0000000000004080 {FREE} / {FREE} /")?,
-    ] {
+    for pieces in NO_SHAPES {
+        let text = joined(rt.alloc(), pieces)?;
         assert!(rt; body_of(text.as_bytes()).is_none(), "{text}");
     }
+    Ok(())
+}
+
+#[test]
+fn reads_no_other_gates(rt: HostRuntime) -> Result<(), Fail> {
     for gates in NO_GATES {
         let text = format!(in rt.alloc(); "{FRONT} {FREE} / {FREE} /{gates}")?;
         assert!(rt; body_of(text.as_bytes()).is_none(), "{text}");
@@ -188,43 +238,53 @@ fn reads_the_longest_line(rt: HostRuntime) -> Result<(), Fail> {
     Ok(())
 }
 
+/// The set of a line, as a number, and 0 where it has none.
+fn bits_of(line: &NodeLine) -> u64 {
+    match &line.body {
+        BodyLine::Rule(Reason::Balance(set, _)) => set.bits(),
+        _ => 0,
+    }
+}
+
+fn prices_of(line: &NodeLine) -> Option<&Prices> {
+    match &line.body {
+        BodyLine::Rule(Reason::Balance(_, prices)) => Some(prices),
+        _ => None,
+    }
+}
+
 /// What the parts of a line say: the ninth price is that of the dark squares of the file e, and 28 is the number of e4.
 #[test]
 fn tells_the_parts(rt: HostRuntime) -> Result<(), Fail> {
     let text =
         b"a7b8qxq rule balance 0000000000004080 0 1 0 0 0 0 0 0 24 0 0 0 0 0 0 0 / 0 0 0 0 0 0 0 0 0 0 0 0 0 0 0 96 / e3 12 e4 1";
-    let NodeLine { label, body } = read_line(text, 1).ok_or("no line")?;
-    assert_eq!(rt; label, read_unmove(b"a7b8qxq"));
-    assert_eq!(rt; label.ok_or("no label")?.captured, Some(Kind::Queen));
-    match body {
-        BodyLine::Rule(Reason::Balance(set, prices)) => {
-            assert_eq!(rt; set.bits(), 0x4080);
-            assert_eq!(rt;
-                *prices.takes(Colour::White),
-                [0, 1, 0, 0, 0, 0, 0, 0, 24, 0, 0, 0, 0, 0, 0, 0]
-            );
-            assert_eq!(rt;
-                *prices.takes(Colour::Black),
-                [0, 0, 0, 0, 0, 0, 0, 0, 0, 0, 0, 0, 0, 0, 0, 96]
-            );
-            let gates = prices.gates();
-            assert_eq!(rt; gates.len(), 2);
-            assert!(rt;
-                gates.get(0)
-                    == Some(&Gate {
-                        square: 20,
-                        toll: 12
-                    })
-            );
-            assert!(rt;
-                gates.get(1)
-                    == Some(&Gate {
-                        square: 28,
-                        toll: 1
-                    })
-            );
-        }
-        _ => return Err(Fail::from("another body")),
-    }
+    let line = read_line(text, 1).ok_or("no line")?;
+    assert_eq!(rt; line.label, read_unmove(b"a7b8qxq"));
+    assert_eq!(rt; bits_of(&line), 0x4080);
+    let prices = prices_of(&line).ok_or("no prices")?;
+    assert_eq!(rt;
+        *prices.takes(Colour::White),
+        [0, 1, 0, 0, 0, 0, 0, 0, 24, 0, 0, 0, 0, 0, 0, 0]
+    );
+    assert_eq!(rt;
+        *prices.takes(Colour::Black),
+        [0, 0, 0, 0, 0, 0, 0, 0, 0, 0, 0, 0, 0, 0, 0, 96]
+    );
+    let gates = prices.gates();
+    assert_eq!(rt; gates.len(), 2);
+    assert!(rt;
+        gates[0]
+            == Gate {
+                square: 20,
+                toll: 12
+            }
+    );
+    assert!(rt;
+        gates[1]
+            == Gate {
+                square: 28,
+                toll: 1
+            }
+    );
     Ok(())
 }
