@@ -211,9 +211,8 @@ fn settles_by_the_balance_of_captures(rt: HostRuntime) -> Result<(), Fail> {
     assert_eq!(rt; status, Status::Done);
     let (status, checked) = run_on(rt.alloc(), &["check"], sink.taken(), WHOLE)?;
     assert_eq!(rt; status, Status::Done);
-    assert!(rt;
-        checked.taken() == b"accepted ep a5b6 1KRqb3/p2krpp1/3pp3/Pp6/BrPPP3/1p1P4/2p1P3/Q7 w - -\n"
-    );
+    let accepted: &[u8] = b"accepted ep a5b6 1KRqb3/p2krpp1/3pp3/Pp6/BrPPP3/1p1P4/2p1P3/Q7 w - -\n";
+    assert!(rt; checked.taken() == accepted);
     Ok(())
 }
 
