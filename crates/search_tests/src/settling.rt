@@ -167,21 +167,21 @@ fn keeps_what_it_refuted(rt: HostRuntime) -> Result<(), Fail> {
         let cert = found_certificate(kept.settle(&query, &claim, 64, 500_000)?)?;
         assert!(rt; accepts(rt.alloc(), &cert)?, "{fen}");
         assert!(rt;
-            is_refuted(&mut kept, &target(&query, &claim), 500_000)?,
+            is_refuted(&mut kept, &target(&query, &claim), 64)?,
             "{fen}"
         );
         let mut fresh = Searcher::new(rt.alloc(), Reasons::All);
-        assert!(rt; !is_refuted(&mut fresh, &query, 500_000)?, "{fen}");
-        assert!(rt; !is_refuted(&mut kept, &query, 500_000)?, "{fen}");
+        assert!(rt; !is_refuted(&mut fresh, &query, 2)?, "{fen}");
+        assert!(rt; !is_refuted(&mut kept, &query, 2)?, "{fen}");
     }
     Ok(())
 }
 
-fn is_refuted(searcher: &mut Searcher, query: &Query, nodes: u32) -> Result<bool, Fail> {
-    if nodes > 500_000 {
+fn is_refuted(searcher: &mut Searcher, query: &Query, depth: u8) -> Result<bool, Fail> {
+    if depth > 64 {
         return Err(Fail::from("out of range"));
     }
-    match searcher.refute(query, 64, nodes)? {
+    match searcher.refute(query, depth, 500_000)? {
         Outcome::Refuted { height: _ } => Ok(true),
         Outcome::Open => Ok(false),
         Outcome::Spent => Err(Fail::from("spent")),
