@@ -32,10 +32,12 @@ SECONDS = 10
 CHUNK = 250
 STATUSES = {"check": (0, 1), "play": (0, 1, 6), "unmoves": (0, 6), "solve": (0, 2, 3, 4, 6), "settle": (0, 2, 3, 4, 6), "verdict": (0, 3, 6),
             "tree": (0, 3, 6), "sample": (0,), "san": (0, 1, 6), "spell": (0, 1), "length": (0, 2, 6), "atleast": (0, 1), "line": (0, 1),
-            "dossier": (0, 1, 2, 3, 6)}
+            "dossier": (0, 1, 2, 3, 6), "study": (0, 6), "--help": (0,), "--version": (0,)}
 RANGES = {"solve": [(0, 64), (1, 500_000)], "sample": [(0, 2**64 - 1), (1, 1000), (1, 200)]}
-RANGES["settle"] = RANGES["verdict"] = RANGES["tree"] = RANGES["dossier"] = RANGES["solve"]
-LAST_LINE = {"play": 3, "san": 3, "unmoves": 4, "solve": 5, "settle": 5, "verdict": 4, "tree": 4, "length": 3, "dossier": 5}
+RANGES["settle"] = RANGES["study"] = RANGES["verdict"] = RANGES["tree"] = RANGES["dossier"] = RANGES["solve"]
+# The commands that may be called without their numbers, and those that read nothing.
+ALONE, UNREADING = ("settle", "study"), ("sample", "--help", "--version")
+LAST_LINE = {"study": 4, "play": 3, "san": 3, "unmoves": 4, "solve": 5, "settle": 5, "verdict": 4, "tree": 4, "length": 3, "dossier": 5}
 
 MOVE = r"[a-h][1-8][a-h][1-8][nbrq]?"
 UNMOVE = rf"(?:{MOVE}(?:x[pnbrq])?|[a-h][1-8][a-h][1-8]ep)"
@@ -75,6 +77,12 @@ FORMS = {
     ("dossier", 1): r"refused step [1-9]\d* unlisted\n",
     ("dossier", 2): r"undecided part [1-9]\d*\n",
 }
+WORD = r"(?:proved \d+|open|spent)"
+STUDY = (
+    rf"(?:proved \d+ illegal\nother side {WORD} illegal\n|(?:open|spent) illegal\n(?:{WORD} (?:lost [KQkq]|notboth [KQkq] [KQkq]|ep [a-h][1-8][a-h][1-8])\n)*"
+    rf"(?:proved \d+ last {MOVE}\n)?(?:proved \d+ line {UNMOVE}(?: {UNMOVE}){{1,15}}\n)?left \d+ of \d+(?: {UNMOVE}){{0,24}}\n(?:atleast \d+\n)?)"
+)
+FORMS |= {("study", 0): rf"{STUDY}(?:without demands\n{STUDY})?", ("--help", 0): r"usage:\n[^\0]+", ("--version", 0): r"retractor \d+\.\d+\n"}
 FORMS |= {("settle", status): FORMS["solve", status] for status in (0, 2, 4)}
 FORMS = {key: re.compile(form) for key, form in FORMS.items()}
 SPENT = re.compile(r"spent \d+\n")
@@ -88,6 +96,8 @@ def command_of(words):
         return None
     name = words[0].decode("ascii", "replace")
     numbers, ranges = words[1:], RANGES.get(name, [])
+    if name in ALONE and not numbers:
+        return name
     if name not in STATUSES or len(numbers) != len(ranges):
         return None
     fits = all(re.fullmatch(rb"0|[1-9][0-9]{0,30}", word) and low <= int(word) <= high for word, (low, high) in zip(numbers, ranges))
@@ -139,9 +149,9 @@ def due(case, command):
     """The statuses that the case can end with."""
     if command is None:
         return (5,)
-    if command != "sample" and case.fails == "read":
+    if command not in UNREADING and case.fails == "read":
         return (7,)
-    if command != "sample" and len(case.input) > LIMIT:
+    if command not in UNREADING and len(case.input) > LIMIT:
         return (10,)
     return (8,) if case.fails in ("write", "pipe") else STATUSES[command]
 
@@ -175,7 +185,8 @@ def misformed(case, command, status, out):
         found = BAD.fullmatch(text)
         fits = found and (not found[1] or int(found[1]) <= LAST_LINE[command])
     elif status == 3:
-        fits = SPENT.fullmatch(text) and text == f"spent {case.words[2].decode()}\n"
+        nodes = case.words[2].decode() if len(case.words) > 2 else "500000"
+        fits = SPENT.fullmatch(text) and text == f"spent {nodes}\n"
     else:
         fits = FORMS[command, status].fullmatch(text)
     if not fits:
@@ -189,13 +200,19 @@ def root_of(text):
     return next((at + 2 for at, line in enumerate(text.split("\n")[:5]) if line.startswith("fen ")), None)
 
 
-def wrong_accepted(case, text):
+def wrong_said(case, text):
+    """An accepted line names the claim, the position, the odds and the clock of the input."""
     _, claim, *lines = case.input.decode("ascii").split("\n")
     at = next(at for at, line in enumerate(lines) if line.startswith("fen "))
     said = " ".join([claim[6:], lines[at][4:], *lines[:at]])
     if text != f"accepted {said}\n":
         return "another claim or position than the input's"
-    return "bad text that is accepted" if bad_node(case.input.decode("ascii"), at + 4) else wrong_balance(case, True)
+    return None
+
+
+def wrong_accepted(case, text):
+    given = case.input.decode("ascii")
+    return wrong_said(case, text) or ("bad text that is accepted" if bad_node(given, root_of(given)) else wrong_balance(case, True))
 
 
 def wrong_refused(case, text):
@@ -273,7 +290,7 @@ def wrong_summary(case, text):
 NUMBERS = {
     ("check", 0): wrong_accepted,
     ("check", 1): wrong_refused,
-    ("line", 0): wrong_accepted,
+    ("line", 0): wrong_said,
     ("unmoves", 0): wrong_total,
     ("solve", 2): wrong_length,
     ("verdict", 0): wrong_depth,
