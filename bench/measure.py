@@ -125,9 +125,18 @@ def visits(program):
         print(f"{name} to depth {depth}: {visited(program, depth, claim)} visits, {plain} without the memo")
 
 
-def settle(program):
+def problems():
+    """The claims of examples/ and of problems.txt, each with a name."""
     for name in [*CLAIMS, *BALANCED]:
-        claim = (HERE.parent / "examples" / f"{name}.claim").read_bytes()
+        yield name, (HERE.parent / "examples" / f"{name}.claim").read_bytes()
+    for line in (HERE / "problems.txt").read_text().splitlines():
+        if not line.startswith("#"):
+            claim, fen, author, source, year = line.split(" | ")
+            yield f"{author}, {source}, {year}", f"{claim}\n{fen}\n".encode()
+
+
+def settle(program):
+    for name, claim in problems():
         for command in ("solve", "settle"):
             words = [program, command, "64", str(MOST_NODES)]
             status, text, _ = timed(words, claim)

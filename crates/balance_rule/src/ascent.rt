@@ -20,8 +20,8 @@ const MOST: i32 = 96;
 /// How often prices are tried.
 const ROUNDS: u32 = 150;
 
-/// How often they are tried again without a gain.
-const PATIENCE: u32 = 40;
+/// How often they are tried again without a gain of an eighth of the shortfall.
+const PATIENCE: u32 = 30;
 
 /// Which shortfall is too large, after so many rounds, for the prices to be worth another try.
 const FAR: u32 = 400;
@@ -195,7 +195,7 @@ fn ascend(query: &Query, set: SquareSet) -> Option<Prices> {
             return Some(prices);
         }
         let shortfall = most - outcome.cost;
-        if shortfall < best {
+        if shortfall < best - best / 8 {
             best = shortfall;
             since = round;
         }

@@ -42,6 +42,11 @@ IsReady (at.Walking claim q) frames due = IsStack frames × IsOpen frames
 IsReady (at.Counting claim q found) frames due = AreCounts due × IsDue due
 IsReady _ frames due = Unit {0}
 
+-- not only the children due are counted
+abbrev pub ReadsMore : Step → Type 0
+ReadsMore (at.Counting claim q found) = ⊥
+ReadsMore _ = Unit {0}
+
 -- the step where the next line says nothing
 abbrev pub stop_at : Step → ℕ → Step
 stop_at (at.Bad k) n = at.Bad k

@@ -6,7 +6,7 @@ ghost use Rattle.cert_checker.specs.Answers.{Answer, answer_as};
 ghost use Rattle.cert_checker.specs.Framing.{IsOpen, IsStack, due_of, stopped_by, walking};
 ghost use Rattle.cert_checker.specs.Frames.{going};
 ghost use Rattle.cert_checker.specs.Stages.{Rest, answer_at, answer_by, in_head, nodes};
-ghost use Rattle.cert_checker.specs.Staging.{BarsNothing, IsReady, rooting, stage_of, stop_at};
+ghost use Rattle.cert_checker.specs.Staging.{BarsNothing, IsReady, ReadsMore, rooting, stage_of, stop_at};
 
 use crate::counting::{count_frames, count_line};
 use crate::frames::{Found, Frame, body_fault, push_body, settle, take_line};
@@ -75,8 +75,6 @@ fn take_root(
 }
 
 /// The step after a line of the head, or the root's.
-// It stays out of `take`, where a line that is only counted would pay for its variables.
-#[inline(never)]
 fn take_head(
     head: &Head,
     frames: &mut ArrayVec<Frame, 256>,
@@ -98,8 +96,6 @@ fn take_head(
 }
 
 /// The step after the line of a node below the root, where the walk has met no fault before.
-// It stays out of `take`, as `take_head` does.
-#[inline(never)]
 fn take_node(
     claim: &Claim,
     query: &Query,
@@ -123,6 +119,35 @@ fn take_node(
     }
 }
 
+/// Takes a line, with its end, where more than children is to be read.
+// It stays out of `take`, where a line that is only counted would pay for its variables.
+#[inline(never)]
+fn take_read(
+    step: &mut Step,
+    frames: &mut ArrayVec<Frame, 256>,
+    counts: &mut ArrayVec<u32, 256>,
+    number: u32,
+    line: &[u8],
+)
+    requires reads { ReadsMore step.old }
+    requires ready { IsReady step.old (reverse frames.old.items) (reverse counts.old.items) }
+    ensures rest { (lines : Lines) (a : Answer) → Rest (stage_of step.new (reverse frames.new.items) (reverse counts.new.items)) (number + 1) lines a
+        → Rest (stage_of step.old (reverse frames.old.items) (reverse counts.old.items)) number (line.now ∷ lines) a }
+    ensures ready { IsReady step.new (reverse frames.new.items) (reverse counts.new.items) }
+{
+    match step {
+        Step::Heading(head) => {
+            let next = take_head(head, frames, counts, number, line);
+            *step = next;
+        }
+        Step::Walking(claim, query) => {
+            let next = take_node(claim, query, frames, counts, number, line);
+            *step = next;
+        }
+        Step::Counting(_, _, _) | Step::Bad(_) => {}
+    }
+}
+
 /// Takes a line, with its end. Where only children are counted, the step stays in its place.
 pub(crate) fn take(
     step: &mut Step,
@@ -137,20 +162,12 @@ pub(crate) fn take(
     ensures ready { IsReady step.new (reverse frames.new.items) (reverse counts.new.items) }
 {
     match step {
-        Step::Heading(head) => {
-            let next = take_head(head, frames, counts, number, line);
-            *step = next;
-        }
-        Step::Walking(claim, query) => {
-            let next = take_node(claim, query, frames, counts, number, line);
-            *step = next;
-        }
         Step::Counting(_, _, _) => {
             if !count_line(counts, line) {
                 *step = Step::Bad(number);
             }
         }
-        Step::Bad(_) => {}
+        _ => take_read(step, frames, counts, number, line),
     }
 }
 

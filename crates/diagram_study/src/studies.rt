@@ -196,7 +196,8 @@ fn tell_again(
 }
 
 /// The study of the position: its text has a line for each fact. For each claim `most` moves are taken back at most, 0 to 64, and each
-/// search visits at most `nodes` queries, 1 to 500,000, by rule lines and by the balance of captures. The query bars no move of its own.
+/// search visits at most `nodes` queries, 1 to 500,000: by rule lines, and, where these settle nothing, by the balance of captures too, as
+/// far as eight moves back. The query bars no move of its own.
 ///
 /// - `proved D` before a claim says that it holds of every game, and that D is the least depth at which the search proves it; `open`
 ///   that rule lines don't refute its target at `most` nor at any lower depth; `spent` that a search with so many nodes can't tell.

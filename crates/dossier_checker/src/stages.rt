@@ -21,6 +21,9 @@ pub enum Stage {
     Refused(DossierRefused),
 }
 
+// No other value that a run keeps on the stack is larger: it has room for the check of a part.
+const _: () = prove!(size_of::<Stage>() <= 262_144);
+
 /// Puts bytes, for which there is room, after the others.
 fn push_front(bytes: &[u8], front: &mut ArrayVec<u8, 512>)
     requires { length front.old.items + length bytes.now ≤ 512 }

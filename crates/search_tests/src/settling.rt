@@ -33,6 +33,16 @@ const BALANCED: [(&str, &str); 4] = [
 /// Any of three double steps can have been the last move here, so that at most one of the claims holds.
 const THREE_STEPS: &str = "1R6/BB6/5R2/2pPpKpP/1PrkP3/PpbpN2P/1N1P1P2/2Q5 w - -";
 
+/// Problems of P. Benko of 1981, where White castles on the queen's side, and of T. R. Dawson of 1914, where the other capture en passant
+/// is the key: these claims are false.
+const FALSE_CLAIMS: [(&str, &str); 2] = [
+    ("claim lost Q", "8/8/8/7B/7B/5PN1/3P1Nk1/R3K2R w - -"),
+    (
+        "claim ep c5d6",
+        "4k3/1p2P2p/2N1P1N1/2PpKpP1/3PpP2/4P3/4P3/8 w - -",
+    ),
+];
+
 const STEP: &str = "4k3/8/8/3p4/8/8/P7/4K2R w K d6";
 
 /// Whether `settle` proves the claim at the depth, by a certificate that the checker accepts from its text.
@@ -92,14 +102,31 @@ fn settles_what_rule_lines_leave_open(rt: HostRuntime) -> Result<(), Fail> {
     Ok(())
 }
 
+/// How many retractions the line has by which the claim stays open at the depth.
+fn open_length(alloc: Global, claim: &str, fen: &str, depth: u8) -> Result<usize, Fail> {
+    match ask_settle(alloc, claim, fen, depth, 500_000)? {
+        Found::Undecided(line) => Ok(line.len()),
+        _ => Err(Fail::from("not open")),
+    }
+}
+
 #[test]
 fn leaves_open_what_may_be_false(rt: HostRuntime) -> Result<(), Fail> {
     for claim in ["claim ep d5c6", "claim ep d5e6", "claim ep h5g6"] {
         for depth in [0, 1, 2, 3, 4, 5, 6, 7, 8, 64] {
-            match ask_settle(rt.alloc(), claim, THREE_STEPS, depth, 500_000)? {
-                Found::Undecided(line) => assert_eq!(rt; line.len(), depth as usize, "{claim}"),
-                _ => return Err(Fail::from("not open")),
-            }
+            let length = open_length(rt.alloc(), claim, THREE_STEPS, depth)?;
+            assert_eq!(rt; length, depth as usize, "{claim}");
+        }
+    }
+    Ok(())
+}
+
+#[test]
+fn leaves_open_what_is_false(rt: HostRuntime) -> Result<(), Fail> {
+    for (claim, fen) in FALSE_CLAIMS {
+        for depth in [0, 1, 2, 4, 8, 64] {
+            let length = open_length(rt.alloc(), claim, fen, depth)?;
+            assert_eq!(rt; length, depth as usize, "{claim}");
         }
     }
     Ok(())
