@@ -29,8 +29,9 @@ pub fn last_rank(colour: Colour) -> u8
     }
 }
 
+/// Whether the move promotes exactly where its man is a pawn of this side that reaches its last rank, and to an officer (article 3.7).
 #[tactic(auto, unfolding(board_base::specs::Legal::promotion_fits))]
-fn promotion_fits(board: &Board, colour: Colour, m: &Move) -> bool
+pub fn promotion_fits(board: &Board, colour: Colour, m: &Move) -> bool
     ensures { result ≡ promotion_fits board.now colour m.now }
 {
     let reaches = is_a(Kind::Pawn, board.at(m.from)) && m.to.rank() == last_rank(colour);

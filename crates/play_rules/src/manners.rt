@@ -104,7 +104,8 @@ fn king_castles(board: &Board, colour: Colour, rights: CastleSet, m: &Move) -> b
     }
 }
 
-/// The man may go so, by one of the six cases.
+/// Whether the man on the move's origin may go so, with these rights and this last move, by his own way, as a pawn or by castling (articles
+/// 3.2 to 3.8), whoever stands on the target and whether or not a king is left attacked.
 #[tactic(auto, unfolding(board_base::specs::Legal::may_go))]
 pub fn may_go(
     board: &Board,

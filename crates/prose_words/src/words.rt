@@ -1,0 +1,167 @@
+//! Words for sides, men, squares and numbers.
+
+ghost use Rattle.std.specs.Prelude.{◌≡◌, ◌∷◌, ◌++◌, IfOk};
+ghost use Rattle.std.specs.Fmt.{decimal};
+ghost use Rattle.board_base.specs.Board.{is_in};
+ghost use Rattle.board_base.specs.Texts.{square_text};
+ghost use Rattle.prose_words.specs.Words.{colour_word, given_square, initial, kind_word, man_letter, man_words, place_letter, side_word, squares_words, wing_word};
+
+use board_base::{Castle, Colour, Kind, Man, Square, SquareSet};
+use itoa::Buffer;
+use std::alloc::AllocError;
+
+/// Adds these bytes.
+pub fn say(text: &[u8], out: &mut Vec<u8>) -> Result<(), AllocError>
+    ensures { IfOk result (λ _. out.new.items ≡ out.old.items ++ text.now) }
+{
+    out.extend_from_slice(text)?;
+    Ok(())
+}
+
+pub fn side_word(side: Colour) -> &'static [u8]
+    ensures { result.now ≡ side_word side }
+{
+    match side {
+        Colour::White => b"White",
+        Colour::Black => b"Black",
+    }
+}
+
+pub fn colour_word(side: Colour) -> &'static [u8]
+    ensures { result.now ≡ colour_word side }
+{
+    match side {
+        Colour::White => b"white ",
+        Colour::Black => b"black ",
+    }
+}
+
+pub fn kind_word(kind: Kind) -> &'static [u8]
+    ensures { result.now ≡ kind_word kind }
+{
+    match kind {
+        Kind::Pawn => b"pawn",
+        Kind::Knight => b"knight",
+        Kind::Bishop => b"bishop",
+        Kind::Rook => b"rook",
+        Kind::Queen => b"queen",
+        Kind::King => b"king",
+    }
+}
+
+/// The letter before a man's move in long notation; a pawn's has none.
+pub fn initial(kind: Kind) -> &'static [u8]
+    ensures { result.now ≡ initial kind }
+{
+    match kind {
+        Kind::Pawn => b"",
+        Kind::Knight => b"N",
+        Kind::Bishop => b"B",
+        Kind::Rook => b"R",
+        Kind::Queen => b"Q",
+        Kind::King => b"K",
+    }
+}
+
+fn small_letter(kind: Kind) -> u8
+    ensures { result ≡ man_letter Colour.Black kind }
+{
+    match kind {
+        Kind::Pawn => b'p',
+        Kind::Knight => b'n',
+        Kind::Bishop => b'b',
+        Kind::Rook => b'r',
+        Kind::Queen => b'q',
+        Kind::King => b'k',
+    }
+}
+
+fn capital_letter(kind: Kind) -> u8
+    ensures { result ≡ man_letter Colour.White kind }
+{
+    match kind {
+        Kind::Pawn => b'P',
+        Kind::Knight => b'N',
+        Kind::Bishop => b'B',
+        Kind::Rook => b'R',
+        Kind::Queen => b'Q',
+        Kind::King => b'K',
+    }
+}
+
+/// The letter of a place in the diagram: a capital one for a man of White's, and a full stop where nobody stands.
+pub fn place_letter(place: Option<Man>) -> u8
+    ensures { result ≡ place_letter place }
+{
+    match place {
+        None => b'.',
+        Some(man) => match man.colour {
+            Colour::White => capital_letter(man.kind),
+            Colour::Black => small_letter(man.kind),
+        },
+    }
+}
+
+/// The side of the board to which a king castles.
+pub fn wing_word(castle: Castle) -> &'static [u8]
+    ensures { result.now ≡ wing_word castle }
+{
+    match castle {
+        Castle::WhiteShort | Castle::BlackShort => b"king's",
+        Castle::WhiteLong | Castle::BlackLong => b"queen's",
+    }
+}
+
+pub fn push_square(s: Square, out: &mut Vec<u8>) -> Result<(), AllocError>
+    ensures { IfOk result (λ _. out.new.items ≡ out.old.items ++ square_text s) }
+{
+    out.push(b'a' + s.file())?;
+    out.push(b'1' + s.rank())?;
+    Ok(())
+}
+
+pub fn push_number(n: u32, out: &mut Vec<u8>) -> Result<(), AllocError>
+    ensures { IfOk result (λ _. out.new.items ≡ out.old.items ++ decimal n) }
+{
+    let mut digits = Buffer::new();
+    say(digits.format(n).as_bytes(), out)?;
+    Ok(())
+}
+
+/// A man as in `a black knight`; `nobody` where there is none.
+pub fn push_man(place: Option<Man>, out: &mut Vec<u8>) -> Result<(), AllocError>
+    ensures { IfOk result (λ _. out.new.items ≡ out.old.items ++ man_words place) }
+{
+    match place {
+        None => say(b"nobody", out)?,
+        Some(man) => {
+            say(b"a ", out)?;
+            say(colour_word(man.colour), out)?;
+            say(kind_word(man.kind), out)?;
+        }
+    }
+    Ok(())
+}
+
+/// A square after a space, where it is to be written.
+pub fn push_square_if(given: bool, s: Square, out: &mut Vec<u8>) -> Result<(), AllocError>
+    ensures { IfOk result (λ _. out.new.items ≡ out.old.items ++ given_square given s) }
+{
+    if given {
+        say(b" ", out)?;
+        push_square(s, out)
+    } else {
+        Ok(())
+    }
+}
+
+/// The squares of the set, ascending, each after a space.
+pub fn push_squares(set: SquareSet, out: &mut Vec<u8>) -> Result<(), AllocError>
+    ensures { IfOk result (λ _. out.new.items ≡ out.old.items ++ squares_words (is_in set)) }
+{
+    for i in 0..64 {
+        let s = Square::known(i);
+        push_square_if(set.has(s), s, out)?;
+    }
+    Ok(())
+}

@@ -1,0 +1,9 @@
+pub mod Found
+pub mod Kept
+pub mod KeptOut
+pub mod AreWays
+pub mod FirstBars
+pub mod Places
+pub mod Truth
+pub mod Whole
+pub mod Unexplained

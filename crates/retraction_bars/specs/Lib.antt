@@ -1,0 +1,11 @@
+pub mod Ways
+pub mod Bars
+pub mod Numbers
+pub mod Scopes
+pub mod Grounds
+pub mod Clauses
+pub mod Phrases
+pub mod Sentences
+pub mod Pairs
+pub mod Lines
+pub mod Told

@@ -1,0 +1,106 @@
+-- The words of what bars the ways of a man.
+use Rattle.std.specs.Prelude.{ℕ, Bool, false, true, cond, ◌&&◌, ◌==◌, List, [], ◌∷◌, ◌++◌, Option, Some, None}
+use Rattle.std.specs.Bool.{beq}
+use Rattle.std.specs.List.{flat_map, list_any, range_with_len}
+use Rattle.board_base.specs.Board.{at}
+use Rattle.board_base.specs.Play.{king_home, rook_home}
+use Rattle.board_base.specs.Texts.{square_text}
+use Rattle.board_base.specs.declared.men.Man.{Man}
+use Rattle.board_base.specs.declared.moves.Move.{Move}
+use Rattle.prose_words.specs.Words.{initial, side_word}
+use Rattle.query_base.specs.Asked.{Asked}
+use Rattle.retraction_bars.specs.Numbers.{bar_at}
+use Rattle.retraction_bars.specs.Phrases.{phrase}
+use Rattle.retraction_bars.specs.Scopes.{same_manner}
+use Rattle.retraction_bars.specs.declared.bars.Bar.{Bar}
+use Rattle.retraction_bars.specs.declared.bars.Bar.TheVariants as bar
+use Rattle.retraction_bars.specs.declared.gathering.Clause.{Clause}
+use Rattle.retraction_bars.specs.declared.phrases.Phrase.{Phrase}
+use Rattle.retraction_bars.specs.declared.phrases.Phrase.TheVariants as word
+use Rattle.retraction_bars.specs.declared.scopes.Manner.{Manner}
+use Rattle.retraction_bars.specs.declared.scopes.Manner.TheVariants.{Anywhere, Origin, Quiet, Taking, Passing}
+
+-- the text, where it is to be written
+abbrev pub text_if : Bool → List ℕ → List ℕ
+text_if b text = cond b text []
+
+-- the double step, as in `d7-d5`
+abbrev pub double_words : Option Move → List ℕ
+double_words None = []
+double_words (Some m) = square_text m.from ++ 45 ∷ square_text m.to
+
+-- the letter of the man on the place
+abbrev pub place_initial : Option Man → List ℕ
+place_initial None = []
+place_initial (Some man) = initial man.kind
+
+-- what bars a retraction, in words
+abbrev pub bar_words : Asked → Bar → List ℕ
+bar_words q bar.Only = phrase word.LastMove ++ double_words q.only
+bar_words q (bar.Check s) = place_initial (at q.board s) ++ square_text s ++ phrase word.GaveCheck
+bar_words q bar.Occupied = phrase word.Occupied
+bar_words q bar.Itself = phrase word.ItGave
+bar_words q (bar.Held x) = square_text (king_home x) ++ phrase word.And ++ square_text (rook_home x) ++ phrase word.NeverMoved
+bar_words q bar.Barred = phrase word.RuledOut
+bar_words q (bar.Account c) = side_word c ++ phrase word.TooMany
+bar_words q bar.Clock = phrase word.ByClock
+bar_words q bar.Passed = phrase word.NotPassed
+bar_words q bar.Otherwise = phrase word.Illegal
+
+-- what bars all ways of a man, in words
+abbrev pub whole_words : Asked → Bar → List ℕ
+whole_words q bar.Occupied = phrase word.AllOccupied
+whole_words q bar.Itself = phrase word.AllAttacked
+whole_words q bar.Only = bar_words q bar.Only
+whole_words q (bar.Check s) = bar_words q (bar.Check s)
+whole_words q (bar.Held x) = bar_words q (bar.Held x)
+whole_words q bar.Barred = bar_words q bar.Barred
+whole_words q (bar.Account c) = bar_words q (bar.Account c)
+whole_words q bar.Clock = bar_words q bar.Clock
+whole_words q bar.Passed = bar_words q bar.Passed
+whole_words q bar.Otherwise = bar_words q bar.Otherwise
+
+-- how a sentence on ways of a manner begins
+abbrev pub start_of : Manner → Phrase
+start_of Anywhere = word.From
+start_of Origin = word.From
+start_of Quiet = word.Quietly
+start_of Taking = word.Capturing
+start_of Passing = word.EnPassant
+
+-- the clause says that the bar with this number bars all ways of this manner of the man on t from some square
+abbrev pub is_ground : ℕ → Manner → ℕ → Clause → Bool
+is_ground t m n c = (c.to == t) && same_manner m c.scope.manner && (c.bar == n)
+
+-- and from this square, of a man whom the move promoted or not
+abbrev pub tells : ℕ → Manner → ℕ → ℕ → Bool → Clause → Bool
+tells t m n o p c = is_ground t m n c && (c.scope.from == o) && beq c.scope.promoted p
+
+-- a square after a space
+abbrev pub spaced : ℕ → List ℕ
+spaced o = 32 ∷ square_text o
+
+-- the origin, where a clause tells of it, and once more for a man whom the move promoted
+abbrev pub origin_words : List Clause → ℕ → Manner → ℕ → ℕ → List ℕ
+origin_words cs t m n o = text_if (list_any (tells t m n o false) cs) (spaced o) ++ text_if (list_any (tells t m n o true) cs) (spaced o ++ phrase word.AsPawn)
+
+-- the origins of which a clause tells
+unfoldable pub origins_words : List Clause → ℕ → Manner → ℕ → List ℕ
+origins_words cs t m n = flat_map (origin_words cs t m n) (range_with_len 0 64)
+
+-- the sentence of one bar, where a clause has it
+abbrev pub sentence_words : Asked → List Clause → ℕ → Manner → ℕ → List ℕ
+sentence_words q cs t m n =
+    text_if (list_any (is_ground t m n) cs) (phrase (start_of m) ++ origins_words cs t m n ++ phrase word.Is ++ bar_words q (bar_at n) ++ phrase word.Stop)
+
+-- the sentences of one manner
+unfoldable pub manner_words : Asked → List Clause → ℕ → Manner → List ℕ
+manner_words q cs t m = flat_map (sentence_words q cs t m) (range_with_len 0 146)
+
+-- all sentences on the man on t whose ways are not barred by one thing
+abbrev pub sentences_words : Asked → List Clause → ℕ → List ℕ
+sentences_words q cs t = manner_words q cs t Origin ++ manner_words q cs t Quiet ++ manner_words q cs t Taking ++ manner_words q cs t Passing
+
+-- a man by his letter and his square, after a space
+abbrev pub label_words : Asked → ℕ → List ℕ
+label_words q t = 32 ∷ (place_initial (at q.board t) ++ square_text t)
