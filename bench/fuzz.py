@@ -9,7 +9,8 @@ writes, or too long an input don't allow; something written at a status that wri
 status; a certificate of `solve` or `settle` that `check` doesn't accept; a game of theirs that `play` doesn't call legal; nodes that
 `check` calls bad text at another line than fuzz_texts.py, and a balance at the root that it weighs otherwise than fuzz_rules.py; a
 verdict that `solve` doesn't bear out; a legal game that `spell` doesn't spell or `san` doesn't read; a length of `length` that `atleast` doesn't accept, a
-dossier of `dossier` that `line` doesn't accept; and two runs that differ. Each finding goes into a file of FOLDER, with the words, the
+dossier of `dossier` that `line` doesn't accept; an answer of `explain` to what `check` refuses that isn't that of `check`, to what it accepts that
+explains nothing, or that shows another diagram; and two runs that differ. Each finding goes into a file of FOLDER, with the words, the
 input and what was wrong.
 The same seed gives the same cases, with any number of jobs. The exit status is 1 where something was found.
 """
@@ -30,7 +31,7 @@ from fuzz_texts import bad_node, prices_of, squares_of
 
 SECONDS = 10
 CHUNK = 250
-STATUSES = {"check": (0, 1), "play": (0, 1, 6), "unmoves": (0, 6), "solve": (0, 2, 3, 4, 6), "settle": (0, 2, 3, 4, 6), "verdict": (0, 3, 6),
+STATUSES = {"check": (0, 1), "explain": (0, 1), "play": (0, 1, 6), "unmoves": (0, 6), "solve": (0, 2, 3, 4, 6), "settle": (0, 2, 3, 4, 6), "verdict": (0, 3, 6),
             "tree": (0, 3, 6), "sample": (0,), "san": (0, 1, 6), "spell": (0, 1), "length": (0, 2, 6), "atleast": (0, 1), "line": (0, 1),
             "dossier": (0, 1, 2, 3, 6), "study": (0, 6), "--help": (0,), "--version": (0,)}
 RANGES = {"solve": [(0, 64), (1, 500_000)], "sample": [(0, 2**64 - 1), (1, 1000), (1, 200)]}
@@ -50,10 +51,12 @@ STEPS = rf"(?:notboth [KQkq] [KQkq]|line {UNMOVE}(?: {UNMOVE}){{0,15}})"
 FAULT = rf"(?:text|unlisted {UNMOVE}|unsupported (?:rule|back|array|stray))"
 SAN = r"(?:O-O(?:-O)?|[NBRQK][a-h]?[1-8]?x?[a-h][1-8]|(?:[a-h]x)?[a-h][1-8](?:=[NBRQ])?)[+#]?"
 # The commands that may say something on standard error where they refuse what they read.
-HINTING = ("check", "play", "san", "spell")
+HINTING = ("check", "explain", "play", "san", "spell")
 FORMS = {
     ("check", 0): rf"accepted {CLAIM} {FEN}(?: {ODDS})?(?: {CLOCK})?\n",
     ("check", 1): rf"refused line [1-9]\d* {FAULT}\n",
+    ("explain", 0): r"  a b c d e f g h\n(?:[1-8](?: [.PNBRQKpnbrqk]){8}(?:     (?:White|Black) to move)?\n){8}(?:[!-~][ -~]{0,99}\n| {1,99}[!-~][ -~]{0,98}\n)+",
+    ("explain", 1): rf"refused line [1-9]\d* {FAULT}\n",
     ("play", 0): r"legal\n",
     ("play", 1): r"refused (?:(?:word|ply) [1-9]\d*|end)\n",
     ("unmoves", 0): rf"(?:{UNMOVE} {FEN}\n)*total \d+\n",
@@ -229,6 +232,21 @@ def wrong_refused(case, text):
     return wrong_balance(case, False) if words[2:] == [str(root), "unsupported", "rule"] else None
 
 
+def wrong_explained(case, text):
+    """Whether the text begins with the diagram of the certificate's position, ends with its end, and has no long line and none that ends with a blank."""
+    _, _, *lines = case.input.decode("ascii").split("\n")
+    placement, turn = next(line for line in lines if line.startswith("fen ")).split(" ")[1:3]
+    men = men_of(placement)
+    ranks = [f"{rank + 1} {' '.join(man or '.' for man in men[8 * rank : 8 * rank + 8])}" for rank in range(7, -1, -1)]
+    ranks[-1] += f"     {'White' if turn == 'w' else 'Black'} to move"
+    told = text.split("\n")[:-1]
+    if told[1:9] != ranks:
+        return "another diagram than that of the position"
+    if not told[-1].endswith("QED"):
+        return "a proof without its end"
+    return "a long line, or a blank at an end" if any(len(line) > 100 or line.endswith(" ") for line in told) else None
+
+
 def wrong_balance(case, accepted):
     """Whether the reason `balance` of a root that claims `illegal` is weighed as fuzz_rules.py weighs it."""
     _, claim, *lines = case.input.decode("ascii").split("\n")
@@ -290,6 +308,8 @@ def wrong_summary(case, text):
 NUMBERS = {
     ("check", 0): wrong_accepted,
     ("check", 1): wrong_refused,
+    ("explain", 0): wrong_explained,
+    ("explain", 1): wrong_refused,
     ("line", 0): wrong_said,
     ("unmoves", 0): wrong_total,
     ("solve", 2): wrong_length,
@@ -318,7 +338,26 @@ def unproved(program, case, out, rng):
     other = Case([checker.encode()], mutated(rng, out))
     status, answer, said = program.run(other)
     wrong = misbehaves(other, checker, status, answer, said) or misformed(other, checker, status, answer)
-    return wrong and f"{wrong}, in a mutated text: {other.input.decode('latin-1')!r}"
+    if wrong:
+        return f"{wrong}, in a mutated text: {other.input.decode('latin-1')!r}"
+    return unexplained(program, out) if checker == "check" else None
+
+
+def unexplained(program, text):
+    """What is wrong with the proof in plain words of a certificate that `check` accepts."""
+    explained = Case([b"explain"], text)
+    status, told, said = program.run(explained)
+    if status != 0:
+        return "a certificate that isn't explained"
+    return misbehaves(explained, "explain", status, told, said) or misformed(explained, "explain", status, told)
+
+
+def unlike_check(program, case, status, out):
+    """What is wrong with an answer of `explain`: it explains what `check` accepts, and writes what `check` writes where it refuses."""
+    checked, line, _ = program.answers(["check"], case.input)
+    if (checked, status) == (0, 0):
+        return None
+    return None if (checked, line) == (status, out) else f"an answer unlike that of check: {checked}, {line!r}"
 
 
 def uncountered(program, case, out):
@@ -381,6 +420,8 @@ def wrong(program, case, rng):
             found = misspelled(program, case)
         elif (command, status) == ("length", 0):
             found = unreckoned(program, out)
+        elif command == "explain":
+            found = unlike_check(program, case, status, out)
     if not found and rng.randrange(100) == 0 and program.run(case) != ended:
         found = "a second run that differs"
     return found, ended

@@ -311,8 +311,8 @@ class Maker:
     def case(self, seed, number):
         rng = random.Random(f"{seed} {number}")
         if rng.randrange(20_000) == 0:
-            return Case([rng.choice([b"check", b"play", b"unmoves"])], b"x" * (LIMIT + rng.choice([0, 1, 2])))
-        command = rng.choice([b"check", b"check", b"check", b"check", b"play", b"play", b"unmoves", b"solve", b"solve", b"settle", b"study", b"verdict",
+            return Case([rng.choice([b"check", b"explain", b"play", b"unmoves"])], b"x" * (LIMIT + rng.choice([0, 1, 2])))
+        command = rng.choice([b"check", b"check", b"check", b"check", b"explain", b"explain", b"play", b"play", b"unmoves", b"solve", b"solve", b"settle", b"study", b"verdict",
                               b"tree", b"sample", b"san", b"spell", b"length", b"atleast", b"line", b"line", b"dossier"])
         words = [command]
         alone = command in (b"settle", b"study") and rng.random() < 0.02
@@ -320,7 +320,7 @@ class Maker:
             words += [b"%d" % rng.choice([0, 1, 1, 2, 2, 3, 4, 9, 64]), b"%d" % rng.choice([1, 2, 5, 10, 30, 100, 100])]
         if command == b"sample":
             words += [b"%d" % rng.choice([0, 1, rng.randrange(2**64), 2**64 - 1]), b"%d" % rng.randint(1, 3), b"%d" % rng.randint(1, 6)]
-        makers = {b"check": self.certificate, b"play": self.game, b"solve": self.statement, b"settle": self.statement, b"san": self.notation,
+        makers = {b"check": self.certificate, b"explain": self.certificate, b"play": self.game, b"solve": self.statement, b"settle": self.statement, b"san": self.notation,
                   b"spell": self.moves, b"atleast": self.length, b"line": self.dossier, b"dossier": self.line_claim}
         text = makers.get(command, lambda rng: self.position(rng).encode())(rng)
         for _ in range(rng.choice([0, 0, 0, 0, 0, 1, 1, 2, 5])):
@@ -375,7 +375,7 @@ def changed_words(rng, words):
     """Words of which one is changed, taken away or added; none has a zero byte."""
     words = list(words)
     at = rng.randrange(len(words))
-    token = rng.choice(TOKENS + [b"check", b"solve", b"tree", b"Check", b"check ", b"1 ", b"\xff", b"1.0", b"0x1", b"--help", b"-h"])
+    token = rng.choice(TOKENS + [b"check", b"explain", b"solve", b"tree", b"Check", b"check ", b"1 ", b"\xff", b"1.0", b"0x1", b"--help", b"-h"])
     kind = rng.randrange(4)
     if kind == 0:
         del words[at]

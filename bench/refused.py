@@ -62,6 +62,9 @@ def cases():
     """Words and an input of each command, and of several searches."""
     yield ["check"], (EXAMPLES / "no-kings.cert").read_bytes()
     yield ["check"], (EXAMPLES / "loyd-1891.cert").read_bytes()
+    yield ["explain"], (EXAMPLES / "loyd-1891.cert").read_bytes()
+    yield ["explain"], (EXAMPLES / "dawson-1913.cert").read_bytes()
+    yield ["explain"], (EXAMPLES / "nine-pawns.cert").read_bytes() + b"x\n"
     yield ["play"], ARRAY + b"e2e4 e7e5 e4e5\n"
     yield ["unmoves"], b"4k3/8/3P4/8/8/8/8/4K2R b K -\n"
     yield ["solve", "2", "10"], b"claim illegal\n" + STEPPED

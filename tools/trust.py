@@ -5,8 +5,10 @@ Usage: tools/trust.py [--repo DIR] [--write]
   --write   write the list anew
 
 The list begins behind the line MARK below; what stands before it is written by hand. A definition is reached where a clause of `run`
-cites it, directly or through other definitions, as tools/believed.py finds it. The cases of a data type stand in the entry of the type.
-There is a line for each definition that has no comment, or whose entry is missing, old or too many, and exit status 1.
+cites it, directly or through other definitions, as tools/believed.py finds it. The clauses stand in the order of HEADLINES, then in
+that of `run`, each with the number of the definitions that it reaches, and with those that no clause before it reaches. The cases of
+a data type stand in the entry of the type. There is a line for each definition that has no comment, or whose entry is missing, old or
+too many, and exit status 1.
 """
 import argparse
 import pathlib
@@ -14,16 +16,23 @@ import re
 import sys
 
 sys.path.insert(0, str(pathlib.Path(__file__).resolve().parent))
-from believed import cited, clauses, crates, imported, load, reached
+from believed import block, cited, crates, imported, load, reached
 
+HEADLINES = ["accepted", "accepted_line", "proved", "settled", "proved_line", "countered", "unsettled", "decided", "measured", "bounded", "refused"]
 MARK = "<!-- The rest is written by tools/trust.py --write. -->"
 
 
 def cited_by_run(folder, definitions):
-    """The definitions that the clauses of `run` name."""
+    """The clauses of `run` by their names, each with the definitions that it names."""
     text = re.sub(r"(?m)(^|\s)//.*$", "", (folder / "src" / "top.rt").read_text())
     start = re.search(r"(?m)^pub fn run\b", text).start()
-    return set().union(*(cited(clause, imported(text), definitions) for clause in clauses(text, start)))
+    named, clause = {}, re.compile(r"\s*ensures (\w+) (?={)")
+    end = re.search(r"\bensures\b", text[start:]).start() + start
+    while match := clause.match(text, end):
+        found = block(text, match.end())
+        end = match.end() + len(found)
+        named[match[1]] = cited(found, imported(text), definitions)
+    return {name: named[name] for name in [*HEADLINES, *(name for name in named if name not in HEADLINES)]}
 
 
 def comments(text):
@@ -50,11 +59,11 @@ def entry(name, said):
 
 
 def listing(folders, specs, believed):
-    """The list, by crate, lowest first, and file, and what is wrong with the comments."""
+    """The list of these definitions, by crate, lowest first, and file, and what is wrong with the comments."""
     lines, wrong = [], []
     for crate in folders:
         files = sorted({file for owner, file, _ in believed if owner == crate})
-        lines += ["", f"## {crate}"] if files else []
+        lines += ["", f"### {crate}"] if files else []
         for file in files:
             said = comments(specs[crate][file])
             title = re.match(r"-- (.*)\n", specs[crate][file])
@@ -62,6 +71,25 @@ def listing(folders, specs, believed):
             reached = {name for owner, place, name in believed if (owner, place) == (crate, file)}
             lines += [entry(name, text) for name, text in said.items() if name in reached]
             wrong += [f"{crate}/specs/{file}.antt says nothing of {name}" for name, text in said.items() if name in reached and not text]
+    return lines, wrong
+
+
+def told(specs, believed):
+    """The definitions that have an entry of their own: all but the cases of data types."""
+    return {one for one in believed if one[2] in comments(specs[one[0]][one[1]])}
+
+
+def by_clause(folders, specs, definitions, scopes):
+    """The whole list, and what is wrong with the comments."""
+    lines, wrong, before = [], [], set()
+    for name, start in cited_by_run(folders["retro_top"], definitions).items():
+        believed = told(specs, reached(start, definitions, scopes))
+        fresh = believed - before
+        before |= believed
+        count = f"{len(believed)} definition{'' if len(believed) == 1 else 's'}" + ("" if len(fresh) == len(believed) else f", {len(fresh)} of them not above")
+        lines += ["", f"## `{name}`: {count}"]
+        more, faults = listing(folders, specs, fresh)
+        lines, wrong = lines + more, wrong + faults
     return lines, wrong
 
 
@@ -74,8 +102,7 @@ def main():
     order = re.findall(r"(?m)^(\w+):", (args.repo / "crates.txt").read_text())
     folders = dict(sorted(crates(args.repo).items(), key=lambda item: order.index(item[0])))
     specs, definitions, scopes = load(folders)
-    believed = reached(cited_by_run(folders["retro_top"], definitions), definitions, scopes)
-    lines, wrong = listing(folders, specs, believed)
+    lines, wrong = by_clause(folders, specs, definitions, scopes)
     path = args.repo / "docs" / "TRUST.md"
     front, mark, old = path.read_text().partition(MARK)
     new = "\n".join(lines) + "\n"

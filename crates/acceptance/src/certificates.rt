@@ -1,4 +1,4 @@
-//! Certificates whose reasons are trees, run through `check`.
+//! Certificates whose reasons are trees, run through `check` and `explain`.
 
 use crate::driving::assert_answers;
 use retro_top::Status;
@@ -120,6 +120,22 @@ const TREES: [Row; 16] = [
 #[test]
 fn answers_trees(rt: HostRuntime) -> Result<(), Fail> {
     assert_answers(&rt, &TREES)?;
+    Ok(())
+}
+
+/// `explain` tells the proof of each of these that is accepted, and refuses the others with the same line.
+#[test]
+fn explains_what_is_accepted(rt: HostRuntime) -> Result<(), Fail> {
+    for row in TREES {
+        let (status, sink) = run_on(rt.alloc(), &["explain"], row.input, WHOLE)?;
+        assert_eq!(rt; status, row.status);
+        if row.status == Status::Refused {
+            assert!(rt; sink.taken() == row.text);
+        } else {
+            assert!(rt; sink.taken().starts_with(b"  a b c d e f g h\n8 "));
+            assert!(rt; sink.taken().ends_with(b" QED\n"));
+        }
+    }
     Ok(())
 }
 

@@ -39,8 +39,9 @@ fn least_cost(rows: &[[u16; 16]]) -> u32
     solve_large(rows).cost
 }
 
-/// The least that the men of a side cost with homes of their own; None exactly where it has more men than it began with.
-fn side_cost(query: &Query, frozen: SquareSet, prices: &Prices, side: Colour) -> Option<u32>
+/// The least that the men of a side cost with homes of their own, 96 for each man included; None exactly where it has more men than it
+/// began with. What can't be costs 5000.
+pub fn side_cost(query: &Query, frozen: SquareSet, prices: &Prices, side: Colour) -> Option<u32>
     ensures value { SomeIff result (men_on side query.now.board ≤ men_on side (array_of query.now.odds)) (side_cost query.now.odds query.now.board prices.now frozen side) }
     ensures small { IfSome result (λ cost. cost ≤ 80_000) }
 {
@@ -62,8 +63,8 @@ fn all_gates(prices: &Prices) -> u32
     all
 }
 
-/// What the true homes of all men cost at most.
-pub(crate) fn most_cost(odds: Odds, prices: &Prices) -> u32
+/// What the true homes of all men cost at most: 96 for each man who began, and all gates.
+pub fn most_cost(odds: Odds, prices: &Prices) -> u32
     ensures value { result ≡ most_cost odds prices.now }
     ensures known { IsTrue (are_prices prices.now) }
 {

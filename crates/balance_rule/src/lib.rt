@@ -16,5 +16,6 @@ mod tariffs;
 mod views;
 
 pub use ascent::find_balance;
-pub use balance::balances;
+pub use balance::{balances, most_cost, side_cost};
 pub use laws::balance_closes;
+pub use tables::begun_with;

@@ -66,7 +66,7 @@ fn men_on(board: &Board, side: Colour) -> u8
 }
 
 /// With how many men a side begins at these odds.
-pub(crate) fn begun_with(side: Colour, odds: Odds) -> u8
+pub fn begun_with(side: Colour, odds: Odds) -> u8
     ensures number { result ≡ men_on side (array_of odds) }
     ensures few { result ≤ 16 }
 {

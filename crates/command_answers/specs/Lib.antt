@@ -17,6 +17,7 @@ pub mod Lengths
 pub mod AtLeasts
 pub mod LineChecks
 pub mod Dossiers
+pub mod Explains
 pub mod Samples
 pub mod Forms
 pub mod Told

@@ -15,6 +15,10 @@ Begin (word ∷ _) name = string_bytes word ≡ name
 abbrev pub AskForGame : List (String Global) → Type 0
 AskForGame words = Begin words (codes "play") ⊎ Begin words (codes "san") ⊎ Begin words (codes "spell")
 
+-- the words ask for a command that reads a certificate
+abbrev pub AskForCertificate : List (String Global) → Type 0
+AskForCertificate words = Begin words (codes "check") ⊎ Begin words (codes "explain")
+
 -- The advice goes with the status of a run with these words: on words with bad words, on lines and FEN with bad input, and on a
 -- refused text only where a game or a certificate was read.
 abbrev pub GoesWith : Advice → List (String Global) → Status → Type 0
@@ -22,4 +26,4 @@ GoesWith (Words advice) words status = status ≡ BadWords
 GoesWith (Lines advice) words status = status ≡ BadInput
 GoesWith (Fen advice) words status = status ≡ BadInput
 GoesWith (Moves advice) words status = (status ≡ Refused) × AskForGame words
-GoesWith (Texts advice) words status = (status ≡ Refused) × Begin words (codes "check")
+GoesWith (Texts advice) words status = (status ≡ Refused) × AskForCertificate words

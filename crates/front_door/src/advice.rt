@@ -192,13 +192,17 @@ impl MoveAdvice {
     }
 }
 
-/// What was given to `check` that is no certificate.
+/// What was given to `check` or `explain` that is no certificate.
 #[derive(Clone, Copy, PartialEq, Eq, Debug)]
 pub enum TextAdvice {
     Dossier,
     Length,
     Claim,
     CarriageReturns,
+    DossierToExplain,
+    ClaimToExplain,
+    PositionToExplain,
+    ReturnsToExplain,
 }
 
 impl TextAdvice {
@@ -211,6 +215,18 @@ impl TextAdvice {
             }
             TextAdvice::CarriageReturns => {
                 "the lines end with \\r\\n, those of a certificate with \\n alone: `tr -d '\\r' < FILE | retractor check`"
+            }
+            TextAdvice::DossierToExplain => {
+                "this is a dossier, which `retractor line` checks; each of its parts, cut out, is a certificate to explain"
+            }
+            TextAdvice::ClaimToExplain => {
+                "this is a claim and a position; `retractor settle` writes a certificate of it: `retractor settle < FILE | retractor explain`"
+            }
+            TextAdvice::PositionToExplain => {
+                "this is a position; with a claim before it, as `claim illegal`, `retractor settle` writes a certificate to explain"
+            }
+            TextAdvice::ReturnsToExplain => {
+                "the lines end with \\r\\n, those of a certificate with \\n alone: `tr -d '\\r' < FILE | retractor explain`"
             }
         }
     }
@@ -227,7 +243,7 @@ pub enum Advice {
     Fen(FenAdvice),
     /// Where a word of a game is refused.
     Moves(MoveAdvice),
-    /// Where `check` refuses the first line.
+    /// Where `check` or `explain` refuses the first line.
     Texts(TextAdvice),
 }
 

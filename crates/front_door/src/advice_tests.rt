@@ -7,7 +7,7 @@ use retro_top::{Status, run};
 use std::alloc::{AllocError, Global};
 
 /// Words that call no command, what is said of them, and how the command that is meant is called.
-const WORDS: [(&[&str], WordAdvice, &str); 35] = [
+const WORDS: [(&[&str], WordAdvice, &str); 36] = [
     (&[], WordAdvice::Usage, ""),
     (&["help"], WordAdvice::Usage, ""),
     (&["-h"], WordAdvice::Usage, ""),
@@ -41,6 +41,11 @@ const WORDS: [(&[&str], WordAdvice, &str); 35] = [
     ),
     (&["chek"], WordAdvice::NearestCommand, "check < CERTIFICATE"),
     (&["lenght"], WordAdvice::NearestCommand, "length < FEN"),
+    (
+        &["explian"],
+        WordAdvice::NearestCommand,
+        "explain < CERTIFICATE",
+    ),
     (&["mate"], WordAdvice::NoCommand, ""),
     (&["xyz"], WordAdvice::NoCommand, ""),
     (&[""], WordAdvice::NoCommand, ""),
@@ -371,25 +376,55 @@ const GAMES: [(&str, &[u8], MoveAdvice); 16] = [
     ),
 ];
 
-/// What isn't a certificate.
-const TEXTS: [(&[u8], TextAdvice); 4] = [
-    (b"retro line 1\nclaim notboth K Q\n", TextAdvice::Dossier),
-    (b"retro length 1\n", TextAdvice::Length),
+/// What isn't a certificate, and what `check` and `explain` say of it.
+const TEXTS: [(&[u8], Option<TextAdvice>, TextAdvice); 6] = [
+    (
+        b"retro line 1\nclaim notboth K Q\n",
+        Some(TextAdvice::Dossier),
+        TextAdvice::DossierToExplain,
+    ),
+    (
+        b"retro length 1\n",
+        Some(TextAdvice::Length),
+        TextAdvice::Length,
+    ),
     (
         b"claim illegal\n4k3/8/8/8/8/8/8/4K3 w - -",
-        TextAdvice::Claim,
+        Some(TextAdvice::Claim),
+        TextAdvice::ClaimToExplain,
     ),
-    (b"retro 1\r\nclaim illegal\r\n", TextAdvice::CarriageReturns),
+    (
+        b"retro 1\r\nclaim illegal\r\n",
+        Some(TextAdvice::CarriageReturns),
+        TextAdvice::ReturnsToExplain,
+    ),
+    (
+        b"4k3/8/8/8/8/8/8/4K3 w - -",
+        None,
+        TextAdvice::PositionToExplain,
+    ),
+    (
+        b"odds 0000000000000002\nclock 1\n4k3/8/8/8/8/8/8/4K3 w - -\n",
+        None,
+        TextAdvice::PositionToExplain,
+    ),
 ];
 
 /// Runs after which nothing is said.
-const SILENT: [(&[&str], &[u8], Status); 12] = [
+const SILENT: [(&[&str], &[u8], Status); 15] = [
     (
         &["check"],
         b"retro 1\nclaim illegal\nfen 8/8/8/8/8/8/8/8 w - -\nroot rule kings\n",
         Status::Done,
     ),
     (&["check"], b"retro 3\n", Status::Refused),
+    (
+        &["explain"],
+        b"retro 1\nclaim illegal\nfen 8/8/8/8/8/8/8/8 w - -\nroot rule kings\n",
+        Status::Done,
+    ),
+    (&["explain"], b"retro 3\n", Status::Refused),
+    (&["explain"], b"retro 1\nclaim illegal\r\n", Status::Refused),
     (&["check"], b"retro 1\nclaim illegal\r\n", Status::Refused),
     (
         &["play"],
@@ -497,10 +532,17 @@ fn tells_what_is_wrong_with_a_word_of_a_game(rt: HostRuntime) {
 
 #[test]
 fn tells_what_is_no_certificate(rt: HostRuntime) {
-    for (input, advice) in TEXTS {
-        let told = told(rt.alloc(), &["check"], input);
+    for (input, checked, explained) in TEXTS {
+        let told_check = told(rt.alloc(), &["check"], input);
+        let checked = checked.map(|advice| Advice::Texts(advice));
         assert!(rt;
-            told == Ok((Status::Refused, Some(Advice::Texts(advice)), "")),
+            told_check == Ok((Status::Refused, checked, "")),
+            "{input:?}"
+        );
+        let told_explain = told(rt.alloc(), &["explain"], input);
+        let explained = Some(Advice::Texts(explained));
+        assert!(rt;
+            told_explain == Ok((Status::Refused, explained, "")),
             "{input:?}"
         );
     }

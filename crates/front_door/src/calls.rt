@@ -52,7 +52,7 @@ const NONE: &[Number] = &[];
 const LIMITS: &[Number] = &[Number::Depth, Number::Nodes];
 
 /// The commands, in the order in which the usage names them.
-pub const CALLS: [Call; 15] = [
+pub const CALLS: [Call; 16] = [
     Call {
         name: "check",
         numbers: NONE,
@@ -60,6 +60,14 @@ pub const CALLS: [Call; 15] = [
         reads: true,
         line: "check < CERTIFICATE",
         answer: "whether the certificate proves its claim",
+    },
+    Call {
+        name: "explain",
+        numbers: NONE,
+        alone: false,
+        reads: true,
+        line: "explain < CERTIFICATE",
+        answer: "the proof of a certificate in plain words",
     },
     Call {
         name: "play",

@@ -1,18 +1,56 @@
-//! What was given to `check` that is no certificate.
+//! What was given to `check` or `explain` that is no certificate.
 
 use crate::advice::TextAdvice;
+use question_text::read_lone_question;
+
+/// The lines are those of a certificate, but each ends with a carriage return too.
+fn has_returns(input: &[u8]) -> bool {
+    input.starts_with(b"retro 1\r\n") || input.starts_with(b"retro 2\r\n")
+}
+
+/// The input is the lines of a position alone, none of which is long.
+fn is_position(input: &[u8]) -> bool {
+    let front = &input[..input.len().min(1_024)];
+    read_lone_question(front).is_ok()
+}
 
 /// What the input is that `check` refused at its first line; None where it isn't known.
-pub(crate) fn advise_text(input: &[u8]) -> Option<TextAdvice> {
+fn advise_check(input: &[u8]) -> Option<TextAdvice> {
     if input.starts_with(b"retro line") {
         Some(TextAdvice::Dossier)
     } else if input.starts_with(b"retro length") {
         Some(TextAdvice::Length)
     } else if input.starts_with(b"claim ") {
         Some(TextAdvice::Claim)
-    } else if input.starts_with(b"retro 1\r\n") || input.starts_with(b"retro 2\r\n") {
+    } else if has_returns(input) {
         Some(TextAdvice::CarriageReturns)
     } else {
         None
+    }
+}
+
+/// What the input is that `explain` refused at its first line; None where it isn't known.
+fn advise_explain(input: &[u8]) -> Option<TextAdvice> {
+    if input.starts_with(b"retro line") {
+        Some(TextAdvice::DossierToExplain)
+    } else if input.starts_with(b"retro length") {
+        Some(TextAdvice::Length)
+    } else if input.starts_with(b"claim ") {
+        Some(TextAdvice::ClaimToExplain)
+    } else if has_returns(input) {
+        Some(TextAdvice::ReturnsToExplain)
+    } else if is_position(input) {
+        Some(TextAdvice::PositionToExplain)
+    } else {
+        None
+    }
+}
+
+/// What the input is that the command of this name refused at its first line; None where it isn't known.
+pub(crate) fn advise_text(name: &[u8], input: &[u8]) -> Option<TextAdvice> {
+    if matches!(name, b"explain") {
+        advise_explain(input)
+    } else {
+        advise_check(input)
     }
 }

@@ -3,7 +3,7 @@
 ghost use Rattle.std.specs.Prelude.{◌≡◌, ◌↔◌, IfSome, IsSome, IsTrue, List, String};
 ghost use Rattle.std.specs.Global.{Global as AGlobal};
 ghost use Rattle.command_answers.specs.declared.statuses.Status.TheVariants.{BadInput, BadWords, Refused};
-ghost use Rattle.front_door.specs.Hints.{AskForGame, Begin, GoesWith};
+ghost use Rattle.front_door.specs.Hints.{AskForCertificate, AskForGame, Begin, GoesWith};
 
 use crate::advice::{Advice, LineAdvice, MoveAdvice, WordAdvice};
 use crate::calls::{Call, call_of};
@@ -58,6 +58,13 @@ fn ask_for_game(words: &[String]) -> bool
     begin(words, b"play") || begin(words, b"san") || begin(words, b"spell")
 }
 
+/// The words ask for a command that reads a certificate.
+fn ask_for_certificate(words: &[String]) -> bool
+    ensures { IsTrue result → AskForCertificate words.now }
+{
+    begin(words, b"check") || begin(words, b"explain")
+}
+
 /// The first word, which names the command.
 fn name_of(words: &[String]) -> &[u8] {
     match words {
@@ -97,8 +104,8 @@ fn advise_game(name: &[u8], input: &[u8], answer: &[u8]) -> Option<MoveAdvice> {
 fn advise_refused(words: &[String], input: &[u8], answer: &[u8]) -> Option<Advice>
     ensures { IfSome result (λ advice. GoesWith advice words.now Refused) }
 {
-    if begin(words, b"check") && refusal_of(answer) == Some(Refusal::FirstLine) {
-        match advise_text(input) {
+    if ask_for_certificate(words) && refusal_of(answer) == Some(Refusal::FirstLine) {
+        match advise_text(name_of(words), input) {
             Some(advice) => Some(Advice::Texts(advice)),
             None => None,
         }

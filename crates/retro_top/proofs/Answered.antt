@@ -32,8 +32,9 @@ use Rattle.command_answers.specs.Statuses.{IsAnswer}
 use Rattle.command_answers.specs.Trees.{AnswersTreeOf}
 use Rattle.command_answers.specs.Verdicts.{AnswersPosition, AnswersRights}
 use Rattle.command_answers.specs.Studies.{AnswersStudyOf}
+use Rattle.retro_top.proofs.Explaining.{explain-answered}
 use Rattle.retro_top.specs.declared.commands.Command.{Command}
-use Rattle.retro_top.specs.declared.commands.Command.TheVariants.{Check, Play, San, Spell, Unmoves, Solve, Settle, Verdict, Study, Tree, Length, AtLeast, Line, Dossier, Sample}
+use Rattle.retro_top.specs.declared.commands.Command.TheVariants.{Check, Explain, Play, San, Spell, Unmoves, Solve, Settle, Verdict, Study, Tree, Length, AtLeast, Line, Dossier, Sample}
 use Rattle.command_answers.specs.declared.statuses.Status.{Status}
 use Rattle.command_answers.specs.declared.statuses.Status.TheVariants.{Done, Refused, Undecided, Spent, Countered, BadInput}
 
@@ -136,6 +137,7 @@ study-answered depth nodes q _ text answers = absurd answers
 -- a command's own answer has the status of an answer
 pub answered : (command : Command) (input : List ℕ) (ending : Status) (text : List ℕ) → AnswersAs command input ending text → IsAnswer ending
 answered Check input ending text answers = told-answered (cut input) answers.0 ending text answers.2
+answered Explain input ending text answers = explain-answered input ending text answers
 answered Play input ending text answers = elim answers [
   | inl asked ↦ game-answered asked.0 (after_question input) ending text asked.2
   | inr none ↦ as-answer BadInput ending none.2 tt

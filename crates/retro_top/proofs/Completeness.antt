@@ -8,7 +8,7 @@ use Rattle.command_answers.specs.Verdicts.{AnswersPosition}
 use Rattle.command_answers.specs.Studies.{AnswersStudyOf}
 use Rattle.retro_top.proofs.Studying.{study-done}
 use Rattle.retro_top.specs.declared.commands.Command.{Command}
-use Rattle.retro_top.specs.declared.commands.Command.TheVariants.{Check, Play, San, Spell, Unmoves, Solve, Settle, Verdict, Study, Tree, Length, AtLeast, Line, Dossier, Sample}
+use Rattle.retro_top.specs.declared.commands.Command.TheVariants.{Check, Explain, Play, San, Spell, Unmoves, Solve, Settle, Verdict, Study, Tree, Length, AtLeast, Line, Dossier, Sample}
 use Rattle.command_answers.specs.declared.statuses.Status.{Status}
 use Rattle.command_answers.specs.declared.statuses.Status.TheVariants.{Done}
 use Rattle.retro_top.proofs.Gaming.{NoGameFault, OneGame, done-game, done-moves, done-notation, play-done, san-done, spell-done}
@@ -19,11 +19,13 @@ use Rattle.retro_top.proofs.Solving.{cheap-unspent, done-refutable, refutable-do
 use Rattle.retro_top.proofs.Settling.{done-provable-claim, settle-done}
 use Rattle.retro_top.proofs.LineProofs.{AcceptedAreDossiers, OneDossier, done-line, done-provable, line-done, making-done, making-unspent}
 use Rattle.retro_top.proofs.Lengthy.{OneLength, done-length, done-shown, length-done, shown-done}
+use Rattle.retro_top.proofs.Explaining.{explain-done}
 use Rattle.retro_top.proofs.Headline.{OneAnswer, CertificatesProve, done-proved, proves-done}
 
 -- with an input with which the command must succeed it does
 pub succeeds-done : OneAnswer → OneLength → OneDossier → AcceptedAreDossiers → OneTextEach → OneGame → NoGameFault → (command : Command) (input : List ℕ) (ending : Status) (text : List ℕ) → AnswersAs command input ending text → MustSucceed command input → ending ≡ Done
 succeeds-done law length dossier accepted one game sound Check input ending text answers good = proves-done law input text ending answers good
+succeeds-done law length dossier accepted one game sound Explain input ending text answers good = explain-done law input ending text answers good
 succeeds-done law length dossier accepted one game sound Play input ending text answers good = play-done input ending text answers good
 succeeds-done law length dossier accepted one game sound San input ending text answers good = san-done game sound input ending text answers good
 succeeds-done law length dossier accepted one game sound Spell input ending text answers good = spell-done input ending text answers good
@@ -52,6 +54,7 @@ suffices-unspent one _ input ending text answers enough = absurd enough
 -- where the command succeeds, its input is such a one
 pub done-succeeds : CertificatesProve → AcceptedAreDossiers → (command : Command) (input text : List ℕ) → AnswersAs command input Done text → Succeeds command input
 done-succeeds law accepted Check input text answers = let proved = done-proved law input text answers in (proved.cert, proved.is_text, proved.proves)
+done-succeeds law accepted Explain input text answers = (answers.0, answers.1, answers.2)
 done-succeeds law accepted Play input text answers = done-game input text answers
 done-succeeds law accepted San input text answers = done-notation input text answers
 done-succeeds law accepted Spell input text answers = done-moves input text answers

@@ -37,11 +37,12 @@ DossiersProve = (bytes : List ℕ) (claim : LineClaim) (q : Asked) → IsDossier
 pub record AcceptedBy (input text : List ℕ) : Type 0 where
   pub claim : LineClaim
   pub query : Asked
+  pub answers : AnswersDossier input (line_accepted claim query)
   pub is_dossier : IsDossier input claim query
   pub line : text ≡ accepted_steps_line claim query
 
 accepted-by : AcceptedAreDossiers → (input : List ℕ) (answer : DossierAnswer) (text : List ℕ) → AnswersDossier input answer → TellsDossier answer Done text → AcceptedBy input text
-accepted-by law input (line_accepted claim q) text is tells = record { claim = claim; query = q; is_dossier = (law input claim q).0 is; line = tells.1 }
+accepted-by law input (line_accepted claim q) text is tells = record { claim = claim; query = q; answers = is; is_dossier = (law input claim q).0 is; line = tells.1 }
 accepted-by law input no_head text is tells = let e = tells.0 in cc
 accepted-by law input (unlisted_step i) text is tells = let e = tells.0 in cc
 accepted-by law input (no_part p) text is tells = let e = tells.0 in cc

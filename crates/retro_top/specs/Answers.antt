@@ -1,5 +1,5 @@
 -- What the program answers.
-use Rattle.std.specs.Prelude.{ℕ, ◌≡◌, ◌≤◌, Bool, IsTrue, List, [], length, String, Option, IfSome}
+use Rattle.std.specs.Prelude.{ℕ, ◌≡◌, ◌≤◌, Bool, IsTrue, List, [], length, String, Option, None, IfSome}
 use Rattle.std.specs.Global.{Global}
 use Rattle.std.specs.Io.KnownBytes.{Appends, Keeps}
 use Rattle.retro_ports.specs.Causes.{Rose}
@@ -16,6 +16,7 @@ use Rattle.cert_text.specs.Certificate.{Certificate, IsTextOf}
 use Rattle.game_text.specs.Words.{words, AreTextsOf}
 use Rattle.san_text.specs.FromArray.{Tells}
 use Rattle.cert_checker.specs.Proving.{ProvesClaim}
+use Rattle.proof_prose.specs.Prose.{Explains}
 use Rattle.retro_search.specs.Answers.{IsProofOf}
 use Rattle.retro_search.specs.Refutable.{IsRefutable}
 use Rattle.codex_verdict.specs.Rights.{AreRights, claim_of}
@@ -28,7 +29,6 @@ use Rattle.command_answers.specs.Sans.{AnswersSan}
 use Rattle.command_answers.specs.Spells.{AnswersSpell}
 use Rattle.line_claims.specs.Holding.{HoldsLine}
 use Rattle.line_claims.specs.declared.claims.LineClaim.{LineClaim}
-use Rattle.dossier_text.specs.Proving.{IsDossier}
 use Rattle.length_bound.specs.LengthAnswers.{IsShown}
 use Rattle.length_bound.specs.LengthText.{AreLengthLines}
 use Rattle.length_bound.specs.declared.texts.LengthText.{LengthText}
@@ -41,6 +41,7 @@ use Rattle.command_answers.specs.Settles.{AnswersSettle}
 use Rattle.command_answers.specs.Solves.{AnswersSolve, IsCheap, countered_line}
 use Rattle.command_answers.specs.Trees.{AnswersTree, AsksForFewLines}
 use Rattle.command_answers.specs.Lengths.{AnswersHowLong, AsksForLength, TellsLength}
+use Rattle.command_answers.specs.Explains.{AnswersExplain}
 use Rattle.command_answers.specs.Dossiers.{AnswersMaking, StatesCheapLine, StatesProvable}
 use Rattle.command_answers.specs.LineChecks.{AnswersLine, ProvesLine, accepted_steps_line}
 use Rattle.command_answers.specs.AtLeasts.{AnswersAtLeast, ShowsLength, bound_line}
@@ -48,13 +49,14 @@ use Rattle.command_answers.specs.Studies.{AnswersStudy}
 use Rattle.diagram_study.specs.Studies.{IsStudy}
 use Rattle.command_answers.specs.Verdicts.{AnswersVerdict, AsksForCheap, Each, verdicts_text}
 use Rattle.command_answers.specs.declared.statuses.Status.{Status}
-use Rattle.command_answers.specs.declared.statuses.Status.TheVariants.{Done, Undecided, Countered, Memory}
+use Rattle.command_answers.specs.declared.statuses.Status.TheVariants.{Done, Refused, Undecided, Countered, Memory}
 use Rattle.retro_top.specs.declared.commands.Command.{Command}
-use Rattle.retro_top.specs.declared.commands.Command.TheVariants.{Check, Play, San, Spell, Unmoves, Solve, Settle, Verdict, Study, Tree, Length, AtLeast, Line, Dossier, Sample}
+use Rattle.retro_top.specs.declared.commands.Command.TheVariants.{Check, Explain, Play, San, Spell, Unmoves, Solve, Settle, Verdict, Study, Tree, Length, AtLeast, Line, Dossier, Sample}
 
 -- the status and the text with which a command answers an input
 abbrev pub AnswersAs : Command → List ℕ → Status → List ℕ → Type 0
 AnswersAs Check input status text = AnswersCheck input status text
+AnswersAs Explain input status text = AnswersExplain input status text
 AnswersAs Play input status text = AnswersPlay input status text
 AnswersAs San input status text = AnswersSan input status text
 AnswersAs Spell input status text = AnswersSpell input status text
@@ -91,11 +93,9 @@ ReadsBy command limit old new holds = ReadsAll limit old new holds
 abbrev pub ReadsFor : List (String Global) → ℕ → Option (List ℕ) → Option (List ℕ) → (List ℕ → Type 0) → Type 0
 ReadsFor words limit old new holds = (command : Command) × Call words command × ReadsBy command limit old new holds
 
--- What was taken grew by one line, with the claim and the position that the input carries. The input is the text of a certificate
--- that proves the claim, and no game contradicts it.
-abbrev pub Accepts : List ℕ → Option (List ℕ) → Option (List ℕ) → Type 0
-Accepts input old new =
-    (cert : Certificate) × IsTextOf input cert × ProvesClaim cert × Appends old new (accepted_line cert.claim cert.query) × Holds cert.claim cert.query
+-- what was taken grew by one line, `accepted` with a claim and a position, and no game contradicts the claim
+abbrev pub Accepts : Option (List ℕ) → Option (List ℕ) → Type 0
+Accepts old new = (claim : Claim) × (q : Asked) × (q.barred ≡ None) × Appends old new (accepted_line claim q) × Holds claim q
 
 -- the bytes are the text of a certificate that proves its claim
 abbrev pub ProvesSome : List ℕ → Type 0
@@ -104,6 +104,16 @@ ProvesSome input = (cert : Certificate) × IsTextOf input cert × ProvesClaim ce
 -- the bytes are the text of no certificate that proves its claim
 abbrev pub ProvesNothing : List ℕ → Type 0
 ProvesNothing input = ProvesSome input → ⊥
+
+-- What was taken grew by the proof in plain words of the certificate whose text the input is. The certificate proves its claim, and no
+-- game contradicts it.
+abbrev pub WritesExplanation : List ℕ → Option (List ℕ) → Option (List ℕ) → Type 0
+WritesExplanation input old new =
+    (cert : Certificate) × (text : List ℕ) × IsTextOf input cert × ProvesClaim cert × Explains cert text × Appends old new text × Holds cert.claim cert.query
+
+-- the bytes are the text of no certificate that proves its claim, and what was taken grew by the line with which `check` refuses them
+abbrev pub WritesRefusal : List ℕ → Option (List ℕ) → Option (List ℕ) → Type 0
+WritesRefusal input old new = ProvesNothing input × ((line : List ℕ) × AnswersCheck input Refused line × Appends old new line)
 
 -- Where the source tells its bytes, they are no more than the limit, and its count of faults and the sink's didn't rise: this
 -- holds of the bytes then. `sample` reads nothing: whatever the source does, it holds of no bytes.
@@ -145,6 +155,7 @@ StatesProved depth input = (claim : Claim) × (q : Asked) × (cert : Certificate
 -- only with such an input does the command succeed
 abbrev pub Succeeds : Command → List ℕ → Type 0
 Succeeds Check input = ProvesSome input
+Succeeds Explain input = ProvesSome input
 Succeeds Play input = TellsGame input
 Succeeds San input = TellsNotation input
 Succeeds Spell input = TellsMoves input
@@ -168,11 +179,9 @@ MustSucceed (Dossier depth nodes) input = StatesProvable depth input × StatesCh
 MustSucceed (Verdict depth nodes) input = AsksForCheap depth nodes input
 MustSucceed command input = Succeeds command input
 
--- What was taken grew by the text of a certificate of the claim of the input's first line about the query of the others, which
--- proves it. No game contradicts it.
-abbrev pub WritesProof : List ℕ → Option (List ℕ) → Option (List ℕ) → Type 0
-WritesProof input old new =
-    (cert : Certificate) × (text : List ℕ) × States input cert.claim cert.query × IsTextOf text cert × ProvesClaim cert × Appends old new text × Holds cert.claim cert.query
+-- no game contradicts the claim of the input's first line about the query of the others
+abbrev pub StatesTrue : List ℕ → Type 0
+StatesTrue input = (claim : Claim) × (q : Asked) × States input claim q × Holds claim q
 
 -- What was taken grew by one line, with a legal game that reaches the query that the input states a claim about, and contradicts this.
 abbrev pub WritesGameAgainst : List ℕ → Option (List ℕ) → Option (List ℕ) → Type 0
@@ -209,17 +218,13 @@ abbrev pub WritesBound : List ℕ → Option (List ℕ) → Option (List ℕ) �
 WritesBound input old new =
     (text : LengthText) × AreLengthLines (cut input) text × IsShown text × Appends old new (bound_line text.at_least text.query) × BoundsGames text.query text.at_least
 
--- What was taken grew by one line, with the claim and the position that the input carries. The input is a dossier that proves the
--- claim of several steps, and it holds.
-abbrev pub AcceptsLine : List ℕ → Option (List ℕ) → Option (List ℕ) → Type 0
-AcceptsLine input old new =
-    (claim : LineClaim) × (q : Asked) × IsDossier input claim q × Appends old new (accepted_steps_line claim q) × HoldsLine claim q
+-- what was taken grew by one line, `accepted` with a claim of several steps and a position, and the claim holds
+abbrev pub AcceptsLine : Option (List ℕ) → Option (List ℕ) → Type 0
+AcceptsLine old new = (claim : LineClaim) × (q : Asked) × (q.barred ≡ None) × Appends old new (accepted_steps_line claim q) × HoldsLine claim q
 
--- What was taken grew by a dossier of the claim of several steps of the input's first line about the query of the others, and the
--- claim holds.
-abbrev pub WritesDossier : List ℕ → Option (List ℕ) → Option (List ℕ) → Type 0
-WritesDossier input old new =
-    (claim : LineClaim) × (q : Asked) × (text : List ℕ) × StatesLine input claim q × IsDossier text claim q × Appends old new text × HoldsLine claim q
+-- the claim of several steps of the input's first line about the query of the others holds
+abbrev pub StatesTrueLine : List ℕ → Type 0
+StatesTrueLine input = (claim : LineClaim) × (q : Asked) × StatesLine input claim q × HoldsLine claim q
 
 -- the nodes suffice for what the command searches with this input
 abbrev pub Suffices : Command → List ℕ → Type 0

@@ -4,11 +4,12 @@ use Rattle.std.specs.Global.{Global}
 use Rattle.std.specs.Fmt.{decimal}
 use Rattle.command_answers.specs.Limits.{AreLimits, AreSampleNumbers}
 use Rattle.retro_top.specs.declared.commands.Command.{Command}
-use Rattle.retro_top.specs.declared.commands.Command.TheVariants.{Check, Play, San, Spell, Unmoves, Solve, Settle, Verdict, Study, Tree, Length, AtLeast, Line, Dossier, Sample}
+use Rattle.retro_top.specs.declared.commands.Command.TheVariants.{Check, Explain, Play, San, Spell, Unmoves, Solve, Settle, Verdict, Study, Tree, Length, AtLeast, Line, Dossier, Sample}
 
 -- the words, as bytes, by which each command is called in full
 abbrev pub words_of : Command → List (List ℕ)
 words_of Check = codes "check" ∷ []
+words_of Explain = codes "explain" ∷ []
 words_of Play = codes "play" ∷ []
 words_of San = codes "san" ∷ []
 words_of Spell = codes "spell" ∷ []

@@ -21,6 +21,8 @@ const MOST_PLIES: u64 = 200;
 pub enum Command {
     /// Whether a certificate proves its claim.
     Check,
+    /// The proof of a certificate in plain words.
+    Explain,
     /// Whether words are a legal game that reaches a position.
     Play,
     /// Whether words of algebraic notation are a legal game that reaches a position.
@@ -153,6 +155,8 @@ fn read_one(word: &String) -> Option<Command>
 {
     if is_word(word, b"check") {
         Some(Command::Check)
+    } else if is_word(word, b"explain") {
+        Some(Command::Explain)
     } else if is_word(word, b"play") {
         Some(Command::Play)
     } else if is_word(word, b"san") {

@@ -30,6 +30,37 @@ fn checks_in_no_memory(rt: HostRuntime) {
     }
 }
 
+/// A proof in plain words is told whole, or nothing is.
+#[test]
+fn explains(rt: HostRuntime) {
+    let cert =
+        b"retro 1\nclaim illegal\nfen 4k3/8/8/3p4/8/8/P7/4K2R w K d6\nroot expand 1\nd7d5 expand 0\n";
+    let Ok((status, sink)) = run_on(rt.alloc(), &["explain"], cert, WHOLE) else {
+        return;
+    };
+    if status == Status::Memory {
+        assert!(rt; sink.taken().is_empty());
+    } else {
+        assert_eq!(rt; status, Status::Done);
+        assert!(rt;
+            sink.taken()
+                .starts_with(b"  a b c d e f g h\n8 . . . . k . . .\n")
+        );
+        assert!(rt; sink.taken().ends_with(b" QED\n"));
+    }
+}
+
+#[test]
+fn refuses_to_explain(rt: HostRuntime) {
+    let row = Row {
+        words: &["explain"],
+        input: b"retro 1\nclaim illegal\nfen 4k3/8/8/8/8/8/8/4K3 w - -\nroot expand 0\n",
+        status: Status::Refused,
+        text: b"refused line 4 unlisted d7e8\n",
+    };
+    assert_whole_or_nothing(&rt, &row);
+}
+
 #[test]
 fn plays(rt: HostRuntime) {
     assert_whole_or_nothing(&rt, &BLOCKED_PAWN);

@@ -124,6 +124,7 @@ fn checks_a_wide_certificate(rt: HostRuntime) {
 fn runs_on_a_wide_certificate(rt: HostRuntime) -> Result<(), Fail> {
     let stray = b"refused line 5 unsupported stray\n";
     assert_answer(&rt, "check", Wide::certificate(), Status::Refused, stray)?;
+    assert_answer(&rt, "explain", Wide::certificate(), Status::Refused, stray)?;
     Ok(())
 }
 
@@ -142,6 +143,8 @@ fn reads_no_more_than_the_limit(rt: HostRuntime) -> Result<(), Fail> {
     let line = b"refused line 1 text\n";
     assert_answer(&rt, "check", Wide::rest(MOST), Status::Refused, line)?;
     assert_answer(&rt, "check", Wide::rest(MOST + 1), Status::TooLong, b"")?;
+    assert_answer(&rt, "explain", Wide::rest(MOST), Status::Refused, line)?;
+    assert_answer(&rt, "explain", Wide::rest(MOST + 1), Status::TooLong, b"")?;
     assert_answer(&rt, "atleast", Wide::rest(MOST), Status::Refused, line)?;
     assert_answer(&rt, "atleast", Wide::rest(MOST + 1), Status::TooLong, b"")?;
     let head = b"refused head\n";

@@ -1,0 +1,51 @@
+-- Sentences that are written one after another.
+use Rattle.std.proofs.Common.{◌≡◌, ℕ, Bool, List, [], ◌∷◌, ◌++◌, refl, sym, ap, ◌∙◌}
+use Rattle.std.specs.Prelude.{Option, Some, None, SomeIff, IsSome, ℤ}
+use Rattle.std.proofs.lemmas.List.{append-nil}
+use Rattle.board_base.specs.Board.{opponent}
+use Rattle.board_base.specs.declared.men.Colour.{Colour}
+use Rattle.board_base.specs.declared.men.Colour.TheVariants.{White, Black}
+use Rattle.cage_rules.specs.Refuted.{NeedTooMany}
+use Rattle.query_base.specs.Asked.{Asked}
+use Rattle.query_base.specs.declared.rule_lines.RuleLine.TheVariants as rule
+use Rattle.cert_text.specs.declared.reasons.Reason.{Reason}
+use Rattle.cert_text.specs.declared.reasons.Reason.TheVariants.{Line, Balance}
+use Rattle.prose_words.proofs.Squares.{thence}
+use Rattle.proof_prose.specs.Lessened.{with_set}
+use Rattle.proof_prose.specs.Reasons.{Adds, AddsReason, all_words}
+use Rattle.proof_prose.specs.Sentences.{Says, words_of}
+use Rattle.proof_prose.specs.declared.sentences.Sentence.{Sentence}
+
+pub adds-one : (q : Asked) (a : Sentence) (o r : List ℕ) → Says a q → r ≡ o ++ words_of a q → Adds q (a ∷ []) o r
+adds-one q a o r sa e = ((sa, tt), e ∙ ap (λ (l : List ℕ). o ++ l) (sym (append-nil (words_of a q))))
+
+pub adds-two : (q : Asked) (a b : Sentence) (o p r : List ℕ) → Says a q → Says b q → p ≡ o ++ words_of a q → r ≡ p ++ words_of b q → Adds q (a ∷ b ∷ []) o r
+adds-two q a b o p r sa sb e f =
+    ((sa, (sb, tt)), thence o p r (words_of a q) (words_of b q) e f ∙ ap (λ (l : List ℕ). o ++ (words_of a q ++ l)) (sym (append-nil (words_of b q))))
+
+pub adds-three : (q : Asked) (a b d : Sentence) (o p r t : List ℕ) → Says a q → Says b q → Says d q → p ≡ o ++ words_of a q → r ≡ p ++ words_of b q → t ≡ r ++ words_of d q → Adds q (a ∷ b ∷ d ∷ []) o t
+adds-three q a b d o p r t sa sb sd e f g =
+    let rest = adds-two q b d p r t sb sd f g in
+    ((sa, rest.0), thence o p t (words_of a q) (all_words (b ∷ d ∷ []) q) e rest.1)
+
+-- a reason with another set is told so too
+pub adds-like : (q : Asked) (r : Reason) (set : List Bool) (o n : List ℕ) → AddsReason q (with_set r set) o n → AddsReason q r o n
+adds-like q (Line rule.Kings) set o n h = h
+adds-like q (Line rule.Ranks) set o n h = h
+adds-like q (Line rule.Check) set o n h = h
+adds-like q (Line rule.Rights) set o n h = h
+adds-like q (Line (rule.Count c)) set o n h = h
+adds-like q (Line (rule.Frozen s)) set o n h = h
+adds-like q (Line (rule.Caps c s p)) set o n h = h
+adds-like q (Line (rule.Promo c s)) set o n h = h
+adds-like q (Balance s p) set o n h = h
+
+-- who is over is so as the other side's other side
+pub needs-back : (o : List Bool) (q : Asked) (set : List Bool) (c : Colour) (u v : List ℤ) → NeedTooMany o q set c u v → NeedTooMany o q set (opponent (opponent c)) u v
+needs-back o q set White u v h = h
+needs-back o q set Black u v h = h
+
+-- what is given where it can be is given
+pub some-given : (r : Option ℕ) (P : Type 0) (v : ℕ) → SomeIff r P v → P → IsSome r
+some-given None P v h p = absurd (h p)
+some-given (Some x) P v h p = refl

@@ -1,0 +1,13 @@
+use Rattle.std.proofs.Common.{◌++◌}
+use Rattle.std.specs.Prelude.{codes}
+use Rattle.prose_words.proofs.Squares.{thence}
+use Rattle.board_base.specs.Texts.{square_text}
+use Rattle.proof_prose.proofs.heads.push_not.Goals as goal
+
+pub returns : goal.returns
+returns c =
+    let h0 = c.in_ok-say.ensures in
+    let h1 = thence c.args.out.now.items _ _ (codes "the last move was not ") (square_text c.args.d.now.from) h0 c.in_ok-push_square.ensures in
+    let h2 = thence c.args.out.now.items _ _ ((codes "the last move was not ") ++ (square_text c.args.d.now.from)) (codes "-") h1 c.in_ok-say-2.ensures in
+    let h3 = thence c.args.out.now.items _ _ (((codes "the last move was not ") ++ (square_text c.args.d.now.from)) ++ (codes "-")) (square_text c.args.d.now.to) h2 c.in_ok-push_square-2.ensures in
+    h3

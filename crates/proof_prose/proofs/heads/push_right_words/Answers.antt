@@ -1,0 +1,12 @@
+use Rattle.std.proofs.Common.{◌++◌, ◌∷◌, []}
+use Rattle.std.specs.Prelude.{codes}
+use Rattle.prose_words.proofs.Squares.{thence}
+use Rattle.proof_prose.specs.Heads.{unmoved_words}
+use Rattle.proof_prose.proofs.heads.push_right_words.Goals as goal
+
+pub returns : goal.returns
+returns c =
+    let h0 = c.in_ok-say.ensures in
+    let h1 = thence c.args.out.now.items _ _ (codes "It is given that ") (unmoved_words c.args.castle) h0 c.in_ok-push_unmoved.ensures in
+    let h2 = thence c.args.out.now.items _ _ ((codes "It is given that ") ++ (unmoved_words c.args.castle)) (codes "." ++ 10 ∷ []) h1 c.in_ok-say-2.ensures in
+    h2

@@ -1,0 +1,152 @@
+-- The diagram, the claim and what is supposed.
+use Rattle.std.specs.Prelude.{ℕ, ◌+◌, ◌*◌, Bool, cond, List, [], ◌∷◌, ◌++◌, codes, Option, Some, None}
+use Rattle.std.specs.List.{flat_map, range_with_len}
+use Rattle.std.specs.Fmt.{decimal}
+use Rattle.board_base.specs.Board.{Places, at, is_in}
+use Rattle.board_base.specs.declared.castles.Castle.TheVariants.{WhiteShort, WhiteLong, BlackShort, BlackLong}
+use Rattle.board_base.specs.Play.{double_of, king_home, rook_home, side}
+use Rattle.board_base.specs.Rights.{holds}
+use Rattle.board_base.specs.Texts.{square_text}
+use Rattle.board_base.specs.declared.men.Colour.{Colour}
+use Rattle.board_base.specs.declared.men.Kind.{Kind}
+use Rattle.board_base.specs.declared.men.Man.{Man}
+use Rattle.board_base.specs.declared.moves.Move.{Move}
+use Rattle.board_base.specs.declared.castles.Castle.{Castle}
+use Rattle.cert_text.specs.Lines.{ended}
+use Rattle.ep_history.specs.Fits.{ep_fits}
+use Rattle.fen_text.specs.OddsLines.{is_no_odds}
+use Rattle.query_base.specs.Asked.{Asked}
+use Rattle.query_base.specs.declared.claims.Claim.{Claim}
+use Rattle.query_base.specs.declared.claims.Claim.TheVariants.{Illegal, Last, Lost, Ep}
+use Rattle.prose_words.specs.Words.{initial, place_letter, side_word, squares_words, wing_word}
+
+-- a place of the diagram after a space
+abbrev pub place_text : Places → ℕ → List ℕ
+place_text board s = 32 ∷ place_letter (at board s) ∷ []
+
+-- a rank of the diagram: its digit, and its places from file a to file h
+unfoldable pub rank_text : Places → ℕ → List ℕ
+rank_text board r = (49 + r) ∷ flat_map (λ f. place_text board (8 * r + f)) (range_with_len 0 8)
+
+-- a rank with a line end
+abbrev pub rank_line : Places → ℕ → List ℕ
+rank_line board r = rank_text board r ++ 10 ∷ []
+
+-- the upper half of the diagram
+unfoldable pub upper_text : Places → List ℕ
+upper_text board = rank_line board 7 ++ rank_line board 6 ++ rank_line board 5 ++ rank_line board 4
+
+-- the lower half of the diagram, with the side to move behind it
+unfoldable pub lower_text : Places → Colour → List ℕ
+lower_text board turn =
+    rank_line board 3 ++ rank_line board 2 ++ rank_line board 1 ++ rank_text board 0 ++ codes "     " ++ side_word turn ++ ended (codes " to move")
+
+-- the diagram from rank 8 down to rank 1, with the side to move behind it
+unfoldable pub diagram_text : Places → Colour → List ℕ
+diagram_text board turn = ended (codes "  a b c d e f g h") ++ upper_text board ++ lower_text board turn
+
+-- the squares whose men were left out
+abbrev pub odds_words : List Bool → List ℕ
+odds_words odds = codes "The game began without the men of" ++ squares_words (is_in odds) ++ ended (codes ".")
+
+-- the squares whose men were left out, if any were
+abbrev pub odds_given : List Bool → List ℕ
+odds_given odds = cond (is_no_odds odds) [] (odds_words odds)
+
+-- what the half-move clock is
+abbrev pub clock_words : ℕ → List ℕ
+clock_words n = codes "Half-moves since the last capture or move of a pawn: " ++ decimal n ++ ended (codes ".")
+
+-- the half-move clock, if it is given
+abbrev pub clock_given : Option ℕ → List ℕ
+clock_given None = []
+clock_given (Some n) = clock_words n
+
+-- what the last move was
+abbrev pub last_words : Move → List ℕ
+last_words m = codes "The last move was " ++ square_text m.from ++ codes "-" ++ square_text m.to ++ ended (codes ".")
+
+-- the double step that was the last move, if it is given
+abbrev pub only_given : Option Move → List ℕ
+only_given None = []
+only_given (Some m) = last_words m
+
+-- that the king and the rook of these squares never moved
+unfoldable pub stayed_words : ℕ → ℕ → List ℕ
+stayed_words king rook = codes "the king of " ++ square_text king ++ codes " and the rook of " ++ square_text rook ++ codes " never moved"
+
+-- that the king and the rook of a castling never moved
+abbrev pub unmoved_words : Castle → List ℕ
+unmoved_words x = stayed_words (king_home x) (rook_home x)
+
+-- that a right to castle is given
+abbrev pub right_words : Castle → List ℕ
+right_words x = codes "It is given that " ++ unmoved_words x ++ ended (codes ".")
+
+-- a right to castle, if it is given
+abbrev pub right_given : Bool → Castle → List ℕ
+right_given given x = cond given (right_words x) []
+
+-- what is given beside the diagram
+abbrev pub givens_text : Asked → List ℕ
+givens_text q =
+    odds_given q.odds ++ clock_given q.clock ++ only_given q.only ++ right_given (holds q.held WhiteShort) WhiteShort ++ right_given (holds q.held WhiteLong) WhiteLong ++ right_given (holds q.held BlackShort) BlackShort ++ right_given (holds q.held BlackLong) BlackLong
+
+-- the letter of the man on a place in long notation
+abbrev pub place_initial : Option Man → List ℕ
+place_initial None = []
+place_initial (Some m) = initial m.kind
+
+-- the letter of the man who made the move that ends on this place; a pawn that was promoted has none
+abbrev pub mover_initial : Option Man → Option Kind → List ℕ
+mover_initial place None = place_initial place
+mover_initial place (Some k) = []
+
+-- what a pawn became, as in `=Q`
+abbrev pub became : Option Kind → List ℕ
+became None = []
+became (Some k) = codes "=" ++ initial k
+
+-- a move that led to this board, in long notation, with this sign between its squares
+abbrev pub move_words : Places → Move → ℕ → List ℕ
+move_words board m sign = mover_initial (at board m.to) m.promo ++ square_text m.from ++ sign ∷ square_text m.to ++ became m.promo
+
+-- that a castling is lost
+abbrev pub lost_words : Castle → List ℕ
+lost_words x = side_word (side x) ++ codes " has lost the right to castle on the " ++ wing_word x ++ codes " side"
+
+-- that a capture en passant is legal
+abbrev pub legal_words : Move → List ℕ
+legal_words m = codes "the capture " ++ square_text m.from ++ codes "x" ++ square_text m.to ++ codes " en passant is legal"
+
+-- what is claimed, in words
+abbrev pub claim_words : Claim → Asked → List ℕ
+claim_words Illegal q = codes "no game leads to this diagram"
+claim_words (Last m) q = codes "the last move was " ++ move_words q.board m 45
+claim_words (Lost x) q = lost_words x
+claim_words (Ep m) q = legal_words m
+
+-- that the last move wasn't this one
+abbrev pub not_words : Move → List ℕ
+not_words d = codes "the last move was not " ++ square_text d.from ++ codes "-" ++ square_text d.to
+
+-- that the last move wasn't the double step that a capture en passant answers
+abbrev pub other_words : Option Move → List ℕ
+other_words None = codes "a game leads to the diagram"
+other_words (Some d) = not_words d
+
+-- what is supposed against the claim, in words
+abbrev pub supposed_words : Claim → Asked → List ℕ
+supposed_words Illegal q = codes "a game leads to it"
+supposed_words (Last m) q = codes "the last move was another"
+supposed_words (Lost x) q = unmoved_words x
+supposed_words (Ep m) q = cond (ep_fits q.board q.turn m) (other_words (double_of m q.turn)) (codes "a game leads to the diagram")
+
+-- the diagram, what is given, the claim and what is supposed
+abbrev pub opening_text : Claim → Asked → List ℕ
+opening_text claim q =
+    diagram_text q.board q.turn ++ givens_text q ++ codes "Claim: " ++ claim_words claim q ++ ended (codes ".") ++ codes "Suppose that " ++ supposed_words claim q ++ ended (codes ".")
+
+-- the last line, which states the claim again
+abbrev pub closing_text : Claim → Asked → List ℕ
+closing_text claim q = codes "So " ++ claim_words claim q ++ ended (codes ". QED")

@@ -1,0 +1,11 @@
+pub mod Heads
+pub mod Labels
+pub mod Nodes
+pub mod Sentences
+pub mod Reasons
+pub mod Rows
+pub mod Paragraphs
+pub mod Prose
+pub mod Standing
+pub mod Added
+pub mod Lessened

@@ -1,0 +1,49 @@
+-- The nodes of a certificate's tree in preorder: after a node come its children, each with all nodes below it.
+use Rattle.std.specs.Prelude.{ℕ, ◌+◌, List, [], ◌∷◌, ◌++◌, codes, Some, None}
+use Rattle.std.specs.Fmt.{decimal}
+use Rattle.board_base.specs.declared.unmoves.Unmove.{Unmove}
+use Rattle.query_base.specs.Asked.{Asked}
+use Rattle.cert_checker.specs.Proving.{target_of}
+use Rattle.cert_text.specs.Certificate.{Certificate}
+use Rattle.cert_text.specs.Tree.{Tree, Forest, rule, back, expand, none, more, count}
+use Rattle.unmove_gen.specs.Predecessor.{predecessor}
+use Rattle.proof_prose.specs.declared.nodes.Line.{Line}
+use Rattle.proof_prose.specs.declared.nodes.Line.TheVariants.{Because, Back, Moves}
+use Rattle.proof_prose.specs.declared.nodes.Told.{Told}
+
+-- why no game reaches the query of a node, without its children
+abbrev pub line_of : Tree → Line
+line_of (rule r) = Because r
+line_of (back k) = Back k
+line_of (expand kids) = Moves (count kids)
+
+-- what stands before the numbers of the children of the node with this number: `1.2.` for those of the second child of the first
+abbrev pub prefix_below : List ℕ → ℕ → List ℕ
+prefix_below prefix place = prefix ++ decimal place ++ codes "."
+
+-- a child, to which this retraction leads
+abbrev pub own_node : List ℕ → ℕ → Unmove → Asked → Asked → Tree → Told
+own_node prefix place label whence q tree =
+    record { prefix = prefix; place = place; label = Some label; whence = whence; query = q; line = line_of tree }
+
+abbrev mutual
+  -- the nodes below a node whose children's numbers begin so
+  pub below : List ℕ → Asked → Tree → List Told
+  below prefix q (rule r) = []
+  below prefix q (back k) = []
+  below prefix q (expand kids) = kid_nodes prefix q 1 kids
+
+  -- children from this place on, each with the nodes below it
+  pub kid_nodes : List ℕ → Asked → ℕ → Forest → List Told
+  kid_nodes prefix q i none = []
+  kid_nodes prefix q i (more label tree rest) =
+      own_node prefix i label q (predecessor q label) tree ∷ (below (prefix_below prefix i) (predecessor q label) tree ++ kid_nodes prefix q (i + 1) rest)
+
+-- the root, which speaks of this query, and the nodes below it
+abbrev pub nodes_from : Asked → Tree → List Told
+nodes_from q tree =
+    record { prefix = []; place = 0; label = None; whence = q; query = q; line = line_of tree } ∷ below [] q tree
+
+-- the nodes of a certificate's tree
+abbrev pub nodes_of : Certificate → List Told
+nodes_of cert = nodes_from (target_of cert) cert.root

@@ -1,0 +1,237 @@
+-- The sentences that tell why no game reaches a query: what each says, and its words.
+use Rattle.std.specs.Prelude.{ℕ, ◌≡◌, ◌≤◌, ◌+◌, ◌-◌, ◌*◌, ◌/◌, ◌%◌, ◌<◌, nat_lt, nat_le, ◌==◌, Bool, cond, ◌&&◌, IsTrue, length, List, [], ◌∷◌, ◌++◌, codes, drop, slice_index}
+use Rattle.std.specs.List.{flat_map, range_with_len}
+use Rattle.std.specs.Fmt.{decimal}
+use Rattle.board_base.specs.Board.{array_of, at, is_a, is_in, is_of, is_the, opponent}
+use Rattle.board_base.specs.Attacks.{attacks}
+use Rattle.board_base.specs.Potentials.{Duals}
+use Rattle.board_base.specs.Texts.{square_text}
+use Rattle.board_base.specs.declared.men.Colour.{Colour}
+use Rattle.board_base.specs.declared.men.Colour.TheVariants.{White, Black}
+use Rattle.board_base.specs.declared.men.Kind.TheVariants.{King, Pawn}
+use Rattle.assignment.specs.Assignments.{IsInjection, assignment_cost, least_cost}
+use Rattle.assignment.specs.Tables.{cost_at}
+use Rattle.balance_rule.specs.Balance.{men_on, most_cost, side_cost}
+use Rattle.capture_prices.specs.Prices.{PriceList}
+use Rattle.capture_prices.specs.declared.prices.Gate.{Gate}
+use Rattle.pawn_assign.specs.PawnCosts.{pawn_costs, pawn_home, pawn_squares}
+use Rattle.men_account.specs.Account.{accounts_for, allowance_of, counts_of, excess_of, is_any, men}
+use Rattle.men_account.specs.Homes.{men_of}
+use Rattle.play_rules.specs.Kings.{HasOneKingEach}
+use Rattle.play_rules.specs.Laws.{is_end}
+use Rattle.query_base.specs.Asked.{Asked}
+use Rattle.cage_rules.specs.Frozen.{IsAsArray, IsFrozen}
+use Rattle.cage_rules.specs.Refuted.{HasTooMany, NeedTooMany, is_spent}
+use Rattle.cage_rules.specs.Regions.{is_dead, is_officer_home}
+use Rattle.static_rules.specs.Supports.{HasRightsHomes}
+use Rattle.unmove_gen.specs.Listed.{unmoves}
+use Rattle.retraction_bars.specs.Lines.{bars_text}
+use Rattle.prose_words.specs.Words.{man_words, side_word, squares_words}
+use Rattle.proof_prose.specs.declared.sentences.Sentence.{Sentence}
+use Rattle.proof_prose.specs.declared.sentences.Sentence.TheVariants.{Kings, Ranks, Check, Rights, Count, Caged, Changed, Settled, Gone, Promoted, Way, Lacks, Priced, Balanced, Back, Still, Moved}
+
+-- an officer's home of this side, on which somebody began of whom nobody is left
+abbrev pub is_gone : Asked → Colour → List Bool → ℕ → Bool
+is_gone q c set h = is_of c (at (array_of q.odds) h) && is_officer_home h && is_dead q.board set h
+
+-- a home of this side, on which somebody began whom some man other than a pawn captured
+abbrev pub is_safe : Asked → Colour → List Bool → ℕ → Bool
+is_safe q c set h = is_of c (at (array_of q.odds) h) && is_spent q.board set h
+
+-- the men on the set shut each other in and are as in the array: they never moved
+abbrev pub NeverMoved : Asked → List Bool → Type 0
+NeverMoved q set = IsFrozen q set × IsAsArray q.odds q.board set
+
+-- What a sentence says of a query. Not each side has one king; a pawn stands on this square of rank 1 or 8; a king of the side that isn't
+-- to move stands on this square in check; a king or a rook that never moved isn't at home. The side has so many pawns, with the men who must have been
+-- promoted so many, and began with so many, which is fewer. The men on the set shut each other in; this square of the set doesn't hold
+-- what it held in the array. The men on the set never moved; meanwhile nobody is left of those who began on the homes that are named; so
+-- the side has more pawns and promoted men than it had pawns; its pawns have made at least so many captures, as many as where they began
+-- on these files; the side lacks so many men, of whom no pawn took those of the homes that
+-- are named, and the enemy's pawns need more than the others. Captures have these prices, and at
+-- these prices the men of both sides cost so much at least, which is more than the gates make up for. The side that isn't to move has no
+-- retraction, or has some.
+abbrev pub Says : Sentence → Asked → Type 0
+Says Kings q = HasOneKingEach q.board → ⊥
+Says (Ranks s) q = IsTrue (is_end s && is_a Pawn (at q.board s))
+Says (Check c s) q = (c ≡ opponent q.turn) × IsTrue (is_the c King (at q.board s) && attacks q.board s (opponent c))
+Says Rights q = HasRightsHomes q → ⊥
+Says (Count c pawns together began) q =
+    (pawns ≡ men c Pawn is_any q.board) × (together ≡ excess_of (counts_of c q.board) (allowance_of c is_any (array_of q.odds))) × (began ≡ men c Pawn is_any (array_of q.odds)) × (IsTrue (accounts_for q.odds q.board c) → ⊥)
+Says (Caged set) q = IsFrozen q set
+Says (Changed set s) q = IsTrue (is_in set s) × (at q.board s ≡ at (array_of q.odds) s → ⊥)
+Says (Settled set) q = NeverMoved q set
+Says (Gone c set) q = NeverMoved q set
+Says (Promoted c set pawns began) q =
+    (pawns ≡ men c Pawn is_any q.board) × (began ≡ men c Pawn is_any (array_of q.odds)) × HasTooMany q.odds q set c
+Says (Way c captures files) q =
+    (length (pawn_squares c q.board) ≤ 8) × IsInjection 8 (length (pawn_squares c q.board)) files.items × (captures ≡ assignment_cost (pawn_costs q.odds c q.board) files.items) × (captures ≡ least_cost 8 (pawn_costs q.odds c q.board))
+Says (Lacks c set missing) q =
+    NeverMoved q set × (missing ≡ men_of c is_any (array_of q.odds) - men_of c is_any q.board) × ((p : Duals) × NeedTooMany q.odds q set (opponent c) p.u p.v)
+Says (Priced set p) q = NeverMoved q set
+Says (Balanced set p white black) q =
+    NeverMoved q set × (white ≡ side_cost q.odds q.board p set White) × (black ≡ side_cost q.odds q.board p set Black) × (most_cost q.odds p < white + black)
+Says (Back k) q = Unit {0}
+Says (Still first) q = unmoves q ≡ []
+Says (Moved first) q = 0 < length (unmoves q)
+
+-- a number of things, with the word for one or for several
+abbrev pub counted : ℕ → List ℕ → List ℕ → List ℕ
+counted n one several = decimal n ++ cond (n == 1) one several
+
+-- nothing where there is no list, else the list with what stands around it
+abbrev pub around : List ℕ → List ℕ → List ℕ → List ℕ
+around front [] back = []
+around front (x ∷ list) back = front ++ (x ∷ list) ++ back
+
+-- where a pawn came from, if it moved, and where it stands
+abbrev pub way_words : ℕ → ℕ → List ℕ
+way_words home s = cond (home == s) (square_text s) (square_text home ++ codes "-" ++ square_text s)
+
+-- after a comma, the way of a pawn with how many captures it made, if it made any
+abbrev pub pawn_words : ℕ → ℕ → ℕ → List ℕ
+pawn_words home s cost = cond (cost == 0) [] (codes ", " ++ way_words home s ++ codes " " ++ decimal cost)
+
+-- the way of one pawn of the side among those who began on these files
+abbrev pub nth_way : Asked → Colour → List ℕ → ℕ → List ℕ
+nth_way q c files k =
+    pawn_words (pawn_home c (slice_index files k)) (slice_index (pawn_squares c q.board) k) (cost_at (pawn_costs q.odds c q.board) k (slice_index files k))
+
+-- the ways of all of them, of those who captured
+unfoldable pub ways_words : Asked → Colour → List ℕ → List ℕ
+ways_words q c files = flat_map (nth_way q c files) (range_with_len 0 (length (pawn_squares c q.board)))
+
+-- that a side has pawns and promoted men, and began with so many pawns
+abbrev pub count_words : Colour → ℕ → ℕ → ℕ → List ℕ
+count_words c pawns promoted began =
+    side_word c ++ codes " has " ++ counted pawns (codes " pawn") (codes " pawns") ++ codes " and at least " ++ counted promoted (codes " promoted man") (codes " promoted men") ++ codes ", but began with " ++ counted began (codes " pawn") (codes " pawns") ++ codes "."
+
+-- that a pawn stands on a square
+abbrev pub end_words : ℕ → List ℕ
+end_words s = codes "A pawn stands on " ++ square_text s ++ codes "."
+
+-- that the king of a side stands in check on a square, and the other side is to move
+abbrev pub check_words : Colour → ℕ → List ℕ
+check_words c s = side_word c ++ codes "'s king on " ++ square_text s ++ codes " stands in check with " ++ side_word (opponent c) ++ codes " to move."
+
+-- that these men shut each other in, or that the one on one square is shut in
+abbrev pub shut_words : List ℕ → List ℕ
+shut_words list =
+    cond (length list == 3) (around (codes "The man on") list (codes " can't have come there. So he stood there from the beginning. ")) (around (codes "The men on") list (codes " shut each other in: none of them can have come to his square while the others stood. So they stood there from the beginning. "))
+
+-- the same of the men on a set
+abbrev pub caged_words : List Bool → List ℕ
+caged_words set = shut_words (squares_words (is_in set))
+
+-- who stood on a square at the beginning
+abbrev pub stood_words : List Bool → ℕ → List ℕ
+stood_words odds s = codes "But at the beginning " ++ man_words (at (array_of odds) s) ++ codes " stood on " ++ square_text s ++ codes "."
+
+-- that these men never moved, or the one on one square
+abbrev pub unmoved_men : List ℕ → List ℕ
+unmoved_men list =
+    cond (length list == 3) (around (codes "The man on") list (codes " never moved. ")) (around (codes "The men on") list (codes " never moved. "))
+
+-- the same of the men on a set
+abbrev pub settled_words : List Bool → List ℕ
+settled_words set = unmoved_men (squares_words (is_in set))
+
+-- that the men of some homes were captured
+abbrev pub gone_words : Asked → Colour → List Bool → List ℕ
+gone_words q c set = around (codes "Whoever began on") (squares_words (is_gone q c set)) (codes " was captured. ")
+
+-- how many captures the side's pawns made at least, and how they may have made them
+abbrev pub some_words : Asked → Colour → ℕ → List ℕ → List ℕ
+some_words q c captures files =
+    codes "'s pawns have made at least " ++ counted captures (codes " capture") (codes " captures") ++ codes ". A cheapest way:" ++ drop 1 (ways_words q c files) ++ codes ". "
+
+-- with how many captures the side's pawns came, where the least number is this one, and where they began on these files
+abbrev pub captures_words : Asked → Colour → ℕ → List ℕ → List ℕ
+captures_words q c captures files =
+    cond (captures == 0) (codes "'s pawns need not have captured. ") (cond (nat_lt captures 64) (some_words q c captures files) (codes "'s pawns can't have come there from different files, however much they captured. "))
+
+-- how many men a side lacks
+abbrev pub missing_words : Colour → ℕ → List ℕ
+missing_words c missing = side_word c ++ codes " lacks " ++ cond (missing == 0) (codes "nobody") (counted missing (codes " man") (codes " men"))
+
+-- how many men a side lacks, and whom no pawn took
+abbrev pub lacks_words : Asked → Colour → List Bool → ℕ → List ℕ
+lacks_words q c set missing =
+    missing_words c missing ++ around (codes ", but no pawn can have taken whoever began on") (squares_words (is_safe q c set)) [] ++ codes "."
+
+-- a price on the squares of a class, as in ` 24 on a dark`
+abbrev pub class_words : ℕ → ℕ → List ℕ
+class_words price k = codes " " ++ decimal price ++ codes " on " ++ (97 + k / 2) ∷ [] ++ cond (k % 2 == 0) (codes " dark") (codes " light")
+
+-- the same where the price isn't the usual one
+abbrev pub price_words : ℕ → List ℕ → ℕ → List ℕ
+price_words usual prices k = cond (slice_index prices k == usual) [] (class_words (slice_index prices k) k)
+
+-- what a side's pawns pay for a capture: a number, and then the prices that differ from it
+abbrev pub prices_words : ℕ → List ℕ → List ℕ
+prices_words usual prices = codes " " ++ decimal usual ++ around (codes " (but") (flat_map (price_words usual prices) (range_with_len 0 16)) (codes ")")
+
+-- the toll of a gate
+abbrev pub gate_words : Gate → List ℕ
+gate_words g = codes " " ++ decimal g.toll ++ codes " on " ++ square_text g.square
+
+-- the tolls of all gates
+abbrev pub gates_words : List Gate → List ℕ
+gates_words gates =
+    around (codes "A pawn that never captures pays for treading a square, as only one of the two pawns of a file can have:") (flat_map gate_words gates) (codes ". ")
+
+-- what captures cost; what a side usually pays is what it pays on the light squares of file h
+abbrev pub priced_words : PriceList → List ℕ
+priced_words p =
+    codes "Let a capture by a white pawn cost" ++ prices_words (slice_index p.white 15) p.white ++ codes ", and one by a black pawn" ++ prices_words (slice_index p.black 15) p.black ++ codes ": the side that captures pays it, and the man who is taken earns it. " ++ gates_words p.gates
+
+-- what men pay more than they earn, or the other way round
+abbrev pub difference_words : ℕ → ℕ → List ℕ
+difference_words cost own =
+    cond (nat_le own cost) (codes "'s men pay at least " ++ decimal (cost - own) ++ codes " more than they earn") (codes "'s men earn at most " ++ decimal (own - cost) ++ codes " more than they pay")
+
+-- what the men of a side cost, of whom so many began
+abbrev pub net_words : Colour → ℕ → ℕ → List ℕ
+net_words c cost began = side_word c ++ difference_words cost (96 * began)
+
+-- what the men of both sides cost
+abbrev pub balanced_words : List Bool → ℕ → ℕ → List ℕ
+balanced_words odds white black =
+    net_words White white (men_on White (array_of odds)) ++ codes ", and " ++ net_words Black black (men_on Black (array_of odds)) ++ codes ". But what is paid is what is earned."
+
+-- that the position stands later in the game too
+abbrev pub back_words : ℕ → List ℕ
+back_words k =
+    codes "This is the position of " ++ counted k (codes " move") (codes " moves") ++ codes " later again, with no fewer demands; a shortest game doesn't repeat it."
+
+-- that a side can't have moved last
+abbrev pub still_words : Colour → Bool → List ℕ
+still_words c first = side_word c ++ cond first (codes " moved last, but no man can have.\n") (codes " has no move before it.\n")
+
+-- the same, and man by man why
+abbrev pub barred_words : Asked → Bool → List ℕ
+barred_words q first = still_words (opponent q.turn) first ++ bars_text q (codes " ")
+
+-- that the moves with which it can have moved last follow
+abbrev pub moved_words : Colour → Bool → List ℕ
+moved_words c first = side_word c ++ cond first (codes "'s last move was one of these:") (codes "'s move before it was one of these:")
+
+-- the words of a sentence; after each but the last of a reason comes a space
+unfoldable pub words_of : Sentence → Asked → List ℕ
+words_of Kings q = codes "Not each side has exactly one king."
+words_of (Ranks s) q = end_words s
+words_of (Check c s) q = check_words c s
+words_of Rights q = codes "A king or a rook that never moved isn't on its first square."
+words_of (Count c pawns together began) q = count_words c pawns (together - pawns) began
+words_of (Caged set) q = caged_words set
+words_of (Changed set s) q = stood_words q.odds s
+words_of (Settled set) q = settled_words set
+words_of (Gone c set) q = gone_words q c set
+words_of (Promoted c set pawns began) q = count_words c pawns (began + 1 - pawns) began
+words_of (Way c captures files) q = side_word c ++ captures_words q c captures files.items
+words_of (Lacks c set missing) q = lacks_words q c set missing
+words_of (Priced set p) q = priced_words p
+words_of (Balanced set p white black) q = balanced_words q.odds white black
+words_of (Back k) q = back_words k
+words_of (Still first) q = barred_words q first
+words_of (Moved first) q = moved_words (opponent q.turn) first

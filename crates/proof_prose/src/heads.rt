@@ -1,0 +1,358 @@
+//! The diagram, the claim and what is supposed.
+
+ghost use Rattle.std.specs.Prelude.{◌≡◌, ◌++◌, ◌<◌, IfOk, codes};
+ghost use Rattle.proof_prose.specs.Heads.{became, claim_words, clock_given, clock_words, closing_text, last_words, legal_words, lost_words, not_words, odds_words, right_words, stayed_words, diagram_text, givens_text, lower_text, rank_line, upper_text, move_words, mover_initial, odds_given, only_given, opening_text, other_words, place_initial, place_text, rank_text, right_given, supposed_words, unmoved_words};
+ghost use Rattle.board_base.specs.Board.{at};
+
+use crate::numbers::push_number;
+use board_base::{Board, Castle, Colour, Kind, Man, Move, Odds, Square};
+use castle_history::home;
+use ep_history::{double_of, ep_fits};
+use prose_words::{initial, place_letter, push_square, push_squares, say, side_word, wing_word};
+use query_base::{Claim, Query};
+use std::alloc::AllocError;
+
+fn push_place(board: &Board, s: Square, out: &mut Vec<u8>) -> Result<(), AllocError>
+    ensures { IfOk result (λ _. out.new.items ≡ out.old.items ++ place_text board.now s) }
+{
+    say(b" ", out)?;
+    out.push(place_letter(board.at(s)))?;
+    Ok(())
+}
+
+/// A rank of the diagram.
+fn push_rank(board: &Board, rank: u8, out: &mut Vec<u8>) -> Result<(), AllocError>
+    requires { rank < 8 }
+    ensures { IfOk result (λ _. out.new.items ≡ out.old.items ++ rank_text board.now rank) }
+{
+    out.push(b'1' + rank)?;
+    for file in 0..8 {
+        push_place(board, Square::known(8 * rank + file), out)?;
+    }
+    Ok(())
+}
+
+fn push_line(board: &Board, rank: u8, out: &mut Vec<u8>) -> Result<(), AllocError>
+    requires { rank < 8 }
+    ensures { IfOk result (λ _. out.new.items ≡ out.old.items ++ rank_line board.now rank) }
+{
+    push_rank(board, rank, out)?;
+    say(b"\n", out)?;
+    Ok(())
+}
+
+#[tactic(auto, unfolding(crate::specs::Heads::upper_text))]
+fn push_upper(board: &Board, out: &mut Vec<u8>) -> Result<(), AllocError>
+    ensures { IfOk result (λ _. out.new.items ≡ out.old.items ++ upper_text board.now) }
+{
+    push_line(board, 7, out)?;
+    push_line(board, 6, out)?;
+    push_line(board, 5, out)?;
+    push_line(board, 4, out)?;
+    Ok(())
+}
+
+#[tactic(auto, unfolding(crate::specs::Heads::lower_text))]
+fn push_lower(board: &Board, turn: Colour, out: &mut Vec<u8>) -> Result<(), AllocError>
+    ensures { IfOk result (λ _. out.new.items ≡ out.old.items ++ lower_text board.now turn) }
+{
+    push_line(board, 3, out)?;
+    push_line(board, 2, out)?;
+    push_line(board, 1, out)?;
+    push_rank(board, 0, out)?;
+    say(b"     ", out)?;
+    say(side_word(turn), out)?;
+    say(b" to move\n", out)?;
+    Ok(())
+}
+
+/// The diagram, with the side to move behind it.
+#[tactic(auto, unfolding(crate::specs::Heads::diagram_text))]
+fn push_diagram(board: &Board, turn: Colour, out: &mut Vec<u8>) -> Result<(), AllocError>
+    ensures { IfOk result (λ _. out.new.items ≡ out.old.items ++ diagram_text board.now turn) }
+{
+    say(b"  a b c d e f g h\n", out)?;
+    push_upper(board, out)?;
+    push_lower(board, turn, out)?;
+    Ok(())
+}
+
+/// That the king and the rook of these squares never moved.
+#[tactic(auto, unfolding(crate::specs::Heads::stayed_words))]
+fn push_stayed(king: Square, rook: Square, out: &mut Vec<u8>) -> Result<(), AllocError>
+    ensures { IfOk result (λ _. out.new.items ≡ out.old.items ++ stayed_words king rook) }
+{
+    say(b"the king of ", out)?;
+    push_square(king, out)?;
+    say(b" and the rook of ", out)?;
+    push_square(rook, out)?;
+    say(b" never moved", out)?;
+    Ok(())
+}
+
+/// That the king and the rook of a castling never moved.
+fn push_unmoved(castle: Castle, out: &mut Vec<u8>) -> Result<(), AllocError>
+    ensures { IfOk result (λ _. out.new.items ≡ out.old.items ++ unmoved_words castle) }
+{
+    let (king, rook) = home(castle);
+    push_stayed(king, rook, out)
+}
+
+fn push_odds_words(odds: Odds, out: &mut Vec<u8>) -> Result<(), AllocError>
+    ensures { IfOk result (λ _. out.new.items ≡ out.old.items ++ odds_words odds) }
+{
+    say(b"The game began without the men of", out)?;
+    push_squares(odds.set(), out)?;
+    say(b".\n", out)?;
+    Ok(())
+}
+
+fn push_odds(odds: Odds, out: &mut Vec<u8>) -> Result<(), AllocError>
+    ensures { IfOk result (λ _. out.new.items ≡ out.old.items ++ odds_given odds) }
+{
+    if odds.is_none() {
+        return Ok(());
+    }
+    push_odds_words(odds, out)?;
+    Ok(())
+}
+
+fn push_clock_words(n: u16, out: &mut Vec<u8>) -> Result<(), AllocError>
+    ensures { IfOk result (λ _. out.new.items ≡ out.old.items ++ clock_words n) }
+{
+    say(
+        b"Half-moves since the last capture or move of a pawn: ",
+        out,
+    )?;
+    push_number(n as usize, out)?;
+    say(b".\n", out)?;
+    Ok(())
+}
+
+fn push_clock(clock: Option<u16>, out: &mut Vec<u8>) -> Result<(), AllocError>
+    ensures { IfOk result (λ _. out.new.items ≡ out.old.items ++ clock_given clock) }
+{
+    match clock {
+        None => Ok(()),
+        Some(n) => push_clock_words(n, out),
+    }
+}
+
+fn push_last_words(m: &Move, out: &mut Vec<u8>) -> Result<(), AllocError>
+    ensures { IfOk result (λ _. out.new.items ≡ out.old.items ++ last_words m.now) }
+{
+    say(b"The last move was ", out)?;
+    push_square(m.from, out)?;
+    say(b"-", out)?;
+    push_square(m.to, out)?;
+    say(b".\n", out)?;
+    Ok(())
+}
+
+fn push_only(only: &Option<Move>, out: &mut Vec<u8>) -> Result<(), AllocError>
+    ensures { IfOk result (λ _. out.new.items ≡ out.old.items ++ only_given only.now) }
+{
+    match only {
+        None => Ok(()),
+        Some(m) => push_last_words(m, out),
+    }
+}
+
+fn push_right_words(castle: Castle, out: &mut Vec<u8>) -> Result<(), AllocError>
+    ensures { IfOk result (λ _. out.new.items ≡ out.old.items ++ right_words castle) }
+{
+    say(b"It is given that ", out)?;
+    push_unmoved(castle, out)?;
+    say(b".\n", out)?;
+    Ok(())
+}
+
+fn push_right(given: bool, castle: Castle, out: &mut Vec<u8>) -> Result<(), AllocError>
+    ensures { IfOk result (λ _. out.new.items ≡ out.old.items ++ right_given given castle) }
+{
+    if given {
+        push_right_words(castle, out)
+    } else {
+        Ok(())
+    }
+}
+
+/// What is given beside the diagram.
+fn push_givens(query: &Query, out: &mut Vec<u8>) -> Result<(), AllocError>
+    ensures { IfOk result (λ _. out.new.items ≡ out.old.items ++ givens_text query.now) }
+{
+    push_odds(query.odds, out)?;
+    push_clock(query.clock, out)?;
+    push_only(&query.only, out)?;
+    push_right(query.held.has(Castle::WhiteShort), Castle::WhiteShort, out)?;
+    push_right(query.held.has(Castle::WhiteLong), Castle::WhiteLong, out)?;
+    push_right(query.held.has(Castle::BlackShort), Castle::BlackShort, out)?;
+    push_right(query.held.has(Castle::BlackLong), Castle::BlackLong, out)?;
+    Ok(())
+}
+
+fn place_initial(place: Option<Man>) -> &'static [u8]
+    ensures { result.now ≡ place_initial place }
+{
+    match place {
+        None => b"",
+        Some(man) => initial(man.kind),
+    }
+}
+
+fn mover_initial(place: Option<Man>, promo: Option<Kind>) -> &'static [u8]
+    ensures { result.now ≡ mover_initial place promo }
+{
+    match promo {
+        None => place_initial(place),
+        Some(_) => b"",
+    }
+}
+
+fn push_became(promo: Option<Kind>, out: &mut Vec<u8>) -> Result<(), AllocError>
+    ensures { IfOk result (λ _. out.new.items ≡ out.old.items ++ became promo) }
+{
+    if let Some(kind) = promo {
+        say(b"=", out)?;
+        say(initial(kind), out)?;
+    }
+    Ok(())
+}
+
+/// A move that led to this board, in long notation, with this sign between its squares.
+pub(crate) fn push_move(
+    board: &Board,
+    m: &Move,
+    sign: u8,
+    out: &mut Vec<u8>,
+) -> Result<(), AllocError>
+    ensures { IfOk result (λ _. out.new.items ≡ out.old.items ++ move_words board.now m.now sign) }
+{
+    say(mover_initial(board.at(m.to), m.promo), out)?;
+    push_square(m.from, out)?;
+    out.push(sign)?;
+    push_square(m.to, out)?;
+    push_became(m.promo, out)?;
+    Ok(())
+}
+
+fn push_last(board: &Board, m: &Move, out: &mut Vec<u8>) -> Result<(), AllocError>
+    ensures { IfOk result (λ _. out.new.items ≡ out.old.items ++ (codes "the last move was " ++ move_words board.now m.now 45)) }
+{
+    say(b"the last move was ", out)?;
+    push_move(board, m, b'-', out)?;
+    Ok(())
+}
+
+fn push_lost(castle: Castle, out: &mut Vec<u8>) -> Result<(), AllocError>
+    ensures { IfOk result (λ _. out.new.items ≡ out.old.items ++ lost_words castle) }
+{
+    say(side_word(castle.side()), out)?;
+    say(b" has lost the right to castle on the ", out)?;
+    say(wing_word(castle), out)?;
+    say(b" side", out)?;
+    Ok(())
+}
+
+fn push_legal(m: &Move, out: &mut Vec<u8>) -> Result<(), AllocError>
+    ensures { IfOk result (λ _. out.new.items ≡ out.old.items ++ legal_words m.now) }
+{
+    say(b"the capture ", out)?;
+    push_square(m.from, out)?;
+    say(b"x", out)?;
+    push_square(m.to, out)?;
+    say(b" en passant is legal", out)?;
+    Ok(())
+}
+
+/// What is claimed, in words.
+fn push_claim(claim: &Claim, query: &Query, out: &mut Vec<u8>) -> Result<(), AllocError>
+    ensures { IfOk result (λ _. out.new.items ≡ out.old.items ++ claim_words claim.now query.now) }
+{
+    match claim {
+        Claim::Illegal => say(b"no game leads to this diagram", out),
+        Claim::Last(m) => push_last(&query.board, m, out),
+        Claim::Lost(castle) => push_lost(*castle, out),
+        Claim::Ep(m) => push_legal(m, out),
+    }
+}
+
+fn push_not(d: &Move, out: &mut Vec<u8>) -> Result<(), AllocError>
+    ensures { IfOk result (λ _. out.new.items ≡ out.old.items ++ not_words d.now) }
+{
+    say(b"the last move was not ", out)?;
+    push_square(d.from, out)?;
+    say(b"-", out)?;
+    push_square(d.to, out)?;
+    Ok(())
+}
+
+fn push_other(double: Option<Move>, out: &mut Vec<u8>) -> Result<(), AllocError>
+    ensures { IfOk result (λ _. out.new.items ≡ out.old.items ++ other_words double) }
+{
+    match double {
+        None => say(b"a game leads to the diagram", out),
+        Some(d) => push_not(&d, out),
+    }
+}
+
+fn push_other_than(query: &Query, m: &Move, out: &mut Vec<u8>) -> Result<(), AllocError>
+    ensures { IfOk result (λ _. out.new.items ≡ out.old.items ++ supposed_words (Claim.Ep m.now) query.now) }
+{
+    if ep_fits(&query.board, query.turn, m) {
+        push_other(double_of(m, query.turn), out)
+    } else {
+        say(b"a game leads to the diagram", out)
+    }
+}
+
+/// What is supposed against the claim, in words.
+fn push_supposed(claim: &Claim, query: &Query, out: &mut Vec<u8>) -> Result<(), AllocError>
+    ensures { IfOk result (λ _. out.new.items ≡ out.old.items ++ supposed_words claim.now query.now) }
+{
+    match claim {
+        Claim::Illegal => say(b"a game leads to it", out),
+        Claim::Last(_) => say(b"the last move was another", out),
+        Claim::Lost(castle) => push_unmoved(*castle, out),
+        Claim::Ep(m) => push_other_than(query, m, out),
+    }
+}
+
+fn push_position(query: &Query, out: &mut Vec<u8>) -> Result<(), AllocError>
+    ensures { IfOk result (λ _. out.new.items ≡ out.old.items ++ diagram_text query.now.board query.now.turn) }
+{
+    push_diagram(&query.board, query.turn, out)
+}
+
+/// The diagram, what is given, the claim and what is supposed.
+pub(crate) fn push_opening(
+    claim: &Claim,
+    query: &Query,
+    out: &mut Vec<u8>,
+) -> Result<(), AllocError>
+    ensures { IfOk result (λ _. out.new.items ≡ out.old.items ++ opening_text claim.now query.now) }
+{
+    push_position(query, out)?;
+    push_givens(query, out)?;
+    say(b"Claim: ", out)?;
+    push_claim(claim, query, out)?;
+    say(b".\n", out)?;
+    say(b"Suppose that ", out)?;
+    push_supposed(claim, query, out)?;
+    say(b".\n", out)?;
+    Ok(())
+}
+
+/// The last line, which states the claim again.
+pub(crate) fn push_closing(
+    claim: &Claim,
+    query: &Query,
+    out: &mut Vec<u8>,
+) -> Result<(), AllocError>
+    ensures { IfOk result (λ _. out.new.items ≡ out.old.items ++ closing_text claim.now query.now) }
+{
+    say(b"So ", out)?;
+    push_claim(claim, query, out)?;
+    say(b". QED\n", out)?;
+    Ok(())
+}

@@ -1,0 +1,224 @@
+//! The nodes of a certificate's tree, one after another.
+
+ghost use Rattle.std.specs.Prelude.{List, [], ◌≡◌, ◌++◌, ◌∷◌, IfOk};
+ghost use Rattle.std.specs.List.{All};
+ghost use Rattle.cert_checker.specs.Proving.{Proves, ProvesClaim, ProvesEach};
+ghost use Rattle.cert_text.specs.Seen.{tree_of};
+ghost use Rattle.cert_text.specs.SeenCert.{cert_of};
+ghost use Rattle.query_base.specs.Asked.{Asked};
+ghost use Rattle.query_base.specs.Targets.{target};
+ghost use Rattle.proof_prose.specs.Nodes.{below, kid_nodes, line_of, nodes_from, nodes_of, own_node, prefix_below};
+ghost use Rattle.proof_prose.specs.Standing.{Stands};
+ghost use Rattle.unmove_gen.specs.Listed.{unmoves};
+
+use crate::numbers::push_number;
+use board_base::Unmove;
+use cert_text::{Body, Cert, Kids, Node, Reason};
+use ep_history::{double_of, ep_fits};
+use prose_words::say;
+use query_base::{Claim, Query};
+use std::alloc::{AllocError, Global};
+use std::marker::Model;
+use unmove_gen::pred;
+
+/// What stands before the last part of a node's number, as `1.2.` of `1.2.3`. Contracts see it as its letters.
+#[derive(Drop)]
+pub struct Prefix {
+    text: Vec<u8>,
+}
+
+impl Model for Prefix {
+    ghost use Rattle.std.specs.Prelude.{List, ℕ};
+
+    ghost Value = { List ℕ };
+
+    ghost view = { λ p. p.text.items };
+}
+
+/// Why no game reaches the query of a node, without its children.
+#[derive(Clone, Copy)]
+pub enum Line {
+    /// The reason supports it.
+    Because(Reason),
+    /// The query so many nodes above asks no more.
+    Back(u8),
+    /// It has so many retractions.
+    Moves(usize),
+}
+
+/// A node of a certificate's tree with what it takes to tell it.
+#[derive(Drop)]
+pub struct Told {
+    /// What stands before the last part of its number.
+    pub prefix: Prefix,
+    /// The last part of its number: its place among the children of one node, from 1 on; 0 at the root.
+    pub place: usize,
+    /// The retraction that leads to it, or None at the root.
+    pub label: Option<Unmove>,
+    /// The query from which the retraction leads; at the root its own.
+    pub whence: Query,
+    /// What it speaks of.
+    pub query: Query,
+    /// Why no game reaches that.
+    pub line: Line,
+}
+
+impl Prefix {
+    /// What stands before the last part of the number.
+    pub(crate) fn text(&self) -> &[u8]
+        ensures { result.now ≡ self.now }
+    {
+        self.text.as_slice()
+    }
+}
+
+fn prefix_of(alloc: Global, text: &[u8]) -> Result<Prefix, AllocError>
+    ensures { IfOk result (λ p. p ≡ text.now) }
+{
+    let mut own = Vec::new(alloc);
+    say(text, &mut own)?;
+    Ok(Prefix { text: own })
+}
+
+fn line_of(node: &Node) -> Line
+    ensures { result ≡ line_of (tree_of node.now) }
+{
+    match &node.body {
+        Body::Rule(reason) => Line::Because(*reason),
+        Body::Back(steps) => Line::Back(*steps),
+        Body::Expand(kids) => Line::Moves(kids.len()),
+    }
+}
+
+/// What stands before the numbers of the children of the node with this number.
+fn prefix_below(alloc: Global, prefix: &[u8], place: usize) -> Result<Vec<u8>, AllocError>
+    ensures { IfOk result (λ v. v.items ≡ prefix_below prefix.now place) }
+{
+    let mut own = Vec::new(alloc);
+    say(prefix, &mut own)?;
+    push_number(place, &mut own)?;
+    say(b".", &mut own)?;
+    Ok(own)
+}
+
+/// Puts the child of a node after the others.
+fn push_own(
+    alloc: Global,
+    whence: &Query,
+    query: &Query,
+    node: &Node,
+    label: &Unmove,
+    prefix: &[u8],
+    place: usize,
+    out: &mut Vec<Told>,
+) -> Result<(), AllocError>
+    ensures { IfOk result (λ _. out.new.items ≡ out.old.items ++ own_node prefix.now place label.now whence.now query.now (tree_of node.now) ∷ []) }
+{
+    let told = Told {
+        prefix: prefix_of(alloc, prefix)?,
+        place,
+        label: Some(*label),
+        whence: *whence,
+        query: *query,
+        line: line_of(node),
+    };
+    out.push(told)?;
+    Ok(())
+}
+
+/// Puts the nodes below this one after the others.
+#[cycle(listing)]
+fn push_below(
+    alloc: Global,
+    query: &Query,
+    node: &Node,
+    prefix: &[u8],
+    out: &mut Vec<Told>,
+) -> Result<(), AllocError>
+    requires { (above : List Asked) × Proves (tree_of node.now) query.now above }
+    ensures { IfOk result (λ _. out.new.items ≡ out.old.items ++ below prefix.now query.now (tree_of node.now)) }
+{
+    match &node.body {
+        Body::Rule(_) | Body::Back(_) => Ok(()),
+        Body::Expand(kids) => push_kids(alloc, query, kids, prefix, out),
+    }
+}
+
+/// Puts the children of a node, each with the nodes below it, after the others.
+#[cycle(listing)]
+fn push_kids(
+    alloc: Global,
+    query: &Query,
+    kids: &Kids,
+    prefix: &[u8],
+    out: &mut Vec<Told>,
+) -> Result<(), AllocError>
+    requires { (above : List Asked) × ProvesEach kids.now query.now (unmoves query.now) above }
+    ensures { IfOk result (λ _. out.new.items ≡ out.old.items ++ kid_nodes prefix.now query.now 1 kids.now) }
+{
+    for i in 0..kids.len() {
+        let kid = kids.get(i).unwrap();
+        let next = pred(query, &kid.label);
+        push_own(
+            alloc,
+            query,
+            &next,
+            &kid.node,
+            &kid.label,
+            prefix,
+            i + 1,
+            out,
+        )?;
+        let own = prefix_below(alloc, prefix, i + 1)?;
+        push_below(alloc, &next, &kid.node, own.as_slice(), out)?;
+    }
+    Ok(())
+}
+
+/// What a game that contradicts the claim reaches.
+fn aim_of(query: &Query, claim: &Claim) -> Query
+    ensures { result ≡ target query.now claim.now }
+{
+    let mut aim = *query;
+    match claim {
+        Claim::Illegal => {}
+        Claim::Last(m) => aim.barred = Some(*m),
+        Claim::Lost(castle) => aim.held = query.held.with(*castle),
+        Claim::Ep(m) => {
+            if ep_fits(&query.board, query.turn, m) {
+                aim.barred = double_of(m, query.turn);
+            }
+        }
+    }
+    aim
+}
+
+/// The root and the nodes below it.
+fn listed(alloc: Global, query: &Query, root: &Node) -> Result<Vec<Told>, AllocError>
+    requires { Proves (tree_of root.now) query.now [] }
+    ensures { IfOk result (λ v. v.items ≡ nodes_from query.now (tree_of root.now)) }
+{
+    let mut nodes = Vec::new(alloc);
+    let told = Told {
+        prefix: prefix_of(alloc, b"")?,
+        place: 0,
+        label: None,
+        whence: *query,
+        query: *query,
+        line: line_of(root),
+    };
+    nodes.push(told)?;
+    push_below(alloc, query, root, b"", &mut nodes)?;
+    Ok(nodes)
+}
+
+/// The nodes of a certificate's tree in preorder.
+pub(crate) fn nodes_of(alloc: Global, cert: &Cert) -> Result<Vec<Told>, AllocError>
+    requires { ProvesClaim (cert_of cert.now) }
+    ensures nodes { IfOk result (λ v. v.items ≡ nodes_of (cert_of cert.now)) }
+    ensures stand { IfOk result (λ v. All Stands v.items) }
+{
+    let aim = aim_of(&cert.query, &cert.claim);
+    let nodes = listed(alloc, &aim, &cert.root)?;
+    Ok(nodes)
+}

@@ -1,0 +1,268 @@
+//! The sentences of a reason that supports a query.
+
+ghost use Rattle.std.specs.Prelude.{◌≡◌, ◌-◌, ◌≤◌, ◌∷◌, [], length, IfOk, IfSome, IsSome, IsTrue, List};
+ghost use Rattle.board_base.specs.Board.{array_of, at, is_in, opponent};
+ghost use Rattle.balance_rule.specs.Balance.{BalanceSupports};
+ghost use Rattle.cert_checker.specs.Reasons.{ReasonSupports};
+ghost use Rattle.men_account.specs.Account.{is_any};
+ghost use Rattle.men_account.specs.Homes.{men_of};
+ghost use Rattle.pawn_assign.specs.PawnCosts.{pawn_squares};
+ghost use Rattle.static_rules.specs.SetRules.{CapsSupports, FrozenSupports, PromoSupports};
+ghost use Rattle.static_rules.specs.Supports.{Supports};
+ghost use Rattle.proof_prose.specs.Lessened.{is_changed};
+ghost use Rattle.proof_prose.specs.Reasons.{Adds, AddsReason, AddsRule, IsWayOf};
+ghost use Rattle.proof_prose.specs.Sentences.{NeverMoved, Says};
+
+use crate::lessening::lessened;
+use crate::pawns::men_of;
+use crate::sentences::Sentence;
+use crate::squares::{king_in_check, pawn_on_end};
+use crate::telling::push_sentence;
+use balance_rule::side_cost;
+use board_base::{Colour, Potentials, Square, SquareSet, array_of};
+use cage_rules::is_same_place;
+use capture_prices::Prices;
+use cert_text::Reason;
+use men_account::{allowance, counts, excess};
+use pawn_assign::{costs, least};
+use query_base::{Query, RuleLine};
+use std::alloc::{AllocError, Global};
+
+/// Whether the square is one of the set, and doesn't hold what it held in the beginning.
+fn is_changed(query: &Query, set: SquareSet, s: Square) -> bool
+    ensures { result ≡ is_changed query.now.odds query.now.board set s }
+{
+    set.has(s) && !is_same_place(query.board.at(s), array_of(query.odds).at(s))
+}
+
+/// The first square of the set that doesn't hold what it held in the beginning.
+fn changed_square(query: &Query, set: SquareSet) -> Option<Square>
+    requires { FrozenSupports query.now.odds query.now set }
+    ensures some { IsSome result }
+    ensures changed { IfSome result (λ s. IsTrue (is_in set s) × (at query.now.board s ≡ at (array_of query.now.odds) s → ⊥)) }
+{
+    for i in 0..64 {
+        let s = Square::known(i);
+        if is_changed(query, set, s) {
+            return Some(s);
+        }
+    }
+    None
+}
+
+/// With how few captures the side's pawns, at most eight, came to where they stand.
+fn way_of(query: &Query, side: Colour) -> Option<Sentence>
+    ensures says { IfSome result (λ s. Says s query.now) }
+    ensures shape { IfSome result (IsWayOf side) }
+    ensures some { length (pawn_squares side query.now.board) ≤ 8 → IsSome result }
+{
+    match costs(&query.board, side, query.odds) {
+        Some(costs) => {
+            let least = least(&costs);
+            Some(Sentence::Way(side, least.cost, least.files))
+        }
+        None => None,
+    }
+}
+
+/// How many men the side lacks.
+fn missing_of(query: &Query, side: Colour) -> u8
+    ensures { result ≡ men_of side is_any (array_of query.now.odds) - men_of side is_any query.now.board }
+{
+    men_of(&array_of(query.odds), side).saturating_sub(men_of(&query.board, side))
+}
+
+/// Who shut each other in, and which of them can't have begun there.
+fn push_frozen(
+    alloc: Global,
+    query: &Query,
+    set: SquareSet,
+    out: &mut Vec<u8>,
+) -> Result<(), AllocError>
+    requires { FrozenSupports query.now.odds query.now set }
+    ensures { IfOk result (λ _. AddsRule query.now (RuleLine.Frozen set) out.old.items out.new.items) }
+{
+    let odd = changed_square(query, set).unwrap();
+    push_sentence(alloc, query, &Sentence::Caged(set), out)?;
+    push_sentence(alloc, query, &Sentence::Changed(set, odd), out)?;
+    Ok(())
+}
+
+/// Who never moved, whose officers were captured meanwhile, and how many men were promoted.
+fn push_promo(
+    alloc: Global,
+    query: &Query,
+    side: Colour,
+    set: SquareSet,
+    out: &mut Vec<u8>,
+) -> Result<(), AllocError>
+    requires { PromoSupports query.now.odds query.now side set }
+    ensures { IfOk result (λ _. AddsRule query.now (RuleLine.Promo side set) out.old.items out.new.items) }
+{
+    let pawns = counts(&query.board, side).pawns;
+    let began = allowance(side, query.odds).pawns;
+    push_sentence(alloc, query, &Sentence::Settled(set), out)?;
+    push_sentence(alloc, query, &Sentence::Gone(side, set), out)?;
+    push_sentence(
+        alloc,
+        query,
+        &Sentence::Promoted(side, set, pawns, began),
+        out,
+    )?;
+    Ok(())
+}
+
+/// Who never moved, how many captures the side's pawns made, and how many men the other side lacks.
+fn push_caps(
+    alloc: Global,
+    query: &Query,
+    side: Colour,
+    set: SquareSet,
+    p: &Potentials,
+    out: &mut Vec<u8>,
+) -> Result<(), AllocError>
+    requires { CapsSupports query.now.odds query.now side set p.now.u p.now.v }
+    ensures { IfOk result (λ _. AddsRule query.now (RuleLine.Caps side set p.now) out.old.items out.new.items) }
+{
+    let way = way_of(query, side).unwrap();
+    let other = side.other();
+    let missing = missing_of(query, other);
+    push_sentence(alloc, query, &Sentence::Settled(set), out)?;
+    push_sentence(alloc, query, &way, out)?;
+    push_sentence(alloc, query, &Sentence::Lacks(other, set, missing), out)?;
+    Ok(())
+}
+
+/// Who never moved, what captures cost, and what the men of both sides cost.
+fn push_balance(
+    alloc: Global,
+    query: &Query,
+    set: SquareSet,
+    prices: &Prices,
+    out: &mut Vec<u8>,
+) -> Result<(), AllocError>
+    requires { BalanceSupports query.now set prices.now }
+    ensures { IfOk result (λ _. AddsReason query.now (Reason.Balance set prices.now) out.old.items out.new.items) }
+{
+    let white = side_cost(query, set, prices, Colour::White).unwrap();
+    let black = side_cost(query, set, prices, Colour::Black).unwrap();
+    push_sentence(alloc, query, &Sentence::Settled(set), out)?;
+    push_sentence(alloc, query, &Sentence::Priced(set, *prices), out)?;
+    push_sentence(
+        alloc,
+        query,
+        &Sentence::Balanced(set, *prices, white, black),
+        out,
+    )?;
+    Ok(())
+}
+
+/// A sentence alone.
+pub(crate) fn push_one(
+    alloc: Global,
+    query: &Query,
+    sentence: &Sentence,
+    out: &mut Vec<u8>,
+) -> Result<(), AllocError>
+    requires { Says sentence.now query.now }
+    ensures { IfOk result (λ _. Adds query.now (sentence.now ∷ []) out.old.items out.new.items) }
+{
+    push_sentence(alloc, query, sentence, out)?;
+    Ok(())
+}
+
+/// How many pawns and promoted men the side has, and with how many pawns it began.
+fn push_side(
+    alloc: Global,
+    query: &Query,
+    side: Colour,
+    out: &mut Vec<u8>,
+) -> Result<(), AllocError>
+    requires { Supports query.now (RuleLine.Count side) }
+    ensures { IfOk result (λ _. AddsRule query.now (RuleLine.Count side) out.old.items out.new.items) }
+{
+    let men = counts(&query.board, side);
+    let allowed = allowance(side, query.odds);
+    let together = excess(&men, &allowed);
+    push_sentence(
+        alloc,
+        query,
+        &Sentence::Count(side, men.pawns, together, allowed.pawns),
+        out,
+    )?;
+    Ok(())
+}
+
+/// Where a pawn stands that can't stand there.
+fn push_ranks(alloc: Global, query: &Query, out: &mut Vec<u8>) -> Result<(), AllocError>
+    requires { Supports query.now RuleLine.Ranks }
+    ensures { IfOk result (λ _. AddsRule query.now RuleLine.Ranks out.old.items out.new.items) }
+{
+    let s = pawn_on_end(&query.board).unwrap();
+    push_sentence(alloc, query, &Sentence::Ranks(s), out)?;
+    Ok(())
+}
+
+/// Which king stands in check.
+fn push_attacked(alloc: Global, query: &Query, out: &mut Vec<u8>) -> Result<(), AllocError>
+    requires { Supports query.now RuleLine.Check }
+    ensures { IfOk result (λ _. AddsRule query.now RuleLine.Check out.old.items out.new.items) }
+{
+    let side = query.turn.other();
+    let s = king_in_check(&query.board, side).unwrap();
+    push_sentence(alloc, query, &Sentence::Check(side, s), out)?;
+    Ok(())
+}
+
+/// Why the rule line supports the query.
+fn push_rule(
+    alloc: Global,
+    query: &Query,
+    rule: &RuleLine,
+    out: &mut Vec<u8>,
+) -> Result<(), AllocError>
+    requires { Supports query.now rule.now }
+    ensures { IfOk result (λ _. AddsRule query.now rule.now out.old.items out.new.items) }
+{
+    match rule {
+        RuleLine::Kings => push_one(alloc, query, &Sentence::Kings, out),
+        RuleLine::Ranks => push_ranks(alloc, query, out),
+        RuleLine::Check => push_attacked(alloc, query, out),
+        RuleLine::Rights => push_one(alloc, query, &Sentence::Rights, out),
+        RuleLine::Count(side) => push_side(alloc, query, *side, out),
+        RuleLine::Frozen(set) => push_frozen(alloc, query, *set, out),
+        RuleLine::Promo(side, set) => push_promo(alloc, query, *side, *set, out),
+        RuleLine::Caps(side, set, p) => push_caps(alloc, query, *side, *set, p, out),
+    }
+}
+
+/// The same of any reason.
+fn push_supported(
+    alloc: Global,
+    query: &Query,
+    reason: &Reason,
+    out: &mut Vec<u8>,
+) -> Result<(), AllocError>
+    requires { ReasonSupports query.now reason.now }
+    ensures { IfOk result (λ _. AddsReason query.now reason.now out.old.items out.new.items) }
+{
+    match reason {
+        Reason::Line(rule) => push_rule(alloc, query, rule, out),
+        Reason::Balance(set, prices) => push_balance(alloc, query, *set, prices, out),
+    }
+}
+
+/// Why the reason supports the query, with the least set that it needs.
+pub(crate) fn push_reason(
+    alloc: Global,
+    query: &Query,
+    reason: &Reason,
+    out: &mut Vec<u8>,
+) -> Result<(), AllocError>
+    requires { ReasonSupports query.now reason.now }
+    ensures { IfOk result (λ _. AddsReason query.now reason.now out.old.items out.new.items) }
+{
+    let least = lessened(query, reason);
+    push_supported(alloc, query, &least, out)?;
+    Ok(())
+}

@@ -1,0 +1,42 @@
+use arrayvec::ArrayVec;
+use board_base::{Colour, Square, SquareSet};
+use capture_prices::Prices;
+
+/// A sentence that tells why no game reaches a query, or a part of that.
+#[derive(Drop)]
+pub enum Sentence {
+    /// Not each side has exactly one king.
+    Kings,
+    /// A pawn stands on this square of rank 1 or 8.
+    Ranks(Square),
+    /// The king of this side, which isn't to move, stands in check on this square.
+    Check(Colour, Square),
+    /// A king or a rook that never moved isn't at home.
+    Rights,
+    /// The side has so many pawns, with the men who must have been promoted so many, and began with so many pawns.
+    Count(Colour, u8, u16, u8),
+    /// The men on these squares shut each other in.
+    Caged(SquareSet),
+    /// The square of the set doesn't hold what it held in the beginning.
+    Changed(SquareSet, Square),
+    /// The men on these squares never moved.
+    Settled(SquareSet),
+    /// While the men on these squares stood, some officers of the side were captured.
+    Gone(Colour, SquareSet),
+    /// So the side has so many pawns, and with the promoted men more than the pawns with which it began.
+    Promoted(Colour, SquareSet, u8, u8),
+    /// The side's pawns have made so many captures at least, as many as where they began on these files.
+    Way(Colour, u16, ArrayVec<u8, 8>),
+    /// The side lacks so many men, and no pawn took some of them.
+    Lacks(Colour, SquareSet, u8),
+    /// What a capture by a pawn of the side costs, and a pawn that treads a square and never captures.
+    Priced(SquareSet, Prices),
+    /// At these prices, while the men on these squares stood, the men of both sides cost so much at least, 96 for each man included.
+    Balanced(SquareSet, Prices, u32, u32),
+    /// The position stood so many half-moves later too, with no more demands.
+    Back(u8),
+    /// The side that moved last has no move that can have been the last; whether the query is the first that is told.
+    Still(bool),
+    /// The side that moved last has several; whether the query is the first that is told.
+    Moved(bool),
+}

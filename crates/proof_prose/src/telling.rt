@@ -1,0 +1,671 @@
+//! The words of sentences.
+
+ghost use Rattle.std.specs.Prelude.{ℕ, ◌≡◌, [], ◌∷◌, ◌++◌, ◌-◌, ◌+◌, ◌*◌, ◌<◌, ◌≤◌, ◌^◌, IfOk, List, codes, cond, drop, length, slice_index, ◌==◌};
+ghost use Rattle.std.specs.List.{All, flat_map, range_with_len};
+ghost use Rattle.std.specs.Fmt.{decimal};
+ghost use Rattle.board_base.specs.Board.{array_of, is_in, opponent};
+ghost use Rattle.assignment.specs.Assignments.{IsInjection};
+ghost use Rattle.pawn_assign.specs.PawnCosts.{pawn_costs, pawn_home, pawn_squares};
+ghost use Rattle.proof_prose.specs.Sentences.{Says, around, back_words, barred_words, balanced_words, caged_words, captures_words, check_words, class_words, count_words, counted, difference_words, end_words, gate_words, gates_words, gone_words, is_gone, is_safe, lacks_words, missing_words, moved_words, net_words, pawn_words, priced_words, price_words, prices_words, settled_words, shut_words, some_words, still_words, stood_words, unmoved_men, way_words, ways_words, words_of};
+ghost use Rattle.prose_words.specs.Words.{side_word, squares_words};
+
+use crate::numbers::push_number;
+use crate::pawns::pawn_squares;
+use crate::sentences::Sentence;
+use balance_rule::begun_with;
+use board_base::{Colour, Odds, Square, SquareSet, array_of, is_of};
+use cage_rules::{is_dead, is_officer_home, is_shielded};
+use capture_prices::{Gate, Prices};
+use pawn_assign::{Costs, costs};
+use prose_words::{push_man, push_square, push_square_if, push_squares, say, side_word};
+use query_base::Query;
+use retraction_bars::push_bars;
+use std::alloc::{AllocError, Global};
+
+/// Nothing where there is no list, else the list with what stands around it.
+fn push_around(front: &[u8], list: &[u8], back: &[u8], out: &mut Vec<u8>) -> Result<(), AllocError>
+    ensures { IfOk result (λ _. out.new.items ≡ out.old.items ++ around front.now list.now back.now) }
+{
+    if list.len() == 0 {
+        return Ok(());
+    }
+    say(front, out)?;
+    say(list, out)?;
+    say(back, out)?;
+    Ok(())
+}
+
+fn is_gone(query: &Query, side: Colour, set: SquareSet, s: Square) -> bool
+    ensures { result ≡ is_gone query.now side set s }
+{
+    is_of(side, array_of(query.odds).at(s)) && is_officer_home(s) && is_dead(&query.board, set, s)
+}
+
+fn is_safe(query: &Query, side: Colour, set: SquareSet, s: Square) -> bool
+    ensures { result ≡ is_safe query.now side set s }
+{
+    is_of(side, array_of(query.odds).at(s))
+        && is_officer_home(s)
+        && is_dead(&query.board, set, s)
+        && is_shielded(set, s)
+}
+
+/// The homes of the side's officers of whom nobody is left, while the set stood.
+fn gone_squares(
+    alloc: Global,
+    query: &Query,
+    side: Colour,
+    set: SquareSet,
+) -> Result<Vec<u8>, AllocError>
+    ensures { IfOk result (λ v. v.items ≡ squares_words (is_gone query.now side set)) }
+{
+    let mut list = Vec::new(alloc);
+    for i in 0..64 {
+        let s = Square::known(i);
+        push_square_if(is_gone(query, side, set, s), s, &mut list)?;
+    }
+    Ok(list)
+}
+
+/// The homes of the side's officers whom no pawn took, while the set stood.
+fn safe_squares(
+    alloc: Global,
+    query: &Query,
+    side: Colour,
+    set: SquareSet,
+) -> Result<Vec<u8>, AllocError>
+    ensures { IfOk result (λ v. v.items ≡ squares_words (is_safe query.now side set)) }
+{
+    let mut list = Vec::new(alloc);
+    for i in 0..64 {
+        let s = Square::known(i);
+        push_square_if(is_safe(query, side, set, s), s, &mut list)?;
+    }
+    Ok(list)
+}
+
+fn push_either(first: bool, one: &[u8], other: &[u8], out: &mut Vec<u8>) -> Result<(), AllocError>
+    ensures { IfOk result (λ _. out.new.items ≡ out.old.items ++ cond first one.now other.now) }
+{
+    if first {
+        say(one, out)
+    } else {
+        say(other, out)
+    }
+}
+
+/// A number of things, with the word for one or for several.
+fn push_counted(n: usize, one: &[u8], several: &[u8], out: &mut Vec<u8>) -> Result<(), AllocError>
+    ensures { IfOk result (λ _. out.new.items ≡ out.old.items ++ counted n one.now several.now) }
+{
+    push_number(n, out)?;
+    push_either(n == 1, one, several, out)?;
+    Ok(())
+}
+
+/// How many more the first is.
+fn less(n: u16, m: u8) -> u16
+    ensures { result ≡ n - m }
+{
+    n.saturating_sub(m as u16)
+}
+
+fn push_count(
+    side: Colour,
+    pawns: u8,
+    promoted: u16,
+    began: u8,
+    out: &mut Vec<u8>,
+) -> Result<(), AllocError>
+    ensures { IfOk result (λ _. out.new.items ≡ out.old.items ++ count_words side pawns promoted began) }
+{
+    say(side_word(side), out)?;
+    say(b" has ", out)?;
+    push_counted(pawns as usize, b" pawn", b" pawns", out)?;
+    say(b" and at least ", out)?;
+    push_counted(promoted as usize, b" promoted man", b" promoted men", out)?;
+    say(b", but began with ", out)?;
+    push_counted(began as usize, b" pawn", b" pawns", out)?;
+    say(b".", out)?;
+    Ok(())
+}
+
+fn push_way(home: Square, s: Square, out: &mut Vec<u8>) -> Result<(), AllocError>
+    ensures { IfOk result (λ _. out.new.items ≡ out.old.items ++ way_words home s) }
+{
+    if home.index() != s.index() {
+        push_square(home, out)?;
+        say(b"-", out)?;
+    }
+    push_square(s, out)?;
+    Ok(())
+}
+
+fn pawn_home(side: Colour, file: u8) -> Square
+    requires { file < 8 }
+    ensures { result ≡ pawn_home side file }
+{
+    match side {
+        Colour::White => Square::known(8 + file),
+        Colour::Black => Square::known(48 + file),
+    }
+}
+
+/// After a comma, where a pawn came from, and with how many captures.
+fn push_moved_pawn(home: Square, s: Square, cost: u8, out: &mut Vec<u8>) -> Result<(), AllocError>
+    ensures { IfOk result (λ _. out.new.items ≡ out.old.items ++ (codes ", " ++ way_words home s ++ codes " " ++ decimal cost)) }
+{
+    say(b", ", out)?;
+    push_way(home, s, out)?;
+    say(b" ", out)?;
+    push_number(cost as usize, out)?;
+    Ok(())
+}
+
+/// The same, if he captured.
+fn push_pawn(home: Square, s: Square, cost: u8, out: &mut Vec<u8>) -> Result<(), AllocError>
+    ensures { IfOk result (λ _. out.new.items ≡ out.old.items ++ pawn_words home s cost) }
+{
+    if cost == 0 {
+        Ok(())
+    } else {
+        push_moved_pawn(home, s, cost, out)
+    }
+}
+
+/// The ways of the side's pawns from these files, of those who captured.
+fn list_ways(
+    query: &Query,
+    side: Colour,
+    files: &[u8],
+    costs: &Costs,
+    list: &mut Vec<u8>,
+) -> Result<(), AllocError>
+    requires few { length (pawn_squares side query.now.board) ≤ 8 }
+    requires files { IsInjection 8 (length (pawn_squares side query.now.board)) files.now }
+    requires costs { costs.now ≡ pawn_costs query.now.odds side query.now.board }
+    ensures { IfOk result (λ _. list.new.items ≡ list.old.items ++ ways_words query.now side files.now) }
+{
+    let squares = pawn_squares(&query.board, side);
+    for k in 0..squares.len() {
+        let home = pawn_home(side, files[k]);
+        let s = Square::known(squares[k]);
+        push_pawn(home, s, costs.cost(k as u8, files[k]), list)?;
+    }
+    Ok(())
+}
+
+/// The same as a list of its own.
+fn ways_of(alloc: Global, query: &Query, side: Colour, files: &[u8]) -> Result<Vec<u8>, AllocError>
+    requires few { length (pawn_squares side query.now.board) ≤ 8 }
+    requires files { IsInjection 8 (length (pawn_squares side query.now.board)) files.now }
+    ensures { IfOk result (λ v. v.items ≡ ways_words query.now side files.now) }
+{
+    let mut list = Vec::new(alloc);
+    let costs = costs(&query.board, side, query.odds).unwrap();
+    list_ways(query, side, files, &costs, &mut list)?;
+    Ok(list)
+}
+
+/// The list without its first letter.
+fn rest_of(list: &[u8]) -> &[u8]
+    ensures { result.now ≡ drop 1 list.now }
+{
+    if list.len() == 0 { list } else { &list[1..] }
+}
+
+fn push_few(
+    alloc: Global,
+    query: &Query,
+    side: Colour,
+    captures: u16,
+    files: &[u8],
+    out: &mut Vec<u8>,
+) -> Result<(), AllocError>
+    requires few { length (pawn_squares side query.now.board) ≤ 8 }
+    requires files { IsInjection 8 (length (pawn_squares side query.now.board)) files.now }
+    ensures { IfOk result (λ _. out.new.items ≡ out.old.items ++ some_words query.now side captures files.now) }
+{
+    let list = ways_of(alloc, query, side, files)?;
+    say(b"'s pawns have made at least ", out)?;
+    push_counted(captures as usize, b" capture", b" captures", out)?;
+    say(b". A cheapest way:", out)?;
+    say(rest_of(list.as_slice()), out)?;
+    say(b". ", out)?;
+    Ok(())
+}
+
+/// With how many captures the side's pawns came.
+fn push_captures(
+    alloc: Global,
+    query: &Query,
+    side: Colour,
+    captures: u16,
+    files: &[u8],
+    out: &mut Vec<u8>,
+) -> Result<(), AllocError>
+    requires few { length (pawn_squares side query.now.board) ≤ 8 }
+    requires files { IsInjection 8 (length (pawn_squares side query.now.board)) files.now }
+    ensures { IfOk result (λ _. out.new.items ≡ out.old.items ++ captures_words query.now side captures files.now) }
+{
+    if captures == 0 {
+        say(b"'s pawns need not have captured. ", out)
+    } else if captures < 64 {
+        push_few(alloc, query, side, captures, files, out)
+    } else {
+        say(
+            b"'s pawns can't have come there from different files, however much they captured. ",
+            out,
+        )
+    }
+}
+
+fn push_pawns_came(
+    alloc: Global,
+    query: &Query,
+    side: Colour,
+    captures: u16,
+    files: &[u8],
+    out: &mut Vec<u8>,
+) -> Result<(), AllocError>
+    requires few { length (pawn_squares side query.now.board) ≤ 8 }
+    requires files { IsInjection 8 (length (pawn_squares side query.now.board)) files.now }
+    ensures { IfOk result (λ _. out.new.items ≡ out.old.items ++ (side_word side ++ captures_words query.now side captures files.now)) }
+{
+    say(side_word(side), out)?;
+    push_captures(alloc, query, side, captures, files, out)?;
+    Ok(())
+}
+
+fn push_stood(odds: Odds, s: Square, out: &mut Vec<u8>) -> Result<(), AllocError>
+    ensures { IfOk result (λ _. out.new.items ≡ out.old.items ++ stood_words odds s) }
+{
+    say(b"But at the beginning ", out)?;
+    push_man(array_of(odds).at(s), out)?;
+    say(b" stood on ", out)?;
+    push_square(s, out)?;
+    say(b".", out)?;
+    Ok(())
+}
+
+fn push_end(s: Square, out: &mut Vec<u8>) -> Result<(), AllocError>
+    ensures { IfOk result (λ _. out.new.items ≡ out.old.items ++ end_words s) }
+{
+    say(b"A pawn stands on ", out)?;
+    push_square(s, out)?;
+    say(b".", out)?;
+    Ok(())
+}
+
+fn push_check(side: Colour, s: Square, out: &mut Vec<u8>) -> Result<(), AllocError>
+    ensures { IfOk result (λ _. out.new.items ≡ out.old.items ++ check_words side s) }
+{
+    say(side_word(side), out)?;
+    say(b"'s king on ", out)?;
+    push_square(s, out)?;
+    say(b" stands in check with ", out)?;
+    say(side_word(side.other()), out)?;
+    say(b" to move.", out)?;
+    Ok(())
+}
+
+/// That these men shut each other in.
+fn push_shut(list: &[u8], out: &mut Vec<u8>) -> Result<(), AllocError>
+    ensures { IfOk result (λ _. out.new.items ≡ out.old.items ++ shut_words list.now) }
+{
+    if list.len() == 3 {
+        push_around(
+            b"The man on",
+            list,
+            b" can't have come there. So he stood there from the beginning. ",
+            out,
+        )
+    } else {
+        push_around(
+            b"The men on",
+            list,
+            b" shut each other in: none of them can have come to his square while the others stood. So they stood there from the beginning. ",
+            out,
+        )
+    }
+}
+
+fn push_caged(alloc: Global, set: SquareSet, out: &mut Vec<u8>) -> Result<(), AllocError>
+    ensures { IfOk result (λ _. out.new.items ≡ out.old.items ++ caged_words set) }
+{
+    let list = set_squares(alloc, set)?;
+    push_shut(list.as_slice(), out)?;
+    Ok(())
+}
+
+/// The squares of the set, each after a space.
+fn set_squares(alloc: Global, set: SquareSet) -> Result<Vec<u8>, AllocError>
+    ensures { IfOk result (λ v. v.items ≡ squares_words (is_in set)) }
+{
+    let mut list = Vec::new(alloc);
+    push_squares(set, &mut list)?;
+    Ok(list)
+}
+
+/// That these men never moved.
+fn push_unmoved(list: &[u8], out: &mut Vec<u8>) -> Result<(), AllocError>
+    ensures { IfOk result (λ _. out.new.items ≡ out.old.items ++ unmoved_men list.now) }
+{
+    if list.len() == 3 {
+        push_around(b"The man on", list, b" never moved. ", out)
+    } else {
+        push_around(b"The men on", list, b" never moved. ", out)
+    }
+}
+
+fn push_settled(alloc: Global, set: SquareSet, out: &mut Vec<u8>) -> Result<(), AllocError>
+    ensures { IfOk result (λ _. out.new.items ≡ out.old.items ++ settled_words set) }
+{
+    let list = set_squares(alloc, set)?;
+    push_unmoved(list.as_slice(), out)?;
+    Ok(())
+}
+
+fn push_gone(
+    alloc: Global,
+    query: &Query,
+    side: Colour,
+    set: SquareSet,
+    out: &mut Vec<u8>,
+) -> Result<(), AllocError>
+    ensures { IfOk result (λ _. out.new.items ≡ out.old.items ++ gone_words query.now side set) }
+{
+    let list = gone_squares(alloc, query, side, set)?;
+    push_around(
+        b"Whoever began on",
+        list.as_slice(),
+        b" was captured. ",
+        out,
+    )?;
+    Ok(())
+}
+
+fn push_men(n: u8, out: &mut Vec<u8>) -> Result<(), AllocError>
+    ensures { IfOk result (λ _. out.new.items ≡ out.old.items ++ cond (n == 0) (codes "nobody") (counted n (codes " man") (codes " men"))) }
+{
+    if n == 0 {
+        say(b"nobody", out)
+    } else {
+        push_counted(n as usize, b" man", b" men", out)
+    }
+}
+
+fn push_missing(side: Colour, missing: u8, out: &mut Vec<u8>) -> Result<(), AllocError>
+    ensures { IfOk result (λ _. out.new.items ≡ out.old.items ++ missing_words side missing) }
+{
+    say(side_word(side), out)?;
+    say(b" lacks ", out)?;
+    push_men(missing, out)?;
+    Ok(())
+}
+
+fn push_lacks(
+    alloc: Global,
+    query: &Query,
+    side: Colour,
+    set: SquareSet,
+    missing: u8,
+    out: &mut Vec<u8>,
+) -> Result<(), AllocError>
+    ensures { IfOk result (λ _. out.new.items ≡ out.old.items ++ lacks_words query.now side set missing) }
+{
+    let list = safe_squares(alloc, query, side, set)?;
+    push_missing(side, missing, out)?;
+    push_around(
+        b", but no pawn can have taken whoever began on",
+        list.as_slice(),
+        b"",
+        out,
+    )?;
+    say(b".", out)?;
+    Ok(())
+}
+
+/// What a capture on the squares of a class costs.
+fn push_class_price(k: u8, price: u8, out: &mut Vec<u8>) -> Result<(), AllocError>
+    requires { k < 16 }
+    ensures { IfOk result (λ _. out.new.items ≡ out.old.items ++ class_words price k) }
+{
+    say(b" ", out)?;
+    push_number(price as usize, out)?;
+    say(b" on ", out)?;
+    out.push(b'a' + k / 2)?;
+    push_either(k % 2 == 0, b" dark", b" light", out)?;
+    Ok(())
+}
+
+/// The same, where that isn't the usual price.
+fn push_price(k: u8, price: u8, usual: u8, out: &mut Vec<u8>) -> Result<(), AllocError>
+    requires { k < 16 }
+    ensures { IfOk result (λ _. out.new.items ≡ out.old.items ++ cond (price == usual) [] (class_words price k)) }
+{
+    if price == usual {
+        Ok(())
+    } else {
+        push_class_price(k, price, out)
+    }
+}
+
+/// The prices that aren't the usual one.
+fn unusual_prices(alloc: Global, prices: &[u8; 16], usual: u8) -> Result<Vec<u8>, AllocError>
+    ensures { IfOk result (λ v. v.items ≡ flat_map (price_words usual prices.now) (range_with_len 0 16)) }
+{
+    let mut list = Vec::new(alloc);
+    for k in 0..16 {
+        push_price(k, prices[k as usize], usual, &mut list)?;
+    }
+    Ok(list)
+}
+
+/// What a side's pawns pay for a capture.
+fn push_prices(alloc: Global, prices: &[u8; 16], out: &mut Vec<u8>) -> Result<(), AllocError>
+    ensures { IfOk result (λ _. out.new.items ≡ out.old.items ++ prices_words (slice_index prices.now 15) prices.now) }
+{
+    let usual = prices[15];
+    let list = unusual_prices(alloc, prices, usual)?;
+    say(b" ", out)?;
+    push_number(usual as usize, out)?;
+    push_around(b" (but", list.as_slice(), b")", out)?;
+    Ok(())
+}
+
+fn push_gate(gate: &Gate, out: &mut Vec<u8>) -> Result<(), AllocError>
+    requires { gate.now.square < 64 }
+    ensures { IfOk result (λ _. out.new.items ≡ out.old.items ++ gate_words gate.now) }
+{
+    say(b" ", out)?;
+    push_number(gate.toll as usize, out)?;
+    say(b" on ", out)?;
+    push_square(Square::known(gate.square), out)?;
+    Ok(())
+}
+
+/// The tolls of all gates.
+fn tolls_of(alloc: Global, gates: &[Gate]) -> Result<Vec<u8>, AllocError>
+    requires { All (λ g. g.square < 64) gates.now }
+    ensures { IfOk result (λ v. v.items ≡ flat_map gate_words gates.now) }
+{
+    let mut list = Vec::new(alloc);
+    for gate in gates {
+        push_gate(gate, &mut list)?;
+    }
+    Ok(list)
+}
+
+/// What a pawn that never captures pays for the squares that it treads.
+fn push_gates(alloc: Global, prices: &Prices, out: &mut Vec<u8>) -> Result<(), AllocError>
+    ensures { IfOk result (λ _. out.new.items ≡ out.old.items ++ gates_words prices.now.gates) }
+{
+    let list = tolls_of(alloc, prices.gates())?;
+    push_around(
+        b"A pawn that never captures pays for treading a square, as only one of the two pawns of a file can have:",
+        list.as_slice(),
+        b". ",
+        out,
+    )?;
+    Ok(())
+}
+
+fn push_priced(alloc: Global, prices: &Prices, out: &mut Vec<u8>) -> Result<(), AllocError>
+    ensures { IfOk result (λ _. out.new.items ≡ out.old.items ++ priced_words prices.now) }
+{
+    say(b"Let a capture by a white pawn cost", out)?;
+    push_prices(alloc, prices.takes(Colour::White), out)?;
+    say(b", and one by a black pawn", out)?;
+    push_prices(alloc, prices.takes(Colour::Black), out)?;
+    say(
+        b": the side that captures pays it, and the man who is taken earns it. ",
+        out,
+    )?;
+    push_gates(alloc, prices, out)?;
+    Ok(())
+}
+
+fn push_paid(n: u32, out: &mut Vec<u8>) -> Result<(), AllocError>
+    ensures { IfOk result (λ _. out.new.items ≡ out.old.items ++ (codes "'s men pay at least " ++ decimal n ++ codes " more than they earn")) }
+{
+    say(b"'s men pay at least ", out)?;
+    push_number(n as usize, out)?;
+    say(b" more than they earn", out)?;
+    Ok(())
+}
+
+fn push_earned(n: u32, out: &mut Vec<u8>) -> Result<(), AllocError>
+    ensures { IfOk result (λ _. out.new.items ≡ out.old.items ++ (codes "'s men earn at most " ++ decimal n ++ codes " more than they pay")) }
+{
+    say(b"'s men earn at most ", out)?;
+    push_number(n as usize, out)?;
+    say(b" more than they pay", out)?;
+    Ok(())
+}
+
+/// What is paid more than earned, or the other way round.
+fn push_difference(cost: u32, own: u32, out: &mut Vec<u8>) -> Result<(), AllocError>
+    ensures { IfOk result (λ _. out.new.items ≡ out.old.items ++ difference_words cost own) }
+{
+    if own <= cost {
+        push_paid(cost - own, out)
+    } else {
+        push_earned(own - cost, out)
+    }
+}
+
+/// What the men of a side cost, of whom so many began.
+fn push_net(side: Colour, cost: u32, men: u8, out: &mut Vec<u8>) -> Result<(), AllocError>
+    ensures { IfOk result (λ _. out.new.items ≡ out.old.items ++ net_words side cost men) }
+{
+    say(side_word(side), out)?;
+    push_difference(cost, 96 * u32::from(men), out)?;
+    Ok(())
+}
+
+fn push_balanced(odds: Odds, white: u32, black: u32, out: &mut Vec<u8>) -> Result<(), AllocError>
+    ensures { IfOk result (λ _. out.new.items ≡ out.old.items ++ balanced_words odds white black) }
+{
+    push_net(Colour::White, white, begun_with(Colour::White, odds), out)?;
+    say(b", and ", out)?;
+    push_net(Colour::Black, black, begun_with(Colour::Black, odds), out)?;
+    say(b". But what is paid is what is earned.", out)?;
+    Ok(())
+}
+
+fn push_back(steps: u8, out: &mut Vec<u8>) -> Result<(), AllocError>
+    ensures { IfOk result (λ _. out.new.items ≡ out.old.items ++ back_words steps) }
+{
+    say(b"This is the position of ", out)?;
+    push_counted(steps as usize, b" move", b" moves", out)?;
+    say(
+        b" later again, with no fewer demands; a shortest game doesn't repeat it.",
+        out,
+    )?;
+    Ok(())
+}
+
+/// That nobody of this side can have moved last.
+fn push_still(side: Colour, first: bool, out: &mut Vec<u8>) -> Result<(), AllocError>
+    ensures { IfOk result (λ _. out.new.items ≡ out.old.items ++ still_words side first) }
+{
+    say(side_word(side), out)?;
+    push_either(
+        first,
+        b" moved last, but no man can have.\n",
+        b" has no move before it.\n",
+        out,
+    )?;
+    Ok(())
+}
+
+/// That nobody can have moved last, and man by man why.
+fn push_barred(
+    alloc: Global,
+    query: &Query,
+    first: bool,
+    out: &mut Vec<u8>,
+) -> Result<(), AllocError>
+    ensures { IfOk result (λ _. out.new.items ≡ out.old.items ++ barred_words query.now first) }
+{
+    push_still(query.turn.other(), first, out)?;
+    push_bars(alloc, query, b" ", out)?;
+    Ok(())
+}
+
+fn push_moved(side: Colour, first: bool, out: &mut Vec<u8>) -> Result<(), AllocError>
+    ensures { IfOk result (λ _. out.new.items ≡ out.old.items ++ moved_words side first) }
+{
+    say(side_word(side), out)?;
+    push_either(
+        first,
+        b"'s last move was one of these:",
+        b"'s move before it was one of these:",
+        out,
+    )?;
+    Ok(())
+}
+
+/// The words of a sentence that holds of a query.
+#[tactic(auto, unfolding(crate::specs::Sentences::words_of))]
+pub(crate) fn push_sentence(
+    alloc: Global,
+    query: &Query,
+    sentence: &Sentence,
+    out: &mut Vec<u8>,
+) -> Result<(), AllocError>
+    requires { Says sentence.now query.now }
+    ensures { IfOk result (λ _. out.new.items ≡ out.old.items ++ words_of sentence.now query.now) }
+{
+    match sentence {
+        Sentence::Kings => say(b"Not each side has exactly one king.", out),
+        Sentence::Ranks(s) => push_end(*s, out),
+        Sentence::Check(side, s) => push_check(*side, *s, out),
+        Sentence::Rights => say(
+            b"A king or a rook that never moved isn't on its first square.",
+            out,
+        ),
+        Sentence::Count(side, pawns, together, began) => {
+            push_count(*side, *pawns, less(*together, *pawns), *began, out)
+        }
+        Sentence::Caged(set) => push_caged(alloc, *set, out),
+        Sentence::Changed(_, odd) => push_stood(query.odds, *odd, out),
+        Sentence::Settled(set) => push_settled(alloc, *set, out),
+        Sentence::Gone(side, set) => push_gone(alloc, query, *side, *set, out),
+        Sentence::Promoted(side, _, pawns, began) => {
+            push_count(*side, *pawns, less(*began as u16 + 1, *pawns), *began, out)
+        }
+        Sentence::Way(side, captures, files) => {
+            push_pawns_came(alloc, query, *side, *captures, files.as_slice(), out)
+        }
+        Sentence::Lacks(side, set, missing) => {
+            push_lacks(alloc, query, *side, *set, *missing, out)
+        }
+        Sentence::Priced(_, prices) => push_priced(alloc, prices, out),
+        Sentence::Balanced(_, _, white, black) => push_balanced(query.odds, *white, *black, out),
+        Sentence::Back(steps) => push_back(*steps, out),
+        Sentence::Still(first) => push_barred(alloc, query, *first, out),
+        Sentence::Moved(first) => push_moved(query.turn.other(), *first, out),
+    }
+}
