@@ -1,8 +1,7 @@
 ghost use Rattle.std.specs.Prelude.{◌≡◌, ℕ, ◌<◌, ◌≤◌, List, length, pos, ◌+ℤ◌};
 ghost use Rattle.std.specs.List.{All};
-ghost use Rattle.board_base.specs.Potentials.{IsWithinLimit};
 ghost use Rattle.assignment.specs.Tables.{IsTable};
-ghost use Rattle.assignment.specs.Assignments.{IsBounded, IsInjection, assignment_cost, least_cost, total};
+ghost use Rattle.assignment.specs.Assignments.{IsBounded, IsInjection, IsWithin, assignment_cost, least_cost, total};
 
 use crate::solving::solve_large;
 use arrayvec::ArrayVec;
@@ -45,7 +44,7 @@ fn widened<const W: usize>(costs: &[[u8; W]]) -> ArrayVec<[u16; W], W>
 
 /// The same potentials of rows, which are small.
 fn narrowed<const W: usize>(numbers: &ArrayVec<i16, W>) -> ArrayVec<i8, W>
-    requires { All IsWithinLimit numbers.now.items }
+    requires { All (IsWithin 64) numbers.now.items }
     ensures { result.items ≡ numbers.now.items }
 {
     let mut narrowed = ArrayVec::new();
@@ -57,7 +56,7 @@ fn narrowed<const W: usize>(numbers: &ArrayVec<i16, W>) -> ArrayVec<i8, W>
 
 /// The same potentials of columns, which are small.
 fn narrowed_all<const W: usize>(numbers: &[i16; W]) -> [i8; W]
-    requires { All IsWithinLimit numbers.now }
+    requires { All (IsWithin 64) numbers.now }
     ensures { result ≡ numbers.now }
 {
     let mut narrowed = [0; W];
@@ -75,8 +74,8 @@ pub fn solve<const W: usize>(costs: &[[u8; W]]) -> Solution<W>
     ensures least { result.cost ≡ least_cost W costs.now }
     ensures bounded { IsBounded W costs.now result.u.items result.v }
     ensures reached { (total result.u.items +ℤ total result.v) ≡ pos result.cost }
-    ensures u_within { All IsWithinLimit result.u.items }
-    ensures v_within { All IsWithinLimit result.v }
+    ensures u_within { All (IsWithin 64) result.u.items }
+    ensures v_within { All (IsWithin 64) result.v }
 {
     let solution = solve_large(widened(costs).as_slice());
     Solution {

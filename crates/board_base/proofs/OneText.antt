@@ -1,5 +1,5 @@
 -- What is read as a value is the value's one text.
-use Rattle.std.proofs.Common.{◌≡◌, ℕ, ◌+◌, ◌-◌, ◌*◌, ◌/◌, ◌%◌, ◌≤◌, ◌==◌, Bool, true, false, cond, ◌&&◌, List, [], ◌∷◌, ◌++◌, refl, sym, ap, ◌∙◌, arith, option_map, subst, Option, Some, None, is_none}
+use Rattle.std.proofs.Common.{◌≡◌, ℕ, ◌+◌, ◌-◌, ◌*◌, ◌/◌, ◌%◌, ◌<◌, ◌≤◌, ◌==◌, Bool, true, false, cond, ◌&&◌, List, [], ◌∷◌, ◌++◌, refl, sym, ap, ◌∙◌, arith, option_map, subst, Option, Some, None, is_none}
 use Rattle.std.proofs.lemmas.Bool.{and_parts, cond_both, leb-true, eqb-true}
 use Rattle.std.proofs.lemmas.Option.{cond_some, same_Some}
 use Rattle.std.specs.Prelude.{nat_le}
@@ -42,12 +42,13 @@ taken_letter : (b : ℕ) (k : Kind) → taken_of b ≡ Some k → b ≡ letter_o
 taken_letter b k = cond_both (b == 112) (Some Pawn) (officer_of b) (LetterOf b k) (letter_from b 112 Pawn k refl) (λ n. officer_letter b k)
 
 -- two bytes are the text of a square
-record SquareText (a b s : ℕ) : Type 0 where
+pub record SquareText (a b s : ℕ) : Type 0 where
   pub file : a ≡ 97 + s % 8
   pub rank : b ≡ 49 + s / 8
+  pub on_board : s < 64
 
 -- what is read as a square is its text
-square_text_of : (a b s : ℕ) → square_at a b ≡ Some s → SquareText a b s
+pub square_text_of : (a b s : ℕ) → square_at a b ≡ Some s → SquareText a b s
 square_text_of a b s e =
     let parts = cond_some (nat_le 97 a && nat_le a 104 && nat_le 49 b && nat_le b 56) (8 * (b - 49) + (a - 97)) s e in
     let last = and_parts (nat_le 97 a && nat_le a 104 && nat_le 49 b) (nat_le b 56) parts.0 in
@@ -58,7 +59,7 @@ square_text_of a b s e =
     let rank_low : 49 ≤ b = leb-true 49 b third.1 in
     let rank_high : b ≤ 56 = leb-true b 56 last.1 in
     let number : 8 * (b - 49) + (a - 97) ≡ s = parts.1 in
-    record { file = omega arith; rank = omega arith }
+    record { file = omega arith; rank = omega arith; on_board = omega arith }
 
 -- the texts of two squares, then the rest
 four : (a b c d from to : ℕ) (rest end : List ℕ) → SquareText a b from → SquareText c d to → rest ≡ end → a ∷ b ∷ c ∷ d ∷ rest ≡ (97 + from % 8) ∷ (49 + from / 8) ∷ (97 + to % 8) ∷ (49 + to / 8) ∷ end

@@ -8,7 +8,8 @@ use crate::boards::Board;
 use crate::men::{Colour, Kind, is_the};
 use crate::squares::Square;
 
-fn is_king_attacked(board: &Board, colour: Colour, s: Square) -> bool
+/// Whether a king of this side stands on the square, and the other side attacks it (article 3.9).
+pub fn is_king_attacked(board: &Board, colour: Colour, s: Square) -> bool
     ensures { result ≡ (is_the colour King (at board.now s) && attacks board.now s (opponent colour)) }
 {
     is_the(colour, Kind::King, board.at(s)) && board.attacked(s, colour.other())

@@ -1,7 +1,6 @@
 ghost use Rattle.std.specs.Prelude.{◌≡◌, ◌&&◌, ◌<◌, IsTrue, Some, not};
 ghost use Rattle.board_base.specs.Board.{at, is_in, man};
 ghost use Rattle.board_base.specs.Legal.{is_officer};
-ghost use Rattle.play_rules.specs.Laws.{is_end};
 ghost use Rattle.cage_rules.specs.Regions.{IsLeastClosed, IsLeastFrom, beginner, is_dead, is_exposed, is_like, is_officer_home, is_shielded, region, region_from};
 ghost use Rattle.board_base.specs.declared.men.Kind.TheVariants.{Pawn};
 ghost use Rattle.cage_rules.specs.Sets.{squares_that};
@@ -10,16 +9,10 @@ ghost use Rattle.cage_rules.specs.Steps.{spread};
 use crate::sets::{both, either, is_apart, is_same, outside};
 use crate::steps::{pawn_strikes, piece_steps};
 use board_base::{Board, Colour, Kind, Man, Square, SquareSet, is_the};
+use play_rules::is_end;
 
 /// The squares of ranks 1 and 8, on which no pawn stands.
 const ENDS: u64 = 0xff00_0000_0000_00ff;
-
-/// Whether the square is on rank 1 or 8.
-fn is_end(s: Square) -> bool
-    ensures { result ≡ is_end s }
-{
-    s.rank() == 0 || s.rank() == 7
-}
 
 /// Whether a knight, a bishop, a rook or a queen begins on the square (article 2.3): those are the squares of ranks 1 and 8 other than
 /// e1 and e8. Callers of `region`, `is_dead` and `is_shielded` may ask it first.

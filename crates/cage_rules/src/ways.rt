@@ -1,6 +1,5 @@
 ghost use Rattle.std.specs.Prelude.{◌≡◌, ◌&&◌, ◌||◌, ◌==◌, ◌<◌, not};
 ghost use Rattle.board_base.specs.Board.{at, is_in};
-ghost use Rattle.board_base.specs.Legal.{last_rank};
 ghost use Rattle.board_base.specs.Play.{king_home, rook_home};
 ghost use Rattle.board_base.specs.Rights.{holds};
 ghost use Rattle.cage_rules.specs.Frozen.{is_held_home, is_past_home};
@@ -9,7 +8,7 @@ ghost use Rattle.cage_rules.specs.Tests.{as_pawn, kept, loose, on_diagonals, on_
 
 use crate::sets::{both, either, outside, with_if};
 use crate::steps::{diagonal_steps, knight_steps, line_steps, pawn_steps};
-use board_base::{Castle, CastleSet, Colour, Kind, Man, Square, SquareSet};
+use board_base::{Castle, CastleSet, Colour, Kind, Man, Square, SquareSet, last_rank};
 use castle_history::home;
 use query_base::Query;
 
@@ -67,16 +66,6 @@ fn is_past_home(colour: Colour, s: Square) -> bool
     match colour {
         Colour::White => 1 < s.rank() && s.rank() < 7,
         Colour::Black => 0 < s.rank() && s.rank() < 6,
-    }
-}
-
-/// The rank, counted from 0, on which pawns of this colour are promoted (article 3.7.3.3).
-fn last_rank(colour: Colour) -> u8
-    ensures { result ≡ last_rank colour }
-{
-    match colour {
-        Colour::White => 7,
-        Colour::Black => 0,
     }
 }
 

@@ -10,7 +10,7 @@ use Rattle.board_base.specs.Legal.{in_check}
 use Rattle.board_base.specs.declared.men.Colour.{Colour}
 use Rattle.board_base.specs.declared.men.Kind.TheVariants.{King}
 use Rattle.general_lemmas.proofs.Ranges.{all_in_range, any-found, any-one}
-use Rattle.check_origins.specs.Near.{AreOrigins, checks_nearby, is_near_checker}
+use Rattle.check_origins.specs.Near.{AreArrivals, checks_nearby, is_near_checker}
 use Rattle.check_origins.proofs.Alone.{IsAlone}
 use Rattle.board_base.proofs.Hits.{hit-attacks}
 
@@ -21,7 +21,7 @@ pub bit-one : (s : ℕ) → s < 64 → (bit_at 18446744073709551615 s == 1) ≡ 
 bit-one s small = all_in_range (λ k. bit_at 18446744073709551615 k == 1) 0 64 s all-ones (omega arith) (omega arith)
 
 -- no man checks from near
-pub none-near : (board : Places) (c : Colour) (set : List Bool) → length set ≡ 64 → ((t : ℕ) → t < 64 → is_in set t ≡ true) → ((s : ℕ) → s < 64 → is_near_checker board c s ≡ false) → AreOrigins board c set
+pub none-near : (board : Places) (c : Colour) (set : List Bool) → length set ≡ 64 → ((t : ℕ) → t < 64 → is_in set t ≡ true) → ((s : ℕ) → s < 64 → is_near_checker board c s ≡ false) → AreArrivals board c set
 none-near board c set size all none = record {
   size = size;
   none = λ h t small. all t small;
@@ -30,7 +30,7 @@ none-near board c set size all none = record {
   enough = λ t small h. all t small;
 }
 
-pub one-near : (board : Places) (c : Colour) (set : List Bool) (k : ℕ) → length set ≡ 64 → k < 64 → ((t : ℕ) → t < 64 → is_in set t ≡ (t == k)) → ((s : ℕ) → s < 64 → is_near_checker board c s ≡ (s == k)) → AreOrigins board c set
+pub one-near : (board : Places) (c : Colour) (set : List Bool) (k : ℕ) → length set ≡ 64 → k < 64 → ((t : ℕ) → t < 64 → is_in set t ≡ (t == k)) → ((s : ℕ) → s < 64 → is_near_checker board c s ≡ (s == k)) → AreArrivals board c set
 one-near board c set k size inside one near-is =
     let here : is_near_checker board c k ≡ true = near-is k inside ∙ eq-eqb k k refl in
     let only : (s : ℕ) → s < 64 → is_near_checker board c s ≡ true → s ≡ k = λ s small near. eqb-true s k (sym (near-is s small) ∙ near) in
@@ -42,7 +42,7 @@ one-near board c set k size inside one near-is =
       enough = λ t small h. one t small ∙ eq-eqb t k (sym (h k inside here));
     }
 
-pub two-near : (board : Places) (c : Colour) (set : List Bool) (k i : ℕ) → length set ≡ 64 → k < i → i < 64 → ((t : ℕ) → t < 64 → is_in set t ≡ false) → is_near_checker board c k ≡ true → is_near_checker board c i ≡ true → AreOrigins board c set
+pub two-near : (board : Places) (c : Colour) (set : List Bool) (k i : ℕ) → length set ≡ 64 → k < i → i < 64 → ((t : ℕ) → t < 64 → is_in set t ≡ false) → is_near_checker board c k ≡ true → is_near_checker board c i ≡ true → AreArrivals board c set
 two-near board c set k i size low high none first second = record {
   size = size;
   none = λ h t small. absurd (both_ways _ (h i high) second);

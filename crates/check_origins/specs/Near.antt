@@ -22,7 +22,7 @@ is_near_checker board c s = list_any (λ k. checks_nearby board c s k) (range_wi
 
 -- Where the last move can have ended, with c to move: anywhere if no man checks from near, on his square if one does, and nowhere
 -- if more do.
-pub record AreOrigins (board : Places) (c : Colour) (set : List Bool) : Type 0 where
+pub record AreArrivals (board : Places) (c : Colour) (set : List Bool) : Type 0 where
   pub size : length set ≡ 64
   pub none : ((s : ℕ) → s < 64 → is_near_checker board c s ≡ false) → (t : ℕ) → t < 64 → is_in set t ≡ true
   pub one : (s : ℕ) → s < 64 → is_near_checker board c s ≡ true → ((r : ℕ) → r < 64 → is_near_checker board c r ≡ true → r ≡ s) → (t : ℕ) → t < 64 → is_in set t ≡ (t == s)

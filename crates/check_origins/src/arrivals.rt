@@ -1,6 +1,6 @@
 ghost use Rattle.std.specs.Prelude.{◌≡◌, ℕ, ◌<◌, ◌==◌, true, false, length};
 ghost use Rattle.board_base.specs.Board.{is_in};
-ghost use Rattle.check_origins.specs.Near.{AreOrigins, is_near_checker};
+ghost use Rattle.check_origins.specs.Near.{AreArrivals, is_near_checker};
 
 use crate::near::is_near_checker;
 use board_base::{Board, Colour, Square, SquareSet, in_check};
@@ -31,7 +31,7 @@ fn only_square(s: Square) -> SquareSet
 /// have been uncovered, so the man who gives it has just come. All squares if there is no such checker, his square if there is one,
 /// and none if there are more. In a list of retractions each target is one of these.
 pub fn origins(board: &Board, turn: Colour) -> SquareSet
-    ensures { AreOrigins board.now turn result }
+    ensures { AreArrivals board.now turn result }
 {
     if !in_check(board, turn) {
         return all_squares();

@@ -1,10 +1,10 @@
 ghost use Rattle.std.specs.Prelude.{◌≡◌, ◌&&◌, ◌==◌};
-ghost use Rattle.board_base.specs.Attacks.{attacks_from, king_distance};
+ghost use Rattle.board_base.specs.Attacks.{king_distance};
 ghost use Rattle.board_base.specs.Board.{at, is_of};
 ghost use Rattle.check_origins.specs.Near.{checks_nearby, is_near, is_near_checker};
 
 use board_base::{
-    Board, Colour, Kind, Man, Square, files_between, is_of, is_the, man_attacks, ranks_between,
+    Board, Colour, Kind, Man, Square, attacks_from, files_between, is_of, is_the, ranks_between,
 };
 
 /// The squares are next to each other.
@@ -25,17 +25,6 @@ fn is_near(place: Option<Man>, s: Square, k: Square) -> bool
             Kind::Bishop | Kind::Rook | Kind::Queen => is_next(s, k),
             Kind::King => false,
         },
-        None => false,
-    }
-}
-
-/// The man on one square attacks the other.
-#[tactic(auto, unfolding(board_base::specs::Attacks::attacks_from))]
-fn attacks_from(board: &Board, s: Square, k: Square) -> bool
-    ensures { result ≡ attacks_from board.now s k }
-{
-    match board.at(s) {
-        Some(man) => man_attacks(board, man, s, k),
         None => false,
     }
 }

@@ -5,15 +5,8 @@ ghost use Rattle.codex_verdict.specs.Verdicts.{Promotes, open_words, proved_word
 use crate::kinds::Right;
 use arrayvec::ArrayVec;
 use board_base::write_move;
-use fen_text::castle_letter;
+use fen_text::{castle_letter, push_text};
 use itoa::Buffer;
-
-fn push_text(text: &[u8], out: &mut ArrayVec<u8, 64>)
-    requires { length out.old.items + length text.now ≤ 64 }
-    ensures { out.new.items ≡ out.old.items ++ text.now }
-{
-    let _ = out.try_extend_from_slice(text);
-}
 
 fn push_right(right: &Right, out: &mut ArrayVec<u8, 64>)
     requires empty { out.old.items ≡ [] }

@@ -1,5 +1,5 @@
 -- Where men stay in regions, the counts of promoted men and of captures by pawns.
-use Rattle.std.proofs.Common.{◌≡◌, ℕ, ◌+◌, ◌<◌, ◌≤◌, Bool, true, false, ◌&&◌, not, inl, inr, List, [], ◌∷◌, refl, ap, sym, ◌∙◌, subst, arith}
+use Rattle.std.proofs.Common.{◌≡◌, ℕ, ◌+◌, ◌<◌, ◌≤◌, Bool, true, false, ◌&&◌, not, inl, inr, List, [], ◌∷◌, refl, sym, ◌∙◌, subst, arith}
 use Rattle.std.proofs.lemmas.Bool.{and_parts, and_from, both_ways, not-true, not_from_false, false_from_ne_true}
 use Rattle.std.proofs.lemmas.List.{append-nil}
 use Rattle.std.specs.Prelude.{Option, Some, None, ℤ, pos, ◌+ℤ◌, ◌≤ℤ◌}
@@ -10,7 +10,7 @@ use Rattle.board_base.specs.declared.men.Colour.{Colour}
 use Rattle.board_base.specs.declared.men.Kind.TheVariants.{Pawn}
 use Rattle.board_base.specs.declared.men.Man.{Man}
 use Rattle.board_base.specs.declared.moves.Move.{Move}
-use Rattle.board_base.proofs.KindsOfMen.{kind_is, same_kind-self, same_colour-self}
+use Rattle.board_base.proofs.KindsOfMen.{no_officer, same_kind-self, same_colour-self}
 use Rattle.general_lemmas.proofs.Ranges.{all_in_range}
 use Rattle.play_rules.proofs.Kings.{within, length-after}
 use Rattle.assignment.specs.Assignments.{IsBounded, total}
@@ -28,9 +28,9 @@ use Rattle.men_account.proofs.Homes.{promotions-most}
 use Rattle.men_account.proofs.Paired.{bound-missing}
 
 -- an officer's home is no pawn's
-officer-no-pawn : (c : Colour) (place : Option Man) → is_officer_of c place ≡ true → is_a Pawn place ≡ false
+pub officer-no-pawn : (c : Colour) (place : Option Man) → is_officer_of c place ≡ true → is_a Pawn place ≡ false
 officer-no-pawn c None officer = refl
-officer-no-pawn c (Some m) officer = false_from_ne_true _ (λ pawn. both_ways false refl (ap is_officer (kind_is Pawn m.kind pawn) ∙ (and_parts (same_colour c m.colour) (is_officer m.kind) officer).1))
+officer-no-pawn c (Some m) officer = no_officer Pawn m.kind refl (and_parts (same_colour c m.colour) (is_officer m.kind) officer).1
 
 alike-self : (place : Option Man) (m : Man) → place ≡ Some m → is_alike place place ≡ true
 alike-self None m e = cc

@@ -27,7 +27,7 @@ pub data PawnWay (board : Places) (c : Colour) (m : Move) : Type 0 where
   straight : file m.from ≡ file m.to → Forward c m.from m.to → is_empty (at board m.to) ≡ true → PawnWay board c m
   aslant : files_apart m.from m.to ≡ 1 → one_ahead c m.from m.to ≡ true → is_of (opponent c) (at board (taken_on board m)) ≡ true → PawnWay board c m
 
-ahead-forward : (c : Colour) (s t : ℕ) → one_ahead c s t ≡ true → Forward c s t
+pub ahead-forward : (c : Colour) (s t : ℕ) → one_ahead c s t ≡ true → Forward c s t
 ahead-forward White s t h = let up : rank t ≡ rank s + 1 = eqb-true _ _ h in omega arith
 ahead-forward Black s t h = let down : rank s ≡ rank t + 1 = eqb-true _ _ h in omega arith
 

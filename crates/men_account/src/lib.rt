@@ -7,6 +7,7 @@ mod allowances;
 mod bounds;
 mod laws;
 mod pawn_laws;
+mod side_men;
 mod sums;
 mod tallies;
 
@@ -17,5 +18,6 @@ pub use bounds::{
 };
 pub use laws::{accounts_hold, bishops_keep_colour, men_keep_labels};
 pub use pawn_laws::{pawns_leave_files, pawns_pair_with_files, pawns_take_men};
-pub use sums::{counts, excess};
+pub use side_men::men_of;
+pub use sums::{counts, excess, is_light};
 pub use tallies::{Allowance, Counts};

@@ -5,8 +5,8 @@ ghost use Rattle.men_account.specs.Tallies.{AreBelow, with_man, with_place};
 use crate::tallies::{Allowance, Counts};
 use board_base::{Board, Colour, Kind, Man, Square};
 
-/// The square is light (article 2.1): its file and its rank, both counted from 0, have an odd sum.
-fn is_light(s: Square) -> bool
+/// Whether the square is light (article 2.1): its file and its rank, both counted from 0, have an odd sum.
+pub fn is_light(s: Square) -> bool
     ensures { result ≡ is_light s }
 {
     (s.file() + s.rank()) % 2 == 1

@@ -3,12 +3,12 @@ use Rattle.std.proofs.Common.{◌≡◌, ℕ, ◌+◌, ◌-◌, ◌==◌, inl, i
 use Rattle.std.proofs.lemmas.Bool.{and_parts, both_ways, cases_Bool, cond-false, cond-true, eq-eqb, eqb-true, ne_eqb}
 use Rattle.std.proofs.lemmas.List.{append_assoc, append-nil}
 use Rattle.std.proofs.lemmas.Option.{none-some, same_Some}
-use Rattle.std.specs.Prelude.{Option, Some, None}
+use Rattle.std.specs.Prelude.{Some}
 use Rattle.std.specs.List.{Contains}
-use Rattle.board_base.specs.Board.{Places, array_of, at, file, is_a, is_in, is_of, is_the, opponent, rank, same_colour}
+use Rattle.board_base.specs.Board.{Places, array_of, at, file, is_a, is_in, is_of, is_the, opponent, rank}
 use Rattle.board_base.specs.Attacks.{distance, on_the_way, ranks_apart, toward}
 use Rattle.board_base.specs.Play.{en_passant_victim, goes_en_passant, rook_home}
-use Rattle.board_base.specs.Legal.{is_officer, last_rank}
+use Rattle.board_base.specs.Legal.{last_rank}
 use Rattle.board_base.specs.Game.{IsGame, board_after, turn_after, unmoved, last_move}
 use Rattle.board_base.specs.declared.men.Colour.{Colour}
 use Rattle.board_base.specs.declared.men.Colour.TheVariants.{White, Black}
@@ -16,7 +16,7 @@ use Rattle.board_base.specs.declared.men.Kind.TheVariants.{Pawn, Rook}
 use Rattle.board_base.specs.declared.men.Man.{Man}
 use Rattle.board_base.specs.declared.moves.Move.{Move}
 use Rattle.board_base.proofs.Equal.{last_is}
-use Rattle.board_base.proofs.KindsOfMen.{another_kind, no_officer}
+use Rattle.board_base.proofs.KindsOfMen.{another_kind}
 use Rattle.board_base.proofs.Passing.{MayPass, double-en_passant_victim}
 use Rattle.board_base.proofs.Ways.{toward-up, toward-down, toward-same}
 use Rattle.play_rules.proofs.Legality.{Legality, legality}
@@ -30,6 +30,7 @@ use Rattle.men_account.specs.Captures.{taken_on}
 use Rattle.men_account.specs.Homes.{is_officer_of}
 use Rattle.men_account.proofs.Bishops.{pawn-label}
 use Rattle.men_account.proofs.Captured.{man-there, same-side}
+use Rattle.men_account.proofs.InRegions.{officer-no-pawn}
 use Rattle.men_account.proofs.Labelled.{labels_after-more, labels-each_man, labels-promotions, length-labels}
 use Rattle.men_account.proofs.Origins.{Came, stayed, moved_here, with_the_king, before, rook-there}
 use Rattle.men_account.proofs.PawnWays.{victim-pawn}
@@ -173,10 +174,6 @@ each-pawn-fell o g q set c caged =
     fell-moved set c x.of (way_of o k x.of) (way_of o (k ++ m ∷ []) x.of) m.to x.on (sym (falling-rests o k m c x game (and_parts (is_of c (at (array_of o) x.of)) (is_a Pawn (at (array_of o) x.of)) first).0 b)) b.on
     (fell-now o g k after m q set c x caged e game legal first b))
     caged.leads.game
-
-officer-no-pawn : (c : Colour) (place : Option Man) → is_officer_of c place ≡ true → is_a Pawn place ≡ false
-officer-no-pawn c None h = refl
-officer-no-pawn c (Some who) h = no_officer Pawn who.kind refl (and_parts (same_colour c who.colour) (is_officer who.kind) h).1
 
 -- who began as no pawn is taken on the target
 plain-victim : (o : List Bool) (k : List Move) (m : Move) (h : ℕ) → IsGame o k → Legality (board_after o k) (turn_after k) (unmoved o k) (last_move k) m → is_a Pawn (at (array_of o) h) ≡ false → label_at (labels_after o k) (taken_on (board_after o k) m) ≡ Some h → label_at (labels_after o k) m.to ≡ Some h

@@ -27,7 +27,7 @@ use Rattle.men_account.specs.Captures.{taken_on}
 use Rattle.men_account.proofs.Moved.{carried_from, moved_from, label-moved, on_square}
 use Rattle.men_account.proofs.Labelled.{first-is, labels_after-more, length-labels, labels-each_man}
 use Rattle.men_account.proofs.Captured.{man-there}
-use Rattle.men_account.proofs.PawnWays.{Forward, PawnWay, straight, aslant, pawn-way}
+use Rattle.men_account.proofs.PawnWays.{Forward, PawnWay, straight, aslant, ahead-forward, pawn-way}
 use Rattle.men_fates.proofs.Lasting.{carried-elsewhere, carried-there}
 use Rattle.men_fates.specs.Deeds.{is_label, way_of}
 use Rattle.men_fates.specs.Ways.{is_straight, way_end}
@@ -36,7 +36,6 @@ use Rattle.men_fates.proofs.Goings.{way-rests}
 use Rattle.men_fates.proofs.Roads.{his-or-none}
 use Rattle.men_fates.proofs.Strikes.{label-some}
 use Rattle.men_ledger.specs.Files.{IsTakenAsPawn, is_there, keeps_file}
-use Rattle.men_ledger.proofs.Lines.{step-forward}
 use Rattle.men_ledger.proofs.Courses.{promoted-last}
 
 is_end-king_target : (x : Castle) → is_end (king_target x) ≡ true
@@ -77,7 +76,7 @@ other-follows board m u true is pawn not_from = elim (cases_eq (en_passant_victi
 
 way-forward : (board : Places) (c : Colour) (m : Move) → PawnWay board c m → Forward c m.from m.to
 way-forward board c m (straight same on free) = on
-way-forward board c m (aslant one ahead enemy) = step-forward c m.from m.to ahead
+way-forward board c m (aslant one ahead enemy) = ahead-forward c m.from m.to ahead
 
 follows-as : (board : Places) (c : Colour) (rights : Castle → Bool) (last : Option Move) (m : Move) (u : ℕ) (castle : Option Castle) → castling board m ≡ castle → HasNoPawnOnEnds board → Legality board c rights last m → is_a Pawn (at board u) ≡ true → Follows board m castle (goes_en_passant board m) u
 follows-as board c rights last m u None is ends legal pawn = elim (cases_eq u m.from) [

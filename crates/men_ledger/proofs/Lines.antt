@@ -7,7 +7,7 @@ use Rattle.board_base.specs.declared.men.Colour.{Colour}
 use Rattle.board_base.specs.declared.men.Colour.TheVariants.{White, Black}
 use Rattle.board_base.specs.declared.moves.Move.{Move}
 use Rattle.general_lemmas.proofs.Differing.{Has, Differ}
-use Rattle.men_account.proofs.PawnWays.{Forward}
+use Rattle.men_account.proofs.PawnWays.{Forward, ahead-forward}
 use Rattle.men_fates.specs.Deeds.{squares_trodden}
 use Rattle.men_fates.specs.Ways.{is_pawn_step, is_straight, is_way, way_end}
 use Rattle.men_fates.proofs.Treads.{Tread, single, double, capture, one-trodden, two-trodden, trodden-way}
@@ -82,7 +82,7 @@ later-forward c set s (t ∷ way) z h there =
     let parts = and_parts _ _ h in
     let ahead = (stepped c set s t parts.0).ahead in
     elim there [
-      | inl same ↦ subst (λ (y : ℕ). Forward c s y) same (step-up c s t t ahead (stays-up c t))
+      | inl same ↦ subst (λ (y : ℕ). Forward c s y) same (ahead-forward c s t ahead)
       | inr later ↦ step-on c s t z ahead (later-forward c set t way z parts.1 later)
     ]
 
@@ -138,7 +138,3 @@ passes-nobody board c m u small (double two home same crossed free) straight lin
     let first = (stepped c [] m.from x steps.0).ahead in
     let second = (stepped c [] x m.to (and_parts _ _ steps.1).0).ahead in
     step-short board c x m.to u second free on (line ∙ over) full (step-short board c m.from x u first crossed over line full before)
-
--- a step goes on, as pawns of this colour go
-pub step-forward : (c : Colour) (s t : ℕ) → one_ahead c s t ≡ true → Forward c s t
-step-forward c s t ahead = step-up c s t t ahead (stays-up c t)

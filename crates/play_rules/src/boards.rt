@@ -29,13 +29,20 @@ pub fn has_one_king_each(board: &Board) -> bool
     count_kings(Colour::Black, board) == 1
 }
 
+/// Whether the square is on rank 1 or 8.
+pub fn is_end(s: Square) -> bool
+    ensures { result ≡ is_end s }
+{
+    s.rank() == 0 || s.rank() == 7
+}
+
 /// A pawn stands on the square, which is on rank 1 or 8.
 fn is_pawn_on_end(board: &Board, index: u8) -> bool
     requires { index < 64 }
     ensures { result ≡ (is_end index && is_a Pawn (at board.now index)) }
 {
     let s = Square::known(index);
-    (s.rank() == 0 || s.rank() == 7) && is_a(Kind::Pawn, board.at(s))
+    is_end(s) && is_a(Kind::Pawn, board.at(s))
 }
 
 /// Whether no pawn stands on rank 1 or rank 8 (article 3.7).

@@ -1,12 +1,9 @@
-ghost use Rattle.std.specs.Prelude.{◌≡◌, ◌&&◌, slice_set};
-ghost use Rattle.board_base.specs.Board.{at, is_the, opponent};
-ghost use Rattle.board_base.specs.Attacks.{attacks};
+ghost use Rattle.std.specs.Prelude.{◌≡◌, slice_set};
 ghost use Rattle.board_base.specs.Legal.{in_check};
-ghost use Rattle.board_base.specs.declared.men.Kind.TheVariants.{King};
 ghost use Rattle.play_rules.specs.KingSets.{kings_on};
 
 use crate::sets::marked;
-use board_base::{Board, Colour, Kind, Man, Square, SquareSet, is_a, is_the};
+use board_base::{Board, Colour, Kind, Man, Square, SquareSet, is_a, is_king_attacked};
 use std::marker::Model;
 
 /// A board, seen as such, that knows where its kings stand.
@@ -45,12 +42,6 @@ fn kings_on(board: &Board) -> SquareSet
         }
     }
     kings
-}
-
-fn is_king_attacked(board: &Board, side: Colour, s: Square) -> bool
-    ensures { result ≡ (is_the side King (at board.now s) && attacks board.now s (opponent side)) }
-{
-    is_the(side, Kind::King, board.at(s)) && board.attacked(s, side.other())
 }
 
 /// Some king of this side, among all kings on the board, is attacked.

@@ -1,7 +1,7 @@
 ghost use Rattle.std.specs.Prelude.{◌≡◌, ◌&&◌, Bool, List, nat_lt, not};
 ghost use Rattle.board_base.specs.Board.{at, is_a, is_of};
 ghost use Rattle.board_base.specs.Rights.{holds};
-ghost use Rattle.board_base.specs.Legal.{is_officer, last_rank, legal_on, promotion_fits};
+ghost use Rattle.board_base.specs.Legal.{is_officer, legal_on, promotion_fits};
 ghost use Rattle.board_base.specs.Game.{IsGame, legal_after};
 ghost use Rattle.play_rules.specs.States.{legal_at, StandsFor};
 ghost use Rattle.board_base.specs.declared.moves.Move.{Move as AMove};
@@ -12,21 +12,12 @@ use crate::king_boards::KingBoard;
 use crate::manners::may_go;
 use crate::moving::play;
 use crate::states::State;
-use board_base::{Board, CastleSet, Colour, Kind, Move, is_a, is_of};
+use board_base::{Board, CastleSet, Colour, Kind, Move, is_a, is_of, last_rank};
 
 fn is_officer(kind: Kind) -> bool
     ensures { result ≡ is_officer kind }
 {
     kind == Kind::Queen || kind == Kind::Rook || kind == Kind::Bishop || kind == Kind::Knight
-}
-
-pub fn last_rank(colour: Colour) -> u8
-    ensures { result ≡ last_rank colour }
-{
-    match colour {
-        Colour::White => 7,
-        Colour::Black => 0,
-    }
 }
 
 /// Whether the move promotes exactly where its man is a pawn of this side that reaches its last rank, and to an officer (article 3.7).

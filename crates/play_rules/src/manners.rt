@@ -2,35 +2,15 @@ ghost use Rattle.std.specs.Prelude.{◌≡◌};
 ghost use Rattle.board_base.specs.Board.{same_colour};
 ghost use Rattle.board_base.specs.Play.{side};
 ghost use Rattle.board_base.specs.Rights.{holds};
-ghost use Rattle.board_base.specs.Attacks.{attacks_from};
-ghost use Rattle.board_base.specs.Legal.{king_castles, man_moves, may_castle, may_go, pawn_captures, pawn_doubles, pawn_rank, pawn_steps};
+ghost use Rattle.board_base.specs.Legal.{king_castles, man_moves, may_castle, may_go, pawn_captures, pawn_doubles, pawn_steps};
 
 use crate::castlings::castling;
 use crate::en_passant::pawn_captures_en_passant;
 use board_base::{
-    Board, Castle, CastleSet, Colour, Kind, Move, Square, files_between, is_a, is_ahead, is_clear,
-    is_of, is_the, man_attacks, ranks_between,
+    Board, Castle, CastleSet, Colour, Kind, Move, attacks_from, files_between, is_a, is_ahead,
+    is_clear, is_of, is_the, pawn_rank, ranks_between,
 };
 use castle_history::{home, target};
-
-fn pawn_rank(colour: Colour) -> u8
-    ensures { result ≡ pawn_rank colour }
-{
-    match colour {
-        Colour::White => 1,
-        Colour::Black => 6,
-    }
-}
-
-#[tactic(auto, unfolding(board_base::specs::Attacks::attacks_from))]
-fn attacks_from(board: &Board, from: Square, to: Square) -> bool
-    ensures { result ≡ attacks_from board.now from to }
-{
-    match board.at(from) {
-        Some(man) => man_attacks(board, man, from, to),
-        None => false,
-    }
-}
 
 #[tactic(auto, unfolding(board_base::specs::Legal::man_moves))]
 fn man_moves(board: &Board, m: &Move) -> bool

@@ -30,8 +30,8 @@ fn carry(board: &mut KingBoard, from: Square, to: Square, promo: Option<Kind>)
     board.put(to, man);
 }
 
-/// A pawn goes diagonally to an empty square.
-fn goes_en_passant(board: &Board, m: &Move) -> bool
+/// Whether a pawn goes by the move to another file and an empty square, as en passant alone (article 3.7.3.1).
+pub fn goes_en_passant(board: &Board, m: &Move) -> bool
     ensures { result ≡ goes_en_passant board.now m.now }
 {
     is_a(Kind::Pawn, board.at(m.from)) && m.from.file() != m.to.file() && board.at(m.to).is_none()

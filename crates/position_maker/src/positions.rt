@@ -1,7 +1,6 @@
 ghost use Rattle.std.specs.Prelude.{◌≡◌, ◌++◌, ◌∷◌, ◌≤◌, [], IsTrue, List, Some, length};
 ghost use Rattle.board_base.specs.Board.{no_odds};
 ghost use Rattle.board_base.specs.Game.{IsGame};
-ghost use Rattle.board_base.specs.Play.{goes_en_passant};
 ghost use Rattle.board_base.specs.declared.moves.Move.{Move as AMove};
 ghost use Rattle.play_rules.specs.States.{double_crossing, legal_at, Follows, StandsFor};
 ghost use Rattle.query_base.specs.Asked.{is_of_other_side};
@@ -10,8 +9,8 @@ ghost use Rattle.unmove_gen.specs.Predecessor.{unmove_after};
 ghost use Rattle.unmove_gen.specs.TakenBack.{kind_of};
 ghost use Rattle.position_maker.specs.Positions.{if_double, query_after};
 
-use board_base::{Board, Kind, Man, Move, Odds, Unmove, is_a};
-use play_rules::State;
+use board_base::{Kind, Man, Move, Odds, Unmove};
+use play_rules::{State, goes_en_passant};
 use query_base::Query;
 use unmove_gen::{Unmoves, few_unmoves};
 
@@ -42,12 +41,6 @@ pub(crate) fn query_after(before: &State, m: &Move, after: &State) -> Query
         barred: None,
         clock: None,
     }
-}
-
-fn goes_en_passant(board: &Board, m: &Move) -> bool
-    ensures { result ≡ goes_en_passant board.now m.now }
-{
-    is_a(Kind::Pawn, board.at(m.from)) && m.from.file() != m.to.file() && board.at(m.to).is_none()
 }
 
 fn kind_of(place: Option<Man>) -> Option<Kind>

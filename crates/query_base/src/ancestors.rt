@@ -4,8 +4,8 @@ ghost use Rattle.query_base.specs.Ancestors.{CoversAt, GoesBack, IsCovered};
 use crate::queries::Query;
 use crate::targets::covers;
 
-/// The ancestor so many steps above covers the query. The parent, one step above, comes last.
-fn is_covered(ancestors: &[Query], steps: u8, query: &Query) -> bool
+/// Whether the ancestor so many steps above covers the query. The parent, one step above, comes last.
+pub fn is_covered(ancestors: &[Query], steps: u8, query: &Query) -> bool
     ensures { IsTrue result ↔ CoversAt query.now (reverse ancestors.now) steps }
 {
     let steps = usize::from(steps);

@@ -1,12 +1,11 @@
 ghost use Rattle.std.specs.Prelude.{◌≡◌};
-ghost use Rattle.board_base.specs.Play.{castling, goes_en_passant};
 ghost use Rattle.san_text.specs.Candidates.{candidate};
 ghost use Rattle.san_text.specs.Fits.{allows, captures, castles_by, fits, goes_by, agrees, long_of, short_of};
 
 use crate::grammar::{Going, San};
 use board_base::{Board, Castle, Colour, Kind, Move, Square, is_a};
-use castle_history::{castling_from, home, target};
-use play_rules::{State, is_legal};
+use castle_history::{home, target};
+use play_rules::{State, castling, goes_en_passant, is_legal};
 
 pub fn short_of(side: Colour) -> Castle
     ensures { result ≡ short_of side }
@@ -24,23 +23,6 @@ pub fn long_of(side: Colour) -> Castle
         Colour::White => Castle::WhiteLong,
         Colour::Black => Castle::BlackLong,
     }
-}
-
-/// The castling that the move is on this board, if it is one.
-pub fn castling(board: &Board, m: &Move) -> Option<Castle>
-    ensures { result ≡ castling board.now m.now }
-{
-    if is_a(Kind::King, board.at(m.from)) {
-        castling_from(m.from, m.to)
-    } else {
-        None
-    }
-}
-
-fn goes_en_passant(board: &Board, m: &Move) -> bool
-    ensures { result ≡ goes_en_passant board.now m.now }
-{
-    is_a(Kind::Pawn, board.at(m.from)) && m.from.file() != m.to.file() && board.at(m.to).is_none()
 }
 
 /// The move takes a man, en passant too (articles 3.1 and 3.7).

@@ -1,10 +1,9 @@
 ghost use Rattle.std.specs.Prelude.{ℕ, ◌≡◌, List, Some};
 ghost use Rattle.san_text.specs.Forms.{IsForm, SaysSo};
 ghost use Rattle.san_text.specs.declared.grammar.San.{San as ASan};
-ghost use Rattle.board_base.specs.Texts.{square_at};
 ghost use Rattle.san_text.specs.Grammar.{is_end, target_of, file_of, rank_of, file_head, rank_head, takes_head, after_file, after_rank, after_takes, piece_of, promoted_of, promotion_of, pawn_end, pawn_of, castling_end, castling_of, san_of, piece_letter};
 
-use board_base::{Kind, Square};
+use board_base::{Kind, Square, read_square};
 
 /// What a text says of a move that isn't castling.
 #[derive(Clone, Copy)]
@@ -42,16 +41,6 @@ fn is_end(text: &[u8]) -> bool
         [] => true,
         [sign] => *sign == b'+' || *sign == b'#',
         _ => false,
-    }
-}
-
-fn read_square(file: u8, rank: u8) -> Option<Square>
-    ensures { result ≡ square_at file rank }
-{
-    if b'a' <= file && file <= b'h' && b'1' <= rank && rank <= b'8' {
-        Square::new(8 * (rank - b'1') + (file - b'a'))
-    } else {
-        None
     }
 }
 

@@ -1,10 +1,10 @@
 ghost use Rattle.std.specs.Prelude.{◌≡◌, ◌&&◌, ◌==◌, not};
 ghost use Rattle.san_text.specs.Spelling.{any_rival, is_rival, kind_at, named, named_castle, named_going, origin_of, shares};
 
-use crate::fitting::{captures, castling};
+use crate::fitting::captures;
 use crate::grammar::{Going, San};
 use board_base::{Board, Castle, Kind, Move, Square, is_a};
-use play_rules::{State, is_legal};
+use play_rules::{State, castling, is_legal};
 
 /// What the square of another man has in common with the origin.
 #[derive(Clone, Copy)]

@@ -1,5 +1,4 @@
 ghost use Rattle.std.specs.Prelude.{◌≡◌, ◌≤◌, ◌+◌, ◌++◌, [], length, IsTrue};
-ghost use Rattle.board_base.specs.Texts.{square_text};
 ghost use Rattle.play_rules.specs.States.{legal_at};
 ghost use Rattle.san_text.specs.Fits.{IsOnly, fits_text};
 ghost use Rattle.san_text.specs.Spelling.{capital, file_text, rank_text, takes_text, promotion_text, origin_text, end_text, going_text, said_text, mark_text, mark_of, spelling};
@@ -10,7 +9,7 @@ use crate::grammar::{Going, San};
 use crate::marks::{Mark, mark_of};
 use crate::naming::named;
 use arrayvec::ArrayVec;
-use board_base::{Kind, Move, Square};
+use board_base::{Kind, Move, push_square};
 use play_rules::{State, step};
 
 fn push_capital(kind: Kind, out: &mut ArrayVec<u8, 16>)
@@ -58,15 +57,6 @@ fn push_takes(takes: bool, out: &mut ArrayVec<u8, 16>)
     if takes {
         out.push(b'x');
     }
-}
-
-fn push_square(square: Square, out: &mut ArrayVec<u8, 16>)
-    requires { length out.old.items + 2 ≤ 16 }
-    ensures text { out.new.items ≡ out.old.items ++ square_text square }
-    ensures room { length out.new.items ≤ length out.old.items + 2 }
-{
-    out.push(b'a' + square.file());
-    out.push(b'1' + square.rank());
 }
 
 fn push_promotion(promo: Option<Kind>, out: &mut ArrayVec<u8, 16>)

@@ -1,8 +1,8 @@
 -- Counts of men on a board with only some of the men of another.
 use Rattle.std.proofs.Common.{◌≡◌, ℕ, zero, suc, ◌+◌, ◌<◌, ◌≤◌, Bool, true, false, cond, ◌&&◌, ◌||◌, not, List, refl, ap, sym, ◌∙◌, arith}
 use Rattle.std.proofs.lemmas.Bool.{and_right, both_ways, and_parts}
-use Rattle.std.proofs.lemmas.List.FromFn.{length-range_with_len, get_or-map-range_with_len}
-use Rattle.std.proofs.lemmas.List.Sums.{sum_by-cons, count_by-le-length}
+use Rattle.std.proofs.lemmas.List.FromFn.{get_or-map-range_with_len}
+use Rattle.std.proofs.lemmas.List.Sums.{sum_by-cons}
 use Rattle.std.specs.Prelude.{Option, Some, None}
 use Rattle.std.specs.List.{count_by, range_with_len}
 use Rattle.board_base.specs.Board.{Places, array_of, initial_array, at, is_in, is_a, is_of, is_the}
@@ -13,7 +13,6 @@ use Rattle.board_base.specs.declared.men.Kind.{Kind}
 use Rattle.board_base.specs.declared.men.Kind.TheVariants.{Pawn, Knight, Bishop, Rook, Queen}
 use Rattle.board_base.proofs.Without.{at-without}
 use Rattle.board_base.proofs.KindsOfMen.{kind_is}
-use Rattle.general_lemmas.proofs.Counts.{count-end}
 use Rattle.men_account.specs.Account.{men, is_any, is_light, is_dark, counts_of, allowance_of}
 use Rattle.men_account.specs.Homes.{men_of}
 use Rattle.men_account.specs.declared.tallies.Counts.{Counts}
@@ -91,31 +90,3 @@ unfolding men_of
 left-men c keeps first =
     same-count (λ s. is_of c (at (left_with keeps first) s) && is_any s) (λ s. is_of c (at first s) && keeps s) 0 64 (λ s low high.
     ap (λ (p : Option Man). is_of c p && true) (at-left keeps first s (omega arith)) ∙ kept-of c (keeps s) (at first s))
-
--- the men of a side on the first squares
-abbrev pub count_first : Colour → Places → ℕ → ℕ
-count_first c board i = count_by (λ s. is_of c (at board s) && is_any s) (range_with_len 0 i)
-
-abbrev one_of : Bool → ℕ
-one_of b = cond b 1 0
-
-one-more : (b : Bool) → ◌≡◌ {A = ℕ} (cond (b && true) 1 0) (cond b 1 0)
-one-more true = refl
-one-more false = refl
-
-pub men-more : (c : Colour) (board : Places) (place : Option Man) (i n after : ℕ) → n ≡ count_first c board i → place ≡ at board i → after ≡ n + cond (is_of c place) 1 0 → after ≡ count_first c board (i + 1)
-men-more c board place i n after so_far here e =
-    let grown = count-end (λ s. is_of c (at board s) && is_any s) i 0 in
-    let from_zero : 0 + i ≡ i = omega arith in
-    let last : ◌≡◌ {A = ℕ} (cond (is_of c (at board (0 + i)) && true) 1 0) (cond (is_of c (at board i)) 1 0) = one-more (is_of c (at board (0 + i))) ∙ ap (λ (s : ℕ). one_of (is_of c (at board s))) from_zero in
-    let same : ◌≡◌ {A = ℕ} (cond (is_of c place) 1 0) (cond (is_of c (at board i)) 1 0) = ap (λ (p : Option Man). one_of (is_of c p)) here in
-    let suc_i : i + 1 ≡ suc i = omega arith in
-    let next : count_first c board (i + 1) ≡ count_first c board (suc i) = ap (count_first c board) suc_i in
-    omega (arith, grown, last, same, next, so_far, e)
-
-pub few-first : (c : Colour) (board : Places) (i : ℕ) → count_first c board i ≤ i
-few-first c board i = omega (arith, count_by-le-length (λ s. is_of c (at board s) && is_any s) (range_with_len 0 i), length-range_with_len 0 i)
-
-pub all-first : (c : Colour) (board : Places) (i : ℕ) → i ≡ 64 → count_first c board i ≡ men_of c is_any board
-unfolding men_of
-all-first c board i e = ap (count_first c board) e

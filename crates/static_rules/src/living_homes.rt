@@ -1,14 +1,14 @@
-ghost use Rattle.std.specs.Prelude.{◌≡◌, ◌+◌, ◌<◌, ◌≤◌, cond, not, None};
-ghost use Rattle.board_base.specs.Board.{array_of, at, is_of};
+ghost use Rattle.std.specs.Prelude.{◌≡◌, ◌≤◌, cond, not, None};
+ghost use Rattle.board_base.specs.Board.{array_of, at};
 ghost use Rattle.men_account.specs.Account.{is_any, allowance_of};
 ghost use Rattle.men_account.specs.Homes.{men_of};
 ghost use Rattle.cage_rules.specs.Refuted.{is_spent};
 ghost use Rattle.cage_rules.specs.Regions.{is_dead};
 ghost use Rattle.static_rules.specs.Left.{left_with, may_live, with_pawns};
 
-use board_base::{Board, Colour, Man, Odds, Square, SquareSet, array_of, is_of};
+use board_base::{Board, Colour, Man, Odds, Square, SquareSet, array_of};
 use cage_rules::{is_dead, is_officer_home, is_shielded};
-use men_account::{Allowance, Counts, allowance, counts};
+use men_account::{Allowance, Counts, allowance, counts, men_of};
 
 fn may_live(board: &Board, set: SquareSet, s: Square) -> bool
     ensures { result ≡ may_live board.now set s }
@@ -87,29 +87,6 @@ pub(crate) fn living_allowance(board: &Board, set: SquareSet, side: Colour, odds
 {
     let n = counts(&living(&array_of(odds), board, set), side);
     with_pawns(allowance(side, odds).pawns, &n)
-}
-
-fn with_place(so_far: u8, side: Colour, place: Option<Man>) -> u8
-    requires { so_far < 64 }
-    ensures { result ≡ so_far + cond (is_of side place) 1 0 }
-{
-    if is_of(side, place) {
-        so_far + 1
-    } else {
-        so_far
-    }
-}
-
-/// How many men a side has on the board.
-pub(crate) fn men_of(board: &Board, side: Colour) -> u8
-    ensures number { result ≡ men_of side is_any board.now }
-    ensures few { result ≤ 64 }
-{
-    let mut n = 0;
-    for i in 0..64 {
-        n = with_place(n, side, board.at(Square::known(i)));
-    }
-    n
 }
 
 /// With how many men a side begins at these odds.

@@ -8,10 +8,10 @@ ghost use Rattle.query_base.specs.Reach.{Reaches};
 ghost use Rattle.static_rules.specs.SetRules.{CapsSupports, FrozenSupports, IsAbove, IsSettled, PromoSupports};
 ghost use Rattle.static_rules.specs.Greatest.{AreBest};
 
-use crate::living_homes::{living_allowance, men_of, spent_of};
+use crate::living_homes::{living_allowance, spent_of};
 use board_base::{Board, Colour, Odds, Potentials, Square, SquareSet, array_of};
 use cage_rules::{as_array, is_frozen};
-use men_account::{counts, excess};
+use men_account::{counts, excess, men_of};
 use pawn_assign::{bound, costs, least};
 use query_base::Query;
 

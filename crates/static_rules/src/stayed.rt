@@ -5,10 +5,10 @@ ghost use Rattle.cage_rules.specs.Refuted.{HasTooMany};
 ghost use Rattle.static_rules.specs.SetRules.{IsAbove};
 ghost use Rattle.static_rules.specs.Stayed.{IsStayedAllowance, front, has_stayed, is_guarded, may_be_spent, may_spend};
 
-use crate::living_homes::{begun_with, men_of, with_pawns};
+use crate::living_homes::{begun_with, with_pawns};
 use board_base::{Board, Colour, Man, Odds, Square, SquareSet, array_of, is_of};
 use cage_rules::{is_officer_home, is_same_place};
-use men_account::{Allowance, allowance, counts, excess};
+use men_account::{Allowance, allowance, counts, excess, men_of};
 use pawn_assign::{costs, least};
 use query_base::Query;
 

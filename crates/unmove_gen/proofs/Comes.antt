@@ -19,7 +19,7 @@ use Rattle.unmove_gen.specs.Plain.{IsPlain, goes_plainly, goes_to_empty, put_bac
 use Rattle.unmove_gen.specs.Ways.{may_go_alone}
 use Rattle.unmove_gen.proofs.Between.{and-under, kind-between, open-between}
 use Rattle.unmove_gen.proofs.Opened.{goes-as, goes_as, place_attacks}
-use Rattle.unmove_gen.proofs.PlainAnswers.{and-true, is-mine}
+use Rattle.unmove_gen.proofs.PlainFitting.{and-true, is-mine}
 use Rattle.unmove_gen.proofs.PutBack.{at-origin, at-other, at-target}
 
 -- a man of this colour and kind, without promotion: by whether he attacks the target, it is empty, the way is clear, and a foe stands there

@@ -21,12 +21,12 @@ pub mod Opened
 pub mod Between
 pub mod PutCounts
 pub mod PlainListed
-pub mod PlainAnswers
+pub mod PlainFitting
 pub mod Clocked
-pub mod ClockAnswers
+pub mod ClockListed
 pub mod Comes
 pub mod OneKing
 pub mod Bits
 pub mod TheTables
-pub mod ReadyAnswers
+pub mod ReadyListed
 pub mod Uncovered

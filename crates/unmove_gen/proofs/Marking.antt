@@ -1,12 +1,13 @@
 -- What the code tests of boards and marks is what the list asks of them.
 use Rattle.std.proofs.Common.{◌≡◌, Bool, true, false, cond, ◌&&◌, refl, ap, sym, ◌∙◌}
-use Rattle.std.proofs.lemmas.Bool.{and_from, cond-true, cond-false}
+use Rattle.std.proofs.lemmas.Bool.{and_from, and_parts, cond-true, cond-false}
 use Rattle.std.specs.Prelude.{Option, Some, None, IsTrue, ◌↔◌}
 use Rattle.std.specs.Bool.{beq}
 use Rattle.board_base.specs.Board.{Places, at, is_a, is_empty, is_the, opponent}
 use Rattle.board_base.specs.Play.{double_of}
 use Rattle.board_base.specs.Legal.{pawn_captures_en_passant}
 use Rattle.board_base.specs.declared.men.Colour.{Colour}
+use Rattle.board_base.specs.declared.men.Kind.{Kind}
 use Rattle.board_base.specs.declared.men.Kind.TheVariants.{Pawn}
 use Rattle.board_base.specs.declared.moves.Move.{Move}
 use Rattle.board_base.specs.declared.unmoves.Unmove.{Unmove}
@@ -40,6 +41,11 @@ wrongly-marked board c u ep none =
 same-true : (b : Bool) → beq true b ≡ b
 same-true true = refl
 same-true false = refl
+
+-- what is marked is a capture en passant
+pub marked-passes : (board : Places) (c : Colour) (m : Move) (captured : Option Kind) → is_marked board c (record { mv = m; captured = captured; ep = true }) ≡ true → pawn_captures_en_passant board c (double_of m c) m ≡ true
+marked-passes board c m captured h =
+    sym (same-true (pawn_captures_en_passant board c (double_of m c) m)) ∙ (and_parts (beq true (pawn_captures_en_passant board c (double_of m c) m)) _ h).0
 
 regrouped : (a b d e : Bool) → (a && b && d && e) ≡ ((a && b) && (d && e))
 regrouped true b d e = elim b as (λ x. (x && d && e) ≡ (x && (d && e))) [ true ↦ refl | false ↦ refl ]

@@ -9,7 +9,7 @@ use Rattle.board_base.specs.declared.men.Colour.TheVariants.{White, Black}
 use Rattle.board_base.specs.declared.men.Kind.TheVariants.{King}
 use Rattle.men_account.specs.Account.{is_any, men}
 use Rattle.play_rules.specs.Kings.{HasOneKingEach, kings}
-use Rattle.unmove_gen.proofs.PlainAnswers.{and-true}
+use Rattle.unmove_gen.proofs.PlainFitting.{and-true}
 use Rattle.unmove_gen.proofs.SaneGames.{men-kings}
 
 count-none : (p : ℕ → Bool) (n : ℕ) → ((s : ℕ) → s < n → p s ≡ false) → count_by p (range_with_len 0 n) ≡ 0

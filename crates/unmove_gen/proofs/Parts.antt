@@ -6,6 +6,7 @@ use Rattle.board_base.specs.Play.{play}
 use Rattle.board_base.specs.declared.unmoves.Unmove.{Unmove}
 use Rattle.query_base.specs.Asked.{Asked}
 use Rattle.unmove_gen.specs.Listed.{answered, before, every_right, is_legal_before, is_listed, is_marked, is_retraction, keeps_held, mover, obeys_clock, obeys_barred, obeys_only}
+use Rattle.unmove_gen.specs.Sane.{is_sane}
 use Rattle.play_rules.proofs.Legality.{Legality, legality}
 use Rattle.unmove_gen.proofs.Equal.{places_are}
 
@@ -49,3 +50,8 @@ parts q u h = fitted q u (clocked q u h).0
 
 pub legality_of : (q : Asked) (u : Unmove) → Parts q u → Legality (before q u) (mover q) every_right (answered u (mover q)) u.mv
 legality_of q u p = legality _ _ _ _ _ p.legal
+
+-- the board before a listed retraction is sane
+pub listed-sane : (q : Asked) (u : Unmove) → is_listed q u ≡ true → is_sane q.odds (before q u) (mover q) ≡ true
+unfolding is_retraction
+listed-sane q u h = (and_parts _ _ (clocked q u h).0).1

@@ -21,7 +21,7 @@ use Rattle.board_base.specs.declared.unmoves.Unmove.{Unmove}
 use Rattle.board_base.proofs.CastleSquares.{crossed-within, king_home-within, king_target-within, rook_home-not-home, rook_home-not-target}
 use Rattle.board_base.proofs.KindsOfMen.{full-of, kind_is, opponent-twice}
 use Rattle.general_lemmas.proofs.Ranges.{all_in_range}
-use Rattle.check_origins.specs.Near.{AreOrigins, checks_nearby, is_near, is_near_checker}
+use Rattle.check_origins.specs.Near.{AreArrivals, checks_nearby, is_near, is_near_checker}
 use Rattle.check_origins.proofs.Found.{checks}
 use Rattle.general_lemmas.proofs.Ranges.{any-found, any-one}
 use Rattle.board_base.proofs.Hits.{hit-attacks}
@@ -29,11 +29,11 @@ use Rattle.board_base.proofs.Ways.{near-open}
 use Rattle.play_rules.proofs.Kings.{castle-ends, length-carry, two-castles}
 use Rattle.play_rules.proofs.Legality.{Legality}
 use Rattle.query_base.specs.Asked.{Asked}
-use Rattle.unmove_gen.specs.Listed.{answered, before, every_right, is_listed, is_retraction, mover}
+use Rattle.unmove_gen.specs.Listed.{answered, before, every_right, is_listed, mover}
 use Rattle.unmove_gen.specs.Sane.{is_sane}
 use Rattle.unmove_gen.proofs.Castlings.{castle-there}
 use Rattle.unmove_gen.proofs.Members.{length-back}
-use Rattle.unmove_gen.proofs.Parts.{clocked, Parts, legality_of, parts}
+use Rattle.unmove_gen.proofs.Parts.{Parts, legality_of, listed-sane, parts}
 use Rattle.unmove_gen.proofs.PlainListed.{other-colour}
 
 -- a square after another was emptied
@@ -247,10 +247,6 @@ sane-free : (o : List Bool) (board : Places) (c : Colour) → is_sane o board c 
 unfolding is_sane
 sane-free o board c h = not-true _ (and_parts _ _ h).1
 
-listed-sane : (q : Asked) (u : Unmove) → is_listed q u ≡ true → is_sane q.odds (before q u) (mover q) ≡ true
-unfolding is_retraction
-listed-sane q u h = (and_parts _ _ (clocked q u h).0).1
-
 -- each man who checks from near stands on the target of each listed unmove
 pub near-came : (q : Asked) (u : Unmove) (s : ℕ) → length q.board ≡ 64 → is_listed q u ≡ true → s < 64 → is_near_checker q.board q.turn s ≡ true → s ≡ u.mv.to
 unfolding is_near_checker
@@ -271,5 +267,5 @@ near-came q u s whole h small near =
     ]
 
 -- so its target is where the last move can have ended
-pub in-origins : (q : Asked) (u : Unmove) (set : List Bool) → length q.board ≡ 64 → AreOrigins q.board q.turn set → is_listed q u ≡ true → is_in set u.mv.to ≡ true
-in-origins q u set whole o h = o.enough u.mv.to (legality_of q u (parts q u h)).on_board (λ s small near. near-came q u s whole h small near)
+pub in-arrivals : (q : Asked) (u : Unmove) (set : List Bool) → length q.board ≡ 64 → AreArrivals q.board q.turn set → is_listed q u ≡ true → is_in set u.mv.to ≡ true
+in-arrivals q u set whole o h = o.enough u.mv.to (legality_of q u (parts q u h)).on_board (λ s small near. near-came q u s whole h small near)

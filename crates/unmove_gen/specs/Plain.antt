@@ -95,17 +95,17 @@ pub record IsPlain (board : Places) (c : Colour) (m : Move) : Type 0 where
 
 -- a truth value for each candidate of the move says whether it is a retraction of the query, but for the clock
 abbrev pub AreFitting : Asked → Move → List Bool → Type 0
-AreFitting q m answers = answers ≡ map (is_retraction q) (unmoves_of m)
+AreFitting q m fitting = fitting ≡ map (is_retraction q) (unmoves_of m)
 
 -- a truth value for each candidate of the move says whether it is listed
-abbrev pub AreAnswers : Asked → Move → List Bool → Type 0
-AreAnswers q m answers = answers ≡ map (is_listed q) (unmoves_of m)
+abbrev pub TellListed : Asked → Move → List Bool → Type 0
+TellListed q m listed = listed ≡ map (is_listed q) (unmoves_of m)
 
 -- it may be known that with the man on a square taken off no man of the side that moved attacks this king
 abbrev pub KnowsAlone : Asked → ℕ → ℕ → Bool → Type 0
 KnowsAlone q king to alone = alone ≡ true → attacks (slice_set q.board to None) king (mover q) ≡ false
 
--- the answers of those that fit, where a clock allows a quiet move or not, and a capture or not
+-- of those that fit the listed, where a clock allows a quiet move or not, and a capture or not
 abbrev pub kept_of : List Bool → Bool → Bool → List Bool
 kept_of [] quiet takes = []
 kept_of (first ∷ others) quiet takes = (first && quiet) ∷ map (λ b. b && takes) others

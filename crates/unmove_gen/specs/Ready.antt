@@ -1,5 +1,5 @@
 -- Inner: no public clause cites this file.
--- Answers for the candidates of a move, and the squares to which moves are tried.
+-- Of the candidates of a move which are listed, and the squares to which moves are tried.
 use Rattle.std.specs.Prelude.{ℕ, ◌≡◌, ◌<◌, Bool, true, false, List, Some, slice_get}
 use Rattle.board_base.specs.Board.{is_in}
 use Rattle.board_base.specs.declared.unmoves.Unmove.{Unmove}
@@ -10,7 +10,7 @@ use Rattle.unmove_gen.specs.declared.candidates.Cursor.{Cursor}
 
 -- for each of the seven candidates of the move of this one the list has whether it is listed
 abbrev pub AreReady : Asked → Cursor → List Bool → Type 0
-AreReady q p answers = p.to < 64 → (r : ℕ) (u : Unmove) → r < 7 → slice_get candidates (number_at p.to p.from p.promotion r) ≡ Some u → slice_get answers r ≡ Some (is_listed q u)
+AreReady q p listed = p.to < 64 → (r : ℕ) (u : Unmove) → r < 7 → slice_get candidates (number_at p.to p.from p.promotion r) ≡ Some u → slice_get listed r ≡ Some (is_listed q u)
 
 -- no listed unmove goes to the square
 abbrev pub IsNoTarget : Asked → ℕ → Type 0

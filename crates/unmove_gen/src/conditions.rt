@@ -30,8 +30,8 @@ fn keeps_held(query: &Query, m: &Move) -> bool
         && keeps(query, m, Castle::BlackLong)
 }
 
-/// The move is the only one that is allowed, if one is given.
-fn obeys_only(query: &Query, m: &Move) -> bool
+/// Whether the move is the only one that the query allows as the last one, a pawn's, if it has one.
+pub fn obeys_only(query: &Query, m: &Move) -> bool
     ensures { result ≡ obeys_only query.now.only query.now.board m.now }
 {
     query.only.is_none() || (is_move(&query.only, m) && is_a(Kind::Pawn, query.board.at(m.to)))

@@ -1,11 +1,11 @@
 ghost use Rattle.std.specs.Prelude.{◌≡◌, ℕ, ◌==◌, ◌<◌, ◌&&◌, ◌||◌, cond, nat_lt, IfSome, IsTrue, false};
 ghost use Rattle.board_base.specs.Board.{at, is_the};
 ghost use Rattle.board_base.specs.declared.men.Kind.TheVariants.{King};
-ghost use Rattle.men_account.specs.Account.{excess_of, is_light};
+ghost use Rattle.men_account.specs.Account.{excess_of};
 ghost use Rattle.unmove_gen.specs.Plain.{AreFacts, has_room, lacks};
 
 use board_base::{Board, Colour, Kind, Square, is_the};
-use men_account::{Allowance, Counts, account_ok, allowance, counts, excess};
+use men_account::{Allowance, Counts, account_ok, allowance, counts, excess, is_light};
 use play_rules::has_no_pawn_on_ends;
 use query_base::Query;
 
@@ -72,12 +72,6 @@ pub fn facts_of(query: &Query) -> Option<QueryFacts>
         used: excess(&men, &allowed),
         checked: board.attacked(king, mover),
     })
-}
-
-fn is_light(s: Square) -> bool
-    ensures { result ≡ is_light s }
-{
-    (s.file() + s.rank()) % 2 == 1
 }
 
 /// Of a man of this kind, who would stand on this square, the side began with more than it has.

@@ -1,7 +1,7 @@
 ghost use Rattle.std.specs.Prelude.{◌≡◌, Bool, true, IsTrue, List, [], ◌∷◌, ◌++◌, ◌≤◌, length};
 ghost use Rattle.std.specs.List.{Contains};
 ghost use Rattle.board_base.specs.Board.{is_in};
-ghost use Rattle.check_origins.specs.Near.{AreOrigins};
+ghost use Rattle.check_origins.specs.Near.{AreArrivals};
 ghost use Rattle.board_base.specs.declared.moves.Move.{Move};
 ghost use Rattle.board_base.specs.declared.unmoves.Unmove.{Unmove};
 ghost use Rattle.board_base.specs.Texts.{can_capture, can_promote};
@@ -42,5 +42,5 @@ pub fn unmoves_have_texts()
 /// The law that each listed move ended on one of the squares that `origins` of its query's board gives: with a check by a knight, by
 /// a pawn or from the next square it is the checker who moved.
 pub fn targets_are_origins()
-    ensures { (q : Asked) (u : Unmove) (set : List Bool) → length q.board ≡ 64 → AreOrigins q.board q.turn set → Contains (unmoves q) u → is_in set u.mv.to ≡ true }
+    ensures { (q : Asked) (u : Unmove) (set : List Bool) → length q.board ≡ 64 → AreArrivals q.board q.turn set → Contains (unmoves q) u → is_in set u.mv.to ≡ true }
 {}

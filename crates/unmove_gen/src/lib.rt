@@ -4,8 +4,8 @@
 //! Articles are those of the FIDE Laws of Chess, in force from 1 January 2023.
 #![tactic(auto)]
 
-mod answers;
 mod candidates;
+mod captures;
 mod conditions;
 mod facts;
 mod laws;
@@ -21,12 +21,12 @@ mod targets;
 mod way_tables;
 mod ways;
 
-pub use conditions::obeys_clock;
+pub use conditions::{obeys_clock, obeys_only};
 pub use laws::{
     few_unmoves, last_moves_are_listed, listed_moves_lead_here, targets_are_origins,
     unmoves_ascend, unmoves_have_texts,
 };
-pub use legality::is_listed;
+pub use legality::{answered, is_listed};
 pub use lists::Unmoves;
 pub use predecessors::{is_unmove, pred};
 pub use taking_back::take_back;

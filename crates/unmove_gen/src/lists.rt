@@ -4,7 +4,7 @@ ghost use Rattle.unmove_gen.specs.Listed.{unmoves};
 use crate::candidates::Cursor;
 use crate::facts::{QueryFacts, facts_of};
 use crate::stops::{Stop, stop_after, stop_from};
-use crate::targets::{origins_by, targets_of};
+use crate::targets::{arrivals_by, targets_of};
 use board_base::{SquareSet, Unmove};
 use query_base::Query;
 use std::marker::Model;
@@ -41,7 +41,7 @@ impl Model for Unmoves {
 
     ghost view = { λ s. filter (is_listed s.query) (drop (number_of s.stop.cursor) candidates) };
 
-    ghost invariant = { λ s. IfSome s.facts (λ f. AreFacts s.query f) × AreTargets s.query s.targets × IfSome s.facts (λ f. KnowsAlone s.query f.king s.stop.cursor.to s.stop.alone) × AreReady s.query s.stop.cursor s.stop.answers };
+    ghost invariant = { λ s. IfSome s.facts (λ f. AreFacts s.query f) × AreTargets s.query s.targets × IfSome s.facts (λ f. KnowsAlone s.query f.king s.stop.cursor.to s.stop.alone) × AreReady s.query s.stop.cursor s.stop.listed };
 }
 
 impl Unmoves {
@@ -51,7 +51,7 @@ impl Unmoves {
         ensures { result ≡ unmoves query.now }
     {
         let facts = facts_of(query);
-        let targets = targets_of(query, origins_by(query, &facts));
+        let targets = targets_of(query, arrivals_by(query, &facts));
         let stop = stop_from(query, &facts, targets, Cursor::first(), 64, false);
         Unmoves {
             query: *query,
@@ -67,7 +67,7 @@ impl Unmoves {
     {
         while self.stop.cursor.to < 64 {
             let u = self.stop.cursor.candidate();
-            let is_listed = self.stop.answers[self.stop.cursor.capture as usize];
+            let is_listed = self.stop.listed[self.stop.cursor.capture as usize];
             self.stop = stop_after(&self.query, &self.facts, self.targets, &self.stop);
             if is_listed {
                 return Some(u);

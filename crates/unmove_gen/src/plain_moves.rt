@@ -1,13 +1,13 @@
 ghost use Rattle.std.specs.Prelude.{◌≡◌, None, slice_set};
 ghost use Rattle.board_base.specs.Attacks.{kind_attacks};
-ghost use Rattle.board_base.specs.Legal.{pawn_rank};
-ghost use Rattle.play_rules.specs.Laws.{is_end};
 ghost use Rattle.unmove_gen.specs.Plain.{doubles, goes_to_empty, put_back, starts_on_end};
 
 use crate::ways::ways_to;
 use board_base::{
-    Board, Colour, Kind, Man, Move, Square, is_a, is_ahead, is_clear, man_attacks, ranks_between,
+    Board, Colour, Kind, Man, Move, Square, is_a, is_ahead, is_clear, man_attacks, pawn_rank,
+    ranks_between,
 };
+use play_rules::is_end;
 
 /// The man on the move's target goes back to its origin, and this stands where he stood.
 pub fn put_back(board: &Board, m: &Move, taken: Option<Man>) -> Board
@@ -18,15 +18,6 @@ pub fn put_back(board: &Board, m: &Move, taken: Option<Man>) -> Board
     before.put(m.from, board.at(m.to));
     before.put(m.to, taken);
     before
-}
-
-fn pawn_rank(colour: Colour) -> u8
-    ensures { result ≡ pawn_rank colour }
-{
-    match colour {
-        Colour::White => 1,
-        Colour::Black => 6,
-    }
 }
 
 /// A pawn of this colour goes two squares ahead so.
@@ -63,13 +54,6 @@ pub fn attacks_past(board: &Board, man: Man, m: &Move, s: Square) -> bool
     let mut bare = *board;
     bare.put(m.to, None);
     man_attacks(&bare, man, m.from, s)
-}
-
-/// The square is on rank 1 or 8.
-pub fn is_end(s: Square) -> bool
-    ensures { result ≡ is_end s }
-{
-    s.rank() == 0 || s.rank() == 7
 }
 
 /// A pawn stands on the target, and the origin is on rank 1 or 8.

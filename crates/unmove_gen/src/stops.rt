@@ -4,8 +4,8 @@ ghost use Rattle.unmove_gen.specs.Numbers.{AreUnlisted, number_at};
 ghost use Rattle.unmove_gen.specs.Plain.{AreFacts, KnowsAlone};
 ghost use Rattle.unmove_gen.specs.Ready.{AreReady, AreTargets};
 
-use crate::answers::{answers_to, is_alone};
 use crate::candidates::Cursor;
+use crate::captures::{is_alone, listed};
 use crate::facts::QueryFacts;
 use crate::skipping::{on_a_way, past_move, skipped};
 use board_base::{Square, SquareSet};
@@ -15,7 +15,7 @@ use query_base::Query;
 #[derive(Clone, Copy)]
 pub struct Stop {
     pub cursor: Cursor,
-    pub answers: [bool; 7],
+    pub listed: [bool; 7],
     /// It is known that with the man on the candidate's target taken off the king of the side to move is left alone.
     pub alone: bool,
 }
@@ -35,15 +35,15 @@ fn is_alone_at(query: &Query, facts: &Option<QueryFacts>, last: u8, alone: bool,
 }
 
 /// 7, or the place of a capture from this one on with none before it that is listed.
-fn next_listed(answers: &[bool; 7], start: u8) -> u8
+fn next_listed(listed: &[bool; 7], start: u8) -> u8
     requires { start ≤ 7 }
     ensures high { start ≤ result }
     ensures low { result ≤ 7 }
-    ensures none { (r : ℕ) → start ≤ r → r < result → slice_index_or answers.now r false ≡ false }
+    ensures none { (r : ℕ) → start ≤ r → r < result → slice_index_or listed.now r false ≡ false }
 {
     let mut place = start;
     while place < 7 {
-        if answers[place as usize] {
+        if listed[place as usize] {
             return place;
         }
         place += 1;
@@ -59,11 +59,11 @@ fn stop_on(query: &Query, facts: &Option<QueryFacts>, start: Cursor, alone: bool
     ensures alone { IfSome result (λ stop. IfSome facts.now (λ f. KnowsAlone query.now f.king stop.cursor.to stop.alone)) }
     ensures forward { IfSome result (λ stop. number_of start ≤ number_of stop.cursor) }
     ensures unlisted { IfSome result (λ stop. AreUnlisted query.now (number_of start) (number_of stop.cursor)) }
-    ensures ready { IfSome result (λ stop. AreReady query.now stop.cursor stop.answers) }
+    ensures ready { IfSome result (λ stop. AreReady query.now stop.cursor stop.listed) }
     ensures none { IfNone result (AreUnlisted query.now (number_of start) (number_at start.to start.from start.promotion 7)) }
 {
-    let answers = answers_to(query, facts, &start.mv(), alone);
-    let place = next_listed(&answers, start.capture);
+    let listed = listed(query, facts, &start.mv(), alone);
+    let place = next_listed(&listed, start.capture);
     if place < 7 {
         Some(Stop {
             cursor: Cursor {
@@ -72,7 +72,7 @@ fn stop_on(query: &Query, facts: &Option<QueryFacts>, start: Cursor, alone: bool
                 promotion: start.promotion,
                 capture: place,
             },
-            answers,
+            listed,
             alone,
         })
     } else {
@@ -95,7 +95,7 @@ pub fn stop_from(
     ensures alone { IfSome facts.now (λ f. KnowsAlone query.now f.king result.cursor.to result.alone) }
     ensures forward { number_of start ≤ number_of result.cursor }
     ensures unlisted { AreUnlisted query.now (number_of start) (number_of result.cursor) }
-    ensures ready { AreReady query.now result.cursor result.answers }
+    ensures ready { AreReady query.now result.cursor result.listed }
 {
     let mut there = start;
     let mut seen = last;
@@ -120,7 +120,7 @@ pub fn stop_from(
     }
     Stop {
         cursor: there,
-        answers: [false; 7],
+        listed: [false; 7],
         alone: false,
     }
 }
@@ -136,14 +136,14 @@ pub fn stop_after(
     requires inside { here.now.cursor.to < 64 }
     requires facts { IfSome facts.now (λ f. AreFacts query.now f) }
     requires targets { AreTargets query.now targets }
-    requires ready { AreReady query.now here.now.cursor here.now.answers }
+    requires ready { AreReady query.now here.now.cursor here.now.listed }
     ensures alone { IfSome facts.now (λ f. KnowsAlone query.now f.king result.cursor.to result.alone) }
     ensures forward { number_of here.now.cursor < number_of result.cursor }
     ensures unlisted { AreUnlisted query.now (number_of here.now.cursor + 1) (number_of result.cursor) }
-    ensures ready { AreReady query.now result.cursor result.answers }
+    ensures ready { AreReady query.now result.cursor result.listed }
 {
     let cursor = here.cursor;
-    let place = next_listed(&here.answers, cursor.capture + 1);
+    let place = next_listed(&here.listed, cursor.capture + 1);
     if place < 7 {
         Stop {
             cursor: Cursor {
@@ -152,7 +152,7 @@ pub fn stop_after(
                 promotion: cursor.promotion,
                 capture: place,
             },
-            answers: here.answers,
+            listed: here.listed,
             alone: here.alone,
         }
     } else {

@@ -1,5 +1,5 @@
 ghost use Rattle.std.specs.Prelude.{◌≡◌, false, IfSome};
-ghost use Rattle.check_origins.specs.Near.{AreOrigins};
+ghost use Rattle.check_origins.specs.Near.{AreArrivals};
 ghost use Rattle.unmove_gen.specs.Plain.{AreFacts};
 ghost use Rattle.unmove_gen.specs.Ready.{AreTargets, IsNoTarget};
 
@@ -9,9 +9,9 @@ use check_origins::origins;
 use query_base::Query;
 
 /// Where the last move can have ended, as far as checks tell.
-pub fn origins_by(query: &Query, facts: &Option<QueryFacts>) -> SquareSet
+pub fn arrivals_by(query: &Query, facts: &Option<QueryFacts>) -> SquareSet
     requires { IfSome facts.now (λ f. AreFacts query.now f) }
-    ensures { AreOrigins query.now.board query.now.turn result }
+    ensures { AreArrivals query.now.board query.now.turn result }
 {
     match facts {
         Some(facts) if !facts.checked => SquareSet::from_bits(u64::MAX),
@@ -20,24 +20,24 @@ pub fn origins_by(query: &Query, facts: &Option<QueryFacts>) -> SquareSet
 }
 
 /// A man of the side that moved stands on the square, and the last move can have ended there.
-fn may_be_target(query: &Query, origins: SquareSet, s: Square) -> bool
-    requires { AreOrigins query.now.board query.now.turn origins }
+fn may_be_target(query: &Query, arrivals: SquareSet, s: Square) -> bool
+    requires { AreArrivals query.now.board query.now.turn arrivals }
     ensures { result ≡ false → IsNoTarget query.now s }
 {
     query.board.is_whole();
     s.index();
-    origins.has(s) && is_of(query.turn.other(), query.board.at(s))
+    arrivals.has(s) && is_of(query.turn.other(), query.board.at(s))
 }
 
 /// The squares on which a listed move can have ended.
-pub fn targets_of(query: &Query, origins: SquareSet) -> SquareSet
-    requires { AreOrigins query.now.board query.now.turn origins }
+pub fn targets_of(query: &Query, arrivals: SquareSet) -> SquareSet
+    requires { AreArrivals query.now.board query.now.turn arrivals }
     ensures { AreTargets query.now result }
 {
     let mut targets = SquareSet::from_bits(0);
     for i in 0..64 {
         let s = Square::known(i);
-        if may_be_target(query, origins, s) {
+        if may_be_target(query, arrivals, s) {
             targets = targets.with(s);
         }
     }

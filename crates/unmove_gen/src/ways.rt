@@ -1,11 +1,10 @@
 ghost use Rattle.std.specs.Prelude.{◌≡◌, ◌<◌, ◌≤◌, ◌||◌, ℕ, false, Option, Some};
 ghost use Rattle.board_base.specs.declared.men.Kind.{Kind as AKind};
 ghost use Rattle.board_base.specs.Board.{at, is_in};
-ghost use Rattle.board_base.specs.Legal.{last_rank};
 ghost use Rattle.unmove_gen.specs.Ways.{IsNoWay, may_go_alone, may_have_made, reaches_last};
 
 use crate::way_tables::{BISHOPS, BLACK_PAWNS, KINGS, KNIGHTS, ROOKS, WHITE_PAWNS};
-use board_base::{Board, Colour, Kind, Man, Move, Square, SquareSet};
+use board_base::{Board, Colour, Kind, Man, Move, Square, SquareSet, last_rank};
 
 /// The squares from which a man may go to this one on an empty board, or step or capture.
 pub fn ways_to(colour: Colour, kind: Kind, to: Square) -> SquareSet
@@ -24,15 +23,6 @@ pub fn ways_to(colour: Colour, kind: Kind, to: Square) -> SquareSet
         Kind::Queen => ROOKS[place] | BISHOPS[place],
     };
     SquareSet::from_bits(bits)
-}
-
-fn last_rank(colour: Colour) -> u8
-    ensures { result ≡ last_rank colour }
-{
-    match colour {
-        Colour::White => 7,
-        Colour::Black => 0,
-    }
 }
 
 /// This man may have made the move, as a pawn if he was promoted.

@@ -1,8 +1,8 @@
 use Rattle.std.proofs.Common.{◌≡◌, ◌∙◌, arith, sym, subst, List, ℕ, rules}
 use Rattle.std.specs.Prelude.{ℤ}
 use Rattle.std.specs.List.{All}
-use Rattle.board_base.specs.Potentials.{IsWithinLimit}
 use Rattle.assignment.specs.Tables.{IsTable}
+use Rattle.assignment.specs.Assignments.{IsWithin}
 use Rattle.assignment.proofs.small.solve.Goals as goal
 
 -- the table with more room is the same
@@ -27,10 +27,10 @@ narrowed_all-requires g c =
 
 pub returns-clause-u_within : goal.returns-clause-u_within
 returns-clause-u_within g c =
-    subst (λ (l : List ℤ). All IsWithinLimit l) (sym c.narrowed.ensures)
+    subst (λ (l : List ℤ). All (IsWithin 64) l) (sym c.narrowed.ensures)
     (c.solve_large-solution.ensures.u_within 64 (same_table g.row.W _ _ _ c.widened.ensures c.as_slice.ensures.value c.requires))
 
 pub returns-clause-v_within : goal.returns-clause-v_within
 returns-clause-v_within g c =
-    subst (λ (l : List ℤ). All IsWithinLimit l) (sym c.narrowed_all.ensures)
+    subst (λ (l : List ℤ). All (IsWithin 64) l) (sym c.narrowed_all.ensures)
     (c.solve_large-solution.ensures.v_within 64 (same_table g.row.W _ _ _ c.widened.ensures c.as_slice.ensures.value c.requires))

@@ -5,7 +5,7 @@ use Rattle.board_base.specs.declared.men.Colour.{Colour}
 use Rattle.query_base.specs.Asked.{Asked}
 use Rattle.unmove_gen.specs.Listed.{mover}
 use Rattle.unmove_gen.proofs.Parts.{parts}
-use Rattle.unmove_gen.proofs.Uncovered.{in-origins}
+use Rattle.unmove_gen.proofs.Uncovered.{in-arrivals}
 use Rattle.unmove_gen.proofs.targets.may_be_target.Goals as goal
 
 pub returns-then-has : goal.returns-then-has
@@ -19,4 +19,4 @@ pub returns-else-has : goal.returns-else-has
 returns-else-has c = λ none u h there.
     let q : Asked = c.args.query.now in
     let whole : length q.board ≡ 64 = ap (λ (a : Asked). length a.board) (sym c.query.view_is) ∙ c.is_whole.ensures in
-    both_ways _ (sym c.has.ensures.member ∙ c.if-has.false) (ap (is_in c.args.origins) (sym there) ∙ in-origins q u c.args.origins whole c.requires h)
+    both_ways _ (sym c.has.ensures.member ∙ c.if-has.false) (ap (is_in c.args.arrivals) (sym there) ∙ in-arrivals q u c.args.arrivals whole c.requires h)

@@ -5,7 +5,7 @@ use Rattle.unmove_gen.specs.Listed.{candidates, is_listed}
 use Rattle.unmove_gen.specs.Cursors.{number_of}
 use Rattle.general_lemmas.proofs.Filtered.{rest_ends, rest_fails, rest_skips, rest_takes}
 use Rattle.unmove_gen.proofs.Numbered.{candidates-long}
-use Rattle.unmove_gen.proofs.ReadyAnswers.{answer-here}
+use Rattle.unmove_gen.proofs.ReadyListed.{listed-here}
 use Rattle.unmove_gen.proofs.lists.Unmoves.next.Goals as goal
 
 pub loop-self-init : goal.loop-self-init
@@ -35,7 +35,7 @@ returns-then-is_listed c =
     let n : ℕ = number_of c.loop-self.self-inside.stop.cursor in
     let later : n < number_of c.stop_after-self-inside.result.cursor = c.stop_after-self-inside.ensures.forward in
     sym c.loop-self.invariant.left
-    ∙ rest_takes p candidates n c.candidate-u.result c.candidate-u.ensures (sym (answer-here c.loop-self.self-inside.query c.loop-self.self-inside.stop.cursor c.loop-self.self-inside.stop.answers c.candidate-u.result c.loop-self-test.true c.candidate-u.ensures c.loop-self.invariant.ready) ∙ c.if-is_listed.true)
+    ∙ rest_takes p candidates n c.candidate-u.result c.candidate-u.ensures (sym (listed-here c.loop-self.self-inside.query c.loop-self.self-inside.stop.cursor c.loop-self.self-inside.stop.listed c.candidate-u.result c.loop-self-test.true c.candidate-u.ensures c.loop-self.invariant.ready) ∙ c.if-is_listed.true)
     ∙ ap (λ l. c.candidate-u.result ∷ l) (rest_skips p candidates (n + 1) (number_of c.stop_after-self-inside.result.cursor) (omega arith) (λ k u low below there. c.stop_after-self-inside.ensures.unlisted k u low below there))
 
 pub loop-self-preserved : goal.loop-self-preserved
@@ -46,7 +46,7 @@ loop-self-preserved c =
     record {
       left =
           sym (rest_skips p candidates (n + 1) (number_of c.stop_after-self-inside.result.cursor) (omega arith) (λ k u low below there. c.stop_after-self-inside.ensures.unlisted k u low below there))
-          ∙ sym (rest_fails p candidates n c.candidate-u.result c.candidate-u.ensures (sym (answer-here c.loop-self.self-inside.query c.loop-self.self-inside.stop.cursor c.loop-self.self-inside.stop.answers c.candidate-u.result c.loop-self-test.true c.candidate-u.ensures c.loop-self.invariant.ready) ∙ c.if-is_listed.false))
+          ∙ sym (rest_fails p candidates n c.candidate-u.result c.candidate-u.ensures (sym (listed-here c.loop-self.self-inside.query c.loop-self.self-inside.stop.cursor c.loop-self.self-inside.stop.listed c.candidate-u.result c.loop-self-test.true c.candidate-u.ensures c.loop-self.invariant.ready) ∙ c.if-is_listed.false))
           ∙ c.loop-self.invariant.left;
       facts = c.loop-self.invariant.facts;
       targets = c.loop-self.invariant.targets;

@@ -13,7 +13,7 @@ invariant-loop-self l = record {
   facts : IfSome l.self-inside.facts (λ f. AreFacts l.self-inside.query f);
   targets : AreTargets l.self-inside.query l.self-inside.targets;
   alone : IfSome l.self-inside.facts (λ f. KnowsAlone l.self-inside.query f.king l.self-inside.stop.cursor.to l.self-inside.stop.alone);
-  ready : AreReady l.self-inside.query l.self-inside.stop.cursor l.self-inside.stop.answers;
+  ready : AreReady l.self-inside.query l.self-inside.stop.cursor l.self-inside.stop.listed;
 }
 
 abbrev pub decreases-loop-self : goal.decreases-loop-self
