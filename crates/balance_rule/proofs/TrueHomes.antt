@@ -1,18 +1,18 @@
 -- The men of a side began on different homes; those gone on the others. So each row of the table of costs has a home of its own, and
 -- the least cost is no more than what the men's fates cost.
-use Rattle.std.proofs.Common.{◌≡◌, ℕ, zero, suc, ◌+◌, ◌-◌, ◌<◌, ◌≤◌, ◌⊎◌, inl, inr, Bool, true, false, ◌&&◌, not, List, [], ◌∷◌, ◌++◌, length, map, get_or, replicate, slice_index, refl, ap, sym, ◌∙◌, subst, arith}
-use Rattle.std.proofs.lemmas.Bool.{and_from, both_ways, cases_Bool, cond-true, cond-false, ltb-true, not-true}
+use Rattle.std.proofs.Common.{◌≡◌, ℕ, zero, suc, ◌+◌, ◌-◌, ◌<◌, ◌≤◌, ◌⊎◌, inl, inr, Bool, true, false, not, List, [], ◌∷◌, ◌++◌, length, map, get_or, replicate, slice_index, refl, ap, sym, ◌∙◌, subst, arith}
+use Rattle.std.proofs.lemmas.Bool.{both_ways, cases_Bool, cond-true, cond-false, not-true}
 use Rattle.std.proofs.lemmas.List.{length-append, length-map, length-replicate, map-append}
 use Rattle.std.proofs.lemmas.List.Filters.{length-filter_both}
 use Rattle.std.proofs.lemmas.List.FromFn.{get_or-map-range_with_len}
 use Rattle.std.proofs.lemmas.List.Sums.{sum_by-append, sum_by-cons}
-use Rattle.std.specs.Prelude.{Option, Some, None, is_none, nat_lt}
-use Rattle.std.specs.List.{Contains, filter, find, list_all, range_with_len, sum_by}
+use Rattle.std.specs.Prelude.{Option, Some, None, is_none}
+use Rattle.std.specs.List.{Contains, filter, find, range_with_len, sum_by}
 use Rattle.general_lemmas.proofs.Differing.{Differ, Has, contains-has, differ-apart, differ-append, differ-filter, differ-map, differ-range, has-contains, has-either, has-filter, has-map, range-has}
 use Rattle.general_lemmas.proofs.Lists.{contains-cases, contains-filter, contains-map, contains-none}
-use Rattle.general_lemmas.proofs.Ranges.{all_in_range, contains-range}
+use Rattle.general_lemmas.proofs.Ranges.{contains-range}
 use Rattle.general_lemmas.proofs.SumsAmong.{sum-among, sum-ones}
-use Rattle.board_base.specs.Board.{Places, array_of, at, initial_array, is_of}
+use Rattle.board_base.specs.Board.{Places, array_of, at, is_of}
 use Rattle.board_base.specs.Game.{IsGame, board_after}
 use Rattle.board_base.specs.declared.men.Colour.{Colour}
 use Rattle.board_base.specs.declared.men.Colour.TheVariants.{White, Black}
@@ -21,10 +21,11 @@ use Rattle.board_base.proofs.KindsOfMen.{colour_is}
 use Rattle.assignment.specs.Assignments.{IsInjection, assignment_cost, least_cost}
 use Rattle.assignment.proofs.Injections.{least_cost-le}
 use Rattle.men_account.specs.Labels.{Labels, label_at, labels_after}
-use Rattle.men_account.proofs.FilesLeft.{array-inside, array-of-initial}
+use Rattle.men_account.proofs.FilesLeft.{array-inside}
 use Rattle.men_account.proofs.Labelled.{labels-apart, labels-colours, labels-each_man}
 use Rattle.men_account.proofs.Paired.{label-of}
 use Rattle.men_account.proofs.PawnLaws.{man-of}
+use Rattle.men_account.proofs.SideHomes.{home-black, home-white}
 use Rattle.men_fates.specs.Deeds.{is_label}
 use Rattle.men_fates.proofs.MoreDeeds.{label-is, label-told}
 use Rattle.men_fates.proofs.Strikes.{side-of}
@@ -79,33 +80,16 @@ placed o g h s game label = elim (fate o g h game) [
   | missing is none ↦ absurd (none s label)
 ]
 
--- Article 2.3: the men of a side begin on its homes
-homes-white : list_all (λ s. not (is_of White (at initial_array s) && not (nat_lt s 16))) (range_with_len 0 64) ≡ true
-unfolding initial_array
-homes-white = refl
-
-homes-black : list_all (λ s. not (is_of Black (at initial_array s) && not (nat_lt 47 s))) (range_with_len 0 64) ≡ true
-unfolding initial_array
-homes-black = refl
-
 -- the place of a home among the homes of its side
 abbrev column : Colour → ℕ → ℕ
 column White h = h
 column Black h = h - 48
 
-tested-home : (a b : Bool) → not (a && not b) ≡ true → a ≡ true → b ≡ true
-tested-home a true tested here = refl
-tested-home a false tested here = absurd (both_ways _ (not-true _ tested) (and_from a true here refl))
-
 column-is : (o : List Bool) (c : Colour) (h : ℕ) → is_of c (at (array_of o) h) ≡ true → (column c h < 16) × (home_of c (column c h) ≡ h)
-column-is o White h here =
-    let small : h < 64 = array-inside o (is_of White) h refl here in
-    let tested : not (is_of White (at initial_array h) && not (nat_lt h 16)) ≡ true = all_in_range (λ s. not (is_of White (at initial_array s) && not (nat_lt s 16))) 0 64 h homes-white (omega arith) (omega arith) in
-    (ltb-true h 16 (tested-home _ _ tested (array-of-initial o (is_of White) h refl here)), refl)
+column-is o White h here = (home-white o h here, refl)
 column-is o Black h here =
-    let small : h < 64 = array-inside o (is_of Black) h refl here in
-    let tested : not (is_of Black (at initial_array h) && not (nat_lt 47 h)) ≡ true = all_in_range (λ s. not (is_of Black (at initial_array s) && not (nat_lt 47 s))) 0 64 h homes-black (omega arith) (omega arith) in
-    let high : 47 < h = ltb-true 47 h (tested-home _ _ tested (array-of-initial o (is_of Black) h refl here)) in
+    let above : 47 < h = (home-black o h here).0 in
+    let below : h < 64 = (home-black o h here).1 in
     (omega arith, omega arith)
 
 -- the label on a square

@@ -21,7 +21,7 @@ const MOST: i32 = 96;
 const ROUNDS: u32 = 150;
 
 /// How often they are tried again without a gain of an eighth of the shortfall.
-const PATIENCE: u32 = 30;
+const PATIENCE: u32 = 23;
 
 /// Which shortfall is too large, after so many rounds, for the prices to be worth another try.
 const FAR: u32 = 400;
