@@ -11,14 +11,11 @@ use Rattle.query_base.specs.Asked.{Asked}
 use Rattle.query_base.specs.declared.claims.Claim.{Claim}
 use Rattle.query_base.specs.declared.claims.Claim.TheVariants.{Illegal}
 use Rattle.fen_text.specs.Fen.{asked, fen, fen_of_four, from_turn, from_rights, from_en_passant, placement, ranks, rights, no_rights}
-use Rattle.fen_text.specs.ClockLines.{clock_line, clock_text}
-use Rattle.fen_text.specs.OddsLines.{odds_line, odds_of, odds_text}
+use Rattle.fen_text.specs.ClockLines.{clock_line}
+use Rattle.fen_text.specs.OddsLines.{odds_line, odds_of}
 use Rattle.fen_text.specs.Parts.{parted}
 use Rattle.fen_text.specs.Ranks.{rank, places_of, is_symbol}
 use Rattle.fen_text.specs.Sets.{set_of}
-use Rattle.fen_text.specs.Spelling.{spelling}
-use Rattle.fen_text.proofs.ClockTexts.{clock_read}
-use Rattle.fen_text.proofs.OddsTexts.{line_read}
 use Rattle.fen_text.proofs.PartLemmas.{some_value}
 use Rattle.cert_text.specs.Lines.{ended, said}
 use Rattle.cert_text.specs.Certificate.{AreHeadLines, IsSaid, Lines, clock_demand, format_for, format_of, query_of}
@@ -28,8 +25,9 @@ use Rattle.cert_text.specs.declared.heads.Format.{Format}
 use Rattle.cert_text.specs.declared.heads.Format.TheVariants.{One, Two}
 use Rattle.cert_text.specs.declared.heads.Head.{Head}
 use Rattle.cert_text.specs.declared.heads.Head.TheVariants.{FormatDue, ClaimDue, DemandDue, ClockOrFenDue, FenDue, RootDue}
-use Rattle.cert_text.proofs.FenLines.{fen_line, query_read}
-use Rattle.cert_text.proofs.SpelledLines.{nothing_said, said_back, said_read}
+use Rattle.cert_text.proofs.FenLines.{query_read}
+use Rattle.cert_text.proofs.FirstLetters.{clock_begins, fen_begins, no_clock_said, no_odds_said}
+use Rattle.cert_text.proofs.SpelledLines.{said_back, said_read}
 use Rattle.board_base.proofs.TextLemmas.{mapped_some}
 
 -- the lines of a head lead to its root
@@ -41,24 +39,8 @@ leads_both (line ∷ a) b s h k (next, e, leads) rest = (next, e, leads_both a b
 pub leads_more : (front : Lines) (line : List ℕ) (s h next : Head) → Leads s front h → head_step h line ≡ Some next → Leads s (front ++ line ∷ []) next
 leads_more front line s h next leads e = leads_both front (line ∷ []) s h next leads (next, e, refl)
 
--- a line of one kind is none of another
-
-odds_not_clock : (line : List ℕ) (odds : List Bool) (n : ℕ) → said odds_line line ≡ Some odds → said clock_line line ≡ Some n → ⊥
-odds_not_clock line odds n a b =
-    let o = said_read odds_line line odds a in
-    let k = said_read clock_line line n b in
-    let both : ended (odds_text odds) ≡ ended (clock_text n) = sym (o.line_is ∙ ap ended (line_read o.text odds o.stands).text_is) ∙ k.line_is ∙ ap ended (clock_read k.text n k.stands).text_is in
-    let first : 111 ≡ 99 = same_first both in omega (arith, first)
-
-fen_not_clock : (line : List ℕ) (q : Asked) (n : ℕ) → said query_of line ≡ Some q → said clock_line line ≡ Some n → ⊥
-unfolding fen_line
-fen_not_clock line q n a b =
-    let k = said_read clock_line line n b in
-    let both : ended (codes "fen " ++ spelling q) ≡ ended (clock_text n) = sym (query_read line q a).line_is ∙ k.line_is ∙ ap ended (clock_read k.text n k.stands).text_is in
-    let first : 102 ≡ 99 = same_first both in omega (arith, first)
-
 -- where a clock is demanded, its line names it
-demanded : (line : List ℕ) (clock : Option ℕ) → said clock_demand line ≡ Some clock → (n : ℕ) × (said clock_line line ≡ Some n) × (Some n ≡ clock)
+pub demanded : (line : List ℕ) (clock : Option ℕ) → said clock_demand line ≡ Some clock → (n : ℕ) × (said clock_line line ≡ Some n) × (Some n ≡ clock)
 unfolding said
 demanded line clock e =
     let says = said_read clock_demand line clock e in
@@ -81,7 +63,7 @@ clock_goes claim odds line n e = ap (option_map (λ k. FenDue claim odds (Some k
 
 first_clock : (claim : Claim) (line : List ℕ) (n : ℕ) → said clock_line line ≡ Some n → head_step (DemandDue claim) line ≡ Some (FenDue claim no_odds (Some n))
 first_clock claim line n e =
-    let none : said odds_line line ≡ None = nothing_said odds_line line (λ odds o. odds_not_clock line odds n o e) in
+    let none : said odds_line line ≡ None = no_odds_said line 99 (clock_begins line n e) (λ same. omega arith) in
     ap (λ (o : Option (List Bool)). option_or (option_map (λ x. ClockOrFenDue claim x) o) (clock_step claim no_odds line)) none ∙ clock_goes claim no_odds line n e
 
 second_clock : (claim : Claim) (odds : List Bool) (line : List ℕ) (n : ℕ) → said clock_line line ≡ Some n → head_step (ClockOrFenDue claim odds) line ≡ Some (FenDue claim odds (Some n))
@@ -94,7 +76,7 @@ fen_goes claim odds clock line p e =
 
 fen_alone : (claim : Claim) (odds : List Bool) (line : List ℕ) (p : Asked) → said query_of line ≡ Some p → head_step (ClockOrFenDue claim odds) line ≡ Some (RootDue claim (record p { odds = odds; clock = None }))
 fen_alone claim odds line p e =
-    let none : said clock_line line ≡ None = nothing_said clock_line line (λ n k. fen_not_clock line p n e k) in
+    let none : said clock_line line ≡ None = no_clock_said line (fen_begins line p e) in
     ap (λ (o : Option ℕ). option_or (option_map (λ k. FenDue claim odds (Some k)) o) (fen_step claim odds None line)) none ∙ fen_goes claim odds None line p e
 
 same_root : (claim : Claim) (odds : List Bool) (clock : Option ℕ) (q : Asked) → odds ≡ q.odds → clock ≡ q.clock → RootDue claim (record q { odds = odds; clock = clock }) ≡ RootDue claim q

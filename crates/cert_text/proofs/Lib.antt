@@ -26,8 +26,10 @@ pub mod Short
 pub mod TreeTexts
 pub mod ClaimTexts
 pub mod FenLines
+pub mod FirstLetters
 pub mod HeadTexts
 pub mod HeadSteps
+pub mod QueryReads
 pub mod CertTexts
 pub mod Admitted
 pub mod OneCertificate

@@ -10,13 +10,15 @@ use Rattle.std.proofs.lemmas.Slice.Eq.{bytes_eq-Decides}
 use Rattle.std.specs.Fmt.{decimal}
 use Rattle.std.specs.List.{join_with_byte, list_all}
 use Rattle.std.specs.Option.{option_map, option_and_then}
-use Rattle.board_base.specs.Texts.{square_at, square_text}
+use Rattle.board_base.specs.Texts.{square_text}
+use Rattle.board_base.proofs.OneText.{square_text_of}
 use Rattle.board_base.proofs.TextLemmas.{mapped_some, square_back}
 use Rattle.capture_prices.specs.Prices.{PriceList, are_ascending, are_prices, is_low, priced}
 use Rattle.capture_prices.specs.declared.prices.Gate.{Gate}
 use Rattle.fen_text.specs.Parts.{Free}
 use Rattle.fen_text.specs.Numbers.{number}
 use Rattle.fen_text.proofs.Decimals.{model, number_back, number_read}
+use Rattle.fen_text.proofs.MoveFrees.{square_free}
 use Rattle.fen_text.proofs.NumberLemmas.{digits_free}
 use Rattle.cert_text.specs.Arguments.{is_slash, words}
 use Rattle.cert_text.specs.PriceTexts.{black_in, from_least, gate_at, gate_of, gate_words, gates_from, gates_in, low, price_of, price_words, prices_of, prices_text, square_of, takes_from}
@@ -127,30 +129,17 @@ takes_free c (x ∷ xs) under known =
 
 -- gates
 
--- two bytes are the text of a square
+-- the text of a square
 record IsSquareText (text : List ℕ) (s : ℕ) : Type 0 where
   text_is : text ≡ square_text s
   on_board : s < 64
 
-square_at_read : (a b s : ℕ) → square_at a b ≡ Some s → IsSquareText (a ∷ b ∷ []) s
-square_at_read a b s e =
-    let parts = cond_some (nat_le 97 a && nat_le a 104 && nat_le 49 b && nat_le b 56) (8 * (b - 49) + (a - 97)) s e in
-    let last = and_parts (nat_le 97 a && nat_le a 104 && nat_le 49 b) (nat_le b 56) parts.0 in
-    let third = and_parts (nat_le 97 a && nat_le a 104) (nat_le 49 b) last.0 in
-    let first = and_parts (nat_le 97 a) (nat_le a 104) third.0 in
-    let file_low : 97 ≤ a = leb-true 97 a first.0 in
-    let file_high : a ≤ 104 = leb-true a 104 first.1 in
-    let rank_low : 49 ≤ b = leb-true 49 b third.1 in
-    let rank_high : b ≤ 56 = leb-true b 56 last.1 in
-    let number : 8 * (b - 49) + (a - 97) ≡ s = parts.1 in
-    let file : a ≡ 97 + s % 8 = omega arith in
-    let rank : b ≡ 49 + s / 8 = omega arith in
-    record { text_is = ap (λ (x : ℕ). x ∷ b ∷ []) file ∙ ap (λ (x : ℕ). (97 + s % 8) ∷ x ∷ []) rank; on_board = omega arith }
-
 square_read : (text : List ℕ) (s : ℕ) → square_of text ≡ Some s → IsSquareText text s
 square_read [] s e = absurd cc
 square_read (a ∷ []) s e = absurd cc
-square_read (a ∷ b ∷ []) s e = square_at_read a b s e
+square_read (a ∷ b ∷ []) s e =
+    let t = square_text_of a b s e in
+    record { text_is = ap (λ (x : ℕ). x ∷ b ∷ []) t.file ∙ ap (λ (x : ℕ). (97 + s % 8) ∷ x ∷ []) t.rank; on_board = t.on_board }
 square_read (a ∷ b ∷ c ∷ rest) s e = absurd cc
 
 -- the parts of what is known of the first gate of some
@@ -243,9 +232,6 @@ gates_read (suc n) least (w ∷ v ∷ ws) gates e =
       few = omega (arith, ap length m.2);
       known = ap (are_ascending least) (sym m.2) ∙ first_whole least g m.0 one.one rest.known;
     })
-
-square_free : (c s : ℕ) → c < 48 → Free c (square_text s)
-square_free c s under = and_from _ _ (ap not (ne_eqb (97 + s % 8) c (λ e. omega arith))) (and_from _ _ (ap not (ne_eqb (49 + s / 8) c (λ e. omega arith))) refl)
 
 gates_free : (c least : ℕ) (gates : List Gate) → c < 48 → are_ascending least gates ≡ true → are_free c (gate_words gates) ≡ true
 gates_free c least [] under known = refl

@@ -9,6 +9,7 @@ pub mod ClaimLines
 pub mod Certificate
 pub mod SeenCert
 pub mod Heads
+pub mod QueryReading
 pub mod Mute
 pub mod Due
 pub mod TreeCode

@@ -5,10 +5,9 @@ ghost use Rattle.board_base.specs.Potentials.{IsWithinLimit, duals};
 ghost use Rattle.fen_text.specs.Sets.{set_text};
 ghost use Rattle.cert_text.specs.Arguments.{potentials_text};
 
-use crate::line_writing::push_all;
 use arrayvec::ArrayVec;
 use board_base::{Potentials, SquareSet};
-use fen_text::set_text;
+use fen_text::{push_text, set_text};
 use itoa::Buffer;
 
 /// Puts the text of a set after the others.
@@ -17,7 +16,7 @@ pub(crate) fn push_set(set: SquareSet, out: &mut ArrayVec<u8, 256>)
     ensures text { out.new.items ≡ out.old.items ++ set_text set }
     ensures longer { length out.new.items ≡ length out.old.items + 16 }
 {
-    push_all(&set_text(set), out);
+    push_text(&set_text(set), out);
 }
 
 /// Puts the text of a number from -64 to 64 after the others.
@@ -28,7 +27,7 @@ fn push_signed<const N: usize>(number: i8, out: &mut ArrayVec<u8, N>)
     ensures short { length out.new.items ≤ length out.old.items + 3 }
 {
     let mut buffer = Buffer::new();
-    push_all(buffer.format(number).as_bytes(), out);
+    push_text(buffer.format(number).as_bytes(), out);
 }
 
 /// Puts the one text of potentials after what stands in `out`: the numbers of the rows, a `/` and the numbers of the columns, with a

@@ -7,7 +7,7 @@ ghost use Rattle.cert_text.specs.ClaimLines.{capture_claimed, castling_named, cl
 use crate::lines::is_text;
 use arrayvec::ArrayVec;
 use board_base::{Castle, Move, read_move, write_move};
-use fen_text::castle_letter;
+use fen_text::{castle_letter, push_text};
 use query_base::Claim;
 
 fn read_castle(name: &[u8]) -> Option<Castle>
@@ -80,13 +80,6 @@ pub fn read_claim(line: &[u8]) -> Option<Claim>
     } else {
         None
     }
-}
-
-fn push_text(text: &[u8], out: &mut ArrayVec<u8, 128>)
-    requires { length out.old.items + length text.now ≤ 128 }
-    ensures { out.new.items ≡ out.old.items ++ text.now }
-{
-    let _ = out.try_extend_from_slice(text);
 }
 
 fn push_move(m: &Move, out: &mut ArrayVec<u8, 128>)

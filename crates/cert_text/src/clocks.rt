@@ -1,4 +1,5 @@
 ghost use Rattle.std.specs.Prelude.{◌≡◌, ◌≤◌};
+ghost use Rattle.query_base.specs.Asked.{IsShortClock};
 
 use std::marker::Model;
 
@@ -35,5 +36,16 @@ impl Clock {
         ensures short { result ≤ 9_999 }
     {
         self.moves
+    }
+}
+
+/// The number of the clock, if there is one.
+pub(crate) fn moves_of(clock: Option<Clock>) -> Option<u16>
+    ensures number { result ≡ clock }
+    ensures short { IsShortClock result }
+{
+    match clock {
+        Some(clock) => Some(clock.moves()),
+        None => None,
     }
 }

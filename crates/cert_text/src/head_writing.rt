@@ -6,9 +6,9 @@ ghost use Rattle.cert_text.specs.Writable.{is_written};
 ghost use Rattle.cert_text.specs.Written.{format_text};
 
 use crate::claims::write_claim;
-use crate::line_writing::push_all;
 use crate::query_lines::{is_known, push_ended, write_query_lines};
 use arrayvec::ArrayVec;
+use fen_text::push_text;
 use query_base::{Claim, Query};
 
 /// Whether neither odds nor a clock are demanded.
@@ -25,9 +25,9 @@ fn push_format(query: &Query, out: &mut ArrayVec<u8, 512>)
     ensures longer { length out.new.items ≡ length out.old.items + 8 }
 {
     if is_undemanding(query) {
-        push_all(b"retro 1\n", out);
+        push_text(b"retro 1\n", out);
     } else {
-        push_all(b"retro 2\n", out);
+        push_text(b"retro 2\n", out);
     }
 }
 

@@ -15,10 +15,7 @@ use query_base::{Claim, Query};
 pub fn read_root_line(line: &[u8]) -> Option<BodyLine>
     ensures { result ≡ said root_body line.now }
 {
-    match without_end(line) {
-        Some(text) => read_root(text),
-        None => None,
-    }
+    read_root(without_end(line)?)
 }
 
 /// What the head of a certificate and the line of its root say, what follows them, and the number of the line there.

@@ -1,18 +1,17 @@
-ghost use Rattle.std.specs.Prelude.{◌≡◌, None, length};
-ghost use Rattle.query_base.specs.Asked.{IsShortClock};
+ghost use Rattle.std.specs.Prelude.{◌≡◌, None, Some, length};
+ghost use Rattle.std.specs.Option.{option_map};
 ghost use Rattle.cert_text.specs.Lines.{said};
-ghost use Rattle.cert_text.specs.Certificate.{format_of, lines_of_clock, lines_of_odds, query_of, root_at};
-ghost use Rattle.cert_text.specs.ClaimLines.{claim_of};
+ghost use Rattle.cert_text.specs.Certificate.{clock_demand, format_of, lines_of_clock, lines_of_odds, query_of, root_at};
 ghost use Rattle.cert_text.specs.Heads.{after_claim, clock_step, fen_step, head_step};
 ghost use Rattle.cert_text.specs.declared.heads.Head.TheVariants.{ClockOrFenDue, DemandDue};
 ghost use Rattle.fen_text.specs.ClockLines.{clock_line};
 ghost use Rattle.fen_text.specs.OddsLines.{odds_line};
 
 use crate::claims::read_claim;
-use crate::clocks::Clock;
+use crate::clocks::{Clock, moves_of};
 use crate::lines::{is_text, without_end};
 use board_base::Odds;
-use fen_text::{read_clock, read_four_fields, read_odds};
+use fen_text::{at_demands, read_clock, read_four_fields, read_odds};
 use query_base::{Claim, Query};
 
 /// The format of a certificate's text, which its first line names.
@@ -55,54 +54,26 @@ fn read_format(text: &[u8]) -> Option<Format>
     }
 }
 
-#[tactic(auto, unfolding(crate::specs::Lines::said))]
-fn read_format_line(line: &[u8]) -> Option<Format>
-    ensures { result ≡ said format_of line.now }
-{
-    match without_end(line) {
-        Some(text) => read_format(text),
-        None => None,
-    }
-}
-
-#[tactic(auto, unfolding(crate::specs::Lines::said))]
-fn read_claim_line(line: &[u8]) -> Option<Claim>
-    ensures { result ≡ said claim_of line.now }
-{
-    match without_end(line) {
-        Some(text) => read_claim(text),
-        None => None,
-    }
-}
-
 /// Reads a line of odds, with its end. None comes exactly where the line is none.
 #[tactic(auto, unfolding(crate::specs::Lines::said))]
-pub fn read_odds_line(line: &[u8]) -> Option<Odds>
+pub(crate) fn read_odds_line(line: &[u8]) -> Option<Odds>
     ensures { result ≡ said odds_line line.now }
 {
-    match without_end(line) {
-        Some(text) => read_odds(text),
-        None => None,
-    }
+    read_odds(without_end(line)?)
 }
 
 fn read_clock_text(text: &[u8]) -> Option<Clock>
     ensures { result ≡ clock_line text.now }
 {
-    match read_clock(text) {
-        Some(moves) => Some(Clock::known(moves)),
-        None => None,
-    }
+    Some(Clock::known(read_clock(text)?))
 }
 
 #[tactic(auto, unfolding(crate::specs::Lines::said))]
-fn read_clock_line(line: &[u8]) -> Option<Clock>
-    ensures { result ≡ said clock_line line.now }
+pub(crate) fn read_clock_line(line: &[u8]) -> Option<Clock>
+    ensures clock { result ≡ said clock_line line.now }
+    ensures demand { option_map (λ n. Some n) result ≡ said clock_demand line.now }
 {
-    match without_end(line) {
-        Some(text) => read_clock_text(text),
-        None => None,
-    }
+    read_clock_text(without_end(line)?)
 }
 
 #[tactic(auto, unfolding(crate::specs::Certificate::query_of))]
@@ -118,13 +89,10 @@ fn read_query(text: &[u8]) -> Option<Query>
 
 /// Reads a line of a FEN, with its end: `fen`, a space and a FEN of four fields. None comes exactly where the line is none.
 #[tactic(auto, unfolding(crate::specs::Lines::said))]
-pub fn read_fen_line(line: &[u8]) -> Option<Query>
+pub(crate) fn read_fen_line(line: &[u8]) -> Option<Query>
     ensures { result ≡ said query_of line.now }
 {
-    match without_end(line) {
-        Some(text) => read_query(text),
-        None => None,
-    }
+    read_query(without_end(line)?)
 }
 
 /// The line that follows the claim's.
@@ -137,43 +105,18 @@ fn after_claim(format: Format, claim: Claim) -> Head
     }
 }
 
-/// The number of the clock, if there is one.
-fn moves_of(clock: Option<Clock>) -> Option<u16>
-    ensures number { result ≡ clock }
-    ensures short { IsShortClock result }
-{
-    match clock {
-        Some(clock) => Some(clock.moves()),
-        None => None,
-    }
-}
-
-/// The query of games at these odds that demands this clock, if any.
-fn at_demands(query: Query, odds: Odds, clock: Option<Clock>) -> Query
-    ensures { result ≡ record query { odds = odds; clock = clock } }
-{
-    let mut query = query;
-    query.odds = odds;
-    query.clock = moves_of(clock);
-    query
-}
-
 fn read_fen_due(claim: Claim, odds: Odds, clock: Option<Clock>, line: &[u8]) -> Option<Head>
     ensures { result ≡ fen_step claim odds clock line.now }
 {
-    match read_fen_line(line) {
-        Some(query) => Some(Head::RootDue(claim, at_demands(query, odds, clock))),
-        None => None,
-    }
+    let query = read_fen_line(line)?;
+    Some(Head::RootDue(claim, at_demands(query, odds, moves_of(clock))))
 }
 
 fn read_clock_due(claim: Claim, odds: Odds, line: &[u8]) -> Option<Head>
     ensures { result ≡ clock_step claim odds line.now }
 {
-    match read_clock_line(line) {
-        Some(clock) => Some(Head::FenDue(claim, odds, Some(clock))),
-        None => None,
-    }
+    let clock = read_clock_line(line)?;
+    Some(Head::FenDue(claim, odds, Some(clock)))
 }
 
 fn read_demand(claim: Claim, line: &[u8]) -> Option<Head>
@@ -198,19 +141,14 @@ fn read_clock_or_fen(claim: Claim, odds: Odds, line: &[u8]) -> Option<Head>
 /// 2 that of the odds, as `read_odds` reads it, or of the clock, as `read_clock` reads it, or both in this order; `fen`, a space and
 /// a FEN of four fields. What comes next after it is given, and None exactly where the line isn't one that is due, or the head is
 /// read.
+#[tactic(auto, unfolding(crate::specs::Lines::said))]
 pub fn read_head_line(due: &Head, line: &[u8]) -> Option<Head>
     ensures { result ≡ head_step due.now line.now }
 {
     let due = *due;
     match due {
-        Head::FormatDue => match read_format_line(line) {
-            Some(format) => Some(Head::ClaimDue(format)),
-            None => None,
-        },
-        Head::ClaimDue(format) => match read_claim_line(line) {
-            Some(claim) => Some(after_claim(format, claim)),
-            None => None,
-        },
+        Head::FormatDue => Some(Head::ClaimDue(read_format(without_end(line)?)?)),
+        Head::ClaimDue(format) => Some(after_claim(format, read_claim(without_end(line)?)?)),
         Head::DemandDue(claim) => read_demand(claim, line),
         Head::ClockOrFenDue(claim, odds) => read_clock_or_fen(claim, odds, line),
         Head::FenDue(claim, odds, clock) => read_fen_due(claim, odds, clock, line),

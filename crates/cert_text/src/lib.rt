@@ -20,6 +20,7 @@ mod nodes;
 mod price_reading;
 mod price_writing;
 mod query_lines;
+mod query_reading;
 mod reading;
 mod reasons;
 
@@ -33,7 +34,7 @@ pub use faults::CertFault;
 pub use formats::fits_format;
 pub use head_writing::write_head;
 pub use headers::read_root_line;
-pub use heads::{Format, Head, read_fen_line, read_head_line, read_odds_line, root_line_of};
+pub use heads::{Format, Head, read_head_line, root_line_of};
 pub use laws::{
     heads_lead_to_the_root, no_long_lines, one_fault_each, one_text_each, one_text_of_a_claim,
     one_text_of_a_line,
@@ -43,5 +44,6 @@ pub use lines::{first_line, without_end};
 pub use node_lines::{BodyLine, NodeLine, read_line};
 pub use nodes::{Body, Kid, Kids, Node};
 pub use query_lines::write_query_lines;
+pub use query_reading::{FirstQuery, take_fen, take_odds, take_query};
 pub use reading::{read_cert, read_kid_line};
 pub use reasons::Reason;

@@ -1,6 +1,5 @@
 ghost use Rattle.std.specs.Prelude.{ℕ, List, ◌≡◌, ◌+◌, ◌≤◌, ◌++◌, [], Some, length};
 ghost use Rattle.std.specs.Fmt.{decimal};
-ghost use Rattle.fen_text.specs.Spelling.{turn_letter};
 ghost use Rattle.cert_text.specs.NodeLines.{node_line, body_text, line_text, reason_name, rule_name, IsLine};
 ghost use Rattle.cert_text.specs.Written.{IsLabel, label_text};
 
@@ -9,18 +8,10 @@ use crate::node_lines::{BodyLine, NodeLine};
 use crate::price_writing::push_prices;
 use crate::reasons::Reason;
 use arrayvec::ArrayVec;
-use board_base::{Colour, Unmove, write_unmove};
+use board_base::{Unmove, write_unmove};
+use fen_text::{push_text, turn_letter};
 use itoa::Buffer;
 use query_base::RuleLine;
-
-/// Puts these bytes, for which there is room, after the others.
-pub(crate) fn push_all<const N: usize>(bytes: &[u8], out: &mut ArrayVec<u8, N>)
-    requires { length out.old.items + length bytes.now ≤ N }
-    ensures text { out.new.items ≡ out.old.items ++ bytes.now }
-    ensures longer { length out.new.items ≡ length out.old.items + length bytes.now }
-{
-    let _ = out.try_extend_from_slice(bytes);
-}
 
 fn push_number(number: u32, out: &mut ArrayVec<u8, 256>)
     requires { length out.old.items + 10 ≤ 256 }
@@ -28,16 +19,7 @@ fn push_number(number: u32, out: &mut ArrayVec<u8, 256>)
     ensures short { length out.new.items ≤ length out.old.items + 10 }
 {
     let mut buffer = Buffer::new();
-    push_all(buffer.format(number).as_bytes(), out);
-}
-
-fn letter(side: Colour) -> u8
-    ensures { result ≡ turn_letter side }
-{
-    match side {
-        Colour::White => b'w',
-        Colour::Black => b'b',
-    }
+    push_text(buffer.format(number).as_bytes(), out);
 }
 
 /// Puts the name of the rule, with what stands behind it, after the others.
@@ -47,29 +29,29 @@ fn push_rule(rule: &RuleLine, out: &mut ArrayVec<u8, 256>)
     ensures short { length out.new.items ≤ length out.old.items + 89 }
 {
     match rule {
-        RuleLine::Kings => push_all(b"kings", out),
-        RuleLine::Ranks => push_all(b"ranks", out),
-        RuleLine::Check => push_all(b"check", out),
-        RuleLine::Rights => push_all(b"rights", out),
+        RuleLine::Kings => push_text(b"kings", out),
+        RuleLine::Ranks => push_text(b"ranks", out),
+        RuleLine::Check => push_text(b"check", out),
+        RuleLine::Rights => push_text(b"rights", out),
         RuleLine::Count(side) => {
-            push_all(b"count ", out);
-            out.push(letter(*side));
+            push_text(b"count ", out);
+            out.push(turn_letter(*side));
         }
         RuleLine::Frozen(set) => {
-            push_all(b"frozen ", out);
+            push_text(b"frozen ", out);
             push_set(*set, out);
         }
         RuleLine::Caps(side, set, p) => {
-            push_all(b"caps ", out);
-            out.push(letter(*side));
+            push_text(b"caps ", out);
+            out.push(turn_letter(*side));
             out.push(b' ');
             push_set(*set, out);
             out.push(b' ');
             push_potentials(p, out);
         }
         RuleLine::Promo(side, set) => {
-            push_all(b"promo ", out);
-            out.push(letter(*side));
+            push_text(b"promo ", out);
+            out.push(turn_letter(*side));
             out.push(b' ');
             push_set(*set, out);
         }
@@ -85,7 +67,7 @@ fn push_reason(reason: &Reason, out: &mut ArrayVec<u8, 256>)
     match reason {
         Reason::Line(rule) => push_rule(rule, out),
         Reason::Balance(set, prices) => {
-            push_all(b"balance ", out);
+            push_text(b"balance ", out);
             push_set(*set, out);
             out.push(b' ');
             push_prices(prices, out);
@@ -100,15 +82,15 @@ fn push_body(body: &BodyLine, out: &mut ArrayVec<u8, 256>)
 {
     match body {
         BodyLine::Rule(reason) => {
-            push_all(b"rule ", out);
+            push_text(b"rule ", out);
             push_reason(reason, out);
         }
         BodyLine::Back(steps) => {
-            push_all(b"back ", out);
+            push_text(b"back ", out);
             push_number(u32::from(*steps), out);
         }
         BodyLine::Expand(count) => {
-            push_all(b"expand ", out);
+            push_text(b"expand ", out);
             push_number(*count, out);
         }
     }
@@ -121,11 +103,11 @@ fn push_label(label: &Option<Unmove>, out: &mut ArrayVec<u8, 256>)
     ensures short { length out.new.items ≤ 8 }
 {
     match label {
-        None => push_all(b"root ", out),
+        None => push_text(b"root ", out),
         Some(unmove) => {
             let mut name: ArrayVec<u8, 8> = ArrayVec::new();
             write_unmove(unmove, &mut name);
-            push_all(name.as_slice(), out);
+            push_text(name.as_slice(), out);
             out.push(b' ');
         }
     }

@@ -5,10 +5,10 @@ ghost use Rattle.capture_prices.specs.Prices.{are_ascending, is_low};
 ghost use Rattle.cert_text.specs.PriceTexts.{gate_words, prices_text};
 ghost use Rattle.cert_text.specs.Written.{with_spaces_before, with_spaces_behind};
 
-use crate::line_writing::push_all;
 use arrayvec::ArrayVec;
 use board_base::Colour;
 use capture_prices::{Gate, Prices};
+use fen_text::push_text;
 use itoa::Buffer;
 
 /// Puts the text of a number of at most 96 after the others.
@@ -19,7 +19,7 @@ fn push_price(number: u8, out: &mut ArrayVec<u8, 256>)
     ensures short { length out.new.items ≤ length out.old.items + 2 }
 {
     let mut buffer = Buffer::new();
-    push_all(buffer.format(number).as_bytes(), out);
+    push_text(buffer.format(number).as_bytes(), out);
 }
 
 /// Puts the texts of a side's prices after the others, with a space behind each.

@@ -8,10 +8,9 @@ ghost use Rattle.cert_text.specs.Certificate.{IsSaid, clock_demand, lines_of_clo
 ghost use Rattle.cert_text.specs.Lines.{ended, said};
 ghost use Rattle.cert_text.specs.Writable.{IsQuery};
 
-use crate::line_writing::push_all;
 use arrayvec::ArrayVec;
 use board_base::Odds;
-use fen_text::{write_clock, write_fen, write_odds};
+use fen_text::{push_text, write_clock, write_fen, write_odds};
 use query_base::Query;
 
 /// Tells the caller what every query keeps, and does nothing when it runs.
@@ -28,7 +27,7 @@ pub(crate) fn push_ended(text: &[u8], out: &mut ArrayVec<u8, 512>)
     ensures line { out.new.items ≡ out.old.items ++ ended text.now }
     ensures longer { length out.new.items ≡ length out.old.items + length text.now + 1 }
 {
-    push_all(text, out);
+    push_text(text, out);
     out.push(b'\n');
 }
 
@@ -70,7 +69,7 @@ fn push_fen(query: &Query, out: &mut ArrayVec<u8, 512>)
 {
     let mut text: ArrayVec<u8, 128> = ArrayVec::new();
     write_fen(query, &mut text);
-    push_all(b"fen ", out);
+    push_text(b"fen ", out);
     push_ended(text.as_slice(), out);
 }
 

@@ -25,10 +25,7 @@ use std::alloc::Global;
 pub fn read_kid_line(depth: u8, line: &[u8]) -> Option<(Unmove, BodyLine)>
     ensures { result ≡ said (kid_body depth) line.now }
 {
-    match without_end(line) {
-        Some(text) => read_kid(depth, text),
-        None => None,
-    }
+    read_kid(depth, without_end(line)?)
 }
 
 /// What the first line says of a child at this depth, and what follows it.

@@ -1,11 +1,11 @@
-ghost use Rattle.std.specs.Prelude.{ℕ, ◌≡◌, ◌+◌, ◌≤◌, ◌++◌, [], MatchOption, length};
+ghost use Rattle.std.specs.Prelude.{ℕ, ◌≡◌, ◌≤◌, [], MatchOption};
 ghost use Rattle.cert_text.specs.Lines.{said};
 ghost use Rattle.dossier_text.specs.Dossiers.{count_line};
 ghost use Rattle.dossier_text.specs.HeadReading.{count_of, size_of, up_to_64_mi};
 
 use arrayvec::ArrayVec;
 use cert_text::without_end;
-use fen_text::read_decimal;
+use fen_text::{push_text, read_decimal};
 use itoa::Buffer;
 
 fn up_to_64_mi(number: u32) -> Option<u32>
@@ -46,10 +46,7 @@ fn read_count(text: &[u8]) -> Option<u32>
 fn read_ended_count(line: &[u8]) -> Option<u32>
     ensures { result ≡ said count_of line.now }
 {
-    match without_end(line) {
-        Some(text) => read_count(text),
-        None => None,
-    }
+    read_count(without_end(line)?)
 }
 
 /// Reads the line that says how many bytes the part below it has, with its end: `part`, a space and a number from 1 to 67108864,
@@ -58,13 +55,6 @@ pub fn read_count_line(line: &[u8]) -> Option<u32>
     ensures { MatchOption result ((n : ℕ) → 1 ≤ n → n ≤ 67108864 → line.now ≡ count_line n → ⊥) (λ n. (line.now ≡ count_line n) × (1 ≤ n) × (n ≤ 67108864)) }
 {
     read_ended_count(line)
-}
-
-fn push_text(text: &[u8], out: &mut ArrayVec<u8, 16>)
-    requires { length out.old.items + length text.now ≤ 16 }
-    ensures { out.new.items ≡ out.old.items ++ text.now }
-{
-    let _ = out.try_extend_from_slice(text);
 }
 
 /// Writes the one line that says that a part has so many bytes, with its end, which `read_count_line` reads as this number. `out` is

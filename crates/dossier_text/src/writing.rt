@@ -5,17 +5,9 @@ ghost use Rattle.dossier_text.specs.Dossiers.{IsHead};
 
 use arrayvec::ArrayVec;
 use cert_text::write_query_lines;
+use fen_text::push_text;
 use line_claims::{LineClaim, one_text_of_a_line_claim, write_line_claim};
 use query_base::Query;
-
-/// Puts bytes, for which there is room, after the others.
-fn push_text(bytes: &[u8], out: &mut ArrayVec<u8, 512>)
-    requires { length out.old.items + length bytes.now ≤ 512 }
-    ensures text { out.new.items ≡ out.old.items ++ bytes.now }
-    ensures longer { length out.new.items ≡ length out.old.items + length bytes.now }
-{
-    let _ = out.try_extend_from_slice(bytes);
-}
 
 /// Puts the line of the claim after the others.
 fn push_claim(claim: &LineClaim, out: &mut ArrayVec<u8, 512>)

@@ -13,7 +13,7 @@ use Rattle.fen_text.proofs.PartLemmas.{free_append}
 pub higher : (c b : ℕ) (text : List ℕ) → c < b → Free c text → Free c (b ∷ text)
 higher c b text above free = and_from _ _ (ap not (ne_eqb b c (λ e. omega arith))) free
 
-square_free : (c s : ℕ) → c < 48 → Free c (square_text s)
+pub square_free : (c s : ℕ) → c < 48 → Free c (square_text s)
 square_free c s low = higher c (97 + s % 8) ((49 + s / 8) ∷ []) (omega arith) (higher c (49 + s / 8) [] (omega arith) refl)
 
 letter_high : (k : Kind) → 48 ≤ letter_of k

@@ -4,6 +4,7 @@
 #![tactic(auto)]
 
 mod clock_lines;
+mod demands;
 mod faults;
 mod fields;
 mod laws;
@@ -12,11 +13,13 @@ mod odds_lines;
 mod parts;
 mod placements;
 mod positions;
+mod pushing;
 mod ranks;
 mod sets;
 mod writing;
 
 pub use clock_lines::{read_clock, write_clock};
+pub use demands::at_demands;
 pub use faults::FenFault;
 pub use fields::{read_decimal, read_turn};
 pub use laws::{one_text_each, one_text_of_a_clock, one_text_of_odds};
@@ -24,5 +27,6 @@ pub use numbers::read_number;
 pub use odds_lines::{read_odds, write_odds};
 pub use parts::split_part;
 pub use positions::{read_fen, read_four_fields};
+pub use pushing::push_text;
 pub use sets::{read_set, set_text};
-pub use writing::{castle_letter, write_fen};
+pub use writing::{castle_letter, turn_letter, write_fen};

@@ -1,7 +1,8 @@
-ghost use Rattle.std.specs.Prelude.{◌≡◌, ◌≢◌, ◌+◌, ◌≤◌, ◌++◌, [], Some, length};
+ghost use Rattle.std.specs.Prelude.{◌≡◌, ◌≢◌, [], Some, length};
 ghost use Rattle.board_base.specs.Board.{no_odds};
 ghost use Rattle.fen_text.specs.OddsLines.{odds_line, odds_of, odds_text};
 
+use crate::pushing::push_text;
 use crate::sets::{read_set, set_text};
 use arrayvec::ArrayVec;
 use board_base::{Odds, SquareSet};
@@ -37,13 +38,6 @@ pub fn read_odds(line: &[u8]) -> Option<Odds>
         Some(set) => some_odds(set),
         None => None,
     }
-}
-
-fn push_text(text: &[u8], out: &mut ArrayVec<u8, 32>)
-    requires { length out.old.items + length text.now ≤ 32 }
-    ensures { out.new.items ≡ out.old.items ++ text.now }
-{
-    let _ = out.try_extend_from_slice(text);
 }
 
 /// Writes the one line of the odds, without its end, which `read_odds` reads as these odds. `out` is empty before, and somebody is

@@ -128,7 +128,8 @@ fn write_rights(held: CastleSet, out: &mut ArrayVec<u8, 128>)
     }
 }
 
-fn letter_of_side(turn: Colour) -> u8
+/// The letter of a side in FEN: `w` or `b`.
+pub fn turn_letter(turn: Colour) -> u8
     ensures { result ≡ turn_letter turn }
 {
     match turn {
@@ -165,7 +166,7 @@ pub fn write_fen(query: &Query, out: &mut ArrayVec<u8, 128>)
     query.board.is_whole();
     write_ranks(&query.board, out);
     out.push(b' ');
-    out.push(letter_of_side(query.turn));
+    out.push(turn_letter(query.turn));
     out.push(b' ');
     write_rights(query.held, out);
     out.push(b' ');

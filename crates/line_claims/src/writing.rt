@@ -7,14 +7,7 @@ ghost use Rattle.line_claims.specs.Readable.{IsReadable};
 use crate::claims::LineClaim;
 use arrayvec::ArrayVec;
 use board_base::{Unmove, write_unmove};
-use fen_text::castle_letter;
-
-fn push_text(text: &[u8], out: &mut ArrayVec<u8, 160>)
-    requires { length out.old.items + length text.now ≤ 160 }
-    ensures { out.new.items ≡ out.old.items ++ text.now }
-{
-    let _ = out.try_extend_from_slice(text);
-}
+use fen_text::{castle_letter, push_text};
 
 fn push_step(step: &Unmove, out: &mut ArrayVec<u8, 160>)
     requires room { length out.old.items + 8 ≤ 160 }

@@ -8,7 +8,7 @@ ghost use Rattle.question_text.specs.Questions.{Agree, Asks, AsksAlone, IsNoLone
 use crate::faults::InputFault;
 use crate::input_lines::split_first_line;
 use board_base::Odds;
-use fen_text::{read_clock, read_fen, read_odds};
+use fen_text::{at_demands, read_clock, read_fen, read_odds};
 use query_base::Query;
 
 /// The query of an input's first lines, and what follows them.
@@ -80,17 +80,6 @@ fn agree(clock: Option<u16>, numbers: &Option<(u32, u32)>) -> bool
     }
 }
 
-/// The query, of games at these odds and with this clock.
-fn demanding(query: Query, odds: Odds, clock: Option<u16>) -> Query
-    requires { IsShortClock clock }
-    ensures { result ≡ record query { odds = odds; clock = clock } }
-{
-    let mut query = query;
-    query.odds = odds;
-    query.clock = clock;
-    query
-}
-
 /// The query of the input's first line, a FEN of four or six fields, at these odds and with this clock, and what follows it. So many
 /// lines stand before it.
 pub(crate) fn read_position(
@@ -121,7 +110,7 @@ pub(crate) fn read_position(
         return Err(InputFault::BadLine { line: before });
     }
     Ok(Question {
-        query: demanding(position, odds, clock),
+        query: at_demands(position, odds, clock),
         lines: before + 1,
         rest,
     })

@@ -16,19 +16,19 @@ read : (claim x : Claim) (text : List ℕ) → claim ≡ x → text ≡ claim_te
 read claim x text is there back = ap claim_of there ∙ back ∙ sym (ap Some is)
 
 pub returns-in-Illegal-clause-read : goal.returns-in-Illegal-clause-read
-returns-in-Illegal-clause-read c = read c.args.claim.now Illegal _ c.in-Illegal.is (c.push_text.ensures ∙ ap (λ (l : List ℕ). l ++ codes "claim illegal") c.requires.empty) illegal_back
+returns-in-Illegal-clause-read c = read c.args.claim.now Illegal _ c.in-Illegal.is (c.push_text.ensures.text ∙ ap (λ (l : List ℕ). l ++ codes "claim illegal") c.requires.empty) illegal_back
 
 pub returns-in-Last-clause-read : goal.returns-in-Last-clause-read
 returns-in-Last-clause-read c =
     read c.args.claim.now (Last c.in-Last.m) _ c.in-Last.is
-    (behind c.args.out.now.items _ c.push_move.new.out.items (move_text c.in-Last.m) (codes "claim last ") c.requires.empty c.push_text-in-Last.ensures c.push_move.ensures.text) (last_back c.in-Last.m c.push_move.ensures.read)
+    (behind c.args.out.now.items _ c.push_move.new.out.items (move_text c.in-Last.m) (codes "claim last ") c.requires.empty c.push_text-in-Last.ensures.text c.push_move.ensures.text) (last_back c.in-Last.m c.push_move.ensures.read)
 
 pub returns-in-Lost-clause-read : goal.returns-in-Lost-clause-read
 returns-in-Lost-clause-read c =
     read c.args.claim.now (Lost c.in-Lost.castle) _ c.in-Lost.is
-    (behind c.args.out.now.items _ c.push.new.self.items (castle_letter c.in-Lost.castle ∷ []) (codes "claim lost ") c.requires.empty c.push_text-in-Lost.ensures (c.push.ensures.items ∙ ap (λ (n : ℕ). c.push_text-in-Lost.new.out.items ++ n ∷ []) c.castle_letter.ensures)) (lost_back c.in-Lost.castle)
+    (behind c.args.out.now.items _ c.push.new.self.items (castle_letter c.in-Lost.castle ∷ []) (codes "claim lost ") c.requires.empty c.push_text-in-Lost.ensures.text (c.push.ensures.items ∙ ap (λ (n : ℕ). c.push_text-in-Lost.new.out.items ++ n ∷ []) c.castle_letter.ensures)) (lost_back c.in-Lost.castle)
 
 pub returns-in-Ep-clause-read : goal.returns-in-Ep-clause-read
 returns-in-Ep-clause-read c =
     read c.args.claim.now (Ep c.in-Ep.m) _ c.in-Ep.is
-    (behind c.args.out.now.items _ c.push_move-in-Ep.new.out.items (move_text c.in-Ep.m) (codes "claim ep ") c.requires.empty c.push_text-in-Ep.ensures c.push_move-in-Ep.ensures.text) (ep_back c.in-Ep.m c.push_move-in-Ep.ensures.read (sym (ap promotes_well c.in-Ep.is) ∙ c.requires.promotion))
+    (behind c.args.out.now.items _ c.push_move-in-Ep.new.out.items (move_text c.in-Ep.m) (codes "claim ep ") c.requires.empty c.push_text-in-Ep.ensures.text c.push_move-in-Ep.ensures.text) (ep_back c.in-Ep.m c.push_move-in-Ep.ensures.read (sym (ap promotes_well c.in-Ep.is) ∙ c.requires.promotion))

@@ -10,9 +10,9 @@ use Rattle.cert_text.proofs.head_writing.push_format.Goals as goal
 pub returns-then-is_undemanding-clause-line : goal.returns-then-is_undemanding-clause-line
 returns-then-is_undemanding-clause-line c =
     let none = c.is_undemanding.ensures.0 c.if-is_undemanding.true in
-    c.push_all.ensures.text ∙ ap (λ (ls : Lines). c.args.out.now.items ++ ended (format_text (format_for ls))) (sym none)
+    c.push_text.ensures.text ∙ ap (λ (ls : Lines). c.args.out.now.items ++ ended (format_text (format_for ls))) (sym none)
 
 pub returns-else-is_undemanding-clause-line : goal.returns-else-is_undemanding-clause-line
 returns-else-is_undemanding-clause-line c =
     let second = second_format (demand_lines c.args.query.now) (λ none. both_ways c.is_undemanding.result c.if-is_undemanding.false (c.is_undemanding.ensures.1 none)) in
-    c.push_all-else-is_undemanding.ensures.text ∙ ap (λ (f : Format). c.args.out.now.items ++ ended (format_text f)) (sym second)
+    c.push_text-else-is_undemanding.ensures.text ∙ ap (λ (f : Format). c.args.out.now.items ++ ended (format_text f)) (sym second)

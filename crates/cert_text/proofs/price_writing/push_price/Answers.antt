@@ -6,8 +6,8 @@ use Rattle.cert_text.proofs.price_writing.push_price.Goals as goal
 few : (bytes : List ℕ) (x : ℕ) → bytes ≡ decimal x → x ≤ 96 → length bytes ≤ 2
 few bytes x is low = omega (arith, ap length is, low_short x low)
 
-pub push_all-requires : goal.push_all-requires
-push_all-requires c = omega (arith, c.requires.room, few c.as_bytes.result.now c.args.number (search rules) c.requires.low)
+pub push_text-requires : goal.push_text-requires
+push_text-requires c = omega (arith, c.requires.room, few c.as_bytes.result.now c.args.number (search rules) c.requires.low)
 
 pub returns-clause-short : goal.returns-clause-short
-returns-clause-short c = omega (arith, c.push_all.ensures.longer, few c.as_bytes.result.now c.args.number (search rules) c.requires.low)
+returns-clause-short c = omega (arith, c.push_text.ensures.longer, few c.as_bytes.result.now c.args.number (search rules) c.requires.low)

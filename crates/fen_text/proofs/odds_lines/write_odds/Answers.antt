@@ -7,5 +7,5 @@ use Rattle.fen_text.proofs.odds_lines.write_odds.Goals as goal
 
 pub returns-clause-read : goal.returns-clause-read
 returns-clause-read c =
-    ap odds_line (c.push_text-2.ensures ∙ ap (λ (l : List ℕ). l ++ c.set_text-digits.result) (c.push_text.ensures ∙ ap (λ (l : List ℕ). l ++ codes "odds ") c.requires.empty) ∙ ap (λ (l : List ℕ). codes "odds " ++ l) (c.set_text-digits.ensures.text ∙ ap set_text c.set.ensures.value))
+    ap odds_line (c.push_text-2.ensures.text ∙ ap (λ (l : List ℕ). l ++ c.set_text-digits.result) (c.push_text.ensures.text ∙ ap (λ (l : List ℕ). l ++ codes "odds ") c.requires.empty) ∙ ap (λ (l : List ℕ). codes "odds " ++ l) (c.set_text-digits.ensures.text ∙ ap set_text c.set.ensures.value))
     ∙ odds_back c.args.odds c.set.ensures.odds c.requires.some

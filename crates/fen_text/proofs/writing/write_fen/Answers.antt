@@ -10,13 +10,13 @@ use Rattle.fen_text.proofs.writing.write_fen.Goals as goal
 written : (c : goal.After-write_en_passant) → c.write_en_passant.new.out.items ≡ ranks_text 7 c.query.inside.board ++ 32 ∷ turn_letter c.query.inside.turn ∷ 32 ∷ (rights_text c.query.inside.held ++ 32 ∷ en_passant_text c.query.inside.turn c.query.inside.only)
 written c =
     let e1 = c.push.ensures.items ∙ ap (λ (l : List ℕ). l ++ 32 ∷ []) c.write_ranks.ensures.text in
-    let e2 = c.push-2.ensures.items ∙ ap (λ (l : List ℕ). l ++ c.letter_of_side.result ∷ []) e1 in
+    let e2 = c.push-2.ensures.items ∙ ap (λ (l : List ℕ). l ++ c.turn_letter.result ∷ []) e1 in
     let e3 = c.push-3.ensures.items ∙ ap (λ (l : List ℕ). l ++ 32 ∷ []) e2 in
     let e4 = c.write_rights.ensures.text ∙ ap (λ (l : List ℕ). l ++ rights_text c.query.inside.held) e3 in
     let e5 = c.push-4.ensures.items ∙ ap (λ (l : List ℕ). l ++ 32 ∷ []) e4 in
     let e6 = c.write_en_passant.ensures.text ∙ ap (λ (l : List ℕ). l ++ en_passant_text c.query.inside.turn c.query.inside.only) e5 in
-    e6 ∙ joined (ranks_text 7 c.query.inside.board) (rights_text c.query.inside.held) (en_passant_text c.query.inside.turn c.query.inside.only) c.letter_of_side.result
-    ∙ ap (λ (t : ℕ). ranks_text 7 c.query.inside.board ++ 32 ∷ t ∷ 32 ∷ (rights_text c.query.inside.held ++ 32 ∷ en_passant_text c.query.inside.turn c.query.inside.only)) c.letter_of_side.ensures
+    e6 ∙ joined (ranks_text 7 c.query.inside.board) (rights_text c.query.inside.held) (en_passant_text c.query.inside.turn c.query.inside.only) c.turn_letter.result
+    ∙ ap (λ (t : ℕ). ranks_text 7 c.query.inside.board ++ 32 ∷ t ∷ 32 ∷ (rights_text c.query.inside.held ++ 32 ∷ en_passant_text c.query.inside.turn c.query.inside.only)) c.turn_letter.ensures
 
 pub returns-clause-text : goal.returns-clause-text
 unfolding spelling

@@ -18,7 +18,7 @@ returns-in-NotBoth-clause-read c =
 
 pub returns-in-Line-clause-read : goal.returns-in-Line-clause-read
 returns-in-Line-clause-read c =
-    let front = c.push_text-in-Line.ensures ∙ ap (λ (l : List ℕ). l ++ codes "claim line ") c.requires.empty in
+    let front = c.push_text-in-Line.ensures.text ∙ ap (λ (l : List ℕ). l ++ codes "claim line ") c.requires.empty in
     let text = c.push_steps.ensures.text ∙ ap (λ (l : List ℕ). l ++ steps_text c.items.result.now) front ∙ ap (λ (us : List Unmove). codes "claim line " ++ steps_text us) c.items.ensures.items in
     read c.args.claim.now (Line c.in-Line.steps) c.push_steps.new.out.items c.in-Line.is text
     (line_back c.in-Line.steps (subst (λ (us : List Unmove). All IsReadable us) c.items.ensures.items c.push_steps.ensures.read) c.items.ensures.some c.items.ensures.few)
