@@ -17,5 +17,6 @@ pub mod TreeLines
 pub mod Answering
 mod ReasonsSettled
 mod OneRest
+pub mod Halting
 pub mod Pieces
 pub mod Feeding

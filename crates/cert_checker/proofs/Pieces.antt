@@ -1,5 +1,5 @@
 -- Lines that are gathered byte by byte.
-use Rattle.std.proofs.Common.{◌≡◌, ◌≢◌, ℕ, zero, suc, ◌+◌, ◌<◌, ◌≤◌, ◌==◌, Bool, true, false, List, [], ◌∷◌, ◌++◌, length, get_or, map, take, refl, sym, ap, ◌∙◌, subst, arith, append_assoc, length-append}
+use Rattle.std.proofs.Common.{◌≡◌, ◌≢◌, ℕ, zero, suc, ◌+◌, ◌<◌, ◌≤◌, ◌==◌, Bool, true, false, List, [], ◌∷◌, ◌++◌, length, get_or, take, refl, sym, ap, ◌∙◌, subst, arith, append_assoc, length-append}
 use Rattle.std.proofs.lemmas.Bool.{ne_eqb, cond-false}
 use Rattle.std.specs.Prelude.{Option, None}
 use Rattle.std.specs.List.{onto_first}
@@ -14,13 +14,8 @@ use Rattle.cert_text.specs.Due.{put_due, step}
 use Rattle.cert_text.specs.declared.node_lines.BodyLine.{BodyLine}
 use Rattle.cert_text.proofs.Cuts.{cut-whole}
 use Rattle.cert_checker.specs.Answers.{Answer, Answers, bad_text}
-use Rattle.cert_checker.specs.Frames.{going}
-use Rattle.cert_checker.specs.Framing.{due_of, stopped_by}
-use Rattle.cert_checker.specs.Stages.{OnHead, bad, headed, Rooted, Stepped, NextStage, Rest, answer_at}
-use Rattle.cert_checker.specs.Staging.{IsPart, NoEnd, stage_of, stop_at}
-use Rattle.cert_checker.specs.declared.frames.Frame.{Frame}
-use Rattle.cert_checker.specs.declared.stages.Step.{Step}
-use Rattle.cert_checker.specs.declared.stages.Step.TheVariants as at
+use Rattle.cert_checker.specs.Stages.{OnHead, Stage, bad, in_head, nodes, headed, Rooted, Stepped, NextStage, Rest, answer_at}
+use Rattle.cert_checker.specs.Staging.{IsPart, NoEnd, halted_at}
 use Rattle.cert_checker.proofs.Answering.{rest_bad}
 
 pub no_end_both : (g h : List ℕ) → NoEnd g → NoEnd h → NoEnd (g ++ h)
@@ -96,47 +91,37 @@ mute_step (zero ∷ due) line mute = mute_step due line mute
 mute_step (suc c ∷ due) line mute = ap (option_map (λ (kid : Unmove × BodyLine). put_due kid.1 (c ∷ due))) (mute.kid (suc (length due)))
 
 -- a line that says nothing is bad text
-mute_stage : (s : Step) (frames : List Frame) (due : List ℕ) (n : ℕ) (line : List ℕ) → IsMute line → NextStage (stage_of s frames due) n line (stage_of (stop_at s n) frames due)
-mute_stage (at.Heading due) frames ds n line mute = mute_head due n line mute
-mute_stage (at.Walking claim q) frames due n line mute = subst (λ (o : Option (List ℕ)). Stepped o claim q (going frames) n line (bad n)) (sym (mute_step (map due_of frames) line mute)) refl
-mute_stage (at.Counting claim q found) frames due n line mute = subst (λ (o : Option (List ℕ)). Stepped o claim q (stopped_by found) n line (bad n)) (sym (mute_step due line mute)) refl
-mute_stage (at.Bad k) frames due n line mute = refl
+mute_stage : (s : Stage) (n : ℕ) (line : List ℕ) → IsMute line → NextStage s n line (halted_at s n)
+mute_stage (in_head due) n line mute = mute_head due n line mute
+mute_stage (nodes claim q walk due) n line mute = subst (λ (o : Option (List ℕ)). Stepped o claim q walk n line (bad n)) (sym (mute_step due line mute)) refl
+mute_stage (bad k) n line mute = refl
 
 bad_rest : (lines : Lines) (k n : ℕ) (a : Answer) → a ≡ bad_text k → Rest (bad k) n lines a
 bad_rest [] k n a e = e
 bad_rest (line ∷ lines) k n a e = (bad k, refl, bad_rest lines k (n + 1) a e)
 
+-- where the text went bad, whatever follows changes nothing
 bad_moved : (lines others : Lines) (k m n : ℕ) (a : Answer) → Rest (bad k) m lines a → Rest (bad k) n others a
 bad_moved lines others k m n a rest = bad_rest others k n a (rest_bad lines k m a rest)
 
-stopped_moved : (s : Step) (frames : List Frame) (due : List ℕ) (k m n : ℕ) (lines others : Lines) (a : Answer) → Rest (stage_of (stop_at s k) frames due) m lines a → Rest (stage_of (stop_at s k) frames due) n others a
-stopped_moved (at.Heading head) frames due k m n lines others a rest = bad_moved lines others k m n a rest
-stopped_moved (at.Walking claim q) frames due k m n lines others a rest = bad_moved lines others k m n a rest
-stopped_moved (at.Counting claim q found) frames due k m n lines others a rest = bad_moved lines others k m n a rest
-stopped_moved (at.Bad j) frames due k m n lines others a rest = bad_moved lines others j m n a rest
+halted_moved : (s : Stage) (k m n : ℕ) (lines others : Lines) (a : Answer) → Rest (halted_at s k) m lines a → Rest (halted_at s k) n others a
+halted_moved (in_head due) k m n lines others a rest = bad_moved lines others k m n a rest
+halted_moved (nodes claim q walk due) k m n lines others a rest = bad_moved lines others k m n a rest
+halted_moved (bad j) k m n lines others a rest = bad_moved lines others j m n a rest
 
 -- the gathered line is too long
-pub rest_long : ((line : List ℕ) → 256 < length line → IsMute line) → (s t : Step) (frames : List Frame) (due : List ℕ) (n : ℕ) (g part after others : List ℕ) (ends : Bool) (a : Answer) → NoEnd g → IsPart ends part → 256 < length g + length part → t ≡ stop_at s n → Rest (stage_of t frames due) n (cut (after ++ others)) a → Rest (stage_of s frames due) n (cut (g ++ (part ++ others))) a
-rest_long mutes s t frames due n g part after others ends a none is long stop rest =
+pub rest_long : ((line : List ℕ) → 256 < length line → IsMute line) → (s t : Stage) (n : ℕ) (g part after others : List ℕ) (ends : Bool) (a : Answer) → NoEnd g → IsPart ends part → 256 < length g + length part → t ≡ halted_at s n → Rest t n (cut (after ++ others)) a → Rest s n (cut (g ++ (part ++ others))) a
+rest_long mutes s t n g part after others ends a none is long stop rest =
     let o = over g part others ends none is long in
-    let stopped = subst (λ (u : Step). Rest (stage_of u frames due) n (cut (after ++ others)) a) stop rest in
-    subst (λ (lines : Lines). Rest (stage_of s frames due) n lines a) (sym o.2)
-    (stage_of (stop_at s n) frames due, mute_stage s frames due n o.0 (mutes o.0 o.3), stopped_moved s frames due n n (n + 1) (cut (after ++ others)) o.1 a stopped)
-
-stopped_end : (s : Step) (frames : List Frame) (due : List ℕ) (k m n : ℕ) → answer_at (stage_of (stop_at s k) frames due) m ≡ answer_at (stage_of (stop_at s k) frames due) n
-stopped_end (at.Heading head) frames due k m n = refl
-stopped_end (at.Walking claim q) frames due k m n = refl
-stopped_end (at.Counting claim q found) frames due k m n = refl
-stopped_end (at.Bad j) frames due k m n = refl
+    let halted = subst (λ (u : Stage). Rest u n (cut (after ++ others)) a) stop rest in
+    subst (λ (lines : Lines). Rest s n lines a) (sym o.2)
+    (halted_at s n, mute_stage s n o.0 (mutes o.0 o.3), halted_moved s n n (n + 1) (cut (after ++ others)) o.1 a halted)
 
 -- the bytes end in a line
-pub rest_unended : ((line : List ℕ) → ((text : List ℕ) → line ≢ ended text) → IsMute line) → (s t : Step) (frames : List Frame) (due : List ℕ) (n : ℕ) (g : List ℕ) (a : Answer) → NoEnd g → (g ≡ [] → ⊥) → t ≡ stop_at s n → a ≡ answer_at (stage_of t frames due) n → Rest (stage_of s frames due) n (cut g) a
-rest_unended mutes s t frames due n g a none some stop e =
-    subst (λ (lines : Lines). Rest (stage_of s frames due) n lines a) (sym (cut-whole g some (no_end_at g none))) (
-      stage_of (stop_at s n) frames due,
-      mute_stage s frames due n g (mutes g (λ text. unended g text none)),
-      e ∙ ap (λ (u : Step). answer_at (stage_of u frames due) n) stop ∙ stopped_end s frames due n n (n + 1),
-    )
+pub rest_unended : ((line : List ℕ) → ((text : List ℕ) → line ≢ ended text) → IsMute line) → (s : Stage) (n : ℕ) (g : List ℕ) (a : Answer) → NoEnd g → (g ≡ [] → ⊥) → a ≡ answer_at (halted_at s n) n → Rest s n (cut g) a
+rest_unended mutes s n g a none some e =
+    subst (λ (lines : Lines). Rest s n lines a) (sym (cut-whole g some (no_end_at g none)))
+    (halted_at s n, mute_stage s n g (mutes g (λ text. unended g text none)), halted_moved s n n (n + 1) [] [] a e)
 
 -- bytes that were fed, for any way to say what is still answered
 pub fed_more : (bytes piece : List ℕ) (Before After : List ℕ → Answer → Type 0) → ((others : List ℕ) (a : Answer) → After others a → Before (piece ++ others) a) → ((others : List ℕ) (a : Answer) → Before others a → Answers (cut (bytes ++ others)) a) → (others : List ℕ) (a : Answer) → After others a → Answers (cut ((bytes ++ piece) ++ others)) a

@@ -52,6 +52,11 @@ abbrev pub stop_at : Step → ℕ → Step
 stop_at (at.Bad k) n = at.Bad k
 stop_at _ n = at.Bad n
 
+-- the stage where the next line says nothing
+abbrev pub halted_at : Stage → ℕ → Stage
+halted_at (bad k) n = bad k
+halted_at _ n = bad n
+
 -- no byte ends a line
 abbrev pub NoEnd : List ℕ → Type 0
 NoEnd [] = Unit {0}

@@ -2,6 +2,7 @@ ghost use Rattle.std.specs.Prelude.{◌≤◌, IfOk, IfSome, length};
 ghost use Rattle.query_base.specs.Reach.{Holds};
 ghost use Rattle.cert_text.specs.Lines.{cut};
 ghost use Rattle.cert_checker.specs.Answers.{Answers, answered};
+ghost use Rattle.retro_ports.specs.declared.piecewise.TheConstants.{MOST_BYTES};
 
 use crate::refusals::{Accepted, Refused};
 use crate::walking::check_node;
@@ -14,7 +15,7 @@ use std::alloc::Global;
 /// `Unlisted` and `Unsupported` come exactly otherwise, with the first fault that the walk of the certificate in preorder meets.
 /// Want of memory is a free answer: `Memory` may take the place of each of these.
 pub fn check_bytes(alloc: Global, bytes: &[u8]) -> Result<Accepted, Refused>
-    requires { length bytes.now ≤ 67_108_864 }
+    requires { length bytes.now ≤ MOST_BYTES }
 
     // The answer is that of the grammar and the walk, unless memory runs out.
     ensures answer { IfSome (answered result) (Answers (cut bytes.now)) }

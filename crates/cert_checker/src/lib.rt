@@ -9,6 +9,8 @@ mod counting;
 mod frames;
 mod laws;
 mod left_unmoves;
+mod line_ends;
+mod line_walk;
 mod reasons;
 mod refusals;
 mod stages;

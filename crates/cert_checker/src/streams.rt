@@ -1,4 +1,4 @@
-ghost use Rattle.std.specs.Prelude.{◌≡◌, ◌≢◌, ◌≤◌, Err, Some, IfOk, IfSome};
+ghost use Rattle.std.specs.Prelude.{◌≡◌, ◌≢◌, ◌≤◌, ◌+◌, Err, Some, IfOk, IfSome};
 ghost use Rattle.retro_ports.specs.Causes.{Rose};
 ghost use Rattle.retro_ports.specs.Ends.{ReadSome};
 ghost use Rattle.query_base.specs.Reach.{Holds};
@@ -7,13 +7,7 @@ ghost use Rattle.cert_checker.specs.Remains.{AnswersAll, streamed};
 
 use crate::checkers::Checker;
 use crate::refusals::{Accepted, Fault, StreamRefused};
-use retro_ports::Source;
-
-/// The most bytes that are checked: 64 MiB.
-const LIMIT: usize = 67_108_864;
-
-/// The most bytes that are asked for in one read.
-const CHUNK: usize = 4096;
+use retro_ports::{MOST_BYTES, PIECE, Source, Unread, read_piece};
 
 fn streamed(answer: Result<Accepted, Fault>) -> Result<Accepted, StreamRefused>
     ensures { streamed result ≡ Some (answer_as answer) }
@@ -33,29 +27,27 @@ fn streamed(answer: Result<Accepted, Fault>) -> Result<Accepted, StreamRefused>
 /// byte more was read, and `ReadFault` only where a read failed. This takes no memory.
 pub fn check_stream<S: Source>(src: &mut S) -> Result<Accepted, StreamRefused>
     // The answer is that of the grammar and the walk to all bytes that were left, where they were read to their end.
-    ensures answer { IfSome (streamed result) (AnswersAll 67_108_864 (S.left src.old) (S.left src.new)) }
+    ensures answer { IfSome (streamed result) (AnswersAll MOST_BYTES (S.left src.old) (S.left src.new)) }
 
     // No game, of any length, contradicts a claim that is accepted.
     ensures holds { IfOk result (λ a. Holds a.claim a.query) }
 
     // Too long an input is answered only where one byte more than the limit was read, and a failure only where the count of
     // faults rose.
-    ensures too_long { result ≡ Err StreamRefused.TooLong → ReadSome (S.left src.old) (S.left src.new) (λ n. n ≡ 67_108_865) }
-    ensures failed { result ≡ Err StreamRefused.ReadFault → ReadSome (S.left src.old) (S.left src.new) (λ n. n ≤ 67_108_864) }
+    ensures too_long { result ≡ Err StreamRefused.TooLong → ReadSome (S.left src.old) (S.left src.new) (λ n. n ≡ MOST_BYTES + 1) }
+    ensures failed { result ≡ Err StreamRefused.ReadFault → ReadSome (S.left src.old) (S.left src.new) (λ n. n ≤ MOST_BYTES) }
     ensures cause { result ≡ Err StreamRefused.ReadFault → Rose (S.faults src.old) (S.faults src.new) }
     ensures kept { result ≢ Err StreamRefused.ReadFault → S.faults src.new ≡ S.faults src.old }
     ensures later { S.faults src.old ≤ S.faults src.new }
 {
     let mut checker = Checker::new();
-    let mut buffer = [0; CHUNK];
+    let mut buffer = [0; PIECE];
     let chunk = buffer.as_mut_slice();
     'reads: loop {
-        let room = LIMIT - checker.fed() as usize;
-        let want = (room + 1).min(CHUNK);
-        match src.read(&mut chunk[..want]) {
-            Err(_) => return Err(StreamRefused::ReadFault),
+        match read_piece(src, chunk, MOST_BYTES - checker.fed() as usize) {
+            Err(Unread::Failed) => return Err(StreamRefused::ReadFault),
+            Err(Unread::TooLong) => return Err(StreamRefused::TooLong),
             Ok(0) => return streamed(checker.finish()),
-            Ok(n) if n > room => return Err(StreamRefused::TooLong),
             Ok(n) => checker.feed(&chunk[..n]),
         }
     }

@@ -1,11 +1,9 @@
-ghost use Rattle.std.specs.Prelude.{◌≡◌, ◌+◌, ◌^◌, ◌<◌, ◌≤◌, ◌↔◌, Some, IfErr, IfOk, IsSomeAnd, IsTrue, OnOk, reverse};
+ghost use Rattle.std.specs.Prelude.{◌≡◌, ◌+◌, ◌^◌, ◌<◌, ◌≤◌, Some, IfErr, IfOk, OnOk, reverse};
 ghost use Rattle.std.specs.declared.cmp.Ordering.TheVariants.{Equal};
 ghost use Rattle.board_base.specs.Texts.{unmove_order};
-ghost use Rattle.query_base.specs.Targets.{Covers};
 ghost use Rattle.unmove_gen.specs.Listed.{unmoves};
 ghost use Rattle.cert_text.specs.Sizes.{size, size_all};
 ghost use Rattle.cert_text.specs.Seen.{tree_of};
-ghost use Rattle.query_base.specs.Ancestors.{ancestor};
 ghost use Rattle.cert_checker.specs.Walk.{Walks, WalksEach};
 ghost use Rattle.cert_checker.specs.Walking.{IsFault, IsLabelFault, IsWalked};
 
@@ -13,20 +11,9 @@ use crate::reasons::reason_supports;
 use crate::refusals::{Refused, Why};
 use board_base::{Unmove, cmp_unmove};
 use cert_text::{Body, Kids, Node};
-use query_base::{Query, covers, is_array};
+use query_base::{Query, is_array, is_covered};
 use std::cmp::Ordering;
 use unmove_gen::{Unmoves, pred};
-
-/// The ancestor so many steps above covers the query. The parent, one step above, comes last.
-fn is_covered(ancestors: &[Query], steps: u8, query: &Query) -> bool
-    ensures { IsTrue result ↔ IsSomeAnd (ancestor (reverse ancestors.now) steps) (λ a. Covers a query.now) }
-{
-    let steps = usize::from(steps);
-    if steps == 0 || ancestors.len() < steps {
-        return false;
-    }
-    covers(&ancestors[ancestors.len() - steps], query)
-}
 
 /// The first unmove that no child before has, where it is the label of the child on this line; else the child's fault.
 fn check_label(label: &Unmove, first: Option<Unmove>, line: u32) -> Result<Unmove, Refused>

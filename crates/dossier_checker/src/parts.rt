@@ -94,12 +94,13 @@ impl Model for Parts {
     ghost use Rattle.std.specs.Prelude.{◌+◌, ◌≤◌, length};
     ghost use Rattle.fen_text.specs.Parts.{Free};
     ghost use Rattle.dossier_checker.specs.Remaining.{Parting, with_first};
+    ghost use Rattle.retro_ports.specs.declared.piecewise.TheConstants.{MOST_BYTES};
 
     ghost Value = { Parting };
 
     ghost view = { λ p. record { claim = p.claim; query = p.query; due = with_first p.first p.others; number = p.number; line = p.line.items; left = p.left; checking = p.checker } };
 
-    ghost invariant = { λ p. Free 10 p.line.items × (p.checker.fed + p.left ≤ 67_108_864) × (p.number + length (with_first p.first p.others) ≤ 113) };
+    ghost invariant = { λ p. Free 10 p.line.items × (p.checker.fed + p.left ≤ MOST_BYTES) × (p.number + length (with_first p.first p.others) ≤ 113) };
 }
 
 impl Parts {

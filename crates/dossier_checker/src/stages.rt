@@ -8,6 +8,7 @@ use crate::parts::Parts;
 use crate::refusals::{AcceptedLine, DossierRefused};
 use arrayvec::ArrayVec;
 use dossier_text::{Head, read_head};
+use fen_text::push_text;
 use line_claims::unlisted_step;
 
 /// How far a check of a dossier has come.
@@ -23,14 +24,6 @@ pub enum Stage {
 
 // No other value that a run keeps on the stack is larger: it has room for the check of a part.
 const _: () = prove!(size_of::<Stage>() <= 262_144);
-
-/// Puts bytes, for which there is room, after the others.
-fn push_front(bytes: &[u8], front: &mut ArrayVec<u8, 512>)
-    requires { length front.old.items + length bytes.now ≤ 512 }
-    ensures { front.new.items ≡ front.old.items ++ bytes.now }
-{
-    let _ = front.try_extend_from_slice(bytes);
-}
 
 /// Reads the head, and takes what follows it. These are the first 512 bytes, or all of them: a head is shorter.
 fn begin(front: &[u8]) -> Result<Parts, DossierRefused>
@@ -81,7 +74,7 @@ fn take(stage: &mut Stage, piece: &[u8])
         Stage::Heading(front) => {
             let n = (512 - front.len()).min(piece.len());
             let (first, others) = piece.split_at(n);
-            push_front(first, front);
+            push_text(first, front);
             if front.is_full() {
                 let begun = begin_with(front.as_slice(), others);
                 *stage = staged(begun);

@@ -1,4 +1,4 @@
-ghost use Rattle.std.specs.Prelude.{◌≡◌, ◌≢◌, ◌≤◌, Err, IfOk, IfSome};
+ghost use Rattle.std.specs.Prelude.{◌≡◌, ◌≢◌, ◌≤◌, ◌+◌, Err, IfOk, IfSome};
 ghost use Rattle.retro_ports.specs.Causes.{Rose};
 ghost use Rattle.retro_ports.specs.Ends.{ReadSome};
 ghost use Rattle.line_claims.specs.Holding.{HoldsLine};
@@ -7,13 +7,7 @@ ghost use Rattle.dossier_checker.specs.DossierReading.{AnswersDossierAll, dossie
 use crate::refusals::{AcceptedLine, DossierRefused};
 use crate::stages::{feed, finish, start};
 use dossier_text::dossiers_prove;
-use retro_ports::Source;
-
-/// The most bytes that are checked: 64 MiB.
-const LIMIT: usize = 67_108_864;
-
-/// The most bytes that are asked for in one read.
-const CHUNK: usize = 4096;
+use retro_ports::{MOST_BYTES, PIECE, Source, Unread, read_piece};
 
 /// Checks the dossier whose text the source gives, of at most 67,108,864 bytes. They are read to their end, to the first byte past
 /// so many, or to a failure, whatever was seen before. A dossier begins with a head, whose lines end with one `\n` each:
@@ -36,15 +30,15 @@ const CHUNK: usize = 4096;
 pub fn check_dossier<S: Source>(src: &mut S) -> Result<AcceptedLine, DossierRefused>
     // The answer is that of the grammar, the parts due and their certificates' walks to all bytes that were left, where they were
     // read to their end.
-    ensures answer { IfSome (dossier_answer result) (AnswersDossierAll 67_108_864 (S.left src.old) (S.left src.new)) }
+    ensures answer { IfSome (dossier_answer result) (AnswersDossierAll MOST_BYTES (S.left src.old) (S.left src.new)) }
 
     // No game, of any length, contradicts a claim that is accepted.
     ensures holds { IfOk result (λ a. HoldsLine a.claim a.query) }
 
     // Too long an input is answered only where one byte more than the limit was read, and a failure only where the count of
     // faults rose.
-    ensures too_long { result ≡ Err DossierRefused.TooLong → ReadSome (S.left src.old) (S.left src.new) (λ n. n ≡ 67_108_865) }
-    ensures failed { result ≡ Err DossierRefused.ReadFault → ReadSome (S.left src.old) (S.left src.new) (λ n. n ≤ 67_108_864) }
+    ensures too_long { result ≡ Err DossierRefused.TooLong → ReadSome (S.left src.old) (S.left src.new) (λ n. n ≡ MOST_BYTES + 1) }
+    ensures failed { result ≡ Err DossierRefused.ReadFault → ReadSome (S.left src.old) (S.left src.new) (λ n. n ≤ MOST_BYTES) }
     ensures cause { result ≡ Err DossierRefused.ReadFault → Rose (S.faults src.old) (S.faults src.new) }
     ensures kept { result ≢ Err DossierRefused.ReadFault → S.faults src.new ≡ S.faults src.old }
     ensures later { S.faults src.old ≤ S.faults src.new }
@@ -52,15 +46,13 @@ pub fn check_dossier<S: Source>(src: &mut S) -> Result<AcceptedLine, DossierRefu
     dossiers_prove();
     let mut stage = start();
     let mut fed = 0;
-    let mut buffer = [0; CHUNK];
+    let mut buffer = [0; PIECE];
     let chunk = buffer.as_mut_slice();
     'reads: loop {
-        let room = LIMIT - fed;
-        let want = (room + 1).min(CHUNK);
-        match src.read(&mut chunk[..want]) {
-            Err(_) => return Err(DossierRefused::ReadFault),
+        match read_piece(src, chunk, MOST_BYTES - fed) {
+            Err(Unread::Failed) => return Err(DossierRefused::ReadFault),
+            Err(Unread::TooLong) => return Err(DossierRefused::TooLong),
             Ok(0) => return finish(stage),
-            Ok(n) if n > room => return Err(DossierRefused::TooLong),
             Ok(n) => {
                 feed(&mut stage, &chunk[..n]);
                 fed += n;

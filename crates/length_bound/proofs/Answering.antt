@@ -14,6 +14,7 @@ use Rattle.length_bound.specs.declared.checking.LengthRefused.TheVariants as ref
 use Rattle.length_bound.specs.declared.texts.LengthText.{LengthText}
 use Rattle.length_bound.proofs.Fronts.{bad_front, bytes_in-cut}
 use Rattle.length_bound.proofs.LineSizes.{text_short}
+use Rattle.retro_ports.specs.declared.piecewise.TheConstants.{MOST_BYTES}
 
 -- whatever follows these bytes, if they are 512, is answered so
 abbrev pub IsAnswered : List ℕ → LengthAnswer → Type 0
@@ -49,7 +50,7 @@ none_left front bytes is few = elim (cases_lt (length bytes) 512) [
   | inr many ↦ absurd (omega (arith, ap length is, length-take-le 512 bytes many))
 ]
 
-some_answered : (o : Option LengthAnswer) (before now : Option (List ℕ)) (front : List ℕ) → ReadsFront before now front → IfSome o (IsAnswered front) → IfSome o (AnswersBytes 67108864 before now)
+some_answered : (o : Option LengthAnswer) (before now : Option (List ℕ)) (front : List ℕ) → ReadsFront before now front → IfSome o (IsAnswered front) → IfSome o (AnswersBytes MOST_BYTES before now)
 some_answered None before now front reads h = tt
 some_answered (Some a) before now front reads h =
     let whole : front ++ drop 512 reads.bytes ≡ reads.bytes = ap (λ (l : List ℕ). l ++ drop 512 reads.bytes) reads.kept ∙ take-append-drop 512 reads.bytes in
@@ -61,5 +62,5 @@ some_answered (Some a) before now front reads h =
       answers = subst (λ (l : List ℕ). AnswersLength (cut l) a) whole (h (drop 512 reads.bytes) (λ few. none_left front reads.bytes reads.kept few));
     }
 
-pub all_answered : (r : Result (ℕ × Asked) LengthRefused) (before now : Option (List ℕ)) (front : List ℕ) → ReadsFront before now front → IfSome (length_answer r) (IsAnswered front) → IfSome (length_answer r) (AnswersBytes 67108864 before now)
+pub all_answered : (r : Result (ℕ × Asked) LengthRefused) (before now : Option (List ℕ)) (front : List ℕ) → ReadsFront before now front → IfSome (length_answer r) (IsAnswered front) → IfSome (length_answer r) (AnswersBytes MOST_BYTES before now)
 all_answered r before now front reads h = some_answered (length_answer r) before now front reads h

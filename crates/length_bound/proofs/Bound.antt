@@ -1,14 +1,14 @@
 -- Potentials that the costs bound are a lower bound on the moves of a side.
-use Rattle.std.proofs.Common.{◌≡◌, ◌≢◌, ℕ, ◌+◌, ◌-◌, ◌/◌, ◌%◌, ◌<◌, ◌≤◌, ◌==◌, Bool, true, false, cond, ◌&&◌, not, inl, inr, List, [], ◌∷◌, length, map, slice_index, refl, ap, sym, ◌∙◌, subst, arith}
-use Rattle.std.specs.Prelude.{Option, Some, None, ℤ, pos, negsuc, ◌+ℤ◌, ◌≤ℤ◌, max, nat_lt, IsTrue}
-use Rattle.std.specs.List.{sum_by, list_all, range_with_len}
-use Rattle.std.proofs.lemmas.Bool.{and_from, both_ways, cases_Bool, cond-true, cond-false, eqb-true, eqb-false, ltb-true, not-true, or_cases}
+use Rattle.std.proofs.Common.{◌≡◌, ◌≢◌, ℕ, ◌+◌, ◌-◌, ◌/◌, ◌%◌, ◌<◌, ◌≤◌, ◌==◌, Bool, true, false, cond, inl, inr, List, [], ◌∷◌, length, map, slice_index, refl, ap, sym, ◌∙◌, subst, arith}
+use Rattle.std.specs.Prelude.{Option, Some, None, ℤ, pos, negsuc, ◌+ℤ◌, ◌≤ℤ◌, max, IsTrue}
+use Rattle.std.specs.List.{sum_by, range_with_len}
+use Rattle.std.proofs.lemmas.Bool.{both_ways, cases_Bool, cond-true, cond-false, eqb-true, eqb-false, or_cases}
 use Rattle.std.proofs.lemmas.Int.{ints}
 use Rattle.std.proofs.lemmas.List.{length-map}
 use Rattle.std.proofs.lemmas.List.Elements.{All-map, Contains-get_or}
 use Rattle.std.proofs.lemmas.List.FromFn.{get_or-map-range_with_len}
 use Rattle.std.proofs.lemmas.List.Sums.{sum_by-cons}
-use Rattle.board_base.specs.Board.{Places, array_of, initial_array, at, is_of, same_colour}
+use Rattle.board_base.specs.Board.{Places, array_of, at, is_of, same_colour}
 use Rattle.board_base.specs.Play.{side}
 use Rattle.board_base.specs.Rights.{Rights, holds}
 use Rattle.board_base.specs.Game.{IsGame, board_after, turn_after, unmoved}
@@ -19,30 +19,20 @@ use Rattle.board_base.specs.declared.moves.Move.{Move}
 use Rattle.board_base.specs.declared.castles.Castle.{Castle}
 use Rattle.board_base.specs.declared.castles.Castle.TheVariants.{WhiteShort, WhiteLong, BlackShort, BlackLong}
 use Rattle.board_base.proofs.KindsOfMen.{colour_is}
-use Rattle.general_lemmas.proofs.Ranges.{all_in_range}
 use Rattle.assignment.specs.Assignments.{IsInjection, assignment_cost, total}
 use Rattle.assignment.proofs.Duality.{weak_duality}
 use Rattle.men_account.specs.Labels.{Labels, label_at, labels_after}
 use Rattle.general_lemmas.proofs.Differing.{Has, contains-has, differ-apart, differ-range, has-filter, differ-filter, differ-map}
 use Rattle.general_lemmas.proofs.SumsAmong.{sum-filter}
 use Rattle.men_account.proofs.Labelled.{labels-each_man, labels-apart, labels-colours}
-use Rattle.men_account.proofs.FilesLeft.{array-inside, array-of-initial}
 use Rattle.men_account.proofs.Paired.{label-of}
 use Rattle.men_account.proofs.PawnLaws.{man-of}
+use Rattle.men_account.proofs.SideHomes.{home-black, home-white}
 use Rattle.query_base.specs.Asked.{Asked}
 use Rattle.query_base.specs.Reach.{Reaches}
 use Rattle.length_bound.specs.SideBounds.{moves_of, man_cost, side_cost, men_squares, home_of, place_cost, move_costs, IsSideBound, at_least_0, holds_some, moves_shown, length_with}
 use Rattle.length_bound.proofs.OneMove.{cost-of}
 use Rattle.length_bound.proofs.InGames.{Spent, not_castled, has_castled, spent}
-
--- the men of a side begin on its homes
-homes-white : list_all (λ s. not (is_of White (at initial_array s) && not (nat_lt s 16))) (range_with_len 0 64) ≡ true
-unfolding initial_array
-homes-white = refl
-
-homes-black : list_all (λ s. not (is_of Black (at initial_array s) && not (nat_lt 47 s))) (range_with_len 0 64) ≡ true
-unfolding initial_array
-homes-black = refl
 
 -- the place of a home among the homes of its side
 abbrev column : Colour → Option ℕ → ℕ
@@ -50,19 +40,11 @@ column c None = 0
 column White (Some l) = l
 column Black (Some l) = l - 48
 
-tested-home : (p q : Bool) → not (p && not q) ≡ true → p ≡ true → q ≡ true
-tested-home p true tested here = refl
-tested-home p false tested here = absurd (both_ways _ (not-true _ tested) (and_from p true here refl))
-
 column-is : (o : List Bool) (c : Colour) (l : ℕ) → is_of c (at (array_of o) l) ≡ true → (column c (Some l) < 16) × (home_of c (column c (Some l)) ≡ l)
-column-is o White l here =
-    let small : l < 64 = array-inside o (is_of White) l refl here in
-    let tested : not (is_of White (at initial_array l) && not (nat_lt l 16)) ≡ true = all_in_range (λ s. not (is_of White (at initial_array s) && not (nat_lt s 16))) 0 64 l homes-white (omega arith) (omega arith) in
-    (ltb-true l 16 (tested-home _ _ tested (array-of-initial o (is_of White) l refl here)), refl)
+column-is o White l here = (home-white o l here, refl)
 column-is o Black l here =
-    let small : l < 64 = array-inside o (is_of Black) l refl here in
-    let tested : not (is_of Black (at initial_array l) && not (nat_lt 47 l)) ≡ true = all_in_range (λ s. not (is_of Black (at initial_array s) && not (nat_lt 47 s))) 0 64 l homes-black (omega arith) (omega arith) in
-    let high : 47 < l = ltb-true 47 l (tested-home _ _ tested (array-of-initial o (is_of Black) l refl here)) in
+    let above : 47 < l = (home-black o l here).0 in
+    let below : l < 64 = (home-black o l here).1 in
     (omega arith, omega arith)
 
 -- what is known of each man's square

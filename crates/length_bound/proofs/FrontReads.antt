@@ -5,6 +5,7 @@ use Rattle.std.specs.Io.KnownBytes.{Consumes}
 use Rattle.std.proofs.KnownBytes.{Consumes-trans}
 use Rattle.std.proofs.lemmas.List.{length-take-le, take-append-le, take-take}
 use Rattle.std.proofs.lemmas.Bool.{cases_lt}
+use Rattle.retro_ports.specs.declared.piecewise.TheConstants.{MOST_BYTES}
 
 -- as many bytes as there is room for
 take_room : (room : ℕ) (front piece : List ℕ) → length front ≤ room → take room (front ++ piece) ≡ front ++ take (room - length front) piece
@@ -39,14 +40,14 @@ kept_more bytes piece = elim (cases_lt 512 (length bytes)) [
 -- how far a source was read
 pub record FrontSoFar (before now : Option (List ℕ)) (faults_before faults_now fed : ℕ) (front : List ℕ) : Type 0 where
   pub bytes : List ℕ
-  pub in_range : length bytes ≤ 67108864
+  pub in_range : length bytes ≤ MOST_BYTES
   pub count : fed ≡ length bytes
   pub read : Consumes before now bytes
   pub kept : front ≡ take 512 bytes
   pub no_fault : faults_now ≡ faults_before
 
 -- a piece more
-pub front_next : (a b c : Option (List ℕ)) (f g h fed n : ℕ) (front new piece : List ℕ) → FrontSoFar a b f g fed front → Consumes b c piece → h ≡ g → n ≡ length piece → fed + n ≤ 67108864 → new ≡ take 512 (front ++ piece) → FrontSoFar a c f h (fed + n) new
+pub front_next : (a b c : Option (List ℕ)) (f g h fed n : ℕ) (front new piece : List ℕ) → FrontSoFar a b f g fed front → Consumes b c piece → h ≡ g → n ≡ length piece → fed + n ≤ MOST_BYTES → new ≡ take 512 (front ++ piece) → FrontSoFar a c f h (fed + n) new
 front_next a b c f g h fed n front new piece s read same count room e =
     let so-far = s.count in
     record {

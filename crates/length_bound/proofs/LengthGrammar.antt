@@ -1,29 +1,27 @@
 -- The lines of the text of a length, and where they go bad.
-use Rattle.std.proofs.Common.{◌≡◌, ◌≢◌, ℕ, suc, ◌+◌, Bool, true, true≢false, ◌==◌, inl, inr, List, [], ◌∷◌, ◌++◌, length, refl, sym, ap, ◌∙◌, subst, arith}
-use Rattle.std.specs.Prelude.{Option, Some, None, codes, nat_eq, pos, ℤ}
-use Rattle.std.specs.List.{starts_with}
-use Rattle.std.proofs.lemmas.Option.{same_Some}
+use Rattle.std.proofs.Common.{◌≡◌, ◌≢◌, ℕ, suc, ◌+◌, Bool, inl, inr, List, [], ◌∷◌, ◌++◌, length, length-append, refl, sym, ap, ◌∙◌, subst, arith}
+use Rattle.std.specs.Prelude.{Option, Some, None, codes, pos, ℤ}
+use Rattle.std.specs.Option.{option_map}
 use Rattle.board_base.specs.Board.{no_men, no_odds}
 use Rattle.board_base.specs.Potentials.{Duals, duals}
 use Rattle.board_base.specs.declared.men.Colour.{Colour}
 use Rattle.board_base.specs.declared.men.Colour.TheVariants.{White}
-use Rattle.general_lemmas.proofs.Lists.{same_first}
 use Rattle.query_base.specs.Asked.{Asked}
 use Rattle.fen_text.specs.OddsLines.{odds_line}
 use Rattle.fen_text.specs.Fen.{fen, fen_of_four, from_turn, from_rights, from_en_passant, placement, ranks, rights, no_rights}
 use Rattle.fen_text.specs.Parts.{parted}
 use Rattle.fen_text.specs.Ranks.{rank, places_of, is_symbol}
-use Rattle.fen_text.proofs.Begun.{begun}
 use Rattle.fen_text.specs.Numbers.{number}
 use Rattle.cert_text.specs.Arguments.{duals_of, signed}
 use Rattle.cert_text.specs.Certificate.{Lines, query_of}
-use Rattle.cert_text.specs.Lines.{ended, said, without_end}
+use Rattle.cert_text.specs.Lines.{ended, said}
+use Rattle.cert_text.specs.QueryReading.{fen_first, said_first, unless_said}
 use Rattle.cert_text.specs.Texts.{IsBadAt}
 use Rattle.cert_text.proofs.FenLines.{query_read}
-use Rattle.cert_text.proofs.SpelledLines.{ends, said_read}
-use Rattle.cert_text.proofs.Tests.{when}
+use Rattle.cert_text.proofs.FirstLetters.{fen_begins, odds_begin}
+use Rattle.cert_text.proofs.QueryReads.{Front, fen_of, front_of}
 use Rattle.length_bound.specs.LengthText.{AreLengthLines, AreOddsLines, at_least_of, length_head, shown_by}
-use Rattle.length_bound.specs.LengthReading.{AreAll, AreBelowHead, AreFromFen, AreLast, GoesBad, HasAtLeast, HasMoves, HasOdds, HasQuery, IsFollowed, IsOver, Opens, SayBelow}
+use Rattle.length_bound.specs.LengthReading.{AreAll, AreBelowHead, AreFromFen, AreLast, GoesBad, HasAtLeast, HasMoves, HasOdds, HasQuery, IsFollowed, IsOver, SayLast}
 use Rattle.length_bound.specs.declared.texts.LengthText.{LengthText}
 use Rattle.length_bound.proofs.Chains.{bad_first, bad_later, bad_none, bad_text}
 
@@ -70,21 +68,11 @@ some_below = inl some_from_fen
 unsaid : {A : Type 0} (grammar : List ℕ → Option A) (line : List ℕ) → said grammar line ≡ None → (a : A) × (said grammar line ≡ Some a) → ⊥
 unsaid grammar line none (a, e) = let same = sym none ∙ e in cc
 
-no_fen : (text : List ℕ) → starts_with nat_eq text (codes "fen ") ≡ true → starts_with nat_eq text (codes "odds ") ≡ true → ⊥
-no_fen text fen odds =
-    let first : 102 ≡ 111 = same_first (sym (begun text (codes "fen ") fen) ∙ begun text (codes "odds ") odds) in true≢false (ap (λ (n : ℕ). n == 102) first)
-
-ends_same : (a b : List ℕ) → ended a ≡ ended b → a ≡ b
-ends_same a b e = same_Some a b (sym (ends a) ∙ ap without_end e ∙ ends b)
-
 -- no line is a FEN's and one of odds
-pub not_both : (line : List ℕ) → HasQuery line → HasOdds line → ⊥
-unfolding query_of odds_line
+not_both : (line : List ℕ) → HasQuery line → HasOdds line → ⊥
 not_both line (q, is) (o, other) =
-    let one = said_read query_of line q is in
-    let two = said_read odds_line line o other in
-    let same : two.text ≡ one.text = ends_same two.text one.text (sym two.line_is ∙ one.line_is) in
-    no_fen one.text (when _ _ q one.stands).0 (subst (λ (t : List ℕ). starts_with nat_eq t (codes "odds ") ≡ true) same (when _ _ o two.stands).0)
+    let one = fen_begins line q is in
+    let two = odds_begin line o other in omega arith
 
 -- the last lines
 
@@ -112,13 +100,6 @@ last_3 lines line rest k second after s third others whole is next shown more =
 
 -- the lines behind the first
 
-pub below_1-end : (lines : Lines) → lines ≡ [] → GoesBad AreBelowHead lines 1
-below_1-end lines none = rw none (bad_none AreBelowHead fen_lines some_below (λ good. elim good [ inl miss ↦ miss | inr miss ↦ miss ]))
-
-pub below_1 : (lines : Lines) (line : List ℕ) (rest : Lines) → lines ≡ line ∷ rest → said query_of line ≡ None → said odds_line line ≡ None → GoesBad AreBelowHead lines 1
-below_1 lines line rest whole fen odds =
-    rw whole (bad_first AreBelowHead fen_lines some_below line rest (λ others good. elim good [ inl f ↦ unsaid query_of line fen f.0 | inr o ↦ unsaid odds_line line odds o.0 ]))
-
 behind_fen : (line : List ℕ) (q : Asked) → said query_of line ≡ Some q → (rest : Lines) (n : ℕ) → GoesBad AreLast rest n → GoesBad AreBelowHead (line ∷ rest) (suc n)
 behind_fen line q is rest n bad =
     bad_later AreBelowHead AreLast line (λ others good. inl ((q, is), good)) (λ others good. elim good [ inl f ↦ f.1 | inr o ↦ absurd (not_both line (q, is) o.0) ]) rest n bad
@@ -126,13 +107,6 @@ behind_fen line q is rest n bad =
 behind_odds : (line : List ℕ) (o : List Bool) → said odds_line line ≡ Some o → (rest : Lines) (n : ℕ) → GoesBad AreFromFen rest n → GoesBad AreBelowHead (line ∷ rest) (suc n)
 behind_odds line o is rest n bad =
     bad_later AreBelowHead AreFromFen line (λ others good. inr ((o, is), good)) (λ others good. elim good [ inl f ↦ absurd (not_both line f.0 (o, is)) | inr p ↦ p.1 ]) rest n bad
-
-pub below_2-end : (lines : Lines) (line : List ℕ) (rest : Lines) (o : List Bool) → lines ≡ line ∷ rest → said odds_line line ≡ Some o → rest ≡ [] → GoesBad AreBelowHead lines 2
-below_2-end lines line rest o whole is none = rw (whole, none) (behind_odds line o is [] 1 (bad_none AreFromFen fen_lines some_from_fen (λ miss. miss)))
-
-pub below_2 : (lines : Lines) (line : List ℕ) (rest : Lines) (o : List Bool) (second : List ℕ) (others : Lines) → lines ≡ line ∷ rest → said odds_line line ≡ Some o → rest ≡ second ∷ others → said query_of second ≡ None → GoesBad AreBelowHead lines 2
-below_2 lines line rest o second others whole is next none =
-    rw (whole, next) (behind_odds line o is (second ∷ others) 1 (bad_first AreFromFen fen_lines some_from_fen second others (λ more good. unsaid query_of second none good.0)))
 
 -- behind the FEN's line the others go bad as they do by themselves
 opened : (odds_lines : Lines) (fen_line : List ℕ) (plain : Asked) (odds : List Bool) (rest : Lines) (n : ℕ) → AreOddsLines odds_lines odds → said query_of fen_line ≡ Some plain → GoesBad AreLast rest n → GoesBad AreBelowHead (odds_lines ++ fen_line ∷ rest) (length odds_lines + 1 + n)
@@ -142,9 +116,62 @@ opened (line ∷ []) fen_line plain odds rest n named is bad =
     subst (GoesBad AreBelowHead (line ∷ fen_line ∷ rest)) (omega arith) (behind_odds line odds named (fen_line ∷ rest) (suc n) later)
 opened (line ∷ more ∷ lines) fen_line plain odds rest n never is bad = absurd never
 
-pub below_later : (lines : Lines) (q : Asked) (rest : Lines) (count n : ℕ) → Opens lines q rest count → GoesBad AreLast rest n → GoesBad AreBelowHead lines (count + n)
-below_later lines q rest count n o bad =
-    rw (o.parts, o.number) (opened o.odds_lines o.fen_line (record q { odds = no_odds }) q.odds rest n o.odds o.query bad)
+-- no FEN comes where it is due
+
+no_fen : (line : List ℕ) (o : Option Asked) (put : Asked → Asked × Lines) → said query_of line ≡ o → option_map put o ≡ None → HasQuery line → ⊥
+no_fen line None put is none query = unsaid query_of line is query
+no_fen line (Some q) put is none query = absurd cc
+
+no_fen_first : (odds : List Bool) (lines : Lines) → fen_first odds None lines ≡ None → GoesBad AreFromFen lines 1
+no_fen_first odds [] none = bad_none AreFromFen fen_lines some_from_fen (λ miss. miss)
+no_fen_first odds (line ∷ lines) none =
+    bad_first AreFromFen fen_lines some_from_fen line lines (λ others good. no_fen line (said query_of line) (λ q. (record q { odds = odds; clock = None }, lines)) refl none good.0)
+
+fen_due : (line : List ℕ) (after rest : Lines) (odds : List Bool) (count : ℕ) (o : Option (List Bool)) → said odds_line line ≡ o → unless_said o no_odds line after ≡ (odds, rest) → count + length rest ≡ length (line ∷ after) → fen_first odds None rest ≡ None → GoesBad AreBelowHead (line ∷ after) (count + 1)
+fen_due line after rest odds count None is first counted none =
+    let left : line ∷ after ≡ rest = ap (λ (p : List Bool × Lines). p.1) first in
+    let here : GoesBad AreFromFen (line ∷ after) 1 = no_fen_first odds (line ∷ after) (ap (fen_first odds None) left ∙ none) in
+    subst (GoesBad AreBelowHead (line ∷ after)) (omega (arith, ap length left)) (bad_first AreBelowHead fen_lines some_below line after (λ others good. elim good [
+      | inl f ↦ no_fen line (said query_of line) (λ q. (record q { odds = odds; clock = None }, after)) refl (ap (fen_first odds None) left ∙ none) f.0
+      | inr o ↦ unsaid odds_line line is o.0
+    ]))
+fen_due line after rest odds count (Some named) is first counted none =
+    let left : after ≡ rest = ap (λ (p : List Bool × Lines). p.1) first in
+    subst (GoesBad AreBelowHead (line ∷ after)) (omega (arith, ap length left)) (behind_odds line named is after 1 (no_fen_first odds after (ap (fen_first odds None) left ∙ none)))
+
+pub fen_missing : (lines rest : Lines) (odds : List Bool) (count : ℕ) → said_first odds_line no_odds lines ≡ (odds, rest) → count + length rest ≡ length lines → fen_first odds None rest ≡ None → GoesBad AreBelowHead lines (count + 1)
+fen_missing [] rest odds count first counted none =
+    subst (GoesBad AreBelowHead []) (omega arith) (bad_none AreBelowHead fen_lines some_below (λ good. elim good [ inl miss ↦ miss | inr miss ↦ miss ]))
+fen_missing (line ∷ after) rest odds count first counted none = fen_due line after rest odds count (said odds_line line) refl first counted none
+
+-- the lines of the query
+
+odds_taken : (lines rest : Lines) (odds : List Bool) → said_first odds_line no_odds lines ≡ (odds, rest) → Front odds_line no_odds lines odds rest
+odds_taken lines rest odds first = subst (λ (p : List Bool × Lines). Front odds_line no_odds lines p.0 p.1) first (front_of odds_line no_odds lines)
+
+pub below_later : (lines rest left : Lines) (odds : List Bool) (q : Asked) (count n : ℕ) → said_first odds_line no_odds lines ≡ (odds, rest) → count + length rest ≡ length lines → fen_first odds None rest ≡ Some (q, left) → GoesBad AreLast left n → GoesBad AreBelowHead lines (count + 1 + n)
+below_later lines rest left odds q count n first counted taken bad =
+    let o = odds_taken lines rest odds first in
+    let f = fen_of odds None rest q left taken in
+    let whole : lines ≡ o.front ++ f.fen_line ∷ left = o.parts ∙ ap (λ (ls : Lines). o.front ++ ls) f.parts in
+    let number : length o.front + 1 + n ≡ count + 1 + n = omega (arith, ap length o.parts, length-append o.front rest) in
+    subst (GoesBad AreBelowHead lines) number (subst (λ (ls : Lines). GoesBad AreBelowHead ls (length o.front + 1 + n)) (sym whole) (opened o.front f.fen_line (record q { odds = no_odds; clock = None }) odds left n o.is f.query_is bad))
+
+pub below_read : (lines rest left : Lines) (odds : List Bool) (q : Asked) (n : ℕ) (side : Colour) (d : Duals) → said_first odds_line no_odds lines ≡ (odds, rest) → fen_first odds None rest ≡ Some (q, left) → SayLast left n side d → AreLengthLines (length_head ∷ lines) (record { query = q; at_least = n; side = side; potentials = d })
+below_read lines rest left odds q n side d first taken last =
+    let o = odds_taken lines rest odds first in
+    let f = fen_of odds None rest q left taken in
+    record {
+      odds_lines = o.front;
+      fen_line = f.fen_line;
+      at_least_line = last.at_least_line;
+      moves_line = last.moves_line;
+      parts = ap (λ (ls : Lines). length_head ∷ ls) (o.parts ∙ ap (λ (ls : Lines). o.front ++ ls) (f.parts ∙ ap (λ (ls : Lines). f.fen_line ∷ ls) last.parts));
+      odds = subst (AreOddsLines o.front) f.odds_are o.is;
+      query = f.query_is ∙ ap (λ (clock : Option ℕ). Some (record q { odds = no_odds; clock = clock })) f.clock_is;
+      at_least = last.at_least;
+      moves = last.moves;
+    }
 
 -- all lines
 
@@ -212,39 +239,5 @@ all_later lines line rest n whole head bad =
     as_text lines (1 + n) (rw whole (subst (GoesBad AreAll (line ∷ rest)) (omega arith) (bad_later AreAll AreBelowHead line (λ others good. (head, good)) (λ others good. good.1) rest n bad)))
 
 -- what was read is the text
-pub all_read : (lines : Lines) (line : List ℕ) (rest : Lines) (text : LengthText) → lines ≡ line ∷ rest → line ≡ length_head → SayBelow rest text → AreLengthLines lines text
-all_read lines line rest text whole head below =
-    let o = below.opens in
-    let l = below.last in
-    record {
-      odds_lines = o.odds_lines;
-      fen_line = o.fen_line;
-      at_least_line = l.at_least_line;
-      moves_line = l.moves_line;
-      parts = whole ∙ ap (λ (first : List ℕ). first ∷ rest) head ∙ ap (λ (ls : Lines). length_head ∷ ls) (o.parts ∙ ap (λ (ls : Lines). o.odds_lines ++ o.fen_line ∷ ls) l.parts);
-      odds = o.odds;
-      query = o.query;
-      at_least = l.at_least;
-      moves = l.moves;
-    }
-
--- the lines of a query
-
-opens_with : (lines : Lines) (q plain : Asked) (odds : List Bool) (odds_lines : Lines) (line : List ℕ) (rest : Lines) (count : ℕ) → lines ≡ odds_lines ++ line ∷ rest → said query_of line ≡ Some plain → q ≡ record plain { odds = odds } → AreOddsLines odds_lines odds → count ≡ length odds_lines + 1 → Opens lines q rest count
-opens_with lines q plain odds odds_lines line rest count whole is e named number =
-    let same : q.odds ≡ odds = ap (λ (a : Asked). a.odds) e in
-    record {
-      odds_lines = odds_lines;
-      fen_line = line;
-      parts = whole;
-      odds = subst (AreOddsLines odds_lines) (sym same) named;
-      query = is ∙ ap (λ (a : Asked). Some a) (plain_of line plain odds is ∙ ap (λ (a : Asked). record a { odds = no_odds }) (sym e));
-      number = number;
-    }
-
-pub opens_plain : (lines : Lines) (q plain : Asked) (odds : List Bool) (line : List ℕ) (rest : Lines) → lines ≡ line ∷ rest → said query_of line ≡ Some plain → q ≡ record plain { odds = odds } → odds ≡ no_odds → Opens lines q rest 1
-opens_plain lines q plain odds line rest whole is e none = opens_with lines q plain odds [] line rest 1 whole is e none (omega arith)
-
-pub opens_odds : (lines : Lines) (q plain : Asked) (odds : List Bool) (line : List ℕ) (rest : Lines) (second : List ℕ) (others : Lines) → lines ≡ line ∷ rest → said odds_line line ≡ Some odds → rest ≡ second ∷ others → said query_of second ≡ Some plain → q ≡ record plain { odds = odds } → Opens lines q others 2
-opens_odds lines q plain odds line rest second others whole named next is e =
-    opens_with lines q plain odds (line ∷ []) second others 2 (whole ∙ ap (λ (ls : Lines). line ∷ ls) next) is e named (omega arith)
+pub all_read : (lines : Lines) (line : List ℕ) (rest : Lines) (text : LengthText) → lines ≡ line ∷ rest → line ≡ length_head → AreLengthLines (length_head ∷ rest) text → AreLengthLines lines text
+all_read lines line rest text whole head below = subst (λ (ls : Lines). AreLengthLines ls text) (sym (whole ∙ ap (λ (first : List ℕ). first ∷ rest) head)) below

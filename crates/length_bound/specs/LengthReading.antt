@@ -1,9 +1,8 @@
 -- Inner: no public clause cites this file.
 -- The text of a length, line by line.
-use Rattle.std.specs.Prelude.{ℕ, ◌≡◌, ◌+◌, ◌⊎◌, Bool, List, [], ◌∷◌, ◌++◌, length, codes, Some}
+use Rattle.std.specs.Prelude.{ℕ, ◌≡◌, ◌⊎◌, Bool, List, [], ◌∷◌, ◌++◌, codes, Some}
 use Rattle.board_base.specs.Potentials.{Duals}
 use Rattle.board_base.specs.declared.men.Colour.{Colour}
-use Rattle.board_base.specs.Board.{no_odds}
 use Rattle.query_base.specs.Asked.{Asked}
 use Rattle.fen_text.specs.OddsLines.{odds_line}
 use Rattle.fen_text.specs.Spelling.{turn_letter}
@@ -11,8 +10,7 @@ use Rattle.cert_text.specs.Arguments.{potentials_text}
 use Rattle.cert_text.specs.Certificate.{Lines, query_of}
 use Rattle.cert_text.specs.Lines.{said}
 use Rattle.cert_text.specs.Texts.{IsBadAt}
-use Rattle.length_bound.specs.LengthText.{AreOddsLines, at_least_of, length_head, shown_by}
-use Rattle.length_bound.specs.declared.texts.LengthText.{LengthText}
+use Rattle.length_bound.specs.LengthText.{at_least_of, length_head, shown_by}
 
 -- the lines go bad there, as lines of which this holds
 abbrev pub GoesBad : (Lines → Type 0) → Lines → ℕ → Type 0
@@ -61,22 +59,6 @@ pub record SayLast (lines : Lines) (n : ℕ) (side : Colour) (d : Duals) : Type 
   pub parts : lines ≡ at_least_line ∷ moves_line ∷ []
   pub at_least : said at_least_of at_least_line ≡ Some n
   pub moves : said shown_by moves_line ≡ Some (side, d)
-
--- the lines behind the first begin with so many lines that name this query
-pub record Opens (lines : Lines) (q : Asked) (rest : Lines) (count : ℕ) : Type 0 where
-  pub odds_lines : Lines
-  pub fen_line : List ℕ
-  pub parts : lines ≡ odds_lines ++ fen_line ∷ rest
-  pub odds : AreOddsLines odds_lines q.odds
-  pub query : said query_of fen_line ≡ Some (record q { odds = no_odds })
-  pub number : count ≡ length odds_lines + 1
-
--- the lines behind the first say this
-pub record SayBelow (lines : Lines) (text : LengthText) : Type 0 where
-  pub rest : Lines
-  pub count : ℕ
-  pub opens : Opens lines text.query rest count
-  pub last : SayLast rest text.at_least text.side text.potentials
 
 -- the text of a side's potentials
 abbrev pub moves_text : Colour → Duals → List ℕ

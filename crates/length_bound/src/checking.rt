@@ -12,7 +12,7 @@ use crate::reading::read_length;
 use crate::texts::LengthText;
 use arrayvec::ArrayVec;
 use query_base::Query;
-use retro_ports::Source;
+use retro_ports::{MOST_BYTES, PIECE, Source, Unread, read_piece};
 
 /// Why the bytes of a source are no text of a length, or don't show it.
 #[derive(Clone, Copy, PartialEq, Eq, Debug)]
@@ -27,12 +27,6 @@ pub enum LengthRefused {
     /// A read failed.
     ReadFault,
 }
-
-/// The most bytes that are read: 64 MiB.
-const LIMIT: usize = 67_108_864;
-
-/// The most bytes that are asked for in one read.
-const CHUNK: usize = 4096;
 
 /// Puts bytes, for which there is room, after the others.
 fn push_front(bytes: &[u8], front: &mut ArrayVec<u8, 512>)
@@ -51,35 +45,23 @@ fn keep(piece: &[u8], front: &mut ArrayVec<u8, 512>)
     push_front(&piece[..n], front);
 }
 
-/// Why a source wasn't read to its end.
-#[derive(Clone, Copy, PartialEq, Eq, Debug)]
-enum Unread {
-    /// One byte more than the limit was read.
-    TooLong,
-    /// A read failed.
-    Failed,
-}
-
 /// Reads to the end of the source, and keeps the first 512 bytes.
 fn read_front<S: Source>(src: &mut S, front: &mut ArrayVec<u8, 512>) -> Result<(), Unread>
     requires { front.old.items ≡ [] }
     ensures ok { IfOk result (λ u. ReadsFront (S.left src.old) (S.left src.new) front.new.items) }
-    ensures too_long { result ≡ Err Unread.TooLong → ReadSome (S.left src.old) (S.left src.new) (λ n. n ≡ 67_108_865) }
-    ensures failed { result ≡ Err Unread.Failed → ReadSome (S.left src.old) (S.left src.new) (λ n. n ≤ 67_108_864) }
+    ensures too_long { result ≡ Err Unread.TooLong → ReadSome (S.left src.old) (S.left src.new) (λ n. n ≡ MOST_BYTES + 1) }
+    ensures failed { result ≡ Err Unread.Failed → ReadSome (S.left src.old) (S.left src.new) (λ n. n ≤ MOST_BYTES) }
     ensures cause { result ≡ Err Unread.Failed → Rose (S.faults src.old) (S.faults src.new) }
     ensures kept { result ≢ Err Unread.Failed → S.faults src.new ≡ S.faults src.old }
     ensures later { S.faults src.old ≤ S.faults src.new }
 {
     let mut fed = 0;
-    let mut buffer = [0; CHUNK];
+    let mut buffer = [0; PIECE];
     let chunk = buffer.as_mut_slice();
     'reads: loop {
-        let room = LIMIT - fed;
-        let want = (room + 1).min(CHUNK);
-        match src.read(&mut chunk[..want]) {
-            Err(_) => return Err(Unread::Failed),
+        match read_piece(src, chunk, MOST_BYTES - fed) {
+            Err(unread) => return Err(unread),
             Ok(0) => return Ok(()),
-            Ok(n) if n > room => return Err(Unread::TooLong),
             Ok(n) => {
                 keep(&chunk[..n], front);
                 fed += n;
@@ -134,15 +116,15 @@ fn answer_to(front: &[u8]) -> Result<(u16, Query), LengthRefused>
 /// `TooLong` comes exactly where one byte more was read, and `ReadFault` only where a read failed. It takes no memory.
 pub fn check_length<S: Source>(src: &mut S) -> Result<(u16, Query), LengthRefused>
     // The answer is that of the grammar and the potentials to all bytes that were left, where they were read to their end.
-    ensures answer { IfSome (length_answer result) (AnswersBytes 67_108_864 (S.left src.old) (S.left src.new)) }
+    ensures answer { IfSome (length_answer result) (AnswersBytes MOST_BYTES (S.left src.old) (S.left src.new)) }
 
     // No game that reaches the query has fewer half-moves than is accepted.
     ensures least { IfOk result (λ p. (g : List Move) → Reaches g p.1 → p.0 ≤ length g) }
 
     // Too long an input is answered only where one byte more than the limit was read, and a failure only where the count of
     // faults rose.
-    ensures too_long { result ≡ Err LengthRefused.TooLong → ReadSome (S.left src.old) (S.left src.new) (λ n. n ≡ 67_108_865) }
-    ensures failed { result ≡ Err LengthRefused.ReadFault → ReadSome (S.left src.old) (S.left src.new) (λ n. n ≤ 67_108_864) }
+    ensures too_long { result ≡ Err LengthRefused.TooLong → ReadSome (S.left src.old) (S.left src.new) (λ n. n ≡ MOST_BYTES + 1) }
+    ensures failed { result ≡ Err LengthRefused.ReadFault → ReadSome (S.left src.old) (S.left src.new) (λ n. n ≤ MOST_BYTES) }
     ensures cause { result ≡ Err LengthRefused.ReadFault → Rose (S.faults src.old) (S.faults src.new) }
     ensures kept { result ≢ Err LengthRefused.ReadFault → S.faults src.new ≡ S.faults src.old }
     ensures later { S.faults src.old ≤ S.faults src.new }

@@ -1,4 +1,4 @@
-ghost use Rattle.std.specs.Prelude.{◌≡◌, ◌≤◌, IfErr, IfOk};
+ghost use Rattle.std.specs.Prelude.{◌≡◌, ◌≤◌, ◌∷◌, IfErr, IfOk};
 ghost use Rattle.std.specs.Str.{bytes_eq};
 ghost use Rattle.board_base.specs.Potentials.{duals};
 ghost use Rattle.cert_text.specs.Arguments.{duals_of};
@@ -6,30 +6,20 @@ ghost use Rattle.cert_text.specs.Lines.{cut, said};
 ghost use Rattle.cert_text.specs.Texts.{IsBadAt};
 ghost use Rattle.length_bound.specs.ManDuals.{AreManPotentials};
 ghost use Rattle.length_bound.specs.LengthText.{AreLengthLines, at_least_of, length_head, of_side, shown_by, up_to_9999};
-ghost use Rattle.length_bound.specs.LengthReading.{AreBelowHead, AreLast, GoesBad, Opens, SayBelow, SayLast};
+ghost use Rattle.length_bound.specs.LengthReading.{AreBelowHead, AreLast, GoesBad, SayLast};
 
 use crate::man_potentials::ManPotentials;
 use crate::texts::LengthText;
 use arrayvec::ArrayVec;
-use board_base::{Colour, Odds};
-use cert_text::{first_line, read_duals, read_fen_line, read_odds_line, without_end};
+use board_base::Colour;
+use cert_text::{first_line, read_duals, take_fen, take_odds, without_end};
 use fen_text::read_number;
-use query_base::Query;
 
 /// Whether the line, with its end, is the first of a text.
 fn is_head(line: &[u8]) -> bool
     ensures { result ≡ bytes_eq line.now length_head }
 {
     line == b"retro length 1\n".as_slice()
-}
-
-/// The query of games at these odds.
-fn at_odds(query: Query, odds: Odds) -> Query
-    ensures { result ≡ record query { odds = odds } }
-{
-    let mut query = query;
-    query.odds = odds;
-    query
 }
 
 fn up_to_9999(number: u32) -> Option<u16>
@@ -47,10 +37,7 @@ fn read_at_least(text: &[u8]) -> Option<u16>
     ensures { result ≡ at_least_of text.now }
 {
     if text.starts_with(b"atleast ") {
-        match read_number(&text[8..]) {
-            Some(number) => up_to_9999(number),
-            None => None,
-        }
+        up_to_9999(read_number(&text[8..])?)
     } else {
         None
     }
@@ -61,10 +48,7 @@ fn read_at_least(text: &[u8]) -> Option<u16>
 fn read_at_least_line(line: &[u8]) -> Option<u16>
     ensures { result ≡ said at_least_of line.now }
 {
-    match without_end(line) {
-        Some(text) => read_at_least(text),
-        None => None,
-    }
+    read_at_least(without_end(line)?)
 }
 
 /// These potentials, which are known to be in range.
@@ -88,10 +72,7 @@ fn read_potentials(text: &[u8]) -> Option<ManPotentials>
 fn read_of_side(side: Colour, text: &[u8]) -> Option<(Colour, ManPotentials)>
     ensures { result ≡ of_side side (duals_of 16 text.now) }
 {
-    match read_potentials(text) {
-        Some(potentials) => Some((side, potentials)),
-        None => None,
-    }
+    Some((side, read_potentials(text)?))
 }
 
 #[tactic(auto, unfolding(crate::specs::LengthText::shown_by))]
@@ -112,51 +93,7 @@ fn read_moves(text: &[u8]) -> Option<(Colour, ManPotentials)>
 fn read_moves_line(line: &[u8]) -> Option<(Colour, ManPotentials)>
     ensures { result ≡ said shown_by line.now }
 {
-    match without_end(line) {
-        Some(text) => read_moves(text),
-        None => None,
-    }
-}
-
-/// The query that the lines behind the first name, how many they are, and what follows them.
-#[derive(Drop)]
-struct Opening<'a> {
-    query: Query,
-    lines: u32,
-    rest: &'a [u8],
-}
-
-/// What the line of the odds, if there is one, and that of the FEN say; or the number of the first bad line.
-fn read_opening(bytes: &[u8]) -> Result<Opening<'_>, u32>
-    ensures ok { IfOk result (λ o. Opens (cut bytes.now) o.query (cut o.rest.now) o.lines) }
-    ensures few { IfOk result (λ o. o.lines ≤ 2) }
-    ensures bad { IfErr result (λ n. GoesBad AreBelowHead (cut bytes.now) n) }
-    ensures first { IfErr result (λ n. n ≤ 2) }
-{
-    let Some((line, rest)) = first_line(bytes) else {
-        return Err(1);
-    };
-    if let Some(query) = read_fen_line(line) {
-        return Ok(Opening {
-            query: at_odds(query, Odds::none()),
-            lines: 1,
-            rest,
-        });
-    }
-    let Some(odds) = read_odds_line(line) else {
-        return Err(1);
-    };
-    let Some((line, rest)) = first_line(rest) else {
-        return Err(2);
-    };
-    match read_fen_line(line) {
-        Some(query) => Ok(Opening {
-            query: at_odds(query, odds),
-            lines: 2,
-            rest,
-        }),
-        None => Err(2),
-    }
+    read_moves(without_end(line)?)
 }
 
 /// What the lines behind the FEN say: the number, the side and the potentials; or the number of the first bad line.
@@ -185,22 +122,22 @@ fn read_last(bytes: &[u8]) -> Result<(u16, Colour, ManPotentials), u32>
 
 /// What the lines behind the first say, or the number of the first bad line.
 fn read_below(bytes: &[u8]) -> Result<LengthText, u32>
-    ensures ok { IfOk result (λ t. SayBelow (cut bytes.now) t) }
+    ensures ok { IfOk result (λ t. AreLengthLines (length_head ∷ cut bytes.now) t) }
     ensures bad { IfErr result (λ n. GoesBad AreBelowHead (cut bytes.now) n) }
     ensures first { IfErr result (λ n. n ≤ 5) }
 {
-    let opening = match read_opening(bytes) {
-        Ok(opening) => opening,
-        Err(line) => return Err(line),
+    let (odds, before, rest) = take_odds(bytes);
+    let Some(first) = take_fen(odds, None, rest) else {
+        return Err(before + 1);
     };
-    match read_last(opening.rest) {
+    match read_last(first.rest) {
         Ok((at_least, side, potentials)) => Ok(LengthText {
-            query: opening.query,
+            query: first.query,
             at_least,
             side,
             potentials,
         }),
-        Err(line) => Err(opening.lines + line),
+        Err(line) => Err(before + 1 + line),
     }
 }
 

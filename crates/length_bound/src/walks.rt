@@ -1,11 +1,11 @@
 ghost use Rattle.std.specs.Prelude.{Bool, false, ◌≡◌, ◌+◌, ◌<◌, ◌≤◌};
 ghost use Rattle.board_base.specs.Board.{same_kind};
-ghost use Rattle.board_base.specs.Attacks.{king_distance, on_one_line, on_one_diagonal};
+ghost use Rattle.board_base.specs.Attacks.{king_distance};
 ghost use Rattle.board_base.specs.declared.men.Kind.TheVariants.{Pawn as APawn};
 ghost use Rattle.length_bound.specs.DirectSteps.{direct_steps, is_corner, knight_steps};
 ghost use Rattle.length_bound.specs.MoveCosts.{steps};
 
-use board_base::{Kind, Square, files_between, ranks_between};
+use board_base::{Kind, Square, files_between, is_diagonal, is_line, ranks_between};
 
 /// Whether the square is a1, h1, a8 or h8.
 fn is_corner(s: Square) -> bool
@@ -34,20 +34,6 @@ fn knight_steps(corner: bool, more: u8, less: u8) -> u8
             apart - 2 * ((apart - less) / 4)
         }
     }
-}
-
-/// Whether the two squares are on one file or one rank.
-fn is_line(s: Square, t: Square) -> bool
-    ensures { result ≡ on_one_line s t }
-{
-    s.file() == t.file() || s.rank() == t.rank()
-}
-
-/// Whether the two squares are on one diagonal.
-fn is_diagonal(s: Square, t: Square) -> bool
-    ensures { result ≡ on_one_diagonal s t }
-{
-    files_between(s, t) == ranks_between(s, t)
 }
 
 /// The steps of a man from one square to another on an empty board, by how far apart they are; 64 where he can't come there.

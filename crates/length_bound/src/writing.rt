@@ -1,6 +1,5 @@
 ghost use Rattle.std.specs.Prelude.{◌≡◌, ◌+◌, ◌≤◌, ◌++◌, [], None, codes, length};
 ghost use Rattle.std.specs.Fmt.{decimal};
-ghost use Rattle.fen_text.specs.Spelling.{turn_letter};
 ghost use Rattle.cert_text.specs.Lines.{cut, ended};
 ghost use Rattle.length_bound.specs.ManDuals.{AreManPotentials};
 ghost use Rattle.length_bound.specs.LengthText.{AreLengthLines};
@@ -10,17 +9,9 @@ use crate::man_potentials::ManPotentials;
 use arrayvec::ArrayVec;
 use board_base::Colour;
 use cert_text::{push_duals, write_query_lines};
+use fen_text::{push_text, turn_letter};
 use itoa::Buffer;
 use query_base::Query;
-
-/// Puts bytes, for which there is room, after the others.
-fn push_text(bytes: &[u8], out: &mut ArrayVec<u8, 512>)
-    requires { length out.old.items + length bytes.now ≤ 512 }
-    ensures text { out.new.items ≡ out.old.items ++ bytes.now }
-    ensures longer { length out.new.items ≡ length out.old.items + length bytes.now }
-{
-    let _ = out.try_extend_from_slice(bytes);
-}
 
 /// Puts a number of at most four digits after the others.
 fn push_number(number: u16, out: &mut ArrayVec<u8, 512>)
@@ -45,15 +36,6 @@ fn push_at_least(number: u16, out: &mut ArrayVec<u8, 512>)
     out.push(b'\n');
 }
 
-fn letter(side: Colour) -> u8
-    ensures { result ≡ turn_letter side }
-{
-    match side {
-        Colour::White => b'w',
-        Colour::Black => b'b',
-    }
-}
-
 /// Puts the line of the potentials after the others.
 fn push_moves(side: Colour, p: &ManPotentials, out: &mut ArrayVec<u8, 512>)
     requires { length out.old.items + 138 ≤ 512 }
@@ -62,7 +44,7 @@ fn push_moves(side: Colour, p: &ManPotentials, out: &mut ArrayVec<u8, 512>)
     ensures short { length out.new.items ≤ length out.old.items + 138 }
 {
     push_text(b"moves ", out);
-    out.push(letter(side));
+    out.push(turn_letter(side));
     out.push(b' ');
     push_duals(p.u(), p.v(), out);
     out.push(b'\n');

@@ -1,14 +1,14 @@
-use Rattle.std.proofs.Common.{◌≡◌, ℕ, take, arith}
-use Rattle.std.proofs.lemmas.List.{length-take}
+use Rattle.std.proofs.Common.{refl, arith}
 use Rattle.cert_text.specs.Lines.{cut}
 use Rattle.cert_checker.proofs.Feeding.{streamed_holds}
-use Rattle.retro_ports.proofs.Loops.{read_past}
+use Rattle.retro_ports.proofs.Loops.{read_over}
 use Rattle.cert_checker.proofs.streams.check_stream.Goals as goal
+use Rattle.retro_ports.specs.declared.piecewise.TheConstants.{MOST_BYTES}
 
-pub returns-in-Ok-clause-too_long : goal.returns-in-Ok-clause-too_long
-returns-in-Ok-clause-too_long g c _ =
-    read_past _ _ _ c.reads.invariant.so_far.bytes (take c.in-Ok.n c.read.new.buf) (λ n. n ≡ 67108865) c.reads.invariant.so_far.read c.in-Ok.ensures.bytes.0
-    (omega (arith, c.in-Ok.ensures.bound, length-take {A = ℕ}, c.reads.invariant.so_far.stands.fed, c.fed.ensures.value, c.fed.ensures.bound, c.min-want.ensures, c.if-n-room.true))
+pub returns-in-Err-TooLong-clause-too_long : goal.returns-in-Err-TooLong-clause-too_long
+returns-in-Err-TooLong-clause-too_long g c _ =
+    read_over _ _ _ c.reads.invariant.so_far.bytes _ MOST_BYTES c.reads.invariant.so_far.read (rw c.in-Err-TooLong.field-0-is at c.in-Err-TooLong.ensures.too_long refl)
+    (omega (arith, c.reads.invariant.so_far.stands.fed, c.fed.ensures.value, c.fed.ensures.bound))
 
 pub returns-in-Ok-eq0-clause-holds : goal.returns-in-Ok-eq0-clause-holds
 returns-in-Ok-eq0-clause-holds g c =

@@ -10,7 +10,7 @@ use Rattle.dossier_checker.proofs.stages.take.Goals as goal
 pub returns-then-is_full-clause-rest : goal.returns-then-is_full-clause-rest
 returns-then-is_full-clause-rest c = λ bytes a rest.
     let full = eqb-true _ 512 (sym c.is_full.ensures.value ∙ c.if-is_full.true) in
-    let whole = c.as_slice.ensures.value ∙ c.push_front.ensures in
+    let whole = c.as_slice.ensures.value ∙ c.push_text.ensures.text in
     let answers = c.begin_with-begun.ensures.rest bytes a (λ few. absurd (omega (arith, full, ap length c.as_slice.ensures.value))) (c.staged.ensures.rest bytes a rest) in
     subst (λ (s : Stage). StageRemains s (c.args.piece.now ++ bytes) a) (sym c.in-Heading.is)
     (subst (λ (l : List ℕ). AnswersDossier l a) (put_behind c.in-Heading.front.items c.split_at.result.0.now c.split_at.result.1.now c.args.piece.now c.as_slice.result.now bytes c.min-n.result whole c.split_at.ensures.front c.split_at.ensures.back) answers)
@@ -18,7 +18,7 @@ returns-then-is_full-clause-rest c = λ bytes a rest.
 pub returns-else-is_full-clause-rest : goal.returns-else-is_full-clause-rest
 returns-else-is_full-clause-rest c = λ bytes a rest.
     let room = eqb-false _ 512 (sym c.is_full.ensures.value ∙ c.if-is_full.false) in
-    let all : take c.min-n.result c.args.piece.now ≡ c.args.piece.now = take_all c.min-n.result c.args.piece.now (omega (arith, room, ap length c.push_front.ensures, length-append c.in-Heading.front.items c.split_at.result.0.now, c.split_at.ensures.front_len, c.min-n.ensures, c.len.ensures.value, c.len.ensures.fits)) in
-    let whole : c.push_front.new.front.items ≡ c.in-Heading.front.items ++ c.args.piece.now = c.push_front.ensures ∙ ap (λ (l : List ℕ). c.in-Heading.front.items ++ l) (c.split_at.ensures.front ∙ all) in
+    let all : take c.min-n.result c.args.piece.now ≡ c.args.piece.now = take_all c.min-n.result c.args.piece.now (omega (arith, room, ap length c.push_text.ensures.text, length-append c.in-Heading.front.items c.split_at.result.0.now, c.split_at.ensures.front_len, c.min-n.ensures, c.len.ensures.value, c.len.ensures.fits)) in
+    let whole : c.push_text.new.out.items ≡ c.in-Heading.front.items ++ c.args.piece.now = c.push_text.ensures.text ∙ ap (λ (l : List ℕ). c.in-Heading.front.items ++ l) (c.split_at.ensures.front ∙ all) in
     subst (λ (s : Stage). StageRemains s (c.args.piece.now ++ bytes) a) (sym c.in-Heading.is)
     (subst (λ (l : List ℕ). AnswersDossier l a) (ap (λ (l : List ℕ). l ++ bytes) whole ∙ append_assoc c.in-Heading.front.items c.args.piece.now bytes) rest)

@@ -1,6 +1,7 @@
 use Rattle.std.proofs.Common.{◌≡◌, ◌-◌, length}
 use Rattle.length_bound.proofs.FrontReads.{FrontSoFar}
 use Rattle.length_bound.proofs.checking.read_front.Given as goal
+use Rattle.retro_ports.specs.declared.piecewise.TheConstants.{MOST_BYTES}
 
 abbrev pub invariant-reads : goal.invariant-reads
 invariant-reads g l = record {
@@ -9,4 +10,4 @@ invariant-reads g l = record {
 }
 
 abbrev pub decreases-reads : goal.decreases-reads
-decreases-reads g l = 67108864 - l.fed
+decreases-reads g l = MOST_BYTES - l.fed
