@@ -1,5 +1,5 @@
 -- What one search comes to, and the least depth at which it proves a claim.
-use Rattle.std.proofs.Common.{◌≡◌, ℕ, true, ◌-◌, ◌<◌, ◌≤◌, List, [], refl, sym, subst, arith}
+use Rattle.std.proofs.Common.{◌≡◌, ℕ, ◌-◌, ◌<◌, ◌≤◌, List, [], refl, sym, subst, arith}
 use Rattle.std.specs.Prelude.{◌↔◌}
 use Rattle.board_base.specs.declared.moves.Move.{Move}
 use Rattle.query_base.specs.Asked.{Asked}
@@ -11,7 +11,7 @@ use Rattle.retro_search.specs.Refutable.{IsRefutable}
 use Rattle.retro_search.specs.Unsettled.{WhereRefutable}
 use Rattle.retro_search.specs.declared.searchers.Outcome.{Outcome}
 use Rattle.retro_search.specs.declared.searchers.Outcome.TheVariants.{Refuted, Open, Spent}
-use Rattle.diagram_study.specs.Findings.{IsOutcome, IsProof, IsProvedAt, is_refuted}
+use Rattle.diagram_study.specs.Findings.{IsOutcome, IsProof, IsProvedAt}
 
 pub outcome_is : (q a : Asked) (claim : Claim) (depth nodes : ℕ) (outcome : Outcome) → a ≡ target q claim → ((g : List Move) → Reaches g a ↔ Contradicts g claim q) → IfRefuted outcome (λ height. HasProof a height depth) → (outcome ≡ Open → IsRefutable a depth [] → ⊥) → (outcome ≡ Spent → WhereRefutable a depth (λ n. nodes < n)) → IsOutcome q claim depth nodes outcome
 outcome_is q a claim depth nodes (Refuted height) is contradicted proof opened spent = record {
@@ -20,24 +20,6 @@ outcome_is q a claim depth nodes (Refuted height) is contradicted proof opened s
 }
 outcome_is q a claim depth nodes Open is contradicted proof opened spent = λ refutable. opened refl (subst (λ (t : Asked). IsRefutable t depth []) (sym is) refutable)
 outcome_is q a claim depth nodes Spent is contradicted proof opened spent = subst (λ (t : Asked). WhereRefutable t depth (λ n. nodes < n)) is (spent refl)
-
--- a search that refuted the query proves it at this depth too
-pub proof_raised : (q : Asked) (lower depth : ℕ) (outcome : Outcome) → lower ≤ depth → IfRefuted outcome (λ height. HasProof q height lower) → IfRefuted outcome (λ height. HasProof q height depth)
-proof_raised q lower depth (Refuted height) less proof =
-    record { tree = proof.tree; proves = proof.proves; high = proof.high; low = omega (arith, less, proof.low); unreached = proof.unreached }
-proof_raised q lower depth Open less proof = tt
-proof_raised q lower depth Spent less proof = tt
-
--- and neither stays open nor is spent
-pub refuted_not_open : (outcome : Outcome) → is_refuted outcome ≡ true → outcome ≡ Open → ⊥
-refuted_not_open (Refuted height) refuted opened = cc
-refuted_not_open Open refuted opened = cc
-refuted_not_open Spent refuted opened = cc
-
-pub refuted_not_spent : (outcome : Outcome) → is_refuted outcome ≡ true → outcome ≡ Spent → ⊥
-refuted_not_spent (Refuted height) refuted spent = cc
-refuted_not_spent Open refuted spent = cc
-refuted_not_spent Spent refuted spent = cc
 
 -- what is refutable at a depth is so at each greater one
 abbrev pub DeeperRefuteMore : Type 0

@@ -12,7 +12,7 @@ use Rattle.line_claims.specs.declared.claims.LineClaim.TheVariants.{NotBoth, Lin
 use Rattle.length_bound.specs.declared.texts.LengthText.{LengthText}
 use Rattle.unmove_gen.specs.Listed.{unmoves}
 use Rattle.diagram_study.specs.Findings.{IsFound, is_proved}
-use Rattle.diagram_study.specs.Lines.{IsLineFound}
+use Rattle.diagram_study.specs.Joined.{IsLineFound}
 use Rattle.diagram_study.specs.Rights.{AreFound, open_castlings}
 use Rattle.diagram_study.specs.Pairs.{TellsOpenPair, TellsPair, TellsPairs, castle_pairs}
 use Rattle.diagram_study.specs.Retractions.{HasLeft, TellsLast, one_move}

@@ -10,7 +10,7 @@ use Rattle.line_claims.specs.Due.{parts_due}
 use Rattle.line_claims.specs.Holding.{HoldsLine}
 use Rattle.line_claims.specs.declared.claims.LineClaim.{LineClaim}
 use Rattle.diagram_study.specs.Findings.{IsFound, is_proved}
-use Rattle.diagram_study.specs.Lines.{AreEachFound, IsLineFound, joined, together}
+use Rattle.diagram_study.specs.Joined.{AreEachFound, IsLineFound, joined, together}
 use Rattle.diagram_study.specs.declared.findings.Finding.{Finding}
 use Rattle.diagram_study.specs.declared.findings.Finding.TheVariants.{Proved, Open, Spent}
 
@@ -52,22 +52,10 @@ joined_none (Proved depth) = ap Proved (max_none depth)
 joined_none Open = refl
 joined_none Spent = refl
 
-none_max : (d : ℕ) → max 0 d ≡ d
-none_max d = omega arith
-
-none_joined : (a : Finding) → joined (Proved 0) a ≡ a
-none_joined (Proved depth) = ap Proved (none_max depth)
-none_joined Open = refl
-none_joined Spent = refl
-
 -- what is found of the parts still to come completes what was found of those before them
 abbrev pub Completes : ℕ → ℕ → List (Claim × Asked) → List (Claim × Asked) → Finding → Type 0
 Completes most nodes all still so_far =
     (findings : List Finding) → AreEachFound most nodes still findings → (own : List Finding) × AreEachFound most nodes all own × (joined so_far (together findings) ≡ together own)
-
-pub complete_none : (most nodes : ℕ) (all still : List (Claim × Asked)) → still ≡ all → Completes most nodes all still (Proved 0)
-complete_none most nodes all still is = λ findings each.
-    (findings, subst (λ (l : List (Claim × Asked)). AreEachFound most nodes l findings) is each, none_joined (together findings))
 
 pub complete_more : (most nodes : ℕ) (all old still : List (Claim × Asked)) (part : Claim × Asked) (so_far new finding : Finding) → Completes most nodes all old so_far → old ≡ part ∷ still → IsFound part.1 part.0 most nodes finding → new ≡ joined so_far finding → Completes most nodes all still new
 complete_more most nodes all old still part so_far new finding before front found is = λ findings each.

@@ -6,7 +6,7 @@ use Rattle.query_base.specs.declared.claims.Claim.TheVariants.{Last}
 use Rattle.unmove_gen.specs.Predecessor.{predecessor}
 use Rattle.line_claims.specs.declared.claims.LineClaim.TheVariants.{Line}
 use Rattle.diagram_study.specs.Findings.{IsFound, is_proved}
-use Rattle.diagram_study.specs.Lines.{IsLineFound}
+use Rattle.diagram_study.specs.Joined.{IsLineFound}
 use Rattle.diagram_study.specs.Retractions.{HasLeft}
 use Rattle.diagram_study.specs.Texts.{steps_line}
 use Rattle.diagram_study.specs.declared.findings.Finding.{Finding}

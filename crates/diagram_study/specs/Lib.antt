@@ -1,6 +1,6 @@
 pub mod Budgets
 pub mod Findings
-pub mod Lines
+pub mod Joined
 pub mod Rights
 pub mod Pairs
 pub mod Retractions

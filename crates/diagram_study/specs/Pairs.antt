@@ -5,7 +5,7 @@ use Rattle.board_base.specs.declared.castles.Castle.{Castle}
 use Rattle.board_base.specs.declared.castles.Castle.TheVariants.{WhiteShort, WhiteLong, BlackShort, BlackLong}
 use Rattle.query_base.specs.Asked.{Asked}
 use Rattle.line_claims.specs.declared.claims.LineClaim.TheVariants.{NotBoth}
-use Rattle.diagram_study.specs.Lines.{IsLineFound}
+use Rattle.diagram_study.specs.Joined.{IsLineFound}
 use Rattle.diagram_study.specs.Texts.{steps_line}
 use Rattle.diagram_study.specs.declared.findings.Finding.{Finding}
 

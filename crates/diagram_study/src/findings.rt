@@ -1,6 +1,6 @@
 ghost use Rattle.std.specs.Prelude.{◌≡◌};
 ghost use Rattle.diagram_study.specs.Findings.{is_proved};
-ghost use Rattle.diagram_study.specs.Lines.{joined};
+ghost use Rattle.diagram_study.specs.Joined.{joined};
 
 /// What the searches for a proof of a claim come to.
 #[derive(Clone, Copy, PartialEq, Eq, Debug)]

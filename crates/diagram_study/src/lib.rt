@@ -7,13 +7,13 @@
 mod findings;
 mod forced;
 mod line_searches;
-mod lines;
 mod pairs;
 mod retractions;
 mod rights;
 mod searchers;
 mod searches;
 mod studies;
+mod texts;
 
 pub use findings::Finding;
 pub use studies::study;

@@ -1,15 +1,15 @@
 ghost use Rattle.std.specs.Prelude.{List, ℕ, ◌≡◌, ◌++◌, IsTrue, None, OnOk};
 ghost use Rattle.line_claims.specs.Lines.{in_order};
-ghost use Rattle.diagram_study.specs.Budgets.{IsBudget};
 ghost use Rattle.diagram_study.specs.Pairs.{TellsOpenPair, TellsPair, TellsPairs, castle_pairs};
 
 use crate::line_searches::seek_line;
-use crate::lines::push_steps;
 use crate::searchers::Searchers;
+use crate::texts::push_steps;
 use board_base::Castle::{BlackLong, BlackShort, WhiteLong, WhiteShort};
 use board_base::{Castle, CastleSet};
 use line_claims::LineClaim;
 use query_base::Query;
+use retro_search::Limits;
 use std::alloc::AllocError;
 
 /// Adds the line of what is found of the claim that the two castlings aren't both kept.
@@ -18,17 +18,15 @@ fn tell_pair(
     query: &Query,
     first: Castle,
     second: Castle,
-    most: u8,
-    nodes: u32,
+    limits: Limits,
     text: &mut Vec<u8>,
 ) -> Result<(), AllocError>
     requires order { IsTrue (in_order first second) }
     requires plain { query.now.barred ≡ None }
-    requires budget { IsBudget most nodes }
-    ensures { OnOk result ((own : List ℕ) × TellsPair query.now most nodes first second own × (text.new.items ≡ text.old.items ++ own)) }
+    ensures { OnOk result ((own : List ℕ) × TellsPair query.now limits.depth limits.nodes first second own × (text.new.items ≡ text.old.items ++ own)) }
 {
     let claim = LineClaim::NotBoth(first, second);
-    let finding = seek_line(searchers, query, &claim, most, nodes)?;
+    let finding = seek_line(searchers, query, &claim, limits)?;
     push_steps(text, finding, &claim)
 }
 
@@ -37,19 +35,17 @@ fn tell_open_pair(
     searchers: &mut Searchers,
     query: &Query,
     kept: CastleSet,
-    first: Castle,
-    second: Castle,
-    most: u8,
-    nodes: u32,
+    pair: (Castle, Castle),
+    limits: Limits,
     text: &mut Vec<u8>,
 ) -> Result<(), AllocError>
-    requires order { IsTrue (in_order first second) }
+    requires order { IsTrue (in_order pair.0 pair.1) }
     requires plain { query.now.barred ≡ None }
-    requires budget { IsBudget most nodes }
-    ensures { OnOk result ((own : List ℕ) × TellsOpenPair query.now most nodes kept (first, second) own × (text.new.items ≡ text.old.items ++ own)) }
+    ensures { OnOk result ((own : List ℕ) × TellsOpenPair query.now limits.depth limits.nodes kept pair own × (text.new.items ≡ text.old.items ++ own)) }
 {
+    let (first, second) = pair;
     if kept.has(first) && kept.has(second) {
-        tell_pair(searchers, query, first, second, most, nodes, text)
+        tell_pair(searchers, query, first, second, limits, text)
     } else {
         Ok(())
     }
@@ -60,31 +56,52 @@ pub(crate) fn tell_pairs(
     searchers: &mut Searchers,
     query: &Query,
     kept: CastleSet,
-    most: u8,
-    nodes: u32,
+    limits: Limits,
     text: &mut Vec<u8>,
 ) -> Result<(), AllocError>
     requires plain { query.now.barred ≡ None }
-    requires budget { IsBudget most nodes }
-    ensures { OnOk result ((all : List ℕ) × TellsPairs (TellsOpenPair query.now most nodes kept) castle_pairs all × (text.new.items ≡ text.old.items ++ all)) }
+    ensures { OnOk result ((all : List ℕ) × TellsPairs (TellsOpenPair query.now limits.depth limits.nodes kept) castle_pairs all × (text.new.items ≡ text.old.items ++ all)) }
 {
     tell_open_pair(
-        searchers, query, kept, WhiteShort, WhiteLong, most, nodes, text,
+        searchers,
+        query,
+        kept,
+        (WhiteShort, WhiteLong),
+        limits,
+        text,
     )?;
     tell_open_pair(
-        searchers, query, kept, WhiteShort, BlackShort, most, nodes, text,
+        searchers,
+        query,
+        kept,
+        (WhiteShort, BlackShort),
+        limits,
+        text,
     )?;
     tell_open_pair(
-        searchers, query, kept, WhiteShort, BlackLong, most, nodes, text,
+        searchers,
+        query,
+        kept,
+        (WhiteShort, BlackLong),
+        limits,
+        text,
     )?;
     tell_open_pair(
-        searchers, query, kept, WhiteLong, BlackShort, most, nodes, text,
+        searchers,
+        query,
+        kept,
+        (WhiteLong, BlackShort),
+        limits,
+        text,
     )?;
+    tell_open_pair(searchers, query, kept, (WhiteLong, BlackLong), limits, text)?;
     tell_open_pair(
-        searchers, query, kept, WhiteLong, BlackLong, most, nodes, text,
-    )?;
-    tell_open_pair(
-        searchers, query, kept, BlackShort, BlackLong, most, nodes, text,
+        searchers,
+        query,
+        kept,
+        (BlackShort, BlackLong),
+        limits,
+        text,
     )?;
     Ok(())
 }

@@ -4,15 +4,15 @@ ghost use Rattle.board_base.specs.Legal.{is_move};
 ghost use Rattle.board_base.specs.Texts.{can_promote};
 ghost use Rattle.line_claims.specs.Lines.{has_text};
 ghost use Rattle.unmove_gen.specs.Listed.{unmoves};
-ghost use Rattle.diagram_study.specs.Budgets.{IsBudget};
 ghost use Rattle.diagram_study.specs.Retractions.{HasLeft, TellsLast, TellsMove, one_move};
 
-use crate::lines::push_found;
 use crate::searchers::{Searchers, is_refuted};
 use crate::searches::{search_at, seek};
+use crate::texts::push_found;
 use board_base::{Move, UnmoveList, is_move};
 use query_base::{Claim, Query};
-use std::alloc::{AllocError, Global};
+use retro_search::Limits;
+use std::alloc::AllocError;
 use unmove_gen::{Unmoves, few_unmoves, last_moves_are_listed, pred, unmoves_have_texts};
 
 /// The unmoves that are left, and how many there are in all.
@@ -24,15 +24,12 @@ pub(crate) struct Counted {
 
 /// The unmoves of the query whose predecessors the search doesn't refute.
 pub(crate) fn retractions(
-    alloc: Global,
     searchers: &mut Searchers,
     query: &Query,
-    most: u8,
-    nodes: u32,
+    limits: Limits,
 ) -> Result<Counted, AllocError>
     requires plain { query.now.barred ≡ None }
-    requires budget { IsBudget most nodes }
-    ensures left { IfOk result (λ r. HasLeft query.now most nodes r.left) }
+    ensures left { IfOk result (λ r. HasLeft query.now limits.depth limits.nodes r.left) }
     ensures all { IfOk result (λ r. r.all ≡ length (unmoves query.now)) }
     ensures few { IfOk result (λ r. length r.left ≤ 143360) }
     ensures texts { IfOk result (λ r. All (λ u. IsTrue (has_text u)) r.left) }
@@ -40,14 +37,18 @@ pub(crate) fn retractions(
     few_unmoves();
     unmoves_have_texts();
     last_moves_are_listed();
-    let below = most.saturating_sub(1);
-    let mut left = UnmoveList::new(alloc);
+    let below = limits.depth.saturating_sub(1);
+    let mut left = UnmoveList::new(searchers.alloc);
     let mut all: u32 = 0;
     let mut unmoves = Unmoves::new(query);
     while let Some(u) = unmoves.next() {
         all += 1;
         let before = pred(query, &u);
-        let outcome = search_at(searchers, &before, &Claim::Illegal, below, nodes)?;
+        let nearer = Limits {
+            depth: below,
+            nodes: limits.nodes,
+        };
+        let outcome = search_at(searchers, &before, &Claim::Illegal, nearer)?;
         if !is_refuted(outcome) {
             match left.push(u) {
                 Ok(()) => {}
@@ -95,17 +96,15 @@ fn tell_move(
     searchers: &mut Searchers,
     query: &Query,
     m: Move,
-    most: u8,
-    nodes: u32,
+    limits: Limits,
     text: &mut Vec<u8>,
 ) -> Result<(), AllocError>
     requires promotion { IsTrue (can_promote m.promo) }
     requires plain { query.now.barred ≡ None }
-    requires budget { IsBudget most nodes }
-    ensures { OnOk result ((own : List ℕ) × TellsMove query.now most nodes m own × (text.new.items ≡ text.old.items ++ own)) }
+    ensures { OnOk result ((own : List ℕ) × TellsMove query.now limits.depth limits.nodes m own × (text.new.items ≡ text.old.items ++ own)) }
 {
     let claim = Claim::Last(m);
-    let finding = seek(searchers, query, &claim, most, nodes)?;
+    let finding = seek(searchers, query, &claim, limits)?;
     if finding.is_proved() {
         push_found(text, finding, &claim)
     } else {
@@ -118,17 +117,15 @@ pub(crate) fn tell_last(
     searchers: &mut Searchers,
     query: &Query,
     left: &UnmoveList,
-    most: u8,
-    nodes: u32,
+    limits: Limits,
     text: &mut Vec<u8>,
 ) -> Result<(), AllocError>
     requires texts { All (λ u. IsTrue (has_text u)) left.now }
     requires plain { query.now.barred ≡ None }
-    requires budget { IsBudget most nodes }
-    ensures { OnOk result ((own : List ℕ) × TellsLast query.now most nodes (one_move left.now) own × (text.new.items ≡ text.old.items ++ own)) }
+    ensures { OnOk result ((own : List ℕ) × TellsLast query.now limits.depth limits.nodes (one_move left.now) own × (text.new.items ≡ text.old.items ++ own)) }
 {
     match one_move(left) {
-        Some(m) => tell_move(searchers, query, m, most, nodes, text),
+        Some(m) => tell_move(searchers, query, m, limits, text),
         None => Ok(()),
     }
 }

@@ -2,18 +2,18 @@ ghost use Rattle.std.specs.Prelude.{◌≡◌, ◌++◌, IfOk, IsTrue, None, OnO
 ghost use Rattle.std.specs.List.{All};
 ghost use Rattle.cert_text.specs.ClaimLines.{promotes_well};
 ghost use Rattle.codex_verdict.specs.Rights.{claim_of};
-ghost use Rattle.diagram_study.specs.Budgets.{IsBudget};
 ghost use Rattle.diagram_study.specs.Rights.{AreDue, AreFound, is_demanded, open_castlings, with_right};
 ghost use Rattle.diagram_study.specs.Texts.{capture_line, capture_lines, castling_line, castling_lines};
 
 use crate::findings::Finding;
-use crate::lines::push_found;
 use crate::searchers::Searchers;
 use crate::searches::seek;
+use crate::texts::push_found;
 use arrayvec::ArrayVec;
 use board_base::CastleSet;
 use codex_verdict::{Right, claim_of, rights};
 use query_base::{Claim, Query};
+use retro_search::Limits;
 use std::alloc::AllocError;
 
 /// A right, and what is found of the claim that decides it.
@@ -64,18 +64,16 @@ fn due_rights(query: &Query) -> ArrayVec<Right, 18>
 pub(crate) fn seek_rights(
     searchers: &mut Searchers,
     query: &Query,
-    most: u8,
-    nodes: u32,
+    limits: Limits,
 ) -> Result<ArrayVec<RightFound, 18>, AllocError>
     requires plain { query.now.barred ≡ None }
-    requires budget { IsBudget most nodes }
-    ensures { IfOk result (λ found. AreFound query.now most nodes found.items) }
+    ensures { IfOk result (λ found. AreFound query.now limits.depth limits.nodes found.items) }
 {
     let mut found: ArrayVec<RightFound, 18> = ArrayVec::new();
     let due = due_rights(query);
     let each = due.as_slice();
     for right in each {
-        let finding = seek(searchers, query, &claim_of(right), most, nodes)?;
+        let finding = seek(searchers, query, &claim_of(right), limits)?;
         found.push(RightFound {
             right: *right,
             finding,

@@ -5,15 +5,16 @@ ghost use Rattle.length_bound.specs.declared.texts.LengthText.{LengthText};
 
 use crate::findings::Finding;
 use crate::forced::tell_forced;
-use crate::lines::{push_found, push_left, push_length};
 use crate::pairs::tell_pairs;
 use crate::retractions::{retractions, tell_last};
 use crate::rights::{open_castlings, seek_rights, tell_captures, tell_castlings};
 use crate::searchers::Searchers;
 use crate::searches::seek;
+use crate::texts::{push_found, push_left, push_length};
 use board_base::{Castle, CastleSet};
 use length_bound::{longest, shown_lengths_hold};
 use query_base::{Claim, Query};
+use retro_search::Limits;
 use std::alloc::{AllocError, Global};
 
 /// Adds the line of the length of the games, where it can be told.
@@ -29,33 +30,22 @@ fn tell_length(query: &Query, text: &mut Vec<u8>) -> Result<(), AllocError>
 
 /// Adds what is found of a position that isn't proved to be illegal.
 fn tell_more(
-    alloc: Global,
     searchers: &mut Searchers,
     query: &Query,
-    most: u8,
-    nodes: u32,
+    limits: Limits,
     text: &mut Vec<u8>,
 ) -> Result<(), AllocError>
     requires plain { query.now.barred ≡ None }
-    requires budget { IsBudget most nodes }
-    ensures { OnOk result ((own : List ℕ) × TellsMore query.now most nodes own × (text.new.items ≡ text.old.items ++ own)) }
+    ensures { OnOk result ((own : List ℕ) × TellsMore query.now limits.depth limits.nodes own × (text.new.items ≡ text.old.items ++ own)) }
 {
-    let found = seek_rights(searchers, query, most, nodes)?;
+    let found = seek_rights(searchers, query, limits)?;
     let kept = open_castlings(found.as_slice());
     tell_castlings(text, found.as_slice())?;
-    tell_pairs(searchers, query, kept, most, nodes, text)?;
+    tell_pairs(searchers, query, kept, limits, text)?;
     tell_captures(text, found.as_slice())?;
-    let retractions = retractions(alloc, searchers, query, most, nodes)?;
-    tell_last(searchers, query, &retractions.left, most, nodes, text)?;
-    tell_forced(
-        alloc,
-        searchers,
-        query,
-        &retractions.left,
-        most,
-        nodes,
-        text,
-    )?;
+    let retractions = retractions(searchers, query, limits)?;
+    tell_last(searchers, query, &retractions.left, limits, text)?;
+    tell_forced(searchers, query, &retractions.left, limits, text)?;
     push_left(text, &retractions.left, retractions.all)?;
     tell_length(query, text)
 }
@@ -75,56 +65,48 @@ fn other_side(query: &Query) -> Query
 fn tell_other(
     searchers: &mut Searchers,
     query: &Query,
-    most: u8,
-    nodes: u32,
+    limits: Limits,
     text: &mut Vec<u8>,
 ) -> Result<(), AllocError>
-    requires budget { IsBudget most nodes }
-    ensures { OnOk result ((own : List ℕ) × TellsOther query.now most nodes own × (text.new.items ≡ text.old.items ++ own)) }
+    ensures { OnOk result ((own : List ℕ) × TellsOther query.now limits.depth limits.nodes own × (text.new.items ≡ text.old.items ++ own)) }
 {
     let other = other_side(query);
-    let finding = seek(searchers, &other, &Claim::Illegal, most, nodes)?;
+    let finding = seek(searchers, &other, &Claim::Illegal, limits)?;
     text.extend_from_slice(b"other side ")?;
     push_found(text, finding, &Claim::Illegal)
 }
 
 /// Adds what follows the line that says whether the position is illegal.
 fn tell_behind(
-    alloc: Global,
     searchers: &mut Searchers,
     query: &Query,
     finding: Finding,
-    most: u8,
-    nodes: u32,
+    limits: Limits,
     text: &mut Vec<u8>,
 ) -> Result<(), AllocError>
     requires plain { query.now.barred ≡ None }
-    requires budget { IsBudget most nodes }
-    ensures { OnOk result ((own : List ℕ) × TellsBehind query.now most nodes finding own × (text.new.items ≡ text.old.items ++ own)) }
+    ensures { OnOk result ((own : List ℕ) × TellsBehind query.now limits.depth limits.nodes finding own × (text.new.items ≡ text.old.items ++ own)) }
 {
     match finding {
-        Finding::Proved(_) => tell_other(searchers, query, most, nodes, text),
-        Finding::Open => tell_more(alloc, searchers, query, most, nodes, text),
-        Finding::Spent => tell_more(alloc, searchers, query, most, nodes, text),
+        Finding::Proved(_) => tell_other(searchers, query, limits, text),
+        Finding::Open => tell_more(searchers, query, limits, text),
+        Finding::Spent => tell_more(searchers, query, limits, text),
     }
 }
 
 /// Adds what is found of the position: whether it is illegal, and what follows.
 fn tell_position(
-    alloc: Global,
     searchers: &mut Searchers,
     query: &Query,
-    most: u8,
-    nodes: u32,
+    limits: Limits,
     text: &mut Vec<u8>,
 ) -> Result<Finding, AllocError>
     requires plain { query.now.barred ≡ None }
-    requires budget { IsBudget most nodes }
-    ensures { IfOk result (λ finding. (own : List ℕ) × TellsPosition query.now most nodes finding own × (text.new.items ≡ text.old.items ++ own)) }
+    ensures { IfOk result (λ finding. (own : List ℕ) × TellsPosition query.now limits.depth limits.nodes finding own × (text.new.items ≡ text.old.items ++ own)) }
 {
-    let finding = seek(searchers, query, &Claim::Illegal, most, nodes)?;
+    let finding = seek(searchers, query, &Claim::Illegal, limits)?;
     push_found(text, finding, &Claim::Illegal)?;
-    tell_behind(alloc, searchers, query, finding, most, nodes, text)?;
+    tell_behind(searchers, query, finding, limits, text)?;
     Ok(finding)
 }
 
@@ -158,18 +140,15 @@ fn without_demands(query: &Query) -> Query
 
 /// Adds what is found of the position without its demands.
 fn tell_plain(
-    alloc: Global,
     searchers: &mut Searchers,
     query: &Query,
-    most: u8,
-    nodes: u32,
+    limits: Limits,
     text: &mut Vec<u8>,
 ) -> Result<(), AllocError>
-    requires budget { IsBudget most nodes }
-    ensures { OnOk result ((own : List ℕ) × TellsPlain query.now most nodes own × (text.new.items ≡ text.old.items ++ own)) }
+    ensures { OnOk result ((own : List ℕ) × TellsPlain query.now limits.depth limits.nodes own × (text.new.items ≡ text.old.items ++ own)) }
 {
     text.extend_from_slice(b"without demands\n")?;
-    match tell_position(alloc, searchers, &without_demands(query), most, nodes, text) {
+    match tell_position(searchers, &without_demands(query), limits, text) {
         Ok(_) => Ok(()),
         Err(why) => Err(why),
     }
@@ -177,19 +156,16 @@ fn tell_plain(
 
 /// Adds what is found of the position without its demands, where these make it illegal.
 fn tell_again(
-    alloc: Global,
     searchers: &mut Searchers,
     query: &Query,
     finding: Finding,
-    most: u8,
-    nodes: u32,
+    limits: Limits,
     text: &mut Vec<u8>,
 ) -> Result<(), AllocError>
-    requires budget { IsBudget most nodes }
-    ensures { OnOk result ((own : List ℕ) × TellsAgain query.now most nodes finding own × (text.new.items ≡ text.old.items ++ own)) }
+    ensures { OnOk result ((own : List ℕ) × TellsAgain query.now limits.depth limits.nodes finding own × (text.new.items ≡ text.old.items ++ own)) }
 {
     if finding.is_proved() && makes_demands(query) {
-        tell_plain(alloc, searchers, query, most, nodes, text)
+        tell_plain(searchers, query, limits, text)
     } else {
         Ok(())
     }
@@ -213,17 +189,10 @@ pub fn study(alloc: Global, query: &Query, most: u8, nodes: u32) -> Result<Vec<u
     requires budget { IsBudget most nodes }
     ensures { IfOk result (λ text. IsStudy query.now most nodes text.items) }
 {
+    let limits = Limits { depth: most, nodes };
     let mut searchers = Searchers::new(alloc);
     let mut text = Vec::new(alloc);
-    let finding = tell_position(alloc, &mut searchers, query, most, nodes, &mut text)?;
-    tell_again(
-        alloc,
-        &mut searchers,
-        query,
-        finding,
-        most,
-        nodes,
-        &mut text,
-    )?;
+    let finding = tell_position(&mut searchers, query, limits, &mut text)?;
+    tell_again(&mut searchers, query, finding, limits, &mut text)?;
     Ok(text)
 }

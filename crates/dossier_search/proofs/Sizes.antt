@@ -1,13 +1,13 @@
 -- How many bytes the text of a certificate has.
 use Rattle.std.proofs.Common.{ℕ, ◌≤◌, List, [], ◌∷◌, length, ap, arith, length-append}
 use Rattle.cert_text.specs.Certificate.{Certificate, IsTextOf}
-use Rattle.retro_search.specs.Lined.{IsLined}
+use Rattle.retro_search.specs.RuleLines.{IsByRuleLines}
 use Rattle.retro_search.specs.Sizes.{nodes_in}
 use Rattle.retro_search.proofs.TextSizes as sizes
 use Rattle.retro_search.proofs.Trees.LineCounts.{lined_counts}
 
 -- a certificate with at most 500,000 nodes, whose reasons are rule lines, has a text of at most 64 MiB
-pub few_bytes : (bytes : List ℕ) (cert : Certificate) → IsTextOf bytes cert → IsLined cert.root → nodes_in cert.root ≤ 500000 → length bytes ≤ 67108864
+pub few_bytes : (bytes : List ℕ) (cert : Certificate) → IsTextOf bytes cert → IsByRuleLines cert.root → nodes_in cert.root ≤ 500000 → length bytes ≤ 67108864
 few_bytes bytes cert text lined few = sizes.few_bytes bytes cert text (omega (arith, lined_counts cert.root lined))
 
 -- no certificate has an empty text

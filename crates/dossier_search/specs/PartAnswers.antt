@@ -6,8 +6,8 @@ use Rattle.query_base.specs.Asked.{Asked}
 use Rattle.query_base.specs.declared.claims.Claim.{Claim}
 use Rattle.dossier_text.specs.Proving.{ProvesPart}
 use Rattle.dossier_search.specs.ReachedParts.{IsPartAfforded, IsPartRefutable}
-use Rattle.dossier_search.specs.declared.parts.Part.{Part}
-use Rattle.dossier_search.specs.declared.parts.Part.TheVariants as part
+use Rattle.dossier_search.specs.declared.parts.PartAnswer.{PartAnswer}
+use Rattle.dossier_search.specs.declared.parts.PartAnswer.TheVariants as part
 
 -- the bytes prove the part, whose target is refutable and whose proof is afforded, and a dossier may have so many
 pub record IsPartProof (depth nodes : ℕ) (bytes : List ℕ) (due : Claim × Asked) : Type 0 where
@@ -17,17 +17,17 @@ pub record IsPartProof (depth nodes : ℕ) (bytes : List ℕ) (due : Claim × As
   pub refuted : IsPartRefutable depth due
   pub afforded : IsPartAfforded depth nodes due
 
-abbrev pub IfProof : Part → (Vec ℕ Global → Type 0) → Type 0
+abbrev pub IfProof : PartAnswer → (Vec ℕ Global → Type 0) → Type 0
 IfProof (part.Proved text) P = P text
 IfProof part.Open P = Unit {0}
 IfProof part.Dear P = Unit {0}
 
-abbrev pub IfOpen : Part → Type 0 → Type 0
+abbrev pub IfOpen : PartAnswer → Type 0 → Type 0
 IfOpen (part.Proved text) P = Unit {0}
 IfOpen part.Open P = P
 IfOpen part.Dear P = Unit {0}
 
-abbrev pub IfDear : Part → Type 0 → Type 0
+abbrev pub IfDear : PartAnswer → Type 0 → Type 0
 IfDear (part.Proved text) P = Unit {0}
 IfDear part.Open P = Unit {0}
 IfDear part.Dear P = P

@@ -3,8 +3,8 @@
 #![tactic(auto)]
 
 mod dossiers;
-mod lines;
 mod parts;
+mod solving;
 
 pub use dossiers::Dossier;
-pub use lines::solve_line;
+pub use solving::solve_line;

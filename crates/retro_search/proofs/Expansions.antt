@@ -17,10 +17,10 @@ use Rattle.retro_search.specs.Refutable.{IsRefutable, IsShut}
 use Rattle.retro_search.specs.Costs.{IsCost, SumsUpTo}
 use Rattle.retro_search.specs.Searched.{AreCounted, IsCostBelow, IsCounted, IsOpen, IsUnsettled, WhereEachRefutable}
 use Rattle.retro_search.specs.declared.runs.Reasons.{Reasons}
-use Rattle.retro_search.specs.declared.runs.Reasons.TheVariants.{Lines}
-use Rattle.retro_search.specs.Stops.{IfOpen, IfSpent, IfTooLarge, IsLengthened}
-use Rattle.retro_search.specs.Lined.{AreLined, IsLined}
-use Rattle.retro_search.specs.Kept.{IsRefutation, IsSound, KeepsLines}
+use Rattle.retro_search.specs.declared.runs.Reasons.TheVariants.{RuleLines}
+use Rattle.retro_search.specs.Unrefuted.{IfOpen, IfSpent, IfTooLarge, IsLengthened}
+use Rattle.retro_search.specs.RuleLines.{AreByRuleLines, IsByRuleLines}
+use Rattle.retro_search.specs.Kept.{IsRefutation, IsSound, KeepsRuleLines}
 use Rattle.retro_search.specs.Grown.{AreChildren}
 use Rattle.retro_search.specs.Runs.{GoesOn}
 use Rattle.retro_search.specs.Heights.{height, height_of_all}
@@ -28,9 +28,9 @@ use Rattle.retro_search.specs.LineCounts.{lines_in, lines_in_all}
 use Rattle.retro_search.specs.declared.refutations.Children.{Children}
 use Rattle.retro_search.specs.declared.refutations.Refutation.{Refutation}
 use Rattle.retro_search.specs.declared.runs.Run.{Run}
-use Rattle.retro_search.specs.declared.stops.OpenLine.{OpenLine}
-use Rattle.retro_search.specs.declared.stops.Stop.{Stop}
-use Rattle.retro_search.specs.declared.stops.Stop.TheVariants as stop
+use Rattle.retro_search.specs.declared.unrefuted.OpenLine.{OpenLine}
+use Rattle.retro_search.specs.declared.unrefuted.Unrefuted.{Unrefuted}
+use Rattle.retro_search.specs.declared.unrefuted.Unrefuted.TheVariants as stop
 use Rattle.retro_search.proofs.Trees.Ancestors.{each_below, proves_below, take_extends, whole_extends}
 use Rattle.retro_search.proofs.Costs.CostSums.{cost_below, first_number, later_numbers}
 use Rattle.retro_search.proofs.Trees.Forests.{height_last, lined_more, lines_more, proves_more}
@@ -57,10 +57,10 @@ pub record Expands (q : Asked) (below : ℕ) (ancestors : List Asked) (rest : Li
   pub done : List Unmove
   pub parts : unmoves q ≡ done ++ rest
   pub are : AreChildren c q done below ancestors
-  pub plain : first.reasons ≡ Lines → first.memo.on ≡ false → c.lines + now.left ≤ first.left
+  pub plain : first.reasons ≡ RuleLines → first.memo.on ≡ false → c.lines + now.left ≤ first.left
   pub on : GoesOn first now
-  pub lined : first.reasons ≡ Lines → AreLined c.kids
-  pub keeps : first.reasons ≡ Lines → KeepsLines now.memo
+  pub lined : first.reasons ≡ RuleLines → AreByRuleLines c.kids
+  pub keeps : first.reasons ≡ RuleLines → KeepsRuleLines now.memo
   pub cost : AreCounted first.reasons q below ancestors → (n : ℕ) → IsCostBelow q below ancestors n → IsCostLeft q below ancestors rest now.left first.left n
 
 -- the first unmove that is left is listed
@@ -77,7 +77,7 @@ no_children c q below ancestors empty numbers = record {
   few = omega (arith, numbers.2);
 }
 
-pub expands_none : (q : Asked) (below : ℕ) (ancestors : List Asked) (rest : List Unmove) (c : Children) (run : Run) → rest ≡ unmoves q → c.kids ≡ none → (c.lean ≡ 0) × (c.highest ≡ 0) × (c.lines ≡ 0) → IsSound run.memo → (run.reasons ≡ Lines → KeepsLines run.memo) → Expands q below ancestors rest c run run
+pub expands_none : (q : Asked) (below : ℕ) (ancestors : List Asked) (rest : List Unmove) (c : Children) (run : Run) → rest ≡ unmoves q → c.kids ≡ none → (c.lean ≡ 0) × (c.highest ≡ 0) × (c.lines ≡ 0) → IsSound run.memo → (run.reasons ≡ RuleLines → KeepsRuleLines run.memo) → Expands q below ancestors rest c run run
 expands_none q below ancestors rest c run all empty numbers sound keeps =
     subst (λ (us : List Unmove). Expands q below ancestors us c run run) (sym all) (record {
       done = [];
@@ -85,7 +85,7 @@ expands_none q below ancestors rest c run all empty numbers sound keeps =
       are = no_children c q below ancestors empty numbers;
       plain = λ by off. omega (arith, numbers.2);
       on = record { sound = sound; mode = refl; fewer = omega arith; reasons = refl };
-      lined = λ by. subst AreLined (sym empty) tt;
+      lined = λ by. subst AreByRuleLines (sym empty) tt;
       keeps = keeps;
       cost = λ counted n sums. record { later = n; sums = sums; total = omega arith };
     })
@@ -128,9 +128,9 @@ own_number : (q p : Asked) (below : ℕ) (ancestors above : List Asked) (u : Unm
 own_number q p below ancestors above u n here up h =
     subst (λ (b : Asked). IsCost b below above n) (sym here) (subst (λ (l : List Asked). IsCost (predecessor q u) below l n) (sym up) h)
 
-pub expands_more : (q : Asked) (below : ℕ) (ancestors : List Asked) (rest others : List Unmove) (c more : Children) (run now first : Run) (u : Unmove) (r : Refutation) (p : Asked) (above : List Asked) → p ≡ predecessor q u → above ≡ q ∷ ancestors → Expands q below ancestors rest c run first → rest ≡ u ∷ others → Adds c u r more → IsRefutation r p below above → (run.reasons ≡ Lines → IsLined (tree_of r.node)) → (run.reasons ≡ Lines → KeepsLines now.memo) → (run.reasons ≡ Lines → run.memo.on ≡ false → r.lines + now.left ≤ run.left) → GoesOn run now → (IsRefutable p below above → (n : ℕ) → IsCost p below above n → run.left ≤ now.left + n) → Expands q below ancestors others more now first
+pub expands_more : (q : Asked) (below : ℕ) (ancestors : List Asked) (rest others : List Unmove) (c more : Children) (run now first : Run) (u : Unmove) (r : Refutation) (p : Asked) (above : List Asked) → p ≡ predecessor q u → above ≡ q ∷ ancestors → Expands q below ancestors rest c run first → rest ≡ u ∷ others → Adds c u r more → IsRefutation r p below above → (run.reasons ≡ RuleLines → IsByRuleLines (tree_of r.node)) → (run.reasons ≡ RuleLines → KeepsRuleLines now.memo) → (run.reasons ≡ RuleLines → run.memo.on ≡ false → r.lines + now.left ≤ run.left) → GoesOn run now → (IsRefutable p below above → (n : ℕ) → IsCost p below above n → run.left ≤ now.left + n) → Expands q below ancestors others more now first
 expands_more q below ancestors rest others c more run now first u r p above here up x next a f lined keeps plain on cost =
-    let same : first.reasons ≡ Lines → run.reasons ≡ Lines = λ by. x.on.reasons ∙ by in
+    let same : first.reasons ≡ RuleLines → run.reasons ≡ RuleLines = λ by. x.on.reasons ∙ by in
     let kid : AreCounted first.reasons q below ancestors → IsRefutable p below above = λ counted. elim counted [
       | inl by ↦ refuted r p below above f (lined (same by))
       | inr each ↦ own_refutable q p below ancestors above u here up (each u (listed_in (unmoves q) x.done rest others u x.parts next))
@@ -141,7 +141,7 @@ expands_more q below ancestors rest others c more run now first u r p above here
       are = one_more c more q p x.done u r below ancestors above here up x.are f a;
       plain = λ by off. omega (arith, a.lines, x.plain by off, plain (same by) (x.on.mode ∙ off));
       on = record { sound = on.sound; mode = on.mode ∙ x.on.mode; fewer = omega (arith, on.fewer, x.on.fewer); reasons = on.reasons ∙ x.on.reasons };
-      lined = λ by. subst AreLined (sym a.kids) (lined_more c.kids u (tree_of r.node) (x.lined by) (lined (same by)));
+      lined = λ by. subst AreByRuleLines (sym a.kids) (lined_more c.kids u (tree_of r.node) (x.lined by) (lined (same by)));
       keeps = λ by. keeps (same by);
       cost = λ counted n sums.
           let before = x.cost counted n sums in
@@ -152,7 +152,7 @@ expands_more q below ancestors rest others c more run now first u r p above here
 
 -- what stops a child stops the query
 
-pub expands_open : (q : Asked) (below : ℕ) (ancestors : List Asked) (rest others : List Unmove) (c : Children) (run first : Run) (u : Unmove) (p : Asked) (above : List Asked) (s t : Stop) → p ≡ predecessor q u → above ≡ q ∷ ancestors → Expands q below ancestors rest c run first → rest ≡ u ∷ others → (Reaches [] q → ⊥) → (IsShut q ancestors → ⊥) → IsLengthened s u t → (run.reasons ≡ Lines → IfOpen s (λ line. IsOpen line p below above)) → first.reasons ≡ Lines → IfOpen t (λ line. IsOpen line q (suc below) ancestors)
+pub expands_open : (q : Asked) (below : ℕ) (ancestors : List Asked) (rest others : List Unmove) (c : Children) (run first : Run) (u : Unmove) (p : Asked) (above : List Asked) (s t : Unrefuted) → p ≡ predecessor q u → above ≡ q ∷ ancestors → Expands q below ancestors rest c run first → rest ≡ u ∷ others → (Reaches [] q → ⊥) → (IsShut q ancestors → ⊥) → IsLengthened s u t → (run.reasons ≡ RuleLines → IfOpen s (λ line. IsOpen line p below above)) → first.reasons ≡ RuleLines → IfOpen t (λ line. IsOpen line q (suc below) ancestors)
 expands_open q below ancestors rest others c run first u p above s t here up x next elsewhere unshut longer open_ by =
     let each : ProvesEach c.kids q x.done ancestors = each_below c.kids q x.done (take c.lean ancestors) ancestors (whole_extends c.lean ancestors) x.are.each in
     let low : height_of_all c.kids ≤ below = omega (arith, x.are.high, x.are.low) in
@@ -160,13 +160,13 @@ expands_open q below ancestors rest others c run first u p above s t here up x n
     longer_open kid line q u x.done others below ancestors (x.parts ∙ ap (λ (l : List Unmove). x.done ++ l) next) (refutable_each c.kids q x.done below ancestors each (x.lined by) low) elsewhere unshut grown same (
     subst (λ (a : Asked). IsOpen kid a below (q ∷ ancestors)) here (subst (λ (l : List Asked). IsOpen kid p below l) up o))) longer (open_ (x.on.reasons ∙ by))
 
-pub expands_unsettled : (q : Asked) (below : ℕ) (ancestors : List Asked) (rest others : List Unmove) (c : Children) (run first : Run) (u : Unmove) (p : Asked) (above : List Asked) (s t : Stop) → p ≡ predecessor q u → above ≡ q ∷ ancestors → Expands q below ancestors rest c run first → rest ≡ u ∷ others → (Reaches [] q → ⊥) → (IsShut q ancestors → ⊥) → IsLengthened s u t → IfOpen s (λ line. IsUnsettled line p below above) → IfOpen t (λ line. IsUnsettled line q (suc below) ancestors)
+pub expands_unsettled : (q : Asked) (below : ℕ) (ancestors : List Asked) (rest others : List Unmove) (c : Children) (run first : Run) (u : Unmove) (p : Asked) (above : List Asked) (s t : Unrefuted) → p ≡ predecessor q u → above ≡ q ∷ ancestors → Expands q below ancestors rest c run first → rest ≡ u ∷ others → (Reaches [] q → ⊥) → (IsShut q ancestors → ⊥) → IsLengthened s u t → IfOpen s (λ line. IsUnsettled line p below above) → IfOpen t (λ line. IsUnsettled line q (suc below) ancestors)
 expands_unsettled q below ancestors rest others c run first u p above s t here up x next elsewhere unshut longer open_ =
     stop_open s t u (λ line. IsUnsettled line p below above) (λ line. IsUnsettled line q (suc below) ancestors) (λ kid line grown same o.
     longer_unsettled kid line q u below ancestors (listed_in (unmoves q) x.done rest others u x.parts next) elsewhere unshut grown same (
     subst (λ (a : Asked). IsUnsettled kid a below (q ∷ ancestors)) here (subst (λ (l : List Asked). IsUnsettled kid p below l) up o))) longer open_
 
-pub expands_spent : (q : Asked) (below : ℕ) (ancestors : List Asked) (rest others : List Unmove) (c : Children) (run first : Run) (u : Unmove) (p : Asked) (above : List Asked) (s t : Stop) → p ≡ predecessor q u → above ≡ q ∷ ancestors → Expands q below ancestors rest c run first → rest ≡ u ∷ others → IsLengthened s u t → IfSpent s (IsCounted run.reasons p below above → (n : ℕ) → IsCost p below above n → run.left < n) → IfSpent t (AreCounted first.reasons q below ancestors → (n : ℕ) → IsCostBelow q below ancestors n → first.left < n)
+pub expands_spent : (q : Asked) (below : ℕ) (ancestors : List Asked) (rest others : List Unmove) (c : Children) (run first : Run) (u : Unmove) (p : Asked) (above : List Asked) (s t : Unrefuted) → p ≡ predecessor q u → above ≡ q ∷ ancestors → Expands q below ancestors rest c run first → rest ≡ u ∷ others → IsLengthened s u t → IfSpent s (IsCounted run.reasons p below above → (n : ℕ) → IsCost p below above n → run.left < n) → IfSpent t (AreCounted first.reasons q below ancestors → (n : ℕ) → IsCostBelow q below ancestors n → first.left < n)
 expands_spent q below ancestors rest others c run first u p above s t here up x next longer spent =
     stop_spent s t u _ _ (λ cost counted n sums.
     let before = x.cost counted n sums in
@@ -178,18 +178,18 @@ expands_spent q below ancestors rest others c run first u p above s t here up x 
     let kid : run.left < a.0 = cost own a.0 (own_number q p below ancestors above u a.0 here up a.1) in
     omega (arith, before.total, a.2)) longer spent
 
-pub expands_large : (q : Asked) (below : ℕ) (ancestors : List Asked) (rest : List Unmove) (c : Children) (run first : Run) (u : Unmove) (s t : Stop) → Expands q below ancestors rest c run first → IsLengthened s u t → (run.reasons ≡ Lines → IfTooLarge s (run.memo.on ≡ false → ⊥)) → first.reasons ≡ Lines → IfTooLarge t (first.memo.on ≡ false → ⊥)
+pub expands_large : (q : Asked) (below : ℕ) (ancestors : List Asked) (rest : List Unmove) (c : Children) (run first : Run) (u : Unmove) (s t : Unrefuted) → Expands q below ancestors rest c run first → IsLengthened s u t → (run.reasons ≡ RuleLines → IfTooLarge s (run.memo.on ≡ false → ⊥)) → first.reasons ≡ RuleLines → IfTooLarge t (first.memo.on ≡ false → ⊥)
 expands_large q below ancestors rest c run first u s t x longer large by =
     stop_large s t u _ _ (λ (h : run.memo.on ≡ false → ⊥) (off : first.memo.on ≡ false). h (x.on.mode ∙ off)) longer (large (x.on.reasons ∙ by))
 
-pub if_large : (s : Stop) (P Q : Type 0) → (P → Q) → IfTooLarge s P → IfTooLarge s Q
+pub if_large : (s : Unrefuted) (P Q : Type 0) → (P → Q) → IfTooLarge s P → IfTooLarge s Q
 if_large (stop.Open line) P Q f h = h
 if_large stop.Spent P Q f h = h
 if_large stop.TooLarge P Q f h = f h
 if_large stop.Memory P Q f h = h
 
 -- without a memo the tree can't grow past what may be visited
-pub children_large : (q : Asked) (below : ℕ) (ancestors : List Asked) (rest : List Unmove) (c : Children) (run now first : Run) (r : Refutation) (s : Stop) → Expands q below ancestors rest c run first → (run.reasons ≡ Lines → run.memo.on ≡ false → r.lines + now.left ≤ run.left) → first.left < 500000 → IfTooLarge s (500000 ≤ c.lines + r.lines) → first.reasons ≡ Lines → IfTooLarge s (first.memo.on ≡ false → ⊥)
+pub children_large : (q : Asked) (below : ℕ) (ancestors : List Asked) (rest : List Unmove) (c : Children) (run now first : Run) (r : Refutation) (s : Unrefuted) → Expands q below ancestors rest c run first → (run.reasons ≡ RuleLines → run.memo.on ≡ false → r.lines + now.left ≤ run.left) → first.left < 500000 → IfTooLarge s (500000 ≤ c.lines + r.lines) → first.reasons ≡ RuleLines → IfTooLarge s (first.memo.on ≡ false → ⊥)
 children_large q below ancestors rest c run now first r s x plain few large by =
     if_large s _ _ (λ (h : 500000 ≤ c.lines + r.lines) (off : first.memo.on ≡ false). omega (arith, x.plain by off, plain (x.on.reasons ∙ by) (x.on.mode ∙ off))) large
 
@@ -214,13 +214,13 @@ pub if_err : {A E : Type 0} (r : Result A E) (P Q : E → Type 0) → ((e : E) �
 if_err {A} {E} (Ok a) P Q f h = h
 if_err {A} {E} (Err e) P Q f h = f e h
 
-pub if_spent : (s : Stop) (P Q : Type 0) → (P → Q) → IfSpent s P → IfSpent s Q
+pub if_spent : (s : Unrefuted) (P Q : Type 0) → (P → Q) → IfSpent s P → IfSpent s Q
 if_spent (stop.Open line) P Q f h = h
 if_spent stop.Spent P Q f h = f h
 if_spent stop.TooLarge P Q f h = h
 if_spent stop.Memory P Q f h = h
 
-pub no_open : (s : Stop) (P : OpenLine → Type 0) → IfOpen s (λ line. ⊥) → IfOpen s P
+pub no_open : (s : Unrefuted) (P : OpenLine → Type 0) → IfOpen s (λ line. ⊥) → IfOpen s P
 no_open (stop.Open line) P h = absurd h
 no_open stop.Spent P h = tt
 no_open stop.TooLarge P h = tt
@@ -229,10 +229,10 @@ no_open stop.Memory P h = tt
 pub less_one : (depth : ℕ) → depth ≢ 0 → suc (depth - 1) ≡ depth
 less_one depth some = omega arith
 
-pub deeper_open : (depth : ℕ) (q : Asked) (ancestors : List Asked) (s : Stop) → depth ≢ 0 → IfOpen s (λ line. IsOpen line q (suc (depth - 1)) ancestors) → IfOpen s (λ line. IsOpen line q depth ancestors)
+pub deeper_open : (depth : ℕ) (q : Asked) (ancestors : List Asked) (s : Unrefuted) → depth ≢ 0 → IfOpen s (λ line. IsOpen line q (suc (depth - 1)) ancestors) → IfOpen s (λ line. IsOpen line q depth ancestors)
 deeper_open depth q ancestors s some h = subst (λ (d : ℕ). IfOpen s (λ line. IsOpen line q d ancestors)) (less_one depth some) h
 
-pub deeper_unsettled : (depth : ℕ) (q : Asked) (ancestors : List Asked) (s : Stop) → depth ≢ 0 → IfOpen s (λ line. IsUnsettled line q (suc (depth - 1)) ancestors) → IfOpen s (λ line. IsUnsettled line q depth ancestors)
+pub deeper_unsettled : (depth : ℕ) (q : Asked) (ancestors : List Asked) (s : Unrefuted) → depth ≢ 0 → IfOpen s (λ line. IsUnsettled line q (suc (depth - 1)) ancestors) → IfOpen s (λ line. IsUnsettled line q depth ancestors)
 deeper_unsettled depth q ancestors s some h = subst (λ (d : ℕ). IfOpen s (λ line. IsUnsettled line q d ancestors)) (less_one depth some) h
 
 -- where a query that isn't shut is refutable, each of its predecessors is

@@ -7,5 +7,5 @@ pub mod Expansions
 pub mod Bound
 pub mod Roots
 pub mod TextSizes
-pub mod Answering
+pub mod Telling
 mod Examples

@@ -1,12 +1,14 @@
 -- What a search for a certificate answers.
-use Rattle.std.specs.Prelude.{ℕ, ◌≡◌, ◌≤◌, List, [], length}
+use Rattle.std.specs.Prelude.{ℕ, ◌≡◌, ◌<◌, ◌≤◌, IsTrue, List, [], length}
 use Rattle.board_base.specs.declared.moves.Move.{Move}
 use Rattle.board_base.specs.declared.unmoves.Unmove.{Unmove}
 use Rattle.query_base.specs.Asked.{Asked}
-use Rattle.query_base.specs.Reach.{Contradicts}
+use Rattle.query_base.specs.Reach.{Contradicts, Holds}
 use Rattle.query_base.specs.Targets.{target}
 use Rattle.query_base.specs.declared.claims.Claim.{Claim}
-use Rattle.cert_text.specs.Certificate.{Certificate, IsTextOf}
+use Rattle.cert_text.specs.Certificate.{Certificate, HasText, IsTextOf}
+use Rattle.cert_text.specs.ClaimLines.{promotes_well}
+use Rattle.cert_text.specs.SeenCert.{cert_of}
 use Rattle.cert_text.specs.declared.certificates.Cert.{Cert}
 use Rattle.cert_checker.specs.Proving.{ProvesClaim}
 use Rattle.retro_search.specs.Refutable.{IsRefutable}
@@ -83,3 +85,13 @@ IfUnspent (found.Spent n) P = Unit {0}
 -- each text of the certificate has at most 64 MiB, as a check takes them
 abbrev pub IsShort : Certificate → Type 0
 IsShort cert = (bytes : List ℕ) → IsTextOf bytes cert → length bytes ≤ 67108864
+
+-- What each answer about a claim says with so many nodes. A certificate proves the claim, so that no game contradicts it, and has a text
+-- where the claim has one; an open line or a game has fewer moves than the nodes; and where the search was spent, it visited all of them.
+pub record IsAnswer (depth nodes : ℕ) (claim : Claim) (q : Asked) (answer : Found) : Type 0 where
+  pub proved : IfProved answer (λ cert. IsProofOf depth (cert_of cert) claim q)
+  pub holds : IfProved answer (λ cert. Holds claim q)
+  pub written : IsTrue (promotes_well claim) → IfProved answer (λ cert. HasText (cert_of cert))
+  pub short_line : IfUndecided answer (λ line. length line < nodes)
+  pub short_game : IfCountered answer (λ game. length game < nodes)
+  pub visited : IfSpentAt answer (λ visited. visited ≡ nodes)

@@ -9,7 +9,7 @@ use Rattle.cert_text.specs.Seen.{tree_of}
 use Rattle.cert_checker.specs.Proving.{Proves}
 use Rattle.retro_search.specs.Heights.{height}
 use Rattle.retro_search.specs.LineCounts.{lines_in}
-use Rattle.retro_search.specs.Lined.{IsLined}
+use Rattle.retro_search.specs.RuleLines.{IsByRuleLines}
 use Rattle.retro_search.specs.declared.refutations.Refutation.{Refutation}
 use Rattle.retro_search.specs.declared.memos.Kept.{Kept as AKept}
 use Rattle.retro_search.specs.declared.memos.Memo.{Memo as AMemo}
@@ -39,5 +39,5 @@ pub record IsSound (m : AMemo) : Type 0 where
   pub few : m.lines ≤ 2000000
 
 -- the reasons of all trees that are kept are rule lines
-abbrev pub KeepsLines : AMemo → Type 0
-KeepsLines m = All (λ k. IsLined (tree_of k.node)) (values m.trees)
+abbrev pub KeepsRuleLines : AMemo → Type 0
+KeepsRuleLines m = All (λ k. IsByRuleLines (tree_of k.node)) (values m.trees)

@@ -1,8 +1,14 @@
 -- Inner: no public clause cites this file.
 -- Searches on their way.
 use Rattle.std.specs.Prelude.{◌≡◌, ◌≤◌}
-use Rattle.retro_search.specs.Kept.{IsSound}
+use Rattle.retro_search.specs.Kept.{IsSound, KeepsRuleLines}
+use Rattle.retro_search.specs.declared.runs.Reasons.TheVariants.{RuleLines}
 use Rattle.retro_search.specs.declared.runs.Run.{Run as ARun}
+
+-- what is kept is sound, and by rule lines alone where the run is
+pub record IsReady (run : ARun) : Type 0 where
+  pub sound : IsSound run.memo
+  pub lined : run.reasons ≡ RuleLines → KeepsRuleLines run.memo
 
 -- what is kept is sound as before, no more queries may be visited, the memo is on where it was on, and the reasons stay
 pub record GoesOn (old new : ARun) : Type 0 where

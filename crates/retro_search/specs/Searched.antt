@@ -14,8 +14,8 @@ use Rattle.retro_search.specs.Costs.{IsCost, SumsUpTo}
 use Rattle.retro_search.specs.Heights.{height}
 use Rattle.retro_search.specs.Unsettled.{IsOpenLine}
 use Rattle.retro_search.specs.declared.runs.Reasons.{Reasons}
-use Rattle.retro_search.specs.declared.runs.Reasons.TheVariants.{Lines}
-use Rattle.retro_search.specs.declared.stops.OpenLine.{OpenLine}
+use Rattle.retro_search.specs.declared.runs.Reasons.TheVariants.{RuleLines}
+use Rattle.retro_search.specs.declared.unrefuted.OpenLine.{OpenLine}
 
 -- the tree proves the query below these ancestors, and isn't higher than the depth
 pub record Refutes (t : Tree) (q : Asked) (depth : ℕ) (ancestors : List Asked) : Type 0 where
@@ -40,11 +40,11 @@ pub record IsUnsettled (line : OpenLine) (q : Asked) (depth : ℕ) (ancestors : 
 
 -- the visits to the query are within its cost: it is searched by rule lines alone, or they refute it
 abbrev pub IsCounted : Reasons → Asked → ℕ → List Asked → Type 0
-IsCounted reasons q depth ancestors = (reasons ≡ Lines) ⊎ IsRefutable q depth ancestors
+IsCounted reasons q depth ancestors = (reasons ≡ RuleLines) ⊎ IsRefutable q depth ancestors
 
 -- the same of all predecessors of the query
 abbrev pub AreCounted : Reasons → Asked → ℕ → List Asked → Type 0
-AreCounted reasons q below ancestors = (reasons ≡ Lines) ⊎ ((u : Unmove) → Contains (unmoves q) u → IsRefutable (predecessor q u) below (q ∷ ancestors))
+AreCounted reasons q below ancestors = (reasons ≡ RuleLines) ⊎ ((u : Unmove) → Contains (unmoves q) u → IsRefutable (predecessor q u) below (q ∷ ancestors))
 
 -- where all predecessors are refutable at this depth by rule lines, this holds of the sum of their costs
 abbrev pub WhereEachRefutable : Asked → ℕ → List Asked → (ℕ → Type 0) → Type 0

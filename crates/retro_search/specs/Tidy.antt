@@ -38,3 +38,9 @@ pub record Keeps (old : AMemo) (q : Asked) (r : Refutation) (new : AMemo) : Type
   pub query_is : kept.query ≡ q
   pub tree : tree_of kept.node ≡ tree_of r.node
   pub lines : new.lines ≡ old.lines + r.lines
+
+-- trees are kept, and none is so far
+pub record IsFresh (m : AMemo) : Type 0 where
+  pub on : m.on ≡ true
+  pub empty : m.trees.entries ≡ []
+  pub blank : m.lines ≡ 0

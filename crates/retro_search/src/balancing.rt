@@ -54,11 +54,11 @@ fn priced(query: &Query, vain: &mut IndexSet<Query>) -> Option<Refutation>
 pub(crate) fn by_balance(query: &Query, run: &mut Run) -> Option<Refutation>
     ensures alone { IfSome result (λ found. StandsAlone (tree_of found.node) query.now 0 2) }
     ensures numbers { IfSome result (λ found. (found.lean ≡ 0) × (found.height ≡ 0) × (found.lines ≡ 2)) }
-    ensures lines { run.old.reasons ≡ Reasons.Lines → (result ≡ None) × (run.new ≡ run.old) }
+    ensures lines { run.old.reasons ≡ Reasons.RuleLines → (result ≡ None) × (run.new ≡ run.old) }
     ensures same { IsSameButVain run.old run.new }
 {
     match run.reasons {
-        Reasons::Lines => None,
+        Reasons::RuleLines => None,
         Reasons::All => priced(query, &mut run.vain),
     }
 }

@@ -3,25 +3,27 @@
 //! Articles are those of the FIDE Laws of Chess, in force from 1 January 2023.
 #![tactic(auto)]
 
+mod answering;
 mod answers;
+mod attempts;
 mod balancing;
 mod copying;
 mod laws;
+mod limits;
 mod memos;
 mod refutations;
 mod runs;
 mod searchers;
 mod searching;
-mod settling;
 mod shutting;
 mod solving;
-mod stops;
+mod unrefuted;
 
 pub use answers::Found;
 pub use laws::{
     deeper_searches_refute_more, one_cost_each, one_memo_cost_each, one_open_line_each,
 };
+pub use limits::Limits;
 pub use runs::Reasons;
 pub use searchers::{Outcome, Searcher};
-pub use settling::settle;
 pub use solving::solve;

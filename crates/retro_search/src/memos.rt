@@ -1,10 +1,10 @@
-ghost use Rattle.std.specs.Prelude.{◌≡◌, ◌≤◌, ◌↔◌, [], IfSome, IsSome, IsTrue, OnOk, true};
+ghost use Rattle.std.specs.Prelude.{◌≡◌, ◌≤◌, ◌↔◌, IfSome, IsSome, IsTrue, OnOk, false, true};
 ghost use Rattle.cert_text.specs.Seen.{tree_of};
 ghost use Rattle.std.specs.List.{Contains};
 ghost use Rattle.indexmap.specs.IndexMap.{values};
-ghost use Rattle.retro_search.specs.Kept.{IsSound, KeepsLines, StandsAlone};
-ghost use Rattle.retro_search.specs.Lined.{IsLined};
-ghost use Rattle.retro_search.specs.Tidy.{HasRoomFor, IsKeptLow, Keeps};
+ghost use Rattle.retro_search.specs.Kept.{IsSound, KeepsRuleLines, StandsAlone};
+ghost use Rattle.retro_search.specs.RuleLines.{IsByRuleLines};
+ghost use Rattle.retro_search.specs.Tidy.{HasRoomFor, IsFresh, IsKeptLow, Keeps};
 
 use crate::copying::copied;
 use crate::refutations::Refutation;
@@ -52,17 +52,29 @@ fn is_same(a: &Query, b: &Query) -> bool
 }
 
 impl Memo {
-    /// A memo that is empty, and stays so where it isn't on.
-    pub(crate) fn new(alloc: Global, on: bool) -> Memo
+    /// A memo that has kept nothing so far.
+    pub(crate) fn new(alloc: Global) -> Memo
         ensures sound { IsSound result }
-        ensures on { result.on ≡ on }
-        ensures lined { KeepsLines result }
-        ensures empty { (result.trees.entries ≡ []) × (result.lines ≡ 0) }
+        ensures lined { KeepsRuleLines result }
+        ensures fresh { IsFresh result }
     {
         Memo {
             trees: IndexMap::new(alloc),
             lines: 0,
-            on,
+            on: true,
+        }
+    }
+
+    /// A memo that keeps nothing.
+    pub(crate) fn off(alloc: Global) -> Memo
+        ensures sound { IsSound result }
+        ensures lined { KeepsRuleLines result }
+        ensures off { result.on ≡ false }
+    {
+        Memo {
+            trees: IndexMap::new(alloc),
+            lines: 0,
+            on: false,
         }
     }
 
@@ -100,7 +112,7 @@ impl Memo {
         requires alone { StandsAlone (tree_of found.now.node) query.now found.now.height found.now.lines }
         ensures sound { IsSound self.new }
         ensures on { self.new.on ≡ self.old.on }
-        ensures lined { KeepsLines self.old → IsLined (tree_of found.now.node) → KeepsLines self.new }
+        ensures lined { KeepsRuleLines self.old → IsByRuleLines (tree_of found.now.node) → KeepsRuleLines self.new }
         ensures kept { OnOk result (HasRoomFor self.old query.now found.now.lines → Keeps self.old query.now found.now self.new) }
     {
         if !self.on || self.trees.len() >= MOST_TREES || MOST_LINES - self.lines < found.lines {

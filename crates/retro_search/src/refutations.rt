@@ -1,9 +1,9 @@
 ghost use Rattle.std.specs.Prelude.{◌≡◌, ◌+◌, ◌-◌, ◌<◌, ◌≤◌, IfErr, OnOk, max};
 ghost use Rattle.cert_text.specs.Tree.{none, with_last, expand};
 ghost use Rattle.cert_text.specs.Seen.{tree_of};
-ghost use Rattle.retro_search.specs.Stops.{IfOpen, IfSpent, IfTooLarge};
+ghost use Rattle.retro_search.specs.Unrefuted.{IfOpen, IfSpent, IfTooLarge};
 
-use crate::stops::Stop;
+use crate::unrefuted::Unrefuted;
 use board_base::Unmove;
 use cert_text::{Body, Kid, Kids, Node};
 use std::alloc::Global;
@@ -52,7 +52,7 @@ impl Children {
     }
 
     /// Puts a child after the others, where the tree then fills at most 500,000 lines.
-    pub(crate) fn add(&mut self, label: Unmove, kid: Refutation) -> Result<(), Stop>
+    pub(crate) fn add(&mut self, label: Unmove, kid: Refutation) -> Result<(), Unrefuted>
         requires few { self.old.lines < MOST_NODES }
         requires kid { kid.lines ≤ MOST_NODES }
         ensures kids { OnOk result (self.new.kids ≡ with_last self.old.kids label (tree_of kid.node)) }
@@ -65,7 +65,7 @@ impl Children {
         ensures too_large { IfErr result (λ stop. IfTooLarge stop (MOST_NODES ≤ self.old.lines + kid.lines)) }
     {
         if self.lines + kid.lines >= MOST_NODES {
-            return Err(Stop::TooLarge);
+            return Err(Unrefuted::TooLarge);
         }
         self.lines += kid.lines;
         self.highest = self.highest.max(kid.height);
@@ -75,7 +75,7 @@ impl Children {
             node: kid.node,
         }) {
             Ok(()) => Ok(()),
-            Err(_) => Err(Stop::Memory),
+            Err(_) => Err(Unrefuted::Memory),
         }
     }
 

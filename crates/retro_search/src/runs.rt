@@ -1,12 +1,17 @@
+ghost use Rattle.std.specs.Prelude.{◌≡◌, false};
+ghost use Rattle.retro_search.specs.Runs.{IsReady};
+ghost use Rattle.retro_search.specs.Tidy.{IsFresh};
+
 use crate::memos::Memo;
 use indexmap::IndexSet;
 use query_base::Query;
+use std::alloc::Global;
 
 /// What may refute a query of which nothing is taken back.
 #[derive(Clone, Copy, PartialEq, Eq, Debug)]
 pub enum Reasons {
     /// The eight rule lines alone.
-    Lines,
+    RuleLines,
     /// The rule lines, and a set and prices that support the query by the balance of captures, where some are found.
     All,
 }
@@ -22,4 +27,34 @@ pub struct Run {
     pub memo: Memo,
     /// Queries for which no prices were found.
     pub vain: IndexSet<Query>,
+}
+
+impl Run {
+    /// A search by these reasons that has kept nothing so far.
+    pub(crate) fn new(alloc: Global, reasons: Reasons) -> Run
+        ensures ready { IsReady result }
+        ensures fresh { IsFresh result.memo }
+        ensures reasons { result.reasons ≡ reasons }
+    {
+        Run {
+            left: 0,
+            reasons,
+            memo: Memo::new(alloc),
+            vain: IndexSet::new(alloc),
+        }
+    }
+
+    /// A search by rule lines alone that keeps nothing.
+    pub(crate) fn plain(alloc: Global) -> Run
+        ensures ready { IsReady result }
+        ensures off { result.memo.on ≡ false }
+        ensures reasons { result.reasons ≡ Reasons.RuleLines }
+    {
+        Run {
+            left: 0,
+            reasons: Reasons::RuleLines,
+            memo: Memo::off(alloc),
+            vain: IndexSet::new(alloc),
+        }
+    }
 }

@@ -4,9 +4,9 @@ ghost use Rattle.cert_text.specs.Seen.{tree_of};
 ghost use Rattle.retro_search.specs.Refutable.{IsRefutable, IsShut};
 ghost use Rattle.retro_search.specs.Costs.{IsCost};
 ghost use Rattle.retro_search.specs.Searched.{AreCounted, IsCostBelow, IsCounted, IsOpen, IsUnsettled, WhereEachRefutable};
-ghost use Rattle.retro_search.specs.Stops.{IfOpen, IfSpent, IfTooLarge};
-ghost use Rattle.retro_search.specs.Kept.{IsRefutation, IsSound, KeepsLines, StandsAlone};
-ghost use Rattle.retro_search.specs.Lined.{IsLined};
+ghost use Rattle.retro_search.specs.Unrefuted.{IfOpen, IfSpent, IfTooLarge};
+ghost use Rattle.retro_search.specs.Kept.{IsRefutation, IsSound, KeepsRuleLines, StandsAlone};
+ghost use Rattle.retro_search.specs.RuleLines.{IsByRuleLines};
 ghost use Rattle.retro_search.specs.Runs.{GoesOn};
 ghost use Rattle.retro_search.specs.Tidy.{HasRoomFor, Keeps};
 ghost use Rattle.retro_search.specs.Good.{GoesWell, GoesWellBelow, IsGood, IsGoodBelow, IsPaid};
@@ -18,16 +18,16 @@ use crate::memos::Kept;
 use crate::refutations::{Children, MOST_NODES, Refutation};
 use crate::runs::{Reasons, Run};
 use crate::shutting::shut;
-use crate::stops::{OpenLine, Stop, lengthened};
+use crate::unrefuted::{OpenLine, Unrefuted, lengthened};
 use query_base::{Query, is_array};
 use std::alloc::Global;
 use unmove_gen::{Unmoves, pred};
 
 /// A refutation by a copy of the tree that is kept.
-fn taken(alloc: Global, kept: &Kept) -> Result<Refutation, Stop>
+fn taken(alloc: Global, kept: &Kept) -> Result<Refutation, Unrefuted>
     ensures tree { IfOk result (λ found. tree_of found.node ≡ tree_of kept.now.node) }
     ensures numbers { IfOk result (λ found. (found.lean ≡ 0) × (found.height ≡ kept.now.height) × (found.lines ≡ kept.now.lines)) }
-    ensures unrefuted { IfErr result (λ stop. stop ≡ Stop.Memory) }
+    ensures unrefuted { IfErr result (λ stop. stop ≡ Unrefuted.Memory) }
 {
     match copied(alloc, &kept.node) {
         Ok(node) => Ok(Refutation {
@@ -36,7 +36,7 @@ fn taken(alloc: Global, kept: &Kept) -> Result<Refutation, Stop>
             height: kept.height,
             lines: kept.lines,
         }),
-        Err(_) => Err(Stop::Memory),
+        Err(_) => Err(Unrefuted::Memory),
     }
 }
 
@@ -45,7 +45,7 @@ fn keep_alone(alloc: Global, query: &Query, found: &Refutation, run: &mut Run) -
     requires sound { IsSound run.old.memo }
     requires alone { found.now.lean ≡ 0 → StandsAlone (tree_of found.now.node) query.now found.now.height found.now.lines }
     ensures on { GoesOn run.old run.new × (run.new.left ≡ run.old.left) }
-    ensures lined { KeepsLines run.old.memo → IsLined (tree_of found.now.node) → KeepsLines run.new.memo }
+    ensures lined { KeepsRuleLines run.old.memo → IsByRuleLines (tree_of found.now.node) → KeepsRuleLines run.new.memo }
     ensures kept { IsTrue result → found.now.lean ≡ 0 → HasRoomFor run.old.memo query.now found.now.lines → Keeps run.old.memo query.now found.now run.new.memo }
 {
     if found.lean != 0 {
@@ -63,18 +63,18 @@ fn kept_alone(
     query: &Query,
     found: Refutation,
     run: &mut Run,
-) -> Result<Refutation, Stop>
+) -> Result<Refutation, Unrefuted>
     requires sound { IsSound run.old.memo }
     requires alone { found.lean ≡ 0 }
     requires stands { StandsAlone (tree_of found.node) query.now found.height found.lines }
     ensures on { GoesOn run.old run.new × (run.new.left ≡ run.old.left) }
     ensures found { IfOk result (λ same. same ≡ found) }
-    ensures memory { IfErr result (λ stop. stop ≡ Stop.Memory) }
+    ensures memory { IfErr result (λ stop. stop ≡ Unrefuted.Memory) }
 {
     if keep_alone(alloc, query, &found, run) {
         Ok(found)
     } else {
-        Err(Stop::Memory)
+        Err(Unrefuted::Memory)
     }
 }
 
@@ -87,29 +87,29 @@ pub(crate) fn search(
     depth: u8,
     ancestors: &mut Vec<Query>,
     run: &mut Run,
-) -> Result<Refutation, Stop>
+) -> Result<Refutation, Unrefuted>
     requires shallow { length ancestors.old.items + depth ≤ 64 }
     requires sound { IsSound run.old.memo }
-    requires lined { run.old.reasons ≡ Reasons.Lines → KeepsLines run.old.memo }
+    requires lined { run.old.reasons ≡ Reasons.RuleLines → KeepsRuleLines run.old.memo }
     requires few { run.old.left ≤ MOST_NODES }
     ensures refuted { IfOk result (λ found. IsRefutation found query.now depth (reverse ancestors.old.items)) }
     ensures unsettled { IfErr result (λ stop. IfOpen stop (λ line. IsUnsettled line query.now depth (reverse ancestors.old.items))) }
-    ensures unrefuted { run.old.reasons ≡ Reasons.Lines → IfErr result (λ stop. IfOpen stop (λ line. IsOpen line query.now depth (reverse ancestors.old.items))) }
-    ensures plain { run.old.reasons ≡ Reasons.Lines → IfOk result (λ found. run.old.memo.on ≡ false → found.lines + run.new.left ≤ run.old.left) }
-    ensures too_large { run.old.reasons ≡ Reasons.Lines → IfErr result (λ stop. IfTooLarge stop (run.old.memo.on ≡ false → ⊥)) }
+    ensures unrefuted { run.old.reasons ≡ Reasons.RuleLines → IfErr result (λ stop. IfOpen stop (λ line. IsOpen line query.now depth (reverse ancestors.old.items))) }
+    ensures plain { run.old.reasons ≡ Reasons.RuleLines → IfOk result (λ found. run.old.memo.on ≡ false → found.lines + run.new.left ≤ run.old.left) }
+    ensures too_large { run.old.reasons ≡ Reasons.RuleLines → IfErr result (λ stop. IfTooLarge stop (run.old.memo.on ≡ false → ⊥)) }
     ensures cost { OnOk result (IsRefutable query.now depth (reverse ancestors.old.items) → (n : ℕ) → IsCost query.now depth (reverse ancestors.old.items) n → run.old.left ≤ run.new.left + n) }
     ensures spent { IfErr result (λ stop. IfSpent stop (IsCounted run.old.reasons query.now depth (reverse ancestors.old.items) → (n : ℕ) → IsCost query.now depth (reverse ancestors.old.items) n → run.old.left < n)) }
     ensures deep { IfErr result (λ stop. IfOpen stop (λ line. length line.back.items < run.old.left)) }
     ensures on { GoesOn run.old run.new }
-    ensures lined { run.old.reasons ≡ Reasons.Lines → IfOk result (λ found. IsLined (tree_of found.node)) }
-    ensures keeps { run.old.reasons ≡ Reasons.Lines → KeepsLines run.new.memo }
+    ensures lined { run.old.reasons ≡ Reasons.RuleLines → IfOk result (λ found. IsByRuleLines (tree_of found.node)) }
+    ensures keeps { run.old.reasons ≡ Reasons.RuleLines → KeepsRuleLines run.new.memo }
     ensures kept { OnOk result (ancestors.new.items ≡ ancestors.old.items) }
-    ensures well { run.old.reasons ≡ Reasons.Lines → IfOk result (λ found. (ps : List Asked) (n : ℕ) → IsGood ps n query.now depth (reverse ancestors.old.items) run.old → GoesWell ps n query.now depth (reverse ancestors.old.items) found run.old run.new) }
-    ensures paid { run.old.reasons ≡ Reasons.Lines → IfErr result (λ stop. (ps : List Asked) (n : ℕ) → IsGood ps n query.now depth (reverse ancestors.old.items) run.old → IfSpent stop (IsPaid ps (reverse ancestors.old.items) run.old.left run.old.memo)) }
-    ensures small { run.old.reasons ≡ Reasons.Lines → IfErr result (λ stop. (ps : List Asked) (n : ℕ) → IsGood ps n query.now depth (reverse ancestors.old.items) run.old → IfTooLarge stop ⊥) }
+    ensures well { run.old.reasons ≡ Reasons.RuleLines → IfOk result (λ found. (ps : List Asked) (n : ℕ) → IsGood ps n query.now depth (reverse ancestors.old.items) run.old → GoesWell ps n query.now depth (reverse ancestors.old.items) found run.old run.new) }
+    ensures paid { run.old.reasons ≡ Reasons.RuleLines → IfErr result (λ stop. (ps : List Asked) (n : ℕ) → IsGood ps n query.now depth (reverse ancestors.old.items) run.old → IfSpent stop (IsPaid ps (reverse ancestors.old.items) run.old.left run.old.memo)) }
+    ensures small { run.old.reasons ≡ Reasons.RuleLines → IfErr result (λ stop. (ps : List Asked) (n : ℕ) → IsGood ps n query.now depth (reverse ancestors.old.items) run.old → IfTooLarge stop ⊥) }
 {
     if run.left == 0 {
-        return Err(Stop::Spent);
+        return Err(Unrefuted::Spent);
     }
     run.left -= 1;
     if let Some(found) = shut(query, ancestors) {
@@ -117,7 +117,7 @@ pub(crate) fn search(
     }
     let at_array = is_array(query);
     if at_array {
-        return Err(Stop::Open(OpenLine {
+        return Err(Unrefuted::Open(OpenLine {
             back: Vec::new(alloc),
             at_array,
         }));
@@ -129,7 +129,7 @@ pub(crate) fn search(
         return kept_alone(alloc, query, found, run);
     }
     if depth == 0 {
-        return Err(Stop::Open(OpenLine {
+        return Err(Unrefuted::Open(OpenLine {
             back: Vec::new(alloc),
             at_array,
         }));
@@ -139,7 +139,7 @@ pub(crate) fn search(
             if keep_alone(alloc, query, &found, run) {
                 Ok(found)
             } else {
-                Err(Stop::Memory)
+                Err(Unrefuted::Memory)
             }
         }
         Err(stop) => Err(stop),
@@ -154,32 +154,32 @@ fn expand(
     below: u8,
     ancestors: &mut Vec<Query>,
     run: &mut Run,
-) -> Result<Refutation, Stop>
+) -> Result<Refutation, Unrefuted>
     requires room { length ancestors.old.items + below < 64 }
     requires unshut { IsShut query.now (reverse ancestors.old.items) → ⊥ }
     requires elsewhere { Reaches [] query.now → ⊥ }
     requires sound { IsSound run.old.memo }
-    requires lined { run.old.reasons ≡ Reasons.Lines → KeepsLines run.old.memo }
+    requires lined { run.old.reasons ≡ Reasons.RuleLines → KeepsRuleLines run.old.memo }
     requires few { run.old.left < MOST_NODES }
     ensures refuted { IfOk result (λ found. IsRefutation found query.now (suc below) (reverse ancestors.old.items)) }
     ensures unsettled { IfErr result (λ stop. IfOpen stop (λ line. IsUnsettled line query.now (suc below) (reverse ancestors.old.items))) }
-    ensures unrefuted { run.old.reasons ≡ Reasons.Lines → IfErr result (λ stop. IfOpen stop (λ line. IsOpen line query.now (suc below) (reverse ancestors.old.items))) }
-    ensures plain { run.old.reasons ≡ Reasons.Lines → IfOk result (λ found. run.old.memo.on ≡ false → found.lines + run.new.left ≤ run.old.left + 1) }
-    ensures too_large { run.old.reasons ≡ Reasons.Lines → IfErr result (λ stop. IfTooLarge stop (run.old.memo.on ≡ false → ⊥)) }
+    ensures unrefuted { run.old.reasons ≡ Reasons.RuleLines → IfErr result (λ stop. IfOpen stop (λ line. IsOpen line query.now (suc below) (reverse ancestors.old.items))) }
+    ensures plain { run.old.reasons ≡ Reasons.RuleLines → IfOk result (λ found. run.old.memo.on ≡ false → found.lines + run.new.left ≤ run.old.left + 1) }
+    ensures too_large { run.old.reasons ≡ Reasons.RuleLines → IfErr result (λ stop. IfTooLarge stop (run.old.memo.on ≡ false → ⊥)) }
     ensures cost { OnOk result (WhereEachRefutable query.now below (reverse ancestors.old.items) (λ n. run.old.left ≤ run.new.left + n)) }
     ensures spent { IfErr result (λ stop. IfSpent stop (AreCounted run.old.reasons query.now below (reverse ancestors.old.items) → (n : ℕ) → IsCostBelow query.now below (reverse ancestors.old.items) n → run.old.left < n)) }
     ensures deep { IfErr result (λ stop. IfOpen stop (λ line. length line.back.items ≤ run.old.left)) }
     ensures on { GoesOn run.old run.new }
-    ensures lined { run.old.reasons ≡ Reasons.Lines → IfOk result (λ found. IsLined (tree_of found.node)) }
-    ensures keeps { run.old.reasons ≡ Reasons.Lines → KeepsLines run.new.memo }
+    ensures lined { run.old.reasons ≡ Reasons.RuleLines → IfOk result (λ found. IsByRuleLines (tree_of found.node)) }
+    ensures keeps { run.old.reasons ≡ Reasons.RuleLines → KeepsRuleLines run.new.memo }
     ensures kept { OnOk result (ancestors.new.items ≡ ancestors.old.items) }
-    ensures well { run.old.reasons ≡ Reasons.Lines → IfOk result (λ found. (ps : List Asked) (m : ℕ) → IsGoodBelow ps m query.now below (reverse ancestors.old.items) run.old → GoesWellBelow ps m query.now below (reverse ancestors.old.items) found run.old run.new) }
-    ensures paid { run.old.reasons ≡ Reasons.Lines → IfErr result (λ stop. (ps : List Asked) (m : ℕ) → IsGoodBelow ps m query.now below (reverse ancestors.old.items) run.old → IfSpent stop (IsPaid ps (reverse ancestors.old.items) (run.old.left + 1) run.old.memo)) }
-    ensures small { run.old.reasons ≡ Reasons.Lines → IfErr result (λ stop. (ps : List Asked) (m : ℕ) → IsGoodBelow ps m query.now below (reverse ancestors.old.items) run.old → IfTooLarge stop ⊥) }
+    ensures well { run.old.reasons ≡ Reasons.RuleLines → IfOk result (λ found. (ps : List Asked) (m : ℕ) → IsGoodBelow ps m query.now below (reverse ancestors.old.items) run.old → GoesWellBelow ps m query.now below (reverse ancestors.old.items) found run.old run.new) }
+    ensures paid { run.old.reasons ≡ Reasons.RuleLines → IfErr result (λ stop. (ps : List Asked) (m : ℕ) → IsGoodBelow ps m query.now below (reverse ancestors.old.items) run.old → IfSpent stop (IsPaid ps (reverse ancestors.old.items) (run.old.left + 1) run.old.memo)) }
+    ensures small { run.old.reasons ≡ Reasons.RuleLines → IfErr result (λ stop. (ps : List Asked) (m : ℕ) → IsGoodBelow ps m query.now below (reverse ancestors.old.items) run.old → IfTooLarge stop ⊥) }
 {
     match ancestors.push(*query) {
         Ok(()) => {}
-        Err(_) => return Err(Stop::Memory),
+        Err(_) => return Err(Unrefuted::Memory),
     }
     let mut children = Children::new(alloc);
     let mut unmoves = Unmoves::new(query);

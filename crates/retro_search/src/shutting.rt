@@ -2,7 +2,7 @@ ghost use Rattle.std.specs.Prelude.{◌≡◌, ◌<◌, IfSome, MatchOption, len
 ghost use Rattle.query_base.specs.Ancestors.{IsCovered};
 ghost use Rattle.cert_text.specs.Tree.{back, rule};
 ghost use Rattle.cert_text.specs.declared.reasons.Reason.TheVariants.{Line};
-ghost use Rattle.retro_search.specs.Lined.{IsLined};
+ghost use Rattle.retro_search.specs.RuleLines.{IsByRuleLines};
 ghost use Rattle.cert_text.specs.Seen.{tree_of};
 ghost use Rattle.retro_search.specs.Refutable.{IsShut};
 ghost use Rattle.retro_search.specs.Eager.{IsEager};
@@ -49,7 +49,7 @@ pub(crate) fn shut(query: &Query, ancestors: &[Query]) -> Option<Refutation>
     requires { length ancestors.now < 256 }
     ensures shut { MatchOption result (IsShut query.now (reverse ancestors.now) → ⊥) (λ found. IsRefutation found query.now 0 (reverse ancestors.now)) }
     ensures one { IfSome result (λ found. found.lines ≡ 1) }
-    ensures lined { IfSome result (λ found. IsLined (tree_of found.node)) }
+    ensures lined { IfSome result (λ found. IsByRuleLines (tree_of found.node)) }
     ensures lone { IfSome result (λ found. (IsCovered query.now (reverse ancestors.now) → ⊥) → (found.lean ≡ 0) × IsEager (tree_of found.node) query.now) }
 {
     if let Some(rule) = close(query) {

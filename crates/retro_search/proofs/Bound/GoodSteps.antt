@@ -9,7 +9,7 @@ use Rattle.unmove_gen.specs.Predecessor.{predecessor}
 use Rattle.cert_text.specs.Tree.{Tree, Forest, expand, none, more, with_last}
 use Rattle.cert_text.specs.Seen.{tree_of}
 use Rattle.retro_search.specs.Costs.{SumsUpTo}
-use Rattle.retro_search.specs.Stops.{IfSpent, IfTooLarge, IsLengthened}
+use Rattle.retro_search.specs.Unrefuted.{IfSpent, IfTooLarge, IsLengthened}
 use Rattle.retro_search.specs.Lone.{unmoves_in_all}
 use Rattle.retro_search.specs.Eager.{AreEager, IsEager}
 use Rattle.retro_search.specs.Tidy.{kept_in}
@@ -17,7 +17,7 @@ use Rattle.retro_search.specs.Good.{FitsIn, GoesWell, GoesWellBelow, IsDone, IsG
 use Rattle.retro_search.specs.declared.refutations.Children.{Children}
 use Rattle.retro_search.specs.declared.refutations.Refutation.{Refutation}
 use Rattle.retro_search.specs.declared.runs.Run.{Run}
-use Rattle.retro_search.specs.declared.stops.Stop.{Stop}
+use Rattle.retro_search.specs.declared.unrefuted.Unrefuted.{Unrefuted}
 use Rattle.retro_search.proofs.Bound.Wholes.{done_on}
 use Rattle.retro_search.proofs.Costs.CostSums.{later_numbers}
 use Rattle.retro_search.proofs.Expansions.{Adds, CostBy, IsRefutableBy}
@@ -123,19 +123,19 @@ good_more ps m q below ancestors rest others c grown run now first u r p above h
     }
 
 -- a child that finds no visits left
-abbrev KidPaid : Asked → ℕ → List Asked → Stop → Run → Type 0
+abbrev KidPaid : Asked → ℕ → List Asked → Unrefuted → Run → Type 0
 KidPaid p below above stop run = (qs : List Asked) (n : ℕ) → IsGood qs n p below above run → IfSpent stop (IsPaid qs above run.left run.memo)
 
-pub good_spent : (ps : List Asked) (m : ℕ) (q : Asked) (below : ℕ) (ancestors : List Asked) (rest others : List Unmove) (c : Children) (run first : Run) (u : Unmove) (p : Asked) (above : List Asked) (x t : Stop) → p ≡ predecessor q u → above ≡ q ∷ ancestors → Contains (unmoves q) u → IsGoodBelow ps m q below ancestors first → GoodSoFar ps m q below ancestors rest c run first → rest ≡ u ∷ others → IsLengthened x u t → ((qs : List Asked) (n : ℕ) → IsGood qs n p below above run → IfSpent x (IsPaid qs above run.left run.memo)) → IfSpent t (IsPaid ps ancestors (first.left + 1) first.memo)
+pub good_spent : (ps : List Asked) (m : ℕ) (q : Asked) (below : ℕ) (ancestors : List Asked) (rest others : List Unmove) (c : Children) (run first : Run) (u : Unmove) (p : Asked) (above : List Asked) (x t : Unrefuted) → p ≡ predecessor q u → above ≡ q ∷ ancestors → Contains (unmoves q) u → IsGoodBelow ps m q below ancestors first → GoodSoFar ps m q below ancestors rest c run first → rest ≡ u ∷ others → IsLengthened x u t → ((qs : List Asked) (n : ℕ) → IsGood qs n p below above run → IfSpent x (IsPaid qs above run.left run.memo)) → IfSpent t (IsPaid ps ancestors (first.left + 1) first.memo)
 good_spent ps m q below ancestors rest others c run first u p above x t here up listed g s next longer paid =
     let k = next_kid q below ancestors rest others u s.later next (g.refutable u listed) s.sums in
     let kid : KidPaid (predecessor q u) below (q ∷ ancestors) x run = subst (λ (b : Asked). KidPaid b below (q ∷ ancestors) x run) here (subst (λ (l : List Asked). KidPaid p below l x run) up paid) in
     stop_spent x t u (IsPaid ps (q ∷ ancestors) run.left run.memo) (IsPaid ps ancestors (first.left + 1) first.memo) (λ h. omega (arith, h, ap length next, s.visits)) longer (kid ps k.a (kid_good ps m q below ancestors rest others c run first u listed g s k))
 
-abbrev KidSmall : Asked → ℕ → List Asked → Stop → Run → Type 0
+abbrev KidSmall : Asked → ℕ → List Asked → Unrefuted → Run → Type 0
 KidSmall p below above stop run = (qs : List Asked) (n : ℕ) → IsGood qs n p below above run → IfTooLarge stop ⊥
 
-pub good_small : (ps : List Asked) (m : ℕ) (q : Asked) (below : ℕ) (ancestors : List Asked) (rest others : List Unmove) (c : Children) (run first : Run) (u : Unmove) (p : Asked) (above : List Asked) (x t : Stop) → p ≡ predecessor q u → above ≡ q ∷ ancestors → Contains (unmoves q) u → IsGoodBelow ps m q below ancestors first → GoodSoFar ps m q below ancestors rest c run first → rest ≡ u ∷ others → IsLengthened x u t → ((qs : List Asked) (n : ℕ) → IsGood qs n p below above run → IfTooLarge x ⊥) → IfTooLarge t ⊥
+pub good_small : (ps : List Asked) (m : ℕ) (q : Asked) (below : ℕ) (ancestors : List Asked) (rest others : List Unmove) (c : Children) (run first : Run) (u : Unmove) (p : Asked) (above : List Asked) (x t : Unrefuted) → p ≡ predecessor q u → above ≡ q ∷ ancestors → Contains (unmoves q) u → IsGoodBelow ps m q below ancestors first → GoodSoFar ps m q below ancestors rest c run first → rest ≡ u ∷ others → IsLengthened x u t → ((qs : List Asked) (n : ℕ) → IsGood qs n p below above run → IfTooLarge x ⊥) → IfTooLarge t ⊥
 good_small ps m q below ancestors rest others c run first u p above x t here up listed g s next longer small =
     let k = next_kid q below ancestors rest others u s.later next (g.refutable u listed) s.sums in
     let kid : KidSmall (predecessor q u) below (q ∷ ancestors) x run = subst (λ (b : Asked). KidSmall b below (q ∷ ancestors) x run) here (subst (λ (l : List Asked). KidSmall p below l x run) up small) in

@@ -22,18 +22,19 @@ use Rattle.retro_search.specs.Refutable.{IsRefutable, IsShut}
 use Rattle.retro_search.specs.Costs.{IsCost}
 use Rattle.retro_search.specs.Lone.{AreDifferent, AreExpanded, IsLone, IsLoneSearch, IsMemoCost, StandsIn, unmoves_in_all}
 use Rattle.retro_search.specs.Eager.{IsEager}
-use Rattle.retro_search.specs.Lined.{IsLined}
+use Rattle.retro_search.specs.RuleLines.{IsByRuleLines}
 use Rattle.cert_text.specs.declared.reasons.Reason.TheVariants.{Line, Balance}
 use Rattle.retro_search.specs.Heights.{height}
 use Rattle.retro_search.specs.Kept.{IsKept, IsRefutation, IsSound, StandsAlone}
-use Rattle.retro_search.specs.Tidy.{HasRoomFor, IsKeptLow, Keeps, kept_in}
+use Rattle.retro_search.specs.Attempts.{WhereLone}
+use Rattle.retro_search.specs.Tidy.{HasRoomFor, IsFresh, IsKeptLow, Keeps, kept_in}
 use Rattle.retro_search.specs.Good.{AreWhole, FitsIn, GoesWell, GoesWellBelow, IsDone, IsGood, IsGoodBelow, IsPaid, IsTidy}
 use Rattle.retro_search.specs.declared.memos.Kept.{Kept}
 use Rattle.retro_search.specs.declared.memos.Memo.{Memo}
 use Rattle.retro_search.specs.declared.refutations.Refutation.{Refutation}
 use Rattle.retro_search.specs.declared.runs.Run.{Run}
-use Rattle.retro_search.specs.Stops.{IfSpent, IfTooLarge}
-use Rattle.retro_search.specs.declared.stops.Stop.{Stop}
+use Rattle.retro_search.specs.Unrefuted.{IfSpent, IfTooLarge}
+use Rattle.retro_search.specs.declared.unrefuted.Unrefuted.{Unrefuted}
 use Rattle.retro_search.proofs.Expansions.{if_spent, less_one}
 use Rattle.retro_search.proofs.Costs.CostSums.{cost_below, cost_positive}
 use Rattle.retro_search.proofs.Bound.Different.{different_moved, member_moved, sum-append, sum_within}
@@ -57,7 +58,7 @@ leaf_eager (back k) q above p low lone covers = absurd (lone (covers k refl))
 leaf_eager (expand kids) q above p low lone covers = absurd (omega arith)
 
 -- it is a rule line that supports the query
-eager-closed : (t : Tree) (q : Asked) (above : List Asked) → Proves t q above → height t ≡ 0 → IsEager t q → IsLined t → IsClosed q
+eager-closed : (t : Tree) (q : Asked) (above : List Asked) → Proves t q above → height t ≡ 0 → IsEager t q → IsByRuleLines t → IsClosed q
 eager-closed (rule (Line r)) q above p low eager lined = (r, p)
 eager-closed (rule (Balance set d)) q above p low eager lined = absurd lined
 eager-closed (back k) q above p low eager lined = absurd eager
@@ -77,14 +78,14 @@ stay ps n q depth ancestors run r some g eager alone small done = record {
 }
 
 -- a query that is shut
-pub shut_well : (ps : List Asked) (n : ℕ) (q : Asked) (depth : ℕ) (ancestors : List Asked) (run : Run) (r : Refutation) → run.left ≢ 0 → IsGood ps n q depth ancestors run → IsRefutation r q 0 ancestors → r.lines ≡ 1 → IsLined (tree_of r.node) → ((IsCovered q ancestors → ⊥) → (r.lean ≡ 0) × IsEager (tree_of r.node) q) → GoesWell ps n q depth ancestors r run (visited run)
+pub shut_well : (ps : List Asked) (n : ℕ) (q : Asked) (depth : ℕ) (ancestors : List Asked) (run : Run) (r : Refutation) → run.left ≢ 0 → IsGood ps n q depth ancestors run → IsRefutation r q 0 ancestors → r.lines ≡ 1 → IsByRuleLines (tree_of r.node) → ((IsCovered q ancestors → ⊥) → (r.lean ≡ 0) × IsEager (tree_of r.node) q) → GoesWell ps n q depth ancestors r run (visited run)
 shut_well ps n q depth ancestors run r some g is one lined own =
     let o = own (lone-here depth q ancestors g.lone) in
     let closed = eager-closed (tree_of r.node) q _ is.proves (omega (arith, is.high, is.low)) o.1 lined in
     stay ps n q depth ancestors run r some g o.1 o.0 (omega (arith, one, cost_positive depth q ancestors n g.cost)) (inl closed)
 
 -- a query of which a tree is kept
-pub kept_well : (ps : List Asked) (n : ℕ) (q : Asked) (depth : ℕ) (ancestors : List Asked) (run : Run) (r : Refutation) (k : Kept) → run.left ≢ 0 → IsGood ps n q depth ancestors run → IsSound run.memo → k.query ≡ q → Contains (values run.memo.trees) k → IsLined (tree_of k.node) → tree_of r.node ≡ tree_of k.node → r.lean ≡ 0 → r.lines ≡ k.lines → GoesWell ps n q depth ancestors r run (visited run)
+pub kept_well : (ps : List Asked) (n : ℕ) (q : Asked) (depth : ℕ) (ancestors : List Asked) (run : Run) (r : Refutation) (k : Kept) → run.left ≢ 0 → IsGood ps n q depth ancestors run → IsSound run.memo → k.query ≡ q → Contains (values run.memo.trees) k → IsByRuleLines (tree_of k.node) → tree_of r.node ≡ tree_of k.node → r.lean ≡ 0 → r.lines ≡ k.lines → GoesWell ps n q depth ancestors r run (visited run)
 kept_well ps n q depth ancestors run r k some g sound own among lined tree alone counted =
     let eager : IsEager (tree_of k.node) q = subst (λ (a : Asked). IsEager (tree_of k.node) a) own (All-contains (λ x. IsEager (tree_of x.node) x.query) (values run.memo.trees) k g.fits.tidy.eager among) in
     let stands : StandsAlone (tree_of k.node) k.query k.height k.lines = All-contains IsKept (values run.memo.trees) k sound.each among in
@@ -213,10 +214,10 @@ small_product : (depth n : ℕ) → depth ≤ 64 → n ≤ 30000 → depth * n �
 small_product depth n low few = let p : depth * n ≤ depth * 30000 = mul-le-mul_left depth few in omega arith
 
 -- the start of a search that keeps trees
-pub good_root : (ps : List Asked) (n : ℕ) (q : Asked) (depth : ℕ) (run : Run) → run.memo.on ≡ true → run.memo.trees.entries ≡ [] → run.memo.lines ≡ 0 → depth ≤ 64 → IsLone q depth [] → IsRefutable q depth [] → IsCost q depth [] n → n ≤ 30000 → AreExpanded ps q depth → IsGood ps n q depth [] run
-good_root ps n q depth run on empty blank shallow lone ref cost few expanded =
-    let keys_are : kept_in run.memo ≡ [] = ap keys_of empty in
-    let values_are : values run.memo.trees ≡ [] = ap values_of empty in
+pub good_root : (ps : List Asked) (n : ℕ) (q : Asked) (depth : ℕ) (run : Run) → IsFresh run.memo → depth ≤ 64 → IsLone q depth [] → IsRefutable q depth [] → IsCost q depth [] n → n ≤ 30000 → AreExpanded ps q depth → IsGood ps n q depth [] run
+good_root ps n q depth run fresh shallow lone ref cost few expanded =
+    let keys_are : kept_in run.memo ≡ [] = ap keys_of fresh.empty in
+    let values_are : values run.memo.trees ≡ [] = ap values_of fresh.empty in
     record {
       lone = lone;
       refutable = ref;
@@ -224,8 +225,8 @@ good_root ps n q depth run on empty blank shallow lone ref cost few expanded =
       within = λ p stands open_. (expanded.each p).1 (stands, open_);
       fits = record {
         tidy = record {
-          on = on;
-          own = subst (λ (es : List (Asked × Kept)). All (λ e. e.1.query ≡ e.0) es) (sym empty) (All-nil (λ (e : Asked × Kept). e.1.query ≡ e.0));
+          on = fresh.on;
+          own = subst (λ (es : List (Asked × Kept)). All (λ e. e.1.query ≡ e.0) es) (sym fresh.empty) (All-nil (λ (e : Asked × Kept). e.1.query ≡ e.0));
           eager = subst (λ (vs : List Kept). All (λ x. IsEager (tree_of x.node) x.query) vs) (sym values_are) (All-nil (λ (x : Kept). IsEager (tree_of x.node) x.query));
           whole = subst AreWhole (sym keys_are) (λ p there u listed. absurd (contains-none p there));
         };
@@ -234,41 +235,37 @@ good_root ps n q depth run on empty blank shallow lone ref cost few expanded =
       };
       few = few;
       trees = omega (arith, ap length keys_are);
-      lines = omega (arith, blank, small_product depth n shallow few);
+      lines = omega (arith, fresh.blank, small_product depth n shallow few);
     }
 
 pub paid_root : (ps : List Asked) (nodes : ℕ) (m : Memo) → m.trees.entries ≡ [] → IsPaid ps [] nodes m → nodes ≤ unmoves_in_all ps
 paid_root ps nodes m empty paid = omega (arith, ap unmoves_in_all (ap keys_of empty))
 
 -- the first visit of a search that keeps trees
-pub root_paid : (s : Stop) (q : Asked) (depth : ℕ) (run : Run) (above : List Asked) → above ≡ [] → run.memo.on ≡ true → run.memo.trees.entries ≡ [] → run.memo.lines ≡ 0 → depth ≤ 64 → ((ps : List Asked) (n : ℕ) → IsGood ps n q depth (reverse above) run → IfSpent s (IsPaid ps (reverse above) run.left run.memo)) → (ps : List Asked) (n : ℕ) → AreExpanded ps q depth → IsLoneSearch q depth n → IfSpent s (run.left ≤ unmoves_in_all ps)
-root_paid s q depth run above none on empty blank shallow paid ps n expanded l =
+pub root_paid : (s : Unrefuted) (q : Asked) (depth : ℕ) (run : Run) (above : List Asked) → above ≡ [] → IsFresh run.memo → depth ≤ 64 → ((ps : List Asked) (n : ℕ) → IsGood ps n q depth (reverse above) run → IfSpent s (IsPaid ps (reverse above) run.left run.memo)) → WhereLone q depth (λ ps. IfSpent s (run.left ≤ unmoves_in_all ps))
+root_paid s q depth run above none fresh shallow paid ps n expanded l =
     let here : IsGood ps n q depth [] run → IfSpent s (IsPaid ps [] run.left run.memo) = subst (λ (up : List Asked). IsGood ps n q depth (reverse up) run → IfSpent s (IsPaid ps (reverse up) run.left run.memo)) none (paid ps n) in
-    if_spent s _ _ (paid_root ps run.left run.memo empty) (here (good_root ps n q depth run on empty blank shallow l.lone l.refutable l.cost l.few expanded))
+    if_spent s _ _ (paid_root ps run.left run.memo fresh.empty) (here (good_root ps n q depth run fresh shallow l.lone l.refutable l.cost l.few expanded))
 
-pub root_small : (s : Stop) (q : Asked) (depth : ℕ) (run : Run) (above : List Asked) → above ≡ [] → run.memo.on ≡ true → run.memo.trees.entries ≡ [] → run.memo.lines ≡ 0 → depth ≤ 64 → ((ps : List Asked) (n : ℕ) → IsGood ps n q depth (reverse above) run → IfTooLarge s ⊥) → (ps : List Asked) (n : ℕ) → AreExpanded ps q depth → IsLoneSearch q depth n → IfTooLarge s ⊥
-root_small s q depth run above none on empty blank shallow small ps n expanded l =
+pub root_small : (s : Unrefuted) (q : Asked) (depth : ℕ) (run : Run) (above : List Asked) → above ≡ [] → IsFresh run.memo → depth ≤ 64 → ((ps : List Asked) (n : ℕ) → IsGood ps n q depth (reverse above) run → IfTooLarge s ⊥) → WhereLone q depth (λ ps. IfTooLarge s ⊥)
+root_small s q depth run above none fresh shallow small ps n expanded l =
     let here : IsGood ps n q depth [] run → IfTooLarge s ⊥ = subst (λ (up : List Asked). IsGood ps n q depth (reverse up) run → IfTooLarge s ⊥) none (small ps n) in
-    here (good_root ps n q depth run on empty blank shallow l.lone l.refutable l.cost l.few expanded)
+    here (good_root ps n q depth run fresh shallow l.lone l.refutable l.cost l.few expanded)
 
 -- a search that keeps trees and refutes has as many visits as the memo cost
-pub root_afforded : (r : Refutation) (q : Asked) (depth : ℕ) (run new : Run) (above : List Asked) → above ≡ [] → run.memo.on ≡ true → run.memo.trees.entries ≡ [] → run.memo.lines ≡ 0 → depth ≤ 64 → ((ps : List Asked) (n : ℕ) → IsGood ps n q depth (reverse above) run → GoesWell ps n q depth (reverse above) r run new) → (ps : List Asked) (n : ℕ) → AreExpanded ps q depth → IsLoneSearch q depth n → unmoves_in_all ps < run.left
-root_afforded r q depth run new above none on empty blank shallow well ps n expanded l =
+pub root_afforded : (r : Refutation) (q : Asked) (depth : ℕ) (run new : Run) (above : List Asked) → above ≡ [] → IsFresh run.memo → depth ≤ 64 → ((ps : List Asked) (n : ℕ) → IsGood ps n q depth (reverse above) run → GoesWell ps n q depth (reverse above) r run new) → WhereLone q depth (λ ps. unmoves_in_all ps < run.left)
+root_afforded r q depth run new above none fresh shallow well ps n expanded l =
     let here : IsGood ps n q depth [] run → GoesWell ps n q depth [] r run new = subst (λ (up : List Asked). IsGood ps n q depth (reverse up) run → GoesWell ps n q depth (reverse up) r run new) none (well ps n) in
-    let w = here (good_root ps n q depth run on empty blank shallow l.lone l.refutable l.cost l.few expanded) in
+    let w = here (good_root ps n q depth run fresh shallow l.lone l.refutable l.cost l.few expanded) in
     let kept : (p : Asked) → Contains ps p → Contains (kept_in new.memo) p = λ p there.
     let e = (expanded.each p).0 there in
     elim (tree_done depth p q (kept_in new.memo) w.fits.tidy.whole w.done e.0) [ inl closed ↦ absurd (e.1 closed) | inr inside ↦ inside ] in
-    omega (arith, w.visits, sum_within ps (kept_in new.memo) expanded.different kept, ap unmoves_in_all (ap keys_of empty))
+    omega (arith, w.visits, sum_within ps (kept_in new.memo) expanded.different kept, ap unmoves_in_all (ap keys_of fresh.empty))
 
 -- so it had no fewer than the memo cost
-pub memo_afforded : (nodes : ℕ) (p q : Asked) (depth : ℕ) → p ≡ q → ((ps : List Asked) (n : ℕ) → AreExpanded ps p depth → IsLoneSearch p depth n → unmoves_in_all ps < nodes) → (n k : ℕ) → IsLoneSearch q depth n → IsMemoCost q depth k → k ≤ nodes
-memo_afforded nodes p q depth same afforded n k l (ps, expanded, e) =
-    let enough = afforded ps n (subst (λ (a : Asked). AreExpanded ps a depth) (sym same) expanded) (subst (λ (a : Asked). IsLoneSearch a depth n) (sym same) l) in
-    omega (arith, enough, e)
+pub memo_afforded : (nodes : ℕ) (q : Asked) (depth : ℕ) → WhereLone q depth (λ ps. unmoves_in_all ps < nodes) → (n k : ℕ) → IsLoneSearch q depth n → IsMemoCost q depth k → k ≤ nodes
+memo_afforded nodes q depth afforded n k l (ps, expanded, e) = omega (arith, afforded ps n expanded l, e)
 
 -- a search that keeps trees and runs out of visits had fewer than the memo cost
-pub memo_spent : (nodes : ℕ) (p q : Asked) (depth : ℕ) → p ≡ q → ((ps : List Asked) (n : ℕ) → AreExpanded ps p depth → IsLoneSearch p depth n → nodes ≤ unmoves_in_all ps) → (n k : ℕ) → IsLoneSearch q depth n → IsMemoCost q depth k → nodes < k
-memo_spent nodes p q depth same paid n k l (ps, expanded, e) =
-    let few = paid ps n (subst (λ (a : Asked). AreExpanded ps a depth) (sym same) expanded) (subst (λ (a : Asked). IsLoneSearch a depth n) (sym same) l) in
-    omega (arith, few, e)
+pub memo_spent : (nodes : ℕ) (q : Asked) (depth : ℕ) → WhereLone q depth (λ ps. nodes ≤ unmoves_in_all ps) → (n k : ℕ) → IsLoneSearch q depth n → IsMemoCost q depth k → nodes < k
+memo_spent nodes q depth paid n k l (ps, expanded, e) = omega (arith, paid ps n expanded l, e)

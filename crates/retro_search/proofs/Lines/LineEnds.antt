@@ -18,7 +18,7 @@ use Rattle.unmove_gen.proofs.Onward.{onward}
 use Rattle.retro_search.specs.Lines.{EndsAtArray, IsFirstOpen, forwards}
 use Rattle.retro_search.specs.Searched.{IsOpen}
 use Rattle.retro_search.specs.Answers.{IsCounter, IsUndecided}
-use Rattle.retro_search.specs.declared.stops.OpenLine.{OpenLine}
+use Rattle.retro_search.specs.declared.unrefuted.OpenLine.{OpenLine}
 
 -- a first open line is as long as the depth, or ends at the array
 pub ends : (depth : ℕ) (q : Asked) (ancestors : List Asked) (line : List Unmove) → IsFirstOpen q depth ancestors line → (length line ≡ depth) ⊎ EndsAtArray q line
@@ -47,27 +47,26 @@ forwards-reversed (u ∷ back) =
     let f : Unmove → Move = λ v. v.mv in
     ap forwards (reverse-append (u ∷ []) back) ∙ ap reverse (map-append f (reverse back) (u ∷ [])) ∙ reverse-append (map f (reverse back)) (u.mv ∷ []) ∙ ap (λ (g : List Move). u.mv ∷ g) (forwards-reversed back)
 
--- a line that is open at the root, by the target of the claim
-pub undecided : (line : OpenLine) (l : List Unmove) (p q : Asked) (depth : ℕ) → p ≡ q → IsOpen line p depth [] → l ≡ reverse line.back.items → line.at_array ≡ false → IsUndecided l q depth
-undecided line l p q depth same o is apart =
-    let here : IsOpen line q depth [] = subst (λ (a : Asked). IsOpen line a depth []) same o in
-    let elsewhere : EndsAtArray q (reverse line.back.items) → ⊥ = λ end. both_ways _ apart (here.marked.1 end) in
+-- a line that is open at the root
+pub undecided : (line : OpenLine) (l : List Unmove) (q : Asked) (depth : ℕ) → IsOpen line q depth [] → l ≡ reverse line.back.items → line.at_array ≡ false → IsUndecided l q depth
+undecided line l q depth o is apart =
+    let elsewhere : EndsAtArray q (reverse line.back.items) → ⊥ = λ end. both_ways _ apart (o.marked.1 end) in
     subst (λ (us : List Unmove). IsUndecided us q depth) (sym is) (record {
-      open_line = record { unrefuted = here.unrefuted; first = here.first };
-      long = elim (ends depth q [] (reverse line.back.items) here.first) [ inl long ↦ long | inr end ↦ absurd (elsewhere end) ];
+      open_line = record { unrefuted = o.unrefuted; first = o.first };
+      long = elim (ends depth q [] (reverse line.back.items) o.first) [ inl long ↦ long | inr end ↦ absurd (elsewhere end) ];
       elsewhere = elsewhere;
     })
 
-pub countered : (line : OpenLine) (g : List Move) (p q : Asked) (claim : Claim) (depth : ℕ) → p ≡ target q claim → ((h : List Move) → Reaches h p ↔ Contradicts h claim q) → IsOpen line p depth [] → g ≡ map (λ u. u.mv) line.back.items → line.at_array ≡ true → IsCounter g claim q depth
-countered line g p q claim depth same contradicted o is array =
+-- one of the claim's target that ends at the array
+pub countered : (line : OpenLine) (g : List Move) (claim : Claim) (q : Asked) (depth : ℕ) → ((h : List Move) → Reaches h (target q claim) ↔ Contradicts h claim q) → IsOpen line (target q claim) depth [] → g ≡ map (λ u. u.mv) line.back.items → line.at_array ≡ true → IsCounter g claim q depth
+countered line g claim q depth contradicted o is array =
     let t : Asked = target q claim in
-    let here : IsOpen line t depth [] = subst (λ (a : Asked). IsOpen line a depth []) same o in
-    let end : EndsAtArray t (reverse line.back.items) = here.marked.0 array in
+    let end : EndsAtArray t (reverse line.back.items) = o.marked.0 array in
     let game : g ≡ forwards (reverse line.back.items) = is ∙ sym (forwards-reversed line.back.items) in
-    let reaches : Reaches g p = subst (λ (a : Asked). Reaches g a) (sym same) (subst (λ (h : List Move). Reaches h t) (sym game) (game_reaches depth t [] (reverse line.back.items) here.first end)) in
+    let reaches : Reaches g t = subst (λ (h : List Move). Reaches h t) (sym game) (game_reaches depth t [] (reverse line.back.items) o.first end) in
     record {
       line = reverse line.back.items;
-      open_line = record { unrefuted = here.unrefuted; first = here.first };
+      open_line = record { unrefuted = o.unrefuted; first = o.first };
       at_array = end;
       forwards_is = game;
       contradicts = (contradicted g).0 reaches;

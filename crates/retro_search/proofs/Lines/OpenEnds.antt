@@ -16,7 +16,7 @@ use Rattle.unmove_gen.specs.Predecessor.{predecessor}
 use Rattle.unmove_gen.proofs.Onward.{onward}
 use Rattle.retro_search.specs.Refutable.{IsRefutable, IsShut}
 use Rattle.retro_search.specs.Lines.{EndsAtArray, forwards}
-use Rattle.retro_search.specs.declared.stops.OpenLine.{OpenLine}
+use Rattle.retro_search.specs.declared.unrefuted.OpenLine.{OpenLine}
 use Rattle.retro_search.proofs.Lines.LineEnds.{forwards-last, forwards-reversed}
 use Rattle.retro_search.proofs.Lines.OpenLines.{leaf-unrefuted}
 use Rattle.retro_search.specs.Unsettled.{IsAgainst, IsOpenLine, StaysUnsettled}
@@ -81,30 +81,31 @@ line_unrefuted (u ∷ line) q (suc depth) ancestors o end (suc more) h = elim h 
   | inr below ↦ line_unrefuted line (predecessor q u) depth (q ∷ ancestors) o.3 end more (below.1 u o.2)
 ]
 
--- a line that is open at the root, by the target of the claim
-pub undecided : (line : OpenLine) (l : List Unmove) (p q : Asked) (depth : ℕ) → p ≡ q → IsUnsettled line p depth [] → l ≡ reverse line.back.items → line.at_array ≡ false → StaysUnsettled l q depth
-undecided line l p q depth same o is apart =
-    let here : IsUnsettled line q depth [] = subst (λ (a : Asked). IsUnsettled line a depth []) same o in
-    let elsewhere : EndsAtArray q (reverse line.back.items) → ⊥ = λ end. both_ways _ apart (here.marked.1 end) in
+-- a line that is open at the root
+pub unsettled : (line : OpenLine) (l : List Unmove) (q : Asked) (depth : ℕ) → IsUnsettled line q depth [] → l ≡ reverse line.back.items → line.at_array ≡ false → StaysUnsettled l q depth
+unsettled line l q depth o is apart =
+    let elsewhere : EndsAtArray q (reverse line.back.items) → ⊥ = λ end. both_ways _ apart (o.marked.1 end) in
     subst (λ (us : List Unmove). StaysUnsettled us q depth) (sym is) (record {
-      unrefuted = here.unrefuted;
-      open_line = here.open_line;
-      long = elim (line_ends (reverse line.back.items) q depth [] here.open_line) [ inl long ↦ long | inr end ↦ absurd (elsewhere end) ];
+      unrefuted = o.unrefuted;
+      open_line = o.open_line;
+      long = elim (line_ends (reverse line.back.items) q depth [] o.open_line) [ inl long ↦ long | inr end ↦ absurd (elsewhere end) ];
       elsewhere = elsewhere;
     })
 
-pub countered : (line : OpenLine) (g : List Move) (p q : Asked) (claim : Claim) (depth : ℕ) → p ≡ target q claim → ((h : List Move) → Reaches h p ↔ Contradicts h claim q) → IsUnsettled line p depth [] → g ≡ map (λ u. u.mv) line.back.items → line.at_array ≡ true → IsAgainst g claim q depth
-countered line g p q claim depth same contradicted o is array =
-    let end : EndsAtArray p (reverse line.back.items) = o.marked.0 array in
+-- one of the claim's target that ends at the array
+pub against : (line : OpenLine) (g : List Move) (claim : Claim) (q : Asked) (depth : ℕ) → ((h : List Move) → Reaches h (target q claim) ↔ Contradicts h claim q) → IsUnsettled line (target q claim) depth [] → g ≡ map (λ u. u.mv) line.back.items → line.at_array ≡ true → IsAgainst g claim q depth
+against line g claim q depth contradicted o is array =
+    let t : Asked = target q claim in
+    let end : EndsAtArray t (reverse line.back.items) = o.marked.0 array in
     let game : g ≡ forwards (reverse line.back.items) = is ∙ sym (forwards-reversed line.back.items) in
-    let reaches : Reaches g p = subst (λ (h : List Move). Reaches h p) (sym game) (line_reaches (reverse line.back.items) p depth [] o.open_line end) in
-    let short = line_short (reverse line.back.items) p depth [] o.open_line in
+    let reaches : Reaches g t = subst (λ (h : List Move). Reaches h t) (sym game) (line_reaches (reverse line.back.items) t depth [] o.open_line end) in
+    let short = line_short (reverse line.back.items) t depth [] o.open_line in
     record {
       line = reverse line.back.items;
-      open_line = subst (λ (a : Asked). IsOpenLine a depth [] (reverse line.back.items)) same o.open_line;
-      at_array = subst (λ (a : Asked). EndsAtArray a (reverse line.back.items)) same end;
+      open_line = o.open_line;
+      at_array = end;
       forwards_is = game;
       contradicts = (contradicted g).0 reaches;
       short = omega (arith, ap length is, length-map line.back.items (λ (u : Unmove). u.mv), length-reverse line.back.items);
-      unrefuted = subst (λ (a : Asked). (more : ℕ) → IsRefutable a more [] → ⊥) same (line_unrefuted (reverse line.back.items) p depth [] o.open_line end);
+      unrefuted = line_unrefuted (reverse line.back.items) t depth [] o.open_line end;
     }

@@ -12,11 +12,11 @@ use Rattle.unmove_gen.specs.Listed.{unmoves}
 use Rattle.unmove_gen.specs.Predecessor.{predecessor}
 use Rattle.retro_search.specs.Refutable.{IsRefutable, IsShut}
 use Rattle.retro_search.specs.Lines.{EndsAtArray, IsFirstOpen}
-use Rattle.retro_search.specs.Stops.{IfOpen, IfSpent, IfTooLarge, IsLengthened}
+use Rattle.retro_search.specs.Unrefuted.{IfOpen, IfSpent, IfTooLarge, IsLengthened}
 use Rattle.retro_search.specs.Searched.{IsOpen}
-use Rattle.retro_search.specs.declared.stops.OpenLine.{OpenLine}
-use Rattle.retro_search.specs.declared.stops.Stop.{Stop}
-use Rattle.retro_search.specs.declared.stops.Stop.TheVariants as stop
+use Rattle.retro_search.specs.declared.unrefuted.OpenLine.{OpenLine}
+use Rattle.retro_search.specs.declared.unrefuted.Unrefuted.{Unrefuted}
+use Rattle.retro_search.specs.declared.unrefuted.Unrefuted.TheVariants as stop
 
 pub leaf-unrefuted : (depth : ℕ) (q : Asked) (ancestors : List Asked) → (IsShut q ancestors → ⊥) → (depth ≡ 0) ⊎ Reaches [] q → IsRefutable q depth ancestors → ⊥
 leaf-unrefuted zero q ancestors unshut end h = unshut h
@@ -51,14 +51,14 @@ longer_open kid line q u done rest depth ancestors parts all elsewhere unshut gr
       marked = subst (λ (l : List Unmove). IsTrue line.at_array ↔ EndsAtArray q l) back (subst (λ (b : Bool). IsTrue b ↔ EndsAtArray (predecessor q u) (reverse kid.back.items)) (sym same) o.marked);
     }
 
-pub if_open : (s : Stop) (P Q : OpenLine → Type 0) → ((line : OpenLine) → P line → Q line) → IfOpen s P → IfOpen s Q
+pub if_open : (s : Unrefuted) (P Q : OpenLine → Type 0) → ((line : OpenLine) → P line → Q line) → IfOpen s P → IfOpen s Q
 if_open (stop.Open line) P Q on h = on line h
 if_open stop.Spent P Q on h = h
 if_open stop.TooLarge P Q on h = h
 if_open stop.Memory P Q on h = h
 
 -- what stops the search of a predecessor stops that of the query
-pub stop_open : (s t : Stop) (u : Unmove) (P Q : OpenLine → Type 0) → ((kid line : OpenLine) → line.back.items ≡ kid.back.items ++ u ∷ [] → line.at_array ≡ kid.at_array → P kid → Q line) → IsLengthened s u t → IfOpen s P → IfOpen t Q
+pub stop_open : (s t : Unrefuted) (u : Unmove) (P Q : OpenLine → Type 0) → ((kid line : OpenLine) → line.back.items ≡ kid.back.items ++ u ∷ [] → line.at_array ≡ kid.at_array → P kid → Q line) → IsLengthened s u t → IfOpen s P → IfOpen t Q
 stop_open (stop.Open kid) (stop.Open line) u P Q on (grown, same) h = on kid line grown same h
 stop_open stop.Spent (stop.Open line) u P Q on is h = absurd is
 stop_open stop.TooLarge (stop.Open line) u P Q on is h = absurd is
@@ -67,7 +67,7 @@ stop_open s stop.Spent u P Q on is h = tt
 stop_open s stop.TooLarge u P Q on is h = tt
 stop_open s stop.Memory u P Q on is h = tt
 
-pub stop_spent : (s t : Stop) (u : Unmove) (P Q : Type 0) → (P → Q) → IsLengthened s u t → IfSpent s P → IfSpent t Q
+pub stop_spent : (s t : Unrefuted) (u : Unmove) (P Q : Type 0) → (P → Q) → IsLengthened s u t → IfSpent s P → IfSpent t Q
 stop_spent (stop.Open kid) stop.Spent u P Q on is h = absurd is
 stop_spent stop.Spent stop.Spent u P Q on is h = on h
 stop_spent stop.TooLarge stop.Spent u P Q on is h = absurd is
@@ -76,7 +76,7 @@ stop_spent s (stop.Open line) u P Q on is h = tt
 stop_spent s stop.TooLarge u P Q on is h = tt
 stop_spent s stop.Memory u P Q on is h = tt
 
-pub stop_large : (s t : Stop) (u : Unmove) (P Q : Type 0) → (P → Q) → IsLengthened s u t → IfTooLarge s P → IfTooLarge t Q
+pub stop_large : (s t : Unrefuted) (u : Unmove) (P Q : Type 0) → (P → Q) → IsLengthened s u t → IfTooLarge s P → IfTooLarge t Q
 stop_large (stop.Open kid) stop.TooLarge u P Q on is h = absurd is
 stop_large stop.Spent stop.TooLarge u P Q on is h = absurd is
 stop_large stop.TooLarge stop.TooLarge u P Q on is h = on h

@@ -15,12 +15,12 @@ eq = queries.eq-value.it
 
 module _ {V : Type 0} where
   -- an entry that a look-up finds
-  pub record Found (q : Asked) (es : List (Asked × V)) (v : V) : Type 0 where
+  pub record Entry (q : Asked) (es : List (Asked × V)) (v : V) : Type 0 where
     pub key : Asked
     pub same : q ≡ key
     pub there : Contains es (key, v)
 
-  found-by : (b : Bool) (q : Asked) (e : Asked × V) (es : List (Asked × V)) (v : V) → eq q e.0 ≡ b → (lookup (eq q) es ≡ Some v → Found q es v) → cond b (Some e.1) (lookup (eq q) es) ≡ Some v → Found q (e ∷ es) v
+  found-by : (b : Bool) (q : Asked) (e : Asked × V) (es : List (Asked × V)) (v : V) → eq q e.0 ≡ b → (lookup (eq q) es ≡ Some v → Entry q es v) → cond b (Some e.1) (lookup (eq q) es) ≡ Some v → Entry q (e ∷ es) v
   found-by true q e es v test rest h = record {
     key = e.0;
     same = exact q e.0 test;
@@ -28,7 +28,7 @@ module _ {V : Type 0} where
   }
   found-by false q e es v test rest h = let f = rest h in record { key = f.key; same = f.same; there = contains-later e es (f.key, v) f.there }
 
-  pub found : (q : Asked) (es : List (Asked × V)) (v : V) → lookup (eq q) es ≡ Some v → Found q es v
+  pub found : (q : Asked) (es : List (Asked × V)) (v : V) → lookup (eq q) es ≡ Some v → Entry q es v
   found q [] v h = absurd cc
   found q (e ∷ es) v h = found-by (eq q e.0) q e es v refl (found q es v) h
 

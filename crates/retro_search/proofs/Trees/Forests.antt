@@ -6,7 +6,7 @@ use Rattle.unmove_gen.specs.Predecessor.{predecessor}
 use Rattle.cert_text.specs.Tree.{Tree, Forest, none, more, with_last}
 use Rattle.cert_checker.specs.Proving.{Proves, ProvesEach}
 use Rattle.retro_search.specs.Heights.{height, height_of_all}
-use Rattle.retro_search.specs.Lined.{AreLined, IsLined}
+use Rattle.retro_search.specs.RuleLines.{AreByRuleLines, IsByRuleLines}
 use Rattle.retro_search.specs.LineCounts.{lines_in, lines_in_all}
 
 pub proves_more : (f : Forest) (q : Asked) (done : List Unmove) (u : Unmove) (t : Tree) (ancestors : List Asked) → ProvesEach f q done ancestors → Proves t (predecessor q u) (q ∷ ancestors) → ProvesEach (with_last f u t) q (done ++ u ∷ []) ancestors
@@ -22,6 +22,6 @@ pub height_last : (f : Forest) (u : Unmove) (t : Tree) → height_of_all (with_l
 height_last none u t = omega arith
 height_last (more label s rest) u t = omega (arith, height_last rest u t)
 
-pub lined_more : (f : Forest) (u : Unmove) (t : Tree) → AreLined f → IsLined t → AreLined (with_last f u t)
+pub lined_more : (f : Forest) (u : Unmove) (t : Tree) → AreByRuleLines f → IsByRuleLines t → AreByRuleLines (with_last f u t)
 lined_more none u t all one = (one, tt)
 lined_more (more label s rest) u t all one = (all.0, lined_more rest u t all.1 one)

@@ -9,7 +9,7 @@ use Rattle.unmove_gen.specs.Predecessor.{predecessor}
 use Rattle.cert_text.specs.Tree.{Tree, Forest, rule, back, expand, none, more}
 use Rattle.cert_text.specs.declared.reasons.Reason.TheVariants.{Line, Balance}
 use Rattle.cert_checker.specs.Proving.{Proves, ProvesEach}
-use Rattle.retro_search.specs.Lined.{AreLined, IsLined}
+use Rattle.retro_search.specs.RuleLines.{AreByRuleLines, IsByRuleLines}
 use Rattle.retro_search.specs.Refutable.{IsRefutable, IsShut}
 use Rattle.retro_search.specs.Heights.{height, height_of_all}
 use Rattle.query_base.proofs.Nearest.{covered}
@@ -20,7 +20,7 @@ shut_refutable zero q ancestors h = h
 shut_refutable (suc depth) q ancestors h = inl h
 
 mutual
-  pub refutable_by : (t : Tree) (q : Asked) (depth : ℕ) (ancestors : List Asked) → Proves t q ancestors → IsLined t → height t ≤ depth → IsRefutable q depth ancestors
+  pub refutable_by : (t : Tree) (q : Asked) (depth : ℕ) (ancestors : List Asked) → Proves t q ancestors → IsByRuleLines t → height t ≤ depth → IsRefutable q depth ancestors
   refutable_by (rule (Balance set d)) q depth ancestors p lined low = absurd lined
   refutable_by (rule (Line r)) q depth ancestors p lined low = shut_refutable depth q ancestors (inl (r, p))
   refutable_by (back k) q depth ancestors p lined low = shut_refutable depth q ancestors (inr (covered ancestors k q p))
@@ -28,7 +28,7 @@ mutual
   refutable_by (expand kids) q (suc depth) ancestors p lined low =
       inr (p.0, refutable_each kids q (unmoves q) depth ancestors p.1 lined (omega arith))
 
-  pub refutable_each : (f : Forest) (q : Asked) (us : List Unmove) (depth : ℕ) (ancestors : List Asked) → ProvesEach f q us ancestors → AreLined f → height_of_all f ≤ depth → (u : Unmove) → Contains us u → IsRefutable (predecessor q u) depth (q ∷ ancestors)
+  pub refutable_each : (f : Forest) (q : Asked) (us : List Unmove) (depth : ℕ) (ancestors : List Asked) → ProvesEach f q us ancestors → AreByRuleLines f → height_of_all f ≤ depth → (u : Unmove) → Contains us u → IsRefutable (predecessor q u) depth (q ∷ ancestors)
   refutable_each none q us depth ancestors p lined low u there = absurd (contains-none u (subst (λ (l : List Unmove). Contains l u) p there))
   refutable_each (more label tree rest) q us depth ancestors (others, first, p, each) lined low u there =
       elim (contains-cases label others u (subst (λ (l : List Unmove). Contains l u) first there)) [

@@ -2,7 +2,7 @@
 use Rattle.std.proofs.Common.{◌≡◌, ◌≤◌, refl, arith}
 use Rattle.cert_text.specs.Tree.{Tree, Forest, rule, back, expand, none, more}
 use Rattle.cert_text.specs.declared.reasons.Reason.TheVariants.{Line, Balance}
-use Rattle.retro_search.specs.Lined.{AreLined, IsLined}
+use Rattle.retro_search.specs.RuleLines.{AreByRuleLines, IsByRuleLines}
 use Rattle.retro_search.specs.LineCounts.{lines_in, lines_in_all}
 use Rattle.retro_search.specs.Sizes.{nodes_in, nodes_in_all}
 
@@ -20,12 +20,12 @@ mutual
 
 mutual
   -- and just one where there are no prices
-  pub lined_counts : (t : Tree) → IsLined t → lines_in t ≡ nodes_in t
+  pub lined_counts : (t : Tree) → IsByRuleLines t → lines_in t ≡ nodes_in t
   lined_counts (rule (Line r)) lined = refl
   lined_counts (rule (Balance set p)) lined = absurd lined
   lined_counts (back k) lined = refl
   lined_counts (expand kids) lined = omega (arith, lined_counts-each kids lined)
 
-  lined_counts-each : (f : Forest) → AreLined f → lines_in_all f ≡ nodes_in_all f
+  lined_counts-each : (f : Forest) → AreByRuleLines f → lines_in_all f ≡ nodes_in_all f
   lined_counts-each none lined = refl
   lined_counts-each (more label tree rest) lined = omega (arith, lined_counts tree lined.0, lined_counts-each rest lined.1)

@@ -16,7 +16,7 @@ use Rattle.retro_search.specs.Refutable.{IsRefutable}
 use Rattle.retro_search.specs.Heights.{height}
 use Rattle.retro_search.specs.LineCounts.{lines_in, lines_of_reason}
 use Rattle.retro_search.specs.Searched.{Refutes}
-use Rattle.retro_search.specs.Lined.{IsLined}
+use Rattle.retro_search.specs.RuleLines.{IsByRuleLines}
 use Rattle.retro_search.specs.Grown.{AreChildren}
 use Rattle.retro_search.specs.Kept.{IsRefutation, StandsAlone}
 use Rattle.retro_search.specs.declared.refutations.Children.{Children}
@@ -68,7 +68,7 @@ refutes_whole r q depth ancestors f = record {
   low = omega (arith, f.high, f.low);
 }
 
-pub refuted : (r : Refutation) (q : Asked) (depth : ℕ) (ancestors : List Asked) → IsRefutation r q depth ancestors → IsLined (tree_of r.node) → IsRefutable q depth ancestors
+pub refuted : (r : Refutation) (q : Asked) (depth : ℕ) (ancestors : List Asked) → IsRefutation r q depth ancestors → IsByRuleLines (tree_of r.node) → IsRefutable q depth ancestors
 refuted r q depth ancestors f lined =
     let w = refutes_whole r q depth ancestors f in refutable_by (tree_of r.node) q depth ancestors w.proves lined w.low
 

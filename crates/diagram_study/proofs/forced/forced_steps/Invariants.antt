@@ -8,8 +8,8 @@ use Rattle.diagram_study.proofs.forced.forced_steps.Given as goal
 abbrev pub invariant-loop-step : goal.invariant-loop-step
 invariant-loop-step l = record {
   plain : l.here.barred ≡ None;
-  so_far : ForcedSoFar l.query l.most l.nodes l.steps.items l.here;
-  next : MatchOption l.step (IsOpenPlace l.here l.most l.nodes) (λ u. IsForced l.here l.most l.nodes u × IsTrue (has_text u));
+  so_far : ForcedSoFar l.query l.limits.depth l.limits.nodes l.steps.items l.here;
+  next : MatchOption l.step (IsOpenPlace l.here l.limits.depth l.limits.nodes) (λ u. IsForced l.here l.limits.depth l.limits.nodes u × IsTrue (has_text u));
 }
 
 abbrev pub decreases-loop-step : goal.decreases-loop-step

@@ -6,7 +6,7 @@ use Rattle.diagram_study.proofs.pairs.tell_pairs.Goals as goal
 
 pub returns : goal.returns
 returns c =
-    let Tells = TellsOpenPair c.args.query.now c.args.most c.args.nodes c.args.kept in
+    let Tells = TellsOpenPair c.args.query.now c.args.limits.depth c.args.limits.nodes c.args.kept in
     pairs_first Tells (WhiteShort, WhiteLong) ((WhiteShort, BlackShort) ∷ (WhiteShort, BlackLong) ∷ (WhiteLong, BlackShort) ∷ (WhiteLong, BlackLong) ∷ (BlackShort, BlackLong) ∷ []) _ _ _ c.in_ok-tell_open_pair.ensures
     (pairs_first Tells (WhiteShort, BlackShort) ((WhiteShort, BlackLong) ∷ (WhiteLong, BlackShort) ∷ (WhiteLong, BlackLong) ∷ (BlackShort, BlackLong) ∷ []) _ _ _ c.in_ok-tell_open_pair-2.ensures
     (pairs_first Tells (WhiteShort, BlackLong) ((WhiteLong, BlackShort) ∷ (WhiteLong, BlackLong) ∷ (BlackShort, BlackLong) ∷ []) _ _ _ c.in_ok-tell_open_pair-3.ensures

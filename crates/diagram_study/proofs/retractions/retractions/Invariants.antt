@@ -3,7 +3,7 @@ use Rattle.diagram_study.proofs.Leaving.{LeftSoFar}
 use Rattle.diagram_study.proofs.retractions.retractions.Given as goal
 
 abbrev pub invariant-loop-u : goal.invariant-loop-u
-invariant-loop-u l = LeftSoFar l.query (l.most - 1) l.nodes l.unmoves l.left l.all
+invariant-loop-u l = LeftSoFar l.query (l.limits.depth - 1) l.limits.nodes l.unmoves l.left l.all
 
 abbrev pub decreases-loop-u : goal.decreases-loop-u
 decreases-loop-u l = length l.unmoves

@@ -6,6 +6,6 @@ use Rattle.diagram_study.proofs.rights.seek_rights.Given as goal
 abbrev pub invariant-loop-right : goal.invariant-loop-right
 invariant-loop-right l = record {
   rights : map (λ f. f.right) l.found.items ≡ take l.right-index l.each;
-  each : All (IsRightFound l.query l.most l.nodes) l.found.items;
+  each : All (IsRightFound l.query l.limits.depth l.limits.nodes) l.found.items;
   number : length l.found.items ≡ l.right-index;
 }

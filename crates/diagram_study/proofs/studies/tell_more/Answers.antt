@@ -17,7 +17,7 @@ tell_captures-requires c =
 pub returns : goal.returns
 returns c =
     ok_then c.tell_length.result _ _
-    (more_told c.args.query.now c.args.most c.args.nodes c.in_ok-found.found.items c.open_castlings-kept.result c.in_ok-retractions.retractions.left c.in_ok-retractions.retractions.all _ _ _ _ _ _ _ _
+    (more_told c.args.query.now c.args.limits.depth c.args.limits.nodes c.in_ok-found.found.items c.open_castlings-kept.result c.in_ok-retractions.retractions.left c.in_ok-retractions.retractions.all _ _ _ _ _ _ _ _
     c.in_ok-found.ensures
     (c.open_castlings-kept.ensures ∙ ap (λ (l : List RightFound). open_castlings l) c.as_slice.ensures.value)
     c.in_ok-retractions.ensures.left

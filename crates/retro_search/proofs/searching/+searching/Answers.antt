@@ -11,11 +11,11 @@ use Rattle.query_base.specs.Ancestors.{IsCovered}
 use Rattle.retro_search.specs.Refutable.{IsShut}
 use Rattle.retro_search.specs.Eager.{IsEager}
 use Rattle.retro_search.specs.Good.{GoesWellBelow, IsGoodBelow, IsPaid}
-use Rattle.retro_search.specs.Kept.{IsRefutation, KeepsLines}
+use Rattle.retro_search.specs.Kept.{IsRefutation, KeepsRuleLines}
 use Rattle.retro_search.specs.Tidy.{IsKeptLow}
-use Rattle.retro_search.specs.Lined.{IsLined}
+use Rattle.retro_search.specs.RuleLines.{IsByRuleLines}
 use Rattle.retro_search.specs.Searched.{AreCounted, WhereEachRefutable}
-use Rattle.retro_search.specs.Stops.{IfSpent}
+use Rattle.retro_search.specs.Unrefuted.{IfSpent}
 use Rattle.retro_search.specs.declared.memos.Kept.{Kept}
 use Rattle.retro_search.specs.declared.runs.Reasons.{Reasons}
 use Rattle.retro_search.specs.declared.runs.Run.{Run}
@@ -183,8 +183,8 @@ search-returns-in-Some-clause-well t c by ps n g =
     shut_well ps n q c.args.depth (reverse c.args.ancestors.now.items) c.args.run.now c.in-Some.found c.if-run-eq0.false g is c.in-Some.ensures.one c.in-Some.ensures.lined own
 
 -- the tree that is kept for the query
-kept-lined : (run : Run) (k : Kept) → KeepsLines run.memo → Contains (values run.memo.trees) k → IsLined (tree_of k.node)
-kept-lined run k keeps among = All-contains (λ x. IsLined (tree_of x.node)) (values run.memo.trees) k keeps among
+kept-lined : (run : Run) (k : Kept) → KeepsRuleLines run.memo → Contains (values run.memo.trees) k → IsByRuleLines (tree_of k.node)
+kept-lined run k keeps among = All-contains (λ x. IsByRuleLines (tree_of x.node)) (values run.memo.trees) k keeps among
 
 pub search-returns-in-Some-find-clause-well : goal.search-returns-in-Some-find-clause-well
 search-returns-in-Some-find-clause-well t c by =
@@ -194,7 +194,7 @@ search-returns-in-Some-find-clause-well t c by =
 pub search-returns-in-Some-find-clause-lined : goal.search-returns-in-Some-find-clause-lined
 search-returns-in-Some-find-clause-lined t c by =
     let own = kept-lined c.args.run.now c.in-Some-find.kept.now (c.requires.lined by) c.in-Some-find.ensures.among.1 in
-    if_ok c.taken.result _ _ (λ found tree. subst IsLined (sym tree) own) c.taken.ensures.tree
+    if_ok c.taken.result _ _ (λ found tree. subst IsByRuleLines (sym tree) own) c.taken.ensures.tree
 
 pub search-returns-then-keep_alone-clause-well : goal.search-returns-then-keep_alone-clause-well
 search-returns-then-keep_alone-clause-well t c by ps n g =
@@ -230,4 +230,4 @@ search-returns-in-Err-clause-small t c by ps n g =
     c.in-Err.ensures.small (c.by_balance.ensures.same.reasons ∙ by) ps b.0 (subst (λ (r : Run). IsGoodBelow ps b.0 q (c.args.depth - 1) above r) (sym same) b.2)
 
 pub expand-returns-clause-lined : goal.expand-returns-clause-lined
-expand-returns-clause-lined t c by = subst IsLined (sym c.finish.ensures.tree) (c.loop-unmove.invariant.expands.lined by)
+expand-returns-clause-lined t c by = subst IsByRuleLines (sym c.finish.ensures.tree) (c.loop-unmove.invariant.expands.lined by)

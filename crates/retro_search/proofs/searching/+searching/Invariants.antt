@@ -1,7 +1,7 @@
 use Rattle.std.proofs.Common.{ℕ, List, ◌≡◌, ◌+◌, ◌*◌, [], ◌∷◌, ◌++◌, length, reverse}
 use Rattle.query_base.specs.Asked.{Asked}
 use Rattle.retro_search.specs.Good.{IsGoodBelow}
-use Rattle.retro_search.specs.declared.runs.Reasons.TheVariants.{Lines}
+use Rattle.retro_search.specs.declared.runs.Reasons.TheVariants.{RuleLines}
 use Rattle.retro_search.proofs.Expansions.{Expands}
 use Rattle.retro_search.proofs.Bound.GoodSteps.{GoodSoFar}
 use Rattle.retro_search.proofs.searching.+searching.Given as goal
@@ -18,7 +18,7 @@ decreases-expand-loop-unmove l = length l.unmoves
 abbrev pub invariant-expand-loop-unmove : goal.invariant-expand-loop-unmove
 invariant-expand-loop-unmove l = record {
   expands : Expands l.query l.below (reverse l.fn.ancestors.items) l.unmoves l.children l.run l.fn.run;
-  well : l.fn.run.reasons ≡ Lines → (ps : List Asked) (m : ℕ) → IsGoodBelow ps m l.query l.below (reverse l.fn.ancestors.items) l.fn.run
+  well : l.fn.run.reasons ≡ RuleLines → (ps : List Asked) (m : ℕ) → IsGoodBelow ps m l.query l.below (reverse l.fn.ancestors.items) l.fn.run
       → GoodSoFar ps m l.query l.below (reverse l.fn.ancestors.items) l.unmoves l.children l.run l.fn.run;
   kept : l.ancestors.items ≡ l.fn.ancestors.items ++ l.query ∷ [];
 }

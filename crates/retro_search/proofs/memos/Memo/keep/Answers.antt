@@ -3,7 +3,7 @@ use Rattle.std.specs.List.{All}
 use Rattle.std.specs.Map.{values_of}
 use Rattle.cert_text.specs.Tree.{Tree}
 use Rattle.cert_text.specs.Seen.{tree_of}
-use Rattle.retro_search.specs.Lined.{IsLined}
+use Rattle.retro_search.specs.RuleLines.{IsByRuleLines}
 use Rattle.query_base.specs.Asked.{Asked}
 use Rattle.retro_search.specs.Kept.{IsKept, StandsAlone}
 use Rattle.retro_search.specs.declared.memos.Kept.{Kept}
@@ -36,5 +36,5 @@ returns-clause-kept c room =
 pub returns-clause-lined : goal.returns-clause-lined
 returns-clause-lined c keeps lined =
     let kept : Kept = record { query = c.args.query.now; node = c.in_ok-copied.field-0; height = c.args.found.now.height; lines = c.args.found.now.lines } in
-    let own : IsLined (tree_of c.in_ok-copied.field-0) = subst IsLined (sym c.in_ok-copied.ensures) lined in
-    subst (λ (es : List (Asked × Kept)). All (λ k. IsLined (tree_of k.node)) (values_of es)) (sym c.in-Ok.ensures.entries) (all_inserted _ (λ (k : Kept). IsLined (tree_of k.node)) _ c.args.query.now kept own keeps)
+    let own : IsByRuleLines (tree_of c.in_ok-copied.field-0) = subst IsByRuleLines (sym c.in_ok-copied.ensures) lined in
+    subst (λ (es : List (Asked × Kept)). All (λ k. IsByRuleLines (tree_of k.node)) (values_of es)) (sym c.in-Ok.ensures.entries) (all_inserted _ (λ (k : Kept). IsByRuleLines (tree_of k.node)) _ c.args.query.now kept own keeps)
