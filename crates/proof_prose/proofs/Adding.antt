@@ -7,12 +7,8 @@ use Rattle.board_base.specs.declared.men.Colour.{Colour}
 use Rattle.board_base.specs.declared.men.Colour.TheVariants.{White, Black}
 use Rattle.cage_rules.specs.Refuted.{NeedTooMany}
 use Rattle.query_base.specs.Asked.{Asked}
-use Rattle.query_base.specs.declared.rule_lines.RuleLine.TheVariants as rule
-use Rattle.cert_text.specs.declared.reasons.Reason.{Reason}
-use Rattle.cert_text.specs.declared.reasons.Reason.TheVariants.{Line, Balance}
 use Rattle.prose_words.proofs.Squares.{thence}
-use Rattle.proof_prose.specs.Lessened.{with_set}
-use Rattle.proof_prose.specs.Reasons.{Adds, AddsReason, all_words}
+use Rattle.proof_prose.specs.Reasons.{Adds, all_words}
 use Rattle.proof_prose.specs.Sentences.{Says, words_of}
 use Rattle.proof_prose.specs.declared.sentences.Sentence.{Sentence}
 
@@ -27,18 +23,6 @@ pub adds-three : (q : Asked) (a b d : Sentence) (o p r t : List ℕ) → Says a 
 adds-three q a b d o p r t sa sb sd e f g =
     let rest = adds-two q b d p r t sb sd f g in
     ((sa, rest.0), thence o p t (words_of a q) (all_words (b ∷ d ∷ []) q) e rest.1)
-
--- a reason with another set is told so too
-pub adds-like : (q : Asked) (r : Reason) (set : List Bool) (o n : List ℕ) → AddsReason q (with_set r set) o n → AddsReason q r o n
-adds-like q (Line rule.Kings) set o n h = h
-adds-like q (Line rule.Ranks) set o n h = h
-adds-like q (Line rule.Check) set o n h = h
-adds-like q (Line rule.Rights) set o n h = h
-adds-like q (Line (rule.Count c)) set o n h = h
-adds-like q (Line (rule.Frozen s)) set o n h = h
-adds-like q (Line (rule.Caps c s p)) set o n h = h
-adds-like q (Line (rule.Promo c s)) set o n h = h
-adds-like q (Balance s p) set o n h = h
 
 -- who is over is so as the other side's other side
 pub needs-back : (o : List Bool) (q : Asked) (set : List Bool) (c : Colour) (u v : List ℤ) → NeedTooMany o q set c u v → NeedTooMany o q set (opponent (opponent c)) u v

@@ -6,7 +6,7 @@ use Rattle.std.proofs.lemmas.List.{get_or_past}
 use Rattle.board_base.specs.Board.{Places, array_of, at, is_in}
 use Rattle.cage_rules.specs.Frozen.{IsAsArray, same_place}
 use Rattle.cage_rules.proofs.Greatest.{same-told, same-tells}
-use Rattle.proof_prose.specs.Lessened.{is_changed}
+use Rattle.proof_prose.specs.Firsts.{is_changed}
 
 clash : (b : Bool) → b ≡ true → not b ≡ true → ⊥
 clash true same other = cc

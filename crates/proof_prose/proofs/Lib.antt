@@ -1,6 +1,12 @@
 pub mod Adding
 pub mod Changes
 pub mod Gates
-pub mod Likeness
+pub mod Parts
+pub mod Astray
+pub mod Endings
+pub mod Finding
 pub mod Runs
 pub mod Trees
+pub mod Wraps
+pub mod OneLeast
+pub mod OneText

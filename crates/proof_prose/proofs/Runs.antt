@@ -1,83 +1,80 @@
--- Paragraphs that are added one after another, and letters of a line.
-use Rattle.std.proofs.Common.{◌≡◌, ℕ, suc, ◌+◌, ◌<◌, inl, inr, List, [], ◌∷◌, ◌++◌, length, take, drop, get_or, refl, sym, ap, ◌∙◌, subst, arith}
-use Rattle.std.specs.List.{All, Contains}
-use Rattle.std.proofs.Math.Seq.{take-add, drop-cons}
-use Rattle.std.proofs.lemmas.List.{append-nil, append_assoc, take_more}
-use Rattle.std.proofs.lemmas.List.Elements.{All-contains, All-push, All-weaker, Contains-append_right}
-use Rattle.general_lemmas.proofs.Lists.{contains-first}
-use Rattle.proof_prose.specs.Paragraphs.{AreTold, IsSaid, Paragraph, as_in, name_of}
-use Rattle.proof_prose.specs.Added.{AddsParagraph, IsSaidBy}
-use Rattle.proof_prose.specs.Rows.{AreCut, IsLetter}
-use Rattle.proof_prose.specs.declared.nodes.Told.{Told}
+-- Runs of nodes that are told together, and paragraphs that are told one after another.
+use Rattle.std.proofs.Common.{◌≡◌, ℕ, zero, suc, ◌+◌, ◌-◌, ◌<◌, ◌≤◌, Bool, true, false, inl, inr, List, [], ◌∷◌, ◌++◌, length, take, drop, get_or, refl, sym, ap, ◌∙◌, arith}
+use Rattle.std.specs.Prelude.{Some, None}
+use Rattle.std.specs.List.{find}
+use Rattle.std.proofs.Math.Seq.{drop-cons}
+use Rattle.std.proofs.lemmas.Bool.{cases_Bool, cond-true, cond-false}
+use Rattle.std.proofs.lemmas.List.{append_assoc, drop-drop, drop_all, take-append-drop}
+use Rattle.proof_prose.specs.Paragraphs.{Paragraph, alone, joined, joins, paragraph_text, paragraphs_of, put_before, said_of, told_after}
+use Rattle.proof_prose.specs.Runs.{IsRun, run_of}
+use Rattle.proof_prose.specs.declared.bodies.Spoken.{Spoken}
 use Rattle.proof_prose.specs.declared.paragraphs.Said.{Said}
 
--- one letter more
-pub cut-more : (xs : List ℕ) (x : ℕ) (a b : List ℕ) → AreCut xs a → IsLetter x b → AreCut (xs ++ x ∷ []) (a ++ b)
-cut-more [] x a b h k = (b, [], k, refl, ap (λ (l : List ℕ). l ++ b) h ∙ sym (append-nil b))
-cut-more (y ∷ xs) x a b h k =
-    (h.0, h.1 ++ b, h.2, cut-more xs x h.1 b h.3 k, ap (λ (l : List ℕ). l ++ b) h.4 ∙ append_assoc h.0 h.1 b)
-
--- the letters up to a place, and the one there
-pub cut-next : (line : List ℕ) (i : ℕ) (a b : List ℕ) → i < length line → AreCut (take i line) a → IsLetter (get_or line i 0) b → AreCut (take (i + 1) line) (a ++ b)
-cut-next line i a b lt h k =
-    subst (λ (l : List ℕ). AreCut l (a ++ b)) (sym (take_more line i 0 lt)) (cut-more (take i line) (get_or line i 0) a b h k)
-
--- a paragraph says what was remembered
-abbrev pub IsRemembered : List Paragraph → Said → Type 0
-IsRemembered ps s = (p : Paragraph) × Contains ps p × (s.name.items ≡ name_of p) × (s.body.items ≡ p.body)
-
--- each of those says
-abbrev pub AreRemembered : List Paragraph → List Said → Type 0
-AreRemembered ps said = All (IsRemembered ps) said
-
--- so many nodes are told behind an old text
-pub record AreAllTold (nodes : List Told) (said : List Said) (old new : List ℕ) : Type 0 where
-  pub paragraphs : List Paragraph
-  pub text : List ℕ
-  pub told : AreTold paragraphs nodes text
-  pub is : new ≡ old ++ text
-  pub remembered : AreRemembered paragraphs said
-
-pub none-told : (said : List Said) (old : List ℕ) → said ≡ [] → AreAllTold [] said old old
-none-told said old e = record {
-  paragraphs = [];
-  text = [];
-  told = (refl, refl);
-  is = sym (append-nil old);
-  remembered = subst (λ (l : List Said). All (IsRemembered []) l) (sym e) (λ k d lt. absurd (omega arith));
-}
-
-later : (p : Paragraph) (ps : List Paragraph) (s : Said) → IsRemembered ps s → IsRemembered (p ∷ ps) s
-later p ps s h = (h.0, Contains-append_right (p ∷ []) ps h.0 h.1, h.2, h.3)
-
-said-so : (ps : List Paragraph) (said : List Said) (body words : List ℕ) → AreRemembered ps said → IsSaidBy said body words → IsSaid ps body words
-said-so ps said body words all h = elim h [
-  | inl e ↦ inl e
-  | inr (s, there, same, is) ↦
-      let p : IsRemembered ps s = All-contains (IsRemembered ps) said s all there in
-      inr (p.0, p.1, sym p.3 ∙ same, is ∙ ap as_in p.2)
+-- the node after one that stops is the first of a paragraph
+apart : (s t : Spoken) (ps : List Paragraph) → joins s t ≡ false → put_before s (put_before t ps) ≡ alone s ∷ put_before t ps
+apart s t [] stops = cond-false (joins s t) (joined s (alone t) ∷ []) (alone s ∷ alone t ∷ []) stops
+apart s t (p ∷ ps) stops = elim (cases_Bool (joins t p.first)) [
+  | inl meets ↦
+      let e : put_before t (p ∷ ps) ≡ joined t p ∷ ps = cond-true (joins t p.first) (joined t p ∷ ps) (alone t ∷ p ∷ ps) meets in
+      ap (put_before s) e ∙ cond-false (joins s t) (joined s (joined t p) ∷ ps) (alone s ∷ joined t p ∷ ps) stops ∙ ap (λ (l : List Paragraph). alone s ∷ l) (sym e)
+  | inr other ↦
+      let e : put_before t (p ∷ ps) ≡ alone t ∷ p ∷ ps = cond-false (joins t p.first) (joined t p ∷ ps) (alone t ∷ p ∷ ps) other in
+      ap (put_before s) e ∙ cond-false (joins s t) (joined s (alone t) ∷ p ∷ ps) (alone s ∷ alone t ∷ p ∷ ps) stops ∙ ap (λ (l : List Paragraph). alone s ∷ l) (sym e)
 ]
 
--- a paragraph more
-pub told-more : (before : List Told) (first : Told) (others : List Told) (nodes : List Told) (said now : List Said) (o old new : List ℕ) → AreAllTold before said o old → AddsParagraph first others said now old new → nodes ≡ before ++ first ∷ others → AreAllTold nodes now o new
-told-more before first others nodes said now o old new t h e =
-    let p : Paragraph = record { first = first; others = others; body = h.0.body.items } in
-    let rows = h.5 in
-    record {
-      paragraphs = p ∷ t.paragraphs;
-      text = t.text ++ rows.1;
-      told = (before, t.text, rows.0, rows.1, t.told, (h.3, h.4), e, said-so t.paragraphs said h.0.body.items rows.0 t.remembered rows.2, rows.3, refl);
-      is = rows.4 ∙ ap (λ (l : List ℕ). l ++ rows.1) t.is ∙ append_assoc o t.text rows.1;
-      remembered = subst (λ (l : List Said). All (IsRemembered (p ∷ t.paragraphs)) l) (sym h.1)
-          (All-push (IsRemembered (p ∷ t.paragraphs)) said h.0 (All-weaker (IsRemembered t.paragraphs) (IsRemembered (p ∷ t.paragraphs)) (later p t.paragraphs) said t.remembered) (p, contains-first p t.paragraphs, h.2, refl));
-    }
+-- a run is a paragraph
+pub run-first : (s : Spoken) (others rest : List Spoken) → IsRun s others rest → paragraphs_of (s ∷ (others ++ rest)) ≡ run_of s others ∷ paragraphs_of rest
+run-first s [] [] h = refl
+run-first s [] (t ∷ rest) h = apart s t (paragraphs_of rest) h
+run-first s (t ∷ others) rest h =
+    ap (put_before s) (run-first t others rest h.1)
+    ∙ cond-true (joins s t) (run_of s (t ∷ others) ∷ paragraphs_of rest) (alone s ∷ run_of t others ∷ paragraphs_of rest) h.0
 
--- the nodes up to a place, the one there, and some after it
-pub run-next : (nodes : List Told) (i n : ℕ) (d : Told) → i < length nodes → take (i + (1 + n)) nodes ≡ take i nodes ++ get_or nodes i d ∷ take n (drop (i + 1) nodes)
-run-next nodes i n d lt =
+-- so many nodes each of which is told with the one before, up to one that isn't
+pub run-told : (s : Spoken) (rest : List Spoken) (n : ℕ) (d : Spoken) → n ≤ length rest → ((k : ℕ) → k < n → joins (get_or (s ∷ rest) k d) (get_or rest k d) ≡ true) → (n < length rest → joins (get_or (s ∷ rest) n d) (get_or rest n d) ≡ false) → IsRun s (take n rest) (drop n rest)
+run-told s [] zero d few all stop = tt
+run-told s [] (suc n) d few all stop = absurd (omega arith)
+run-told s (t ∷ rest) zero d few all stop = stop (omega arith)
+run-told s (t ∷ rest) (suc n) d few all stop =
+    (all 0 (omega arith), run-told t rest n d (omega arith) (λ k lt. all (suc k) (omega arith)) (λ lt. stop (omega arith)))
+
+-- a paragraph more
+pub told-next : (nodes : List Spoken) (i n : ℕ) (first : Spoken) (said now : List Said) (o new : List ℕ) → i < length nodes → first ≡ get_or nodes i first → IsRun first (take n (drop (i + 1) nodes)) (drop n (drop (i + 1) nodes)) → new ≡ o ++ paragraph_text said (run_of first (take n (drop (i + 1) nodes))) → now ≡ said ++ said_of (run_of first (take n (drop (i + 1) nodes))) ∷ [] → new ++ told_after now (paragraphs_of (drop (i + (1 + n)) nodes)) ≡ o ++ told_after said (paragraphs_of (drop i nodes))
+told-next nodes i n first said now o new lt at run e f =
+    let rest : List Spoken = drop (i + 1) nodes in
+    let p : Paragraph = run_of first (take n rest) in
     let one : suc i ≡ i + 1 = omega arith in
-    let more : 1 + n ≡ suc n = omega arith in
-    take-add i (1 + n) nodes
-    ∙ ap (λ (l : List Told). take i nodes ++ take (1 + n) l) (drop-cons nodes i d lt)
-    ∙ ap (λ (k : ℕ). take i nodes ++ take k (get_or nodes i d ∷ drop (suc i) nodes)) more
-    ∙ ap (λ (k : ℕ). take i nodes ++ get_or nodes i d ∷ take n (drop k nodes)) one
+    let sum : (i + 1) + n ≡ i + (1 + n) = omega arith in
+    let later : drop n rest ≡ drop (i + (1 + n)) nodes = drop-drop n (i + 1) nodes ∙ ap (λ (k : ℕ). drop k nodes) sum in
+    let whole : drop i nodes ≡ first ∷ (take n rest ++ drop n rest) =
+    drop-cons nodes i first lt ∙ ap (λ (s : Spoken). s ∷ drop (suc i) nodes) (sym at) ∙ ap (λ (k : ℕ). first ∷ drop k nodes) one ∙ ap (λ (l : List Spoken). first ∷ l) (sym (take-append-drop n rest)) in
+    let parts : paragraphs_of (drop i nodes) ≡ p ∷ paragraphs_of (drop (i + (1 + n)) nodes) =
+    ap paragraphs_of whole ∙ run-first first (take n rest) (drop n rest) run ∙ ap (λ (l : List Spoken). p ∷ paragraphs_of l) later in
+    let others : List Paragraph = paragraphs_of (drop (i + (1 + n)) nodes) in
+    ap (λ (l : List ℕ). l ++ told_after now others) e
+    ∙ append_assoc o (paragraph_text said p) (told_after now others)
+    ∙ ap (λ (l : List Said). o ++ (paragraph_text said p ++ told_after l others)) f
+    ∙ ap (λ (l : List Paragraph). o ++ told_after said l) (sym parts)
+
+-- what is found from a place on
+pub found-here : {X : Type 0} (p : X → Bool) (xs : List X) (k : ℕ) (d : X) → k < length xs → p (get_or xs k d) ≡ true → find p (drop k xs) ≡ Some (get_or xs k d)
+found-here {X} p xs k d lt hit =
+    ap (find p) (drop-cons xs k d lt) ∙ cond-true (p (get_or xs k d)) (Some (get_or xs k d)) (find p (drop (suc k) xs)) hit
+
+pub found-later : {X : Type 0} (p : X → Bool) (xs : List X) (k : ℕ) (d : X) → k < length xs → p (get_or xs k d) ≡ false → find p (drop k xs) ≡ find p (drop (k + 1) xs)
+found-later {X} p xs k d lt miss =
+    let one : suc k ≡ k + 1 = omega arith in
+    ap (find p) (drop-cons xs k d lt) ∙ cond-false (p (get_or xs k d)) (Some (get_or xs k d)) (find p (drop (suc k) xs)) miss ∙ ap (λ (j : ℕ). find p (drop j xs)) one
+
+pub found-nowhere : {X : Type 0} (p : X → Bool) (xs : List X) (k : ℕ) → length xs ≤ k → find p (drop k xs) ≡ None
+found-nowhere {X} p xs k past = ap (find p) (drop_all k xs past)
+
+-- the element before a place, behind a first one
+pub get-before : {X : Type 0} (x : X) (xs : List X) (i : ℕ) (d : X) → (i ≡ 0 → ⊥) → get_or (x ∷ xs) i d ≡ get_or xs (i - 1) d
+get-before {X} x xs zero d some = absurd (some refl)
+get-before {X} x xs (suc k) d some = let same : k ≡ suc k - 1 = omega arith in ap (λ (n : ℕ). get_or xs n d) same
+
+-- a list of no length
+pub none-left : {X : Type 0} (xs : List X) → length xs ≡ 0 → xs ≡ []
+none-left {X} [] e = refl
+none-left {X} (x ∷ xs) e = absurd (omega (arith, e))

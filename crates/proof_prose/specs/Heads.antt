@@ -18,6 +18,7 @@ use Rattle.fen_text.specs.OddsLines.{is_no_odds}
 use Rattle.query_base.specs.Asked.{Asked}
 use Rattle.query_base.specs.declared.claims.Claim.{Claim}
 use Rattle.query_base.specs.declared.claims.Claim.TheVariants.{Illegal, Last, Lost, Ep}
+use Rattle.proof_prose.specs.Rows.{rows_of}
 use Rattle.prose_words.specs.Words.{initial, place_letter, side_word, squares_words, wing_word}
 
 -- a place of the diagram after a space
@@ -46,8 +47,12 @@ unfoldable pub diagram_text : Places → Colour → List ℕ
 diagram_text board turn = ended (codes "  a b c d e f g h") ++ upper_text board ++ lower_text board turn
 
 -- the squares whose men were left out
+abbrev pub odds_line : List Bool → List ℕ
+odds_line odds = codes "The game began without the men of" ++ squares_words (is_in odds) ++ ended (codes ".")
+
+-- the same in rows
 abbrev pub odds_words : List Bool → List ℕ
-odds_words odds = codes "The game began without the men of" ++ squares_words (is_in odds) ++ ended (codes ".")
+odds_words odds = rows_of (odds_line odds)
 
 -- the squares whose men were left out, if any were
 abbrev pub odds_given : List Bool → List ℕ

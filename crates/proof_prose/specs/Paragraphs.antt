@@ -1,39 +1,71 @@
 -- Paragraphs: each tells a node, or several that differ in the captured man alone and of which the same is said.
-use Rattle.std.specs.Prelude.{ℕ, ◌≡◌, ◌-◌, ◌==◌, ◌⊎◌, Bool, cond, List, [], ◌∷◌, ◌++◌, codes, length, slice_index_or, Option, Some, None}
+use Rattle.std.specs.Prelude.{ℕ, ◌-◌, ◌==◌, nat_lt, Bool, true, false, cond, ◌&&◌, List, [], ◌∷◌, ◌++◌, codes, length, slice_index_or, Option, Some, None, is_some}
 use Rattle.std.specs.Fmt.{decimal}
-use Rattle.std.specs.List.{All, Contains}
+use Rattle.std.specs.List.{find}
+use Rattle.std.specs.Str.{bytes_eq}
+use Rattle.board_base.specs.Legal.{is_move}
 use Rattle.board_base.specs.declared.men.Kind.{Kind}
-use Rattle.board_base.specs.declared.moves.Move.{Move}
 use Rattle.board_base.specs.declared.unmoves.Unmove.{Unmove}
 use Rattle.query_base.specs.Asked.{Asked}
-use Rattle.unmove_gen.specs.Listed.{taking}
 use Rattle.proof_prose.specs.Labels.{label_words}
 use Rattle.prose_words.specs.Words.{kind_word}
-use Rattle.proof_prose.specs.Reasons.{IsBody}
-use Rattle.proof_prose.specs.Rows.{AreRows}
+use Rattle.proof_prose.specs.Rows.{rows_of}
+use Rattle.proof_prose.specs.declared.bodies.Spoken.{Spoken}
+use Rattle.proof_prose.specs.declared.nodes.Line.{Line}
+use Rattle.proof_prose.specs.declared.nodes.Line.TheVariants.{Because, Back, Moves}
 use Rattle.proof_prose.specs.declared.nodes.Told.{Told}
+use Rattle.proof_prose.specs.declared.paragraphs.Said.{Said}
 
--- the nodes that a paragraph tells, and what it says of each
+-- nodes that a paragraph tells, of each of which it says the same
 pub record Paragraph : Type 0 where
-  pub first : Told
-  pub others : List Told
-  pub body : List ℕ
+  pub first : Spoken
+  pub others : List Spoken
 
--- the retractions are of one move, which captured one man or another
-abbrev pub AreTakings : Unmove → Unmove → Type 0
-AreTakings u v = (move : Move) × (one : Kind) × (other : Kind) × (u ≡ taking move (Some one)) × (v ≡ taking move (Some other))
+-- the node has no children
+abbrev pub is_leaf : Line → Bool
+is_leaf (Because r) = true
+is_leaf (Back k) = true
+is_leaf (Moves n) = n == 0
 
--- children of one node, with such retractions
-abbrev pub AreAlike : Told → Told → Type 0
-AreAlike a b = (u : Unmove) × (v : Unmove) × (a.label ≡ Some u) × (b.label ≡ Some v) × AreTakings u v × (a.prefix ≡ b.prefix)
+-- the man whom a retraction captured otherwise than en passant
+abbrev pub taken_by : Unmove → Option Kind
+taken_by u = cond u.ep None u.captured
 
--- what is said holds of the node, which is like the first
-abbrev pub TellsToo : Told → List ℕ → Told → Type 0
-TellsToo first body t = AreAlike first t × IsBody t body
+-- both retractions are of one move, which captured one man or another
+abbrev pub are_takings : Unmove → Unmove → Bool
+are_takings u v = is_some (taken_by u) && is_some (taken_by v) && is_move (Some u.mv) v.mv
 
--- what is said holds of each node
-abbrev pub IsParagraph : Paragraph → Type 0
-IsParagraph p = IsBody p.first p.body × All (TellsToo p.first p.body) p.others
+-- both lead to nodes so
+abbrev pub are_labels_alike : Option Unmove → Option Unmove → Bool
+are_labels_alike None other = false
+are_labels_alike (Some u) None = false
+are_labels_alike (Some u) (Some v) = are_takings u v
+
+-- children of one node that differ in the captured man alone
+abbrev pub are_alike : Told → Told → Bool
+are_alike a b = are_labels_alike a.label b.label && bytes_eq a.prefix b.prefix
+
+-- the second node is told with the first, behind it: neither has children, they are alike, and the same is said of both
+abbrev pub joins : Spoken → Spoken → Bool
+joins a b = is_leaf a.node.line && is_leaf b.node.line && are_alike a.node b.node && bytes_eq a.body b.body
+
+-- a node by itself
+abbrev pub alone : Spoken → Paragraph
+alone s = record { first = s; others = [] }
+
+-- the nodes of a paragraph behind another
+abbrev pub joined : Spoken → Paragraph → Paragraph
+joined s p = record { first = s; others = p.first ∷ p.others }
+
+-- a node before paragraphs: the first of these is told with it, or not
+abbrev pub put_before : Spoken → List Paragraph → List Paragraph
+put_before s [] = alone s ∷ []
+put_before s (p ∷ ps) = cond (joins s p.first) (joined s p ∷ ps) (alone s ∷ p ∷ ps)
+
+-- the paragraphs of these nodes: the longest runs of nodes each of which is told with the one before
+abbrev pub paragraphs_of : List Spoken → List Paragraph
+paragraphs_of [] = []
+paragraphs_of (s ∷ rest) = put_before s (paragraphs_of rest)
 
 -- the word for the man whom a retraction captured
 abbrev pub captured_word : Option Unmove → List ℕ
@@ -41,13 +73,13 @@ captured_word None = []
 captured_word (Some u) = elim u.captured [ None ↦ [] | Some k ↦ kind_word k ]
 
 -- the man whom a node's retraction captured, as the last of several or as one before
-abbrev pub kind_part : Bool → Told → List ℕ
-kind_part last t = cond last (codes " or ") (codes ", ") ++ captured_word t.label
+abbrev pub kind_part : Bool → Spoken → List ℕ
+kind_part last s = cond last (codes " or ") (codes ", ") ++ captured_word s.node.label
 
 -- the men who may have been captured in the place of the first one, as in `, bishop or rook`
-abbrev pub kinds_words : List Told → List ℕ
+abbrev pub kinds_words : List Spoken → List ℕ
 kinds_words [] = []
-kinds_words (t ∷ ts) = kind_part (length ts == 0) t ++ kinds_words ts
+kinds_words (s ∷ rest) = kind_part (length rest == 0) s ++ kinds_words rest
 
 -- a place after another, where it is another
 abbrev pub last_words : ℕ → ℕ → List ℕ
@@ -62,13 +94,13 @@ abbrev pub name_at : Option Unmove → List ℕ → ℕ → ℕ → List ℕ
 name_at None prefix first last = []
 name_at (Some u) prefix first last = numbers_words prefix first last
 
--- the numbers of these nodes
-abbrev pub name_from : Told → List Told → List ℕ
-name_from t others = name_at t.label t.prefix t.place (slice_index_or others (length others - 1) t).place
+-- the place of the last of these nodes
+abbrev pub last_place : Spoken → List Spoken → ℕ
+last_place s others = (slice_index_or others (length others - 1) s).node.place
 
--- the numbers of a paragraph
-abbrev pub name_of : Paragraph → List ℕ
-name_of p = name_from p.first p.others
+-- the numbers of these nodes
+abbrev pub name_from : Spoken → List Spoken → List ℕ
+name_from s others = name_at s.node.label s.node.prefix s.node.place (last_place s others)
 
 -- the retraction behind the numbers, with the men who may have been captured
 abbrev pub move_part : Unmove → Asked → List ℕ → List ℕ → List ℕ
@@ -81,19 +113,38 @@ heading_at (Some u) whence name kinds = move_part u whence name kinds
 
 -- what a paragraph begins with
 abbrev pub heading_of : Paragraph → List ℕ
-heading_of p = heading_at p.first.label p.first.whence (name_of p) (kinds_words p.others)
+heading_of p = heading_at p.first.node.label p.first.node.whence (name_from p.first p.others) (kinds_words p.others)
 
 -- that it is what another paragraph says
 abbrev pub as_in : List ℕ → List ℕ
 as_in name = codes "As in " ++ name ++ codes "."
 
--- what stands behind the heading: what is said, or that it is what an earlier paragraph says
-abbrev pub IsSaid : List Paragraph → List ℕ → List ℕ → Type 0
-IsSaid earlier body words =
-    (words ≡ body) ⊎ ((p : Paragraph) × Contains earlier p × (p.body ≡ body) × (words ≡ as_in (name_of p)))
+-- the numbers of a paragraph and what it says
+abbrev pub said_of : Paragraph → Said
+said_of p = record { name = name_from p.first p.others; body = p.first.body }
 
--- The paragraphs, the latest first, tell these nodes, each one once and in their order, and this is their text.
-abbrev pub AreTold : List Paragraph → List Told → List ℕ → Type 0
-AreTold [] nodes text = (nodes ≡ []) × (text ≡ [])
-AreTold (p ∷ earlier) nodes text =
-    (before : List Told) × (old : List ℕ) × (words : List ℕ) × (rows : List ℕ) × AreTold earlier before old × IsParagraph p × (nodes ≡ before ++ p.first ∷ p.others) × IsSaid earlier p.body words × AreRows (heading_of p ++ words) rows × (text ≡ old ++ rows)
+-- the first of the earlier paragraphs that says this, if one does
+abbrev pub first_saying : List ℕ → List Said → Option Said
+first_saying body earlier = find (λ s. bytes_eq s.body body) earlier
+
+-- what is said, or that it is as in an earlier paragraph
+abbrev pub said_or : List ℕ → Option Said → List ℕ
+said_or body None = body
+said_or body (Some s) = as_in s.name
+
+-- what stands behind the heading: more than sixty letters that an earlier paragraph has are told by its number, the first such
+abbrev pub said_words : List ℕ → List Said → List ℕ
+said_words body earlier = cond (nat_lt 60 (length body)) (said_or body (first_saying body earlier)) body
+
+-- the rows of a paragraph behind earlier ones
+abbrev pub paragraph_text : List Said → Paragraph → List ℕ
+paragraph_text earlier p = rows_of (heading_of p ++ said_words p.first.body earlier)
+
+-- the text of paragraphs behind earlier ones
+abbrev pub told_after : List Said → List Paragraph → List ℕ
+told_after earlier [] = []
+told_after earlier (p ∷ ps) = paragraph_text earlier p ++ told_after (earlier ++ said_of p ∷ []) ps
+
+-- the text of these nodes
+abbrev pub told_text : List Spoken → List ℕ
+told_text spoken = told_after [] (paragraphs_of spoken)

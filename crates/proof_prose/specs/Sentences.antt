@@ -1,19 +1,19 @@
 -- The sentences that tell why no game reaches a query: what each says, and its words.
-use Rattle.std.specs.Prelude.{ℕ, ◌≡◌, ◌≤◌, ◌+◌, ◌-◌, ◌*◌, ◌/◌, ◌%◌, ◌<◌, nat_lt, nat_le, ◌==◌, Bool, cond, ◌&&◌, IsTrue, length, List, [], ◌∷◌, ◌++◌, codes, drop, slice_index}
+use Rattle.std.specs.Prelude.{ℕ, ◌≡◌, ◌≤◌, ◌+◌, ◌-◌, ◌*◌, ◌<◌, nat_lt, nat_le, ◌==◌, Bool, cond, ◌&&◌, IsTrue, length, List, [], ◌++◌, codes, drop, slice_index}
 use Rattle.std.specs.List.{flat_map, range_with_len}
 use Rattle.std.specs.Fmt.{decimal}
 use Rattle.board_base.specs.Board.{array_of, at, is_a, is_in, is_of, is_the, opponent}
 use Rattle.board_base.specs.Attacks.{attacks}
+use Rattle.board_base.specs.Game.{lacks_home}
 use Rattle.board_base.specs.Potentials.{Duals}
 use Rattle.board_base.specs.Texts.{square_text}
+use Rattle.board_base.specs.declared.castles.Castle.{Castle}
 use Rattle.board_base.specs.declared.men.Colour.{Colour}
 use Rattle.board_base.specs.declared.men.Colour.TheVariants.{White, Black}
 use Rattle.board_base.specs.declared.men.Kind.TheVariants.{King, Pawn}
 use Rattle.assignment.specs.Assignments.{IsInjection, assignment_cost, least_cost}
 use Rattle.assignment.specs.Tables.{cost_at}
 use Rattle.balance_rule.specs.Balance.{men_on, most_cost, side_cost}
-use Rattle.capture_prices.specs.Prices.{PriceList}
-use Rattle.capture_prices.specs.declared.prices.Gate.{Gate}
 use Rattle.pawn_assign.specs.PawnCosts.{pawn_costs, pawn_home, pawn_squares}
 use Rattle.men_account.specs.Account.{accounts_for, allowance_of, counts_of, excess_of, is_any, men}
 use Rattle.men_account.specs.Homes.{men_of}
@@ -23,10 +23,12 @@ use Rattle.query_base.specs.Asked.{Asked}
 use Rattle.cage_rules.specs.Frozen.{IsAsArray, IsFrozen}
 use Rattle.cage_rules.specs.Refuted.{HasTooMany, NeedTooMany, is_spent}
 use Rattle.cage_rules.specs.Regions.{is_dead, is_officer_home}
-use Rattle.static_rules.specs.Supports.{HasRightsHomes}
 use Rattle.unmove_gen.specs.Listed.{unmoves}
 use Rattle.retraction_bars.specs.Lines.{bars_text}
 use Rattle.prose_words.specs.Words.{man_words, side_word, squares_words}
+use Rattle.proof_prose.specs.Firsts.{is_astray}
+use Rattle.proof_prose.specs.Heads.{unmoved_words}
+use Rattle.proof_prose.specs.Pricing.{around, priced_words}
 use Rattle.proof_prose.specs.declared.sentences.Sentence.{Sentence}
 use Rattle.proof_prose.specs.declared.sentences.Sentence.TheVariants.{Kings, Ranks, Check, Rights, Count, Caged, Changed, Settled, Gone, Promoted, Way, Lacks, Priced, Balanced, Back, Still, Moved}
 
@@ -43,19 +45,20 @@ abbrev pub NeverMoved : Asked → List Bool → Type 0
 NeverMoved q set = IsFrozen q set × IsAsArray q.odds q.board set
 
 -- What a sentence says of a query. Not each side has one king; a pawn stands on this square of rank 1 or 8; a king of the side that isn't
--- to move stands on this square in check; a king or a rook that never moved isn't at home. The side has so many pawns, with the men who must have been
--- promoted so many, and began with so many, which is fewer. The men on the set shut each other in; this square of the set doesn't hold
--- what it held in the array. The men on the set never moved; meanwhile nobody is left of those who began on the homes that are named; so
--- the side has more pawns and promoted men than it had pawns; its pawns have made at least so many captures, as many as where they began
--- on these files; the side lacks so many men, of whom no pawn took those of the homes that
--- are named, and the enemy's pawns need more than the others. Captures have these prices, and at
--- these prices the men of both sides cost so much at least, which is more than the gates make up for. The side that isn't to move has no
--- retraction, or has some.
+-- to move stands on this square in check; this right is held, and its king or its rook was left out or isn't at home. The side has so
+-- many pawns, with the men who must have been promoted so many, and began with so many, which is fewer. The men on the set shut each other
+-- in; this square of the set doesn't hold what it held in the array. The men on the set never moved; meanwhile nobody is left of those who
+-- began on the homes that are named; so the side has more pawns and promoted men than it had pawns; its pawns have made at least so many
+-- captures, as many as where they began on these files; the side lacks so many men, of whom no pawn took those of the homes that are
+-- named, and the enemy's pawns need more than the others. Captures have these prices, and at these prices the men of both sides cost so
+-- much at least, which is more than the gates make up for. The side that isn't to move has no retraction, or has some. Of one that sends
+-- the reader so many moves back, nothing is said of the query by itself: that the position there asks no more is what `Proves` says of a
+-- `back` in the tree, and `explain` asks for a certificate that proves its claim.
 abbrev pub Says : Sentence → Asked → Type 0
 Says Kings q = HasOneKingEach q.board → ⊥
 Says (Ranks s) q = IsTrue (is_end s && is_a Pawn (at q.board s))
 Says (Check c s) q = (c ≡ opponent q.turn) × IsTrue (is_the c King (at q.board s) && attacks q.board s (opponent c))
-Says Rights q = HasRightsHomes q → ⊥
+Says (Rights x) q = IsTrue (is_astray q x)
 Says (Count c pawns together began) q =
     (pawns ≡ men c Pawn is_any q.board) × (together ≡ excess_of (counts_of c q.board) (allowance_of c is_any (array_of q.odds))) × (began ≡ men c Pawn is_any (array_of q.odds)) × (IsTrue (accounts_for q.odds q.board c) → ⊥)
 Says (Caged set) q = IsFrozen q set
@@ -78,11 +81,6 @@ Says (Moved first) q = 0 < length (unmoves q)
 -- a number of things, with the word for one or for several
 abbrev pub counted : ℕ → List ℕ → List ℕ → List ℕ
 counted n one several = decimal n ++ cond (n == 1) one several
-
--- nothing where there is no list, else the list with what stands around it
-abbrev pub around : List ℕ → List ℕ → List ℕ → List ℕ
-around front [] back = []
-around front (x ∷ list) back = front ++ (x ∷ list) ++ back
 
 -- where a pawn came from, if it moved, and where it stands
 abbrev pub way_words : ℕ → ℕ → List ℕ
@@ -113,6 +111,11 @@ end_words s = codes "A pawn stands on " ++ square_text s ++ codes "."
 -- that the king of a side stands in check on a square, and the other side is to move
 abbrev pub check_words : Colour → ℕ → List ℕ
 check_words c s = side_word c ++ codes "'s king on " ++ square_text s ++ codes " stands in check with " ++ side_word (opponent c) ++ codes " to move."
+
+-- why the king and the rook of a castling can't have stayed
+abbrev pub rights_words : List Bool → Castle → List ℕ
+rights_words odds x =
+    codes "It can't be that " ++ unmoved_words x ++ cond (lacks_home odds x) (codes ": the game began without the rook.") (codes ": they don't both stand there.")
 
 -- that these men shut each other in, or that the one on one square is shut in
 abbrev pub shut_words : List ℕ → List ℕ
@@ -159,32 +162,6 @@ abbrev pub lacks_words : Asked → Colour → List Bool → ℕ → List ℕ
 lacks_words q c set missing =
     missing_words c missing ++ around (codes ", but no pawn can have taken whoever began on") (squares_words (is_safe q c set)) [] ++ codes "."
 
--- a price on the squares of a class, as in ` 24 on a dark`
-abbrev pub class_words : ℕ → ℕ → List ℕ
-class_words price k = codes " " ++ decimal price ++ codes " on " ++ (97 + k / 2) ∷ [] ++ cond (k % 2 == 0) (codes " dark") (codes " light")
-
--- the same where the price isn't the usual one
-abbrev pub price_words : ℕ → List ℕ → ℕ → List ℕ
-price_words usual prices k = cond (slice_index prices k == usual) [] (class_words (slice_index prices k) k)
-
--- what a side's pawns pay for a capture: a number, and then the prices that differ from it
-abbrev pub prices_words : ℕ → List ℕ → List ℕ
-prices_words usual prices = codes " " ++ decimal usual ++ around (codes " (but") (flat_map (price_words usual prices) (range_with_len 0 16)) (codes ")")
-
--- the toll of a gate
-abbrev pub gate_words : Gate → List ℕ
-gate_words g = codes " " ++ decimal g.toll ++ codes " on " ++ square_text g.square
-
--- the tolls of all gates
-abbrev pub gates_words : List Gate → List ℕ
-gates_words gates =
-    around (codes "A pawn that never captures pays for treading a square, as only one of the two pawns of a file can have:") (flat_map gate_words gates) (codes ". ")
-
--- what captures cost; what a side usually pays is what it pays on the light squares of file h
-abbrev pub priced_words : PriceList → List ℕ
-priced_words p =
-    codes "Let a capture by a white pawn cost" ++ prices_words (slice_index p.white 15) p.white ++ codes ", and one by a black pawn" ++ prices_words (slice_index p.black 15) p.black ++ codes ": the side that captures pays it, and the man who is taken earns it. " ++ gates_words p.gates
-
 -- what men pay more than they earn, or the other way round
 abbrev pub difference_words : ℕ → ℕ → List ℕ
 difference_words cost own =
@@ -221,7 +198,7 @@ unfoldable pub words_of : Sentence → Asked → List ℕ
 words_of Kings q = codes "Not each side has exactly one king."
 words_of (Ranks s) q = end_words s
 words_of (Check c s) q = check_words c s
-words_of Rights q = codes "A king or a rook that never moved isn't on its first square."
+words_of (Rights x) q = rights_words q.odds x
 words_of (Count c pawns together began) q = count_words c pawns (together - pawns) began
 words_of (Caged set) q = caged_words set
 words_of (Changed set s) q = stood_words q.odds s

@@ -1,16 +1,17 @@
 //! The diagram, the claim and what is supposed.
 
 ghost use Rattle.std.specs.Prelude.{◌≡◌, ◌++◌, ◌<◌, IfOk, codes};
-ghost use Rattle.proof_prose.specs.Heads.{became, claim_words, clock_given, clock_words, closing_text, last_words, legal_words, lost_words, not_words, odds_words, right_words, stayed_words, diagram_text, givens_text, lower_text, rank_line, upper_text, move_words, mover_initial, odds_given, only_given, opening_text, other_words, place_initial, place_text, rank_text, right_given, supposed_words, unmoved_words};
+ghost use Rattle.proof_prose.specs.Heads.{became, claim_words, clock_given, clock_words, closing_text, last_words, legal_words, lost_words, not_words, odds_line, odds_words, right_words, stayed_words, diagram_text, givens_text, lower_text, rank_line, upper_text, move_words, mover_initial, odds_given, only_given, opening_text, other_words, place_initial, place_text, rank_text, right_given, supposed_words, unmoved_words};
 ghost use Rattle.board_base.specs.Board.{at};
 
 use crate::numbers::push_number;
+use crate::wrapping::push_wrapped;
 use board_base::{Board, Castle, Colour, Kind, Man, Move, Odds, Square};
 use castle_history::home;
 use ep_history::{double_of, ep_fits};
 use prose_words::{initial, place_letter, push_square, push_squares, say, side_word, wing_word};
 use query_base::{Claim, Query};
-use std::alloc::AllocError;
+use std::alloc::{AllocError, Global};
 
 fn push_place(board: &Board, s: Square, out: &mut Vec<u8>) -> Result<(), AllocError>
     ensures { IfOk result (λ _. out.new.items ≡ out.old.items ++ place_text board.now s) }
@@ -91,15 +92,16 @@ fn push_stayed(king: Square, rook: Square, out: &mut Vec<u8>) -> Result<(), Allo
 }
 
 /// That the king and the rook of a castling never moved.
-fn push_unmoved(castle: Castle, out: &mut Vec<u8>) -> Result<(), AllocError>
+pub(crate) fn push_unmoved(castle: Castle, out: &mut Vec<u8>) -> Result<(), AllocError>
     ensures { IfOk result (λ _. out.new.items ≡ out.old.items ++ unmoved_words castle) }
 {
     let (king, rook) = home(castle);
     push_stayed(king, rook, out)
 }
 
-fn push_odds_words(odds: Odds, out: &mut Vec<u8>) -> Result<(), AllocError>
-    ensures { IfOk result (λ _. out.new.items ≡ out.old.items ++ odds_words odds) }
+/// The squares whose men were left out.
+fn push_odds_line(odds: Odds, out: &mut Vec<u8>) -> Result<(), AllocError>
+    ensures { IfOk result (λ _. out.new.items ≡ out.old.items ++ odds_line odds) }
 {
     say(b"The game began without the men of", out)?;
     push_squares(odds.set(), out)?;
@@ -107,13 +109,23 @@ fn push_odds_words(odds: Odds, out: &mut Vec<u8>) -> Result<(), AllocError>
     Ok(())
 }
 
-fn push_odds(odds: Odds, out: &mut Vec<u8>) -> Result<(), AllocError>
+/// The same in rows.
+fn push_odds_words(alloc: Global, odds: Odds, out: &mut Vec<u8>) -> Result<(), AllocError>
+    ensures { IfOk result (λ _. out.new.items ≡ out.old.items ++ odds_words odds) }
+{
+    let mut line = Vec::new(alloc);
+    push_odds_line(odds, &mut line)?;
+    push_wrapped(line.as_slice(), out)?;
+    Ok(())
+}
+
+fn push_odds(alloc: Global, odds: Odds, out: &mut Vec<u8>) -> Result<(), AllocError>
     ensures { IfOk result (λ _. out.new.items ≡ out.old.items ++ odds_given odds) }
 {
     if odds.is_none() {
         return Ok(());
     }
-    push_odds_words(odds, out)?;
+    push_odds_words(alloc, odds, out)?;
     Ok(())
 }
 
@@ -178,10 +190,10 @@ fn push_right(given: bool, castle: Castle, out: &mut Vec<u8>) -> Result<(), Allo
 }
 
 /// What is given beside the diagram.
-fn push_givens(query: &Query, out: &mut Vec<u8>) -> Result<(), AllocError>
+fn push_givens(alloc: Global, query: &Query, out: &mut Vec<u8>) -> Result<(), AllocError>
     ensures { IfOk result (λ _. out.new.items ≡ out.old.items ++ givens_text query.now) }
 {
-    push_odds(query.odds, out)?;
+    push_odds(alloc, query.odds, out)?;
     push_clock(query.clock, out)?;
     push_only(&query.only, out)?;
     push_right(query.held.has(Castle::WhiteShort), Castle::WhiteShort, out)?;
@@ -326,6 +338,7 @@ fn push_position(query: &Query, out: &mut Vec<u8>) -> Result<(), AllocError>
 
 /// The diagram, what is given, the claim and what is supposed.
 pub(crate) fn push_opening(
+    alloc: Global,
     claim: &Claim,
     query: &Query,
     out: &mut Vec<u8>,
@@ -333,7 +346,7 @@ pub(crate) fn push_opening(
     ensures { IfOk result (λ _. out.new.items ≡ out.old.items ++ opening_text claim.now query.now) }
 {
     push_position(query, out)?;
-    push_givens(query, out)?;
+    push_givens(alloc, query, out)?;
     say(b"Claim: ", out)?;
     push_claim(claim, query, out)?;
     say(b".\n", out)?;

@@ -1,11 +1,13 @@
 //! Least sets: what is told of men who never moved is told of no more of them than the reason needs.
 
-ghost use Rattle.std.specs.Prelude.{◌≡◌, ◌↔◌, IsTrue, List, Bool};
+ghost use Rattle.std.specs.Prelude.{◌≡◌, ◌↔◌, IsTrue, None, cond, length, slice_set};
+ghost use Rattle.board_base.specs.Board.{is_in};
 ghost use Rattle.cert_checker.specs.Reasons.{ReasonSupports};
-ghost use Rattle.proof_prose.specs.Lessened.{IsLike, line_with, with_set};
+ghost use Rattle.static_rules.specs.Left.{left_with};
+ghost use Rattle.proof_prose.specs.Lessened.{IsGreatestWithin, IsLeast, IsLeft, IsLessened, line_set, line_with, set_of, with_set};
 
 use balance_rule::balances;
-use board_base::{Square, SquareSet};
+use board_base::{Board, Man, Square, SquareSet};
 use cage_rules::greatest_frozen;
 use cert_text::Reason;
 use query_base::{Query, RuleLine};
@@ -20,14 +22,25 @@ fn reason_supports(query: &Query, reason: &Reason) -> bool
     }
 }
 
+/// The set of a rule line that has one.
+fn line_set(rule: &RuleLine) -> Option<SquareSet>
+    ensures { result ≡ line_set rule.now }
+{
+    match rule {
+        RuleLine::Frozen(set) => Some(*set),
+        RuleLine::Promo(_, set) => Some(*set),
+        RuleLine::Caps(_, set, _) => Some(*set),
+        _ => None,
+    }
+}
+
 /// The set of a reason that has one.
-fn set_of(reason: &Reason) -> Option<SquareSet> {
+fn set_of(reason: &Reason) -> Option<SquareSet>
+    ensures { result ≡ set_of reason.now }
+{
     match reason {
-        Reason::Line(RuleLine::Frozen(set)) => Some(*set),
-        Reason::Line(RuleLine::Promo(_, set)) => Some(*set),
-        Reason::Line(RuleLine::Caps(_, set, _)) => Some(*set),
+        Reason::Line(rule) => line_set(rule),
         Reason::Balance(set, _) => Some(*set),
-        Reason::Line(_) => None,
     }
 }
 
@@ -53,46 +66,88 @@ fn with_set(reason: &Reason, set: SquareSet) -> Reason
     }
 }
 
-/// What is left of the set where the men outside it are taken away, and then those who may have come to their squares.
-fn part(query: &Query, set: SquareSet) -> SquareSet {
-    let mut bare = *query;
+/// Tells the caller that a set has 64 truth values.
+fn is_whole(set: SquareSet)
+    ensures { length set ≡ 64 }
+{
+    let _ = set.has(Square::known(0));
+}
+
+fn place_if(set: SquareSet, s: Square, place: Option<Man>) -> Option<Man>
+    ensures { result ≡ cond (is_in set s) place None }
+{
+    if set.has(s) { place } else { None }
+}
+
+/// The board with only the men on the squares of the set.
+fn kept_men(board: &Board, set: SquareSet) -> Board
+    ensures { result ≡ left_with (is_in set) board.now }
+{
+    let mut left = Board::empty();
     for i in 0..64 {
         let s = Square::known(i);
-        if !set.has(s) {
-            bare.board.put(s, None);
-        }
+        left.put(s, place_if(set, s, board.at(s)));
     }
-    greatest_frozen(&bare)
+    left
 }
 
-/// The reason with less of its set, where it stands without this square.
-fn without_square(query: &Query, reason: &Reason, s: Square) -> Reason
-    requires { ReasonSupports query.now reason.now }
-    ensures supports { ReasonSupports query.now result }
-    ensures like { IsLike reason.now result }
+/// The query with only those men.
+fn kept_query(query: &Query, set: SquareSet) -> Query
+    ensures { result ≡ record query.now { board = left_with (is_in set) query.now.board } }
 {
-    match set_of(reason) {
-        Some(set) if set.has(s) => {
-            let smaller = with_set(reason, part(query, set.without(s)));
-            if reason_supports(query, &smaller) {
-                smaller
-            } else {
-                *reason
-            }
-        }
-        _ => *reason,
+    let mut bare = *query;
+    bare.board = kept_men(&query.board, set);
+    bare
+}
+
+/// The greatest frozen set within a set: the greatest one where only the men on its squares stand.
+fn part(query: &Query, set: SquareSet) -> SquareSet
+    ensures { IsGreatestWithin query.now set result }
+{
+    is_whole(set);
+    let part = greatest_frozen(&kept_query(query, set));
+    is_whole(part);
+    part
+}
+
+/// What is left of the set where this square is to be taken out: the set, where the reason doesn't stand without it.
+fn without_square(query: &Query, reason: &Reason, set: SquareSet, s: Square) -> SquareSet
+    requires { ReasonSupports query.now (with_set reason.now set) }
+    ensures supports { ReasonSupports query.now (with_set reason.now result) }
+    ensures left { IsLeft query.now reason.now set s result }
+{
+    if !set.has(s) {
+        return set;
+    }
+    let part = part(query, set.without(s));
+    if reason_supports(query, &with_set(reason, part)) {
+        part
+    } else {
+        set
     }
 }
 
-/// The reason with a set from which no square can be taken.
+/// What is left of the set where the squares are to be taken out one after another.
+fn lessened_set(query: &Query, reason: &Reason, set: SquareSet) -> SquareSet
+    requires { ReasonSupports query.now (with_set reason.now set) }
+    ensures supports { ReasonSupports query.now (with_set reason.now result) }
+    ensures least { IsLessened query.now reason.now set result }
+{
+    let mut left = set;
+    for i in 0..64 {
+        left = without_square(query, reason, left, Square::known(i));
+    }
+    left
+}
+
+/// The reason with what is left of its set, from which no square can be taken.
 pub(crate) fn lessened(query: &Query, reason: &Reason) -> Reason
     requires { ReasonSupports query.now reason.now }
     ensures supports { ReasonSupports query.now result }
-    ensures like { IsLike reason.now result }
+    ensures least { IsLeast query.now reason.now result }
 {
-    let mut least = *reason;
-    for i in 0..64 {
-        least = without_square(query, &least, Square::known(i));
+    match set_of(reason) {
+        Some(set) => with_set(reason, lessened_set(query, reason, set)),
+        None => *reason,
     }
-    least
 }

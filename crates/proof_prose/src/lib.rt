@@ -1,21 +1,30 @@
 //! The proof of a certificate in plain words, for readers who know chess.
 #![tactic(auto)]
 
+mod bodies;
 mod heads;
 mod labels;
+mod laws;
 mod lessening;
+mod letters;
 mod nodes;
 mod numbers;
 mod paragraphs;
 mod pawns;
+mod pricing;
 mod prose;
 mod reasons;
+mod rights;
 mod sentences;
 mod squares;
 mod telling;
+mod ways;
 mod wrapping;
 
-pub use nodes::{Line, Prefix, Told};
+pub use bodies::Spoken;
+pub use laws::one_text_each;
+pub use letters::Letters;
+pub use nodes::{Line, Told};
 pub use paragraphs::Said;
 pub use prose::explain;
 pub use sentences::Sentence;

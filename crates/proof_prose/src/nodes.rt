@@ -11,6 +11,7 @@ ghost use Rattle.proof_prose.specs.Nodes.{below, kid_nodes, line_of, nodes_from,
 ghost use Rattle.proof_prose.specs.Standing.{Stands};
 ghost use Rattle.unmove_gen.specs.Listed.{unmoves};
 
+use crate::letters::{Letters, copied};
 use crate::numbers::push_number;
 use board_base::Unmove;
 use cert_text::{Body, Cert, Kids, Node, Reason};
@@ -18,22 +19,7 @@ use ep_history::{double_of, ep_fits};
 use prose_words::say;
 use query_base::{Claim, Query};
 use std::alloc::{AllocError, Global};
-use std::marker::Model;
 use unmove_gen::pred;
-
-/// What stands before the last part of a node's number, as `1.2.` of `1.2.3`. Contracts see it as its letters.
-#[derive(Drop)]
-pub struct Prefix {
-    text: Vec<u8>,
-}
-
-impl Model for Prefix {
-    ghost use Rattle.std.specs.Prelude.{List, ℕ};
-
-    ghost Value = { List ℕ };
-
-    ghost view = { λ p. p.text.items };
-}
 
 /// Why no game reaches the query of a node, without its children.
 #[derive(Clone, Copy)]
@@ -49,8 +35,8 @@ pub enum Line {
 /// A node of a certificate's tree with what it takes to tell it.
 #[derive(Drop)]
 pub struct Told {
-    /// What stands before the last part of its number.
-    pub prefix: Prefix,
+    /// What stands before the last part of its number, as `1.2.` of `1.2.3`.
+    pub prefix: Letters,
     /// The last part of its number: its place among the children of one node, from 1 on; 0 at the root.
     pub place: usize,
     /// The retraction that leads to it, or None at the root.
@@ -61,23 +47,6 @@ pub struct Told {
     pub query: Query,
     /// Why no game reaches that.
     pub line: Line,
-}
-
-impl Prefix {
-    /// What stands before the last part of the number.
-    pub(crate) fn text(&self) -> &[u8]
-        ensures { result.now ≡ self.now }
-    {
-        self.text.as_slice()
-    }
-}
-
-fn prefix_of(alloc: Global, text: &[u8]) -> Result<Prefix, AllocError>
-    ensures { IfOk result (λ p. p ≡ text.now) }
-{
-    let mut own = Vec::new(alloc);
-    say(text, &mut own)?;
-    Ok(Prefix { text: own })
 }
 
 fn line_of(node: &Node) -> Line
@@ -115,7 +84,7 @@ fn push_own(
     ensures { IfOk result (λ _. out.new.items ≡ out.old.items ++ own_node prefix.now place label.now whence.now query.now (tree_of node.now) ∷ []) }
 {
     let told = Told {
-        prefix: prefix_of(alloc, prefix)?,
+        prefix: copied(alloc, prefix)?,
         place,
         label: Some(*label),
         whence: *whence,
@@ -200,7 +169,7 @@ fn listed(alloc: Global, query: &Query, root: &Node) -> Result<Vec<Told>, AllocE
 {
     let mut nodes = Vec::new(alloc);
     let told = Told {
-        prefix: prefix_of(alloc, b"")?,
+        prefix: copied(alloc, b"")?,
         place: 0,
         label: None,
         whence: *query,

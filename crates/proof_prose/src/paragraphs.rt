@@ -1,61 +1,25 @@
-//! Paragraphs: each tells a node, or several that differ in the captured man alone and have one reason.
+//! Paragraphs: each tells a node, or several that differ in the captured man alone and of which the same is said.
 
-ghost use Rattle.std.specs.Prelude.{ℕ, ◌≡◌, ◌-◌, ◌++◌, ◌∷◌, ◌≤◌, ◌<◌, [], IfOk, IfSome, IsTrue, List, Some, drop, is_none, length, slice_index_or, take};
-ghost use Rattle.std.specs.List.{All};
-ghost use Rattle.board_base.specs.declared.unmoves.Unmove.{Unmove as AnUnmove};
-ghost use Rattle.unmove_gen.specs.Listed.{taking};
-ghost use Rattle.proof_prose.specs.Standing.{Stands};
-ghost use Rattle.proof_prose.specs.Paragraphs.{AreAlike, AreTakings, AreTold, Paragraph, TellsToo, as_in, captured_word, heading_at, kind_part, kinds_words, last_words, move_part, name_at, numbers_words};
-ghost use Rattle.proof_prose.specs.Added.{AddsParagraph, AddsRows, IsSaidBy};
-ghost use Rattle.proof_prose.specs.Reasons.{AddsLine, IsBody, moves_sentence};
+ghost use Rattle.std.specs.Prelude.{◌≡◌, ◌++◌, ◌∷◌, ◌<◌, ◌≤◌, [], IfOk, drop, length, slice_index_or, take};
+ghost use Rattle.proof_prose.specs.Paragraphs.{are_alike, are_labels_alike, are_takings, as_in, captured_word, first_saying, heading_at, is_leaf, joins, kind_part, kinds_words, last_place, last_words, move_part, name_from, numbers_words, paragraph_text, said_of, said_or, said_words, taken_by, told_text};
+ghost use Rattle.proof_prose.specs.Runs.{IsRun, run_of};
 
+use crate::bodies::Spoken;
 use crate::labels::push_label;
+use crate::letters::{Letters, are_same, copied, kept};
 use crate::nodes::{Line, Told};
 use crate::numbers::push_number;
-use crate::reasons::{push_one, push_reason};
-use crate::sentences::Sentence;
 use crate::wrapping::push_wrapped;
 use board_base::{Kind, Unmove, is_move};
 use prose_words::{kind_word, say};
 use query_base::Query;
 use std::alloc::{AllocError, Global};
 
-fn moves_sentence(count: usize, first: bool) -> Sentence
-    ensures { result ≡ moves_sentence count first }
-{
-    if count == 0 {
-        Sentence::Still(first)
-    } else {
-        Sentence::Moved(first)
-    }
-}
-
-/// Why no game reaches the query of a node.
-fn push_line(alloc: Global, node: &Told, out: &mut Vec<u8>) -> Result<(), AllocError>
-    requires { Stands node.now }
-    ensures { IfOk result (λ _. AddsLine node.now.label node.now.line node.now.query out.old.items out.new.items) }
-{
-    let first = node.label.is_none();
-    match &node.line {
-        Line::Because(reason) => push_reason(alloc, &node.query, reason, out),
-        Line::Back(steps) => push_one(alloc, &node.query, &Sentence::Back(*steps), out),
-        Line::Moves(count) => push_one(alloc, &node.query, &moves_sentence(*count, first), out),
-    }
-}
-
-/// What is said of a node.
-fn body_of(alloc: Global, node: &Told) -> Result<Vec<u8>, AllocError>
-    requires { Stands node.now }
-    ensures { IfOk result (λ body. IsBody node.now body.items) }
-{
-    let mut body = Vec::new(alloc);
-    push_line(alloc, node, &mut body)?;
-    Ok(body)
-}
-
 /// Whether the node has no children.
-fn is_leaf(node: &Told) -> bool {
-    match &node.line {
+fn is_leaf(line: &Line) -> bool
+    ensures { result ≡ is_leaf line.now }
+{
+    match line {
         Line::Because(_) | Line::Back(_) => true,
         Line::Moves(count) => *count == 0,
     }
@@ -63,55 +27,67 @@ fn is_leaf(node: &Told) -> bool {
 
 /// The man whom a retraction captured otherwise than en passant.
 fn taken_by(u: &Unmove) -> Option<Kind>
-    ensures { IfSome result (λ k. u.now ≡ taking u.now.mv (Some k)) }
+    ensures { result ≡ taken_by u.now }
 {
     if u.ep { None } else { u.captured }
 }
 
 /// Whether the retractions are of one move, which captured one man or another.
 fn are_takings(a: &Unmove, b: &Unmove) -> bool
-    ensures { IsTrue result → AreTakings a.now b.now }
+    ensures { result ≡ are_takings a.now b.now }
 {
-    match (taken_by(a), taken_by(b)) {
-        (Some(_), Some(_)) => is_move(&Some(a.mv), &b.mv),
+    taken_by(a).is_some() && taken_by(b).is_some() && is_move(&Some(a.mv), &b.mv)
+}
+
+fn are_labels_alike(a: &Option<Unmove>, b: &Option<Unmove>) -> bool
+    ensures { result ≡ are_labels_alike a.now b.now }
+{
+    match (a, b) {
+        (Some(u), Some(v)) => are_takings(u, v),
         _ => false,
     }
 }
 
 /// Whether both nodes are children of one, and differ in the captured man alone.
 fn are_alike(a: &Told, b: &Told) -> bool
-    ensures { IsTrue result → AreAlike a.now b.now }
+    ensures { result ≡ are_alike a.now b.now }
 {
-    match (&a.label, &b.label) {
-        (Some(u), Some(v)) => are_takings(u, v) && a.prefix.text() == b.prefix.text(),
-        _ => false,
+    are_labels_alike(&a.label, &b.label) && are_same(a.prefix.text(), b.prefix.text())
+}
+
+/// Whether the second node is told with the first.
+fn joins(a: &Spoken, b: &Spoken) -> bool
+    ensures { result ≡ joins a.now b.now }
+{
+    is_leaf(&a.node.line)
+        && is_leaf(&b.node.line)
+        && are_alike(&a.node, &b.node)
+        && are_same(a.body.text(), b.body.text())
+}
+
+/// Whether the node at a place is told with the one before.
+fn joins_at(first: &Spoken, rest: &[Spoken], i: usize) -> bool
+    requires { i < length rest.now }
+    ensures { result ≡ joins (slice_index_or (first.now ∷ rest.now) i first.now) (slice_index_or rest.now i first.now) }
+{
+    if i == 0 {
+        joins(first, &rest[0])
+    } else {
+        joins(&rest[i - 1], &rest[i])
     }
 }
 
-/// Whether the second node may be told with the first, of which this is said.
-fn joins(alloc: Global, first: &Told, second: &Told, body: &[u8]) -> Result<bool, AllocError>
-    requires { Stands second.now }
-    ensures { IfOk result (λ yes. IsTrue yes → TellsToo first.now body.now second.now) }
+/// How many of the nodes are told with the first.
+fn run_length(first: &Spoken, rest: &[Spoken]) -> usize
+    ensures few { result ≤ length rest.now }
+    ensures run { IsRun first.now (take result rest.now) (drop result rest.now) }
 {
-    if !is_leaf(first) || !are_alike(first, second) {
-        return Ok(false);
-    }
-    let other = body_of(alloc, second)?;
-    Ok(other.as_slice() == body)
-}
-
-/// How many of the nodes are told with the first, of which this is said.
-fn run_length(alloc: Global, first: &Told, nodes: &[Told], body: &[u8]) -> Result<usize, AllocError>
-    requires { All Stands nodes.now }
-    ensures few { IfOk result (λ n. n ≤ length nodes.now) }
-    ensures told { IfOk result (λ n. All (TellsToo first.now body.now) (take n nodes.now)) }
-{
-    for i in 0..nodes.len() {
-        if !joins(alloc, first, &nodes[i], body)? {
-            return Ok(i);
+    for i in 0..rest.len() {
+        if !joins_at(first, rest, i) {
+            return i;
         }
     }
-    Ok(nodes.len())
+    rest.len()
 }
 
 /// The word for the man whom a retraction captured.
@@ -128,20 +104,20 @@ fn captured_word(label: &Option<Unmove>) -> &'static [u8]
 }
 
 /// What stands before the word for a man: that he is the last, or a comma.
-fn push_kind(last: bool, node: &Told, out: &mut Vec<u8>) -> Result<(), AllocError>
-    ensures { IfOk result (λ _. out.new.items ≡ out.old.items ++ kind_part last node.now) }
+fn push_kind(last: bool, spoken: &Spoken, out: &mut Vec<u8>) -> Result<(), AllocError>
+    ensures { IfOk result (λ _. out.new.items ≡ out.old.items ++ kind_part last spoken.now) }
 {
     if last {
         say(b" or ", out)?;
     } else {
         say(b", ", out)?;
     }
-    say(captured_word(&node.label), out)?;
+    say(captured_word(&spoken.node.label), out)?;
     Ok(())
 }
 
 /// The men who may have been captured in the place of the first one, as in `, bishop or rook`.
-fn push_kinds(others: &[Told], out: &mut Vec<u8>) -> Result<(), AllocError>
+fn push_kinds(others: &[Spoken], out: &mut Vec<u8>) -> Result<(), AllocError>
     ensures { IfOk result (λ _. out.new.items ≡ out.old.items ++ kinds_words others.now) }
 {
     for i in 0..others.len() {
@@ -175,13 +151,25 @@ fn push_numbers(
     Ok(())
 }
 
-/// The numbers of a node and of its siblings up to the last one that is told with it; the root has none.
-fn push_name(node: &Told, last: usize, out: &mut Vec<u8>) -> Result<(), AllocError>
-    ensures { IfOk result (λ _. out.new.items ≡ out.old.items ++ name_at node.now.label node.now.prefix node.now.place last) }
+/// The place of the last of these nodes.
+fn last_place(first: &Spoken, others: &[Spoken]) -> usize
+    ensures { result ≡ last_place first.now others.now }
 {
-    match &node.label {
+    if others.len() == 0 {
+        first.node.place
+    } else {
+        others[others.len() - 1].node.place
+    }
+}
+
+/// The numbers of a node and of its siblings that are told with it; the root has none.
+fn push_name(first: &Spoken, others: &[Spoken], out: &mut Vec<u8>) -> Result<(), AllocError>
+    ensures { IfOk result (λ _. out.new.items ≡ out.old.items ++ name_from first.now others.now) }
+{
+    let last = last_place(first, others);
+    match &first.node.label {
         None => Ok(()),
-        Some(_) => push_numbers(node.prefix.text(), node.place, last, out),
+        Some(_) => push_numbers(first.node.prefix.text(), first.node.place, last, out),
     }
 }
 
@@ -189,7 +177,7 @@ fn push_move_words(
     whence: &Query,
     label: &Unmove,
     name: &[u8],
-    others: &[Told],
+    others: &[Spoken],
     out: &mut Vec<u8>,
 ) -> Result<(), AllocError>
     ensures { IfOk result (λ _. out.new.items ≡ out.old.items ++ move_part label.now whence.now name.now (kinds_words others.now)) }
@@ -205,7 +193,7 @@ fn push_move_words(
 /// What stands before what is said of a node and of those that are told with it.
 fn push_heading(
     first: &Told,
-    others: &[Told],
+    others: &[Spoken],
     name: &[u8],
     out: &mut Vec<u8>,
 ) -> Result<(), AllocError>
@@ -217,24 +205,26 @@ fn push_heading(
     }
 }
 
-/// The place of the last node that is told with the first.
-fn last_place(first: &Told, others: &[Told]) -> usize
-    ensures { result ≡ (slice_index_or others.now (length others.now - 1) first.now).place }
-{
-    if others.len() == 0 {
-        first.place
-    } else {
-        others[others.len() - 1].place
-    }
-}
-
 /// A paragraph that was told: its number, and what it says.
 #[derive(Drop)]
 pub struct Said {
     /// The number.
-    pub name: Vec<u8>,
+    pub name: Letters,
     /// What it says.
-    pub body: Vec<u8>,
+    pub body: Letters,
+}
+
+/// What is remembered of a paragraph.
+fn said_of(alloc: Global, first: &Spoken, others: &[Spoken]) -> Result<Said, AllocError>
+    ensures { IfOk result (λ said. said ≡ said_of (run_of first.now others.now)) }
+{
+    let mut name = Vec::new(alloc);
+    push_name(first, others, &mut name)?;
+    let body = copied(alloc, first.body.text())?;
+    Ok(Said {
+        name: kept(name),
+        body,
+    })
 }
 
 fn push_as_in(name: &[u8], out: &mut Vec<u8>) -> Result<(), AllocError>
@@ -246,37 +236,46 @@ fn push_as_in(name: &[u8], out: &mut Vec<u8>) -> Result<(), AllocError>
     Ok(())
 }
 
-/// What is said, or that it is as in a paragraph that was told, if it is long and the same.
-fn push_body(said: &[Said], body: &[u8], out: &mut Vec<u8>) -> Result<(), AllocError>
-    ensures { IfOk result (λ _. (words : List ℕ) × (out.new.items ≡ out.old.items ++ words) × IsSaidBy said.now body.now words) }
+/// That it is as in the first of the earlier paragraphs that says so, or what is said, if none does.
+fn push_first(said: &[Said], body: &[u8], out: &mut Vec<u8>) -> Result<(), AllocError>
+    ensures { IfOk result (λ _. out.new.items ≡ out.old.items ++ said_or body.now (first_saying body.now said.now)) }
 {
-    if body.len() > 60 {
-        for k in 0..said.len() {
-            if said[k].body.as_slice() == body {
-                push_as_in(said[k].name.as_slice(), out)?;
-                return Ok(());
-            }
+    for k in 0..said.len() {
+        if are_same(said[k].body.text(), body) {
+            push_as_in(said[k].name.text(), out)?;
+            return Ok(());
         }
     }
     say(body, out)?;
     Ok(())
 }
 
-/// The paragraph of a node and of those that are told with it, with its number, in rows.
+/// What is said, or that it is as in an earlier paragraph, if it is long and the same.
+fn push_body(said: &[Said], body: &[u8], out: &mut Vec<u8>) -> Result<(), AllocError>
+    ensures { IfOk result (λ _. out.new.items ≡ out.old.items ++ said_words body.now said.now) }
+{
+    if body.len() > 60 {
+        push_first(said, body, out)
+    } else {
+        say(body, out)
+    }
+}
+
+/// The rows of the paragraph of a node and of those that are told with it.
 fn push_rows(
     alloc: Global,
-    first: &Told,
-    others: &[Told],
+    first: &Spoken,
+    others: &[Spoken],
     said: &[Said],
-    said_of: &Said,
+    own: &Said,
     out: &mut Vec<u8>,
 ) -> Result<(), AllocError>
-    requires { said_of.now.name.items ≡ name_at first.now.label first.now.prefix first.now.place (slice_index_or others.now (length others.now - 1) first.now).place }
-    ensures { IfOk result (λ _. AddsRows first.now others.now said.now said_of.now out.old.items out.new.items) }
+    requires { own.now ≡ said_of (run_of first.now others.now) }
+    ensures { IfOk result (λ _. out.new.items ≡ out.old.items ++ paragraph_text said.now (run_of first.now others.now)) }
 {
     let mut line = Vec::new(alloc);
-    push_heading(first, others, said_of.name.as_slice(), &mut line)?;
-    push_body(said, said_of.body.as_slice(), &mut line)?;
+    push_heading(&first.node, others, own.name.text(), &mut line)?;
+    push_body(said, own.body.text(), &mut line)?;
     push_wrapped(line.as_slice(), out)?;
     Ok(())
 }
@@ -284,22 +283,19 @@ fn push_rows(
 /// The paragraph that begins with the first of the nodes; the answer is how many of the others it tells.
 fn push_paragraph(
     alloc: Global,
-    first: &Told,
-    rest: &[Told],
+    first: &Spoken,
+    rest: &[Spoken],
     said: &mut Vec<Said>,
     out: &mut Vec<u8>,
 ) -> Result<usize, AllocError>
-    requires stands { Stands first.now }
-    requires stand { All Stands rest.now }
     ensures few { IfOk result (λ n. n ≤ length rest.now) }
-    ensures told { IfOk result (λ n. AddsParagraph first.now (take n rest.now) said.old.items said.new.items out.old.items out.new.items) }
+    ensures run { IfOk result (λ n. IsRun first.now (take n rest.now) (drop n rest.now)) }
+    ensures text { IfOk result (λ n. out.new.items ≡ out.old.items ++ paragraph_text said.old.items (run_of first.now (take n rest.now))) }
+    ensures said { IfOk result (λ n. said.new.items ≡ said.old.items ++ said_of (run_of first.now (take n rest.now)) ∷ []) }
 {
-    let body = body_of(alloc, first)?;
-    let n = run_length(alloc, first, rest, body.as_slice())?;
+    let n = run_length(first, rest);
     let others = &rest[..n];
-    let mut name = Vec::new(alloc);
-    push_name(first, last_place(first, others), &mut name)?;
-    let own = Said { name, body };
+    let own = said_of(alloc, first, others)?;
     push_rows(alloc, first, others, said.as_slice(), &own, out)?;
     said.push(own)?;
     Ok(n)
@@ -308,11 +304,10 @@ fn push_paragraph(
 /// All nodes, one paragraph after another.
 pub(crate) fn push_paragraphs(
     alloc: Global,
-    nodes: &[Told],
+    nodes: &[Spoken],
     out: &mut Vec<u8>,
 ) -> Result<(), AllocError>
-    requires { All Stands nodes.now }
-    ensures { IfOk result (λ _. (ps : List Paragraph) × (text : List ℕ) × AreTold ps nodes.now text × (out.new.items ≡ out.old.items ++ text)) }
+    ensures { IfOk result (λ _. out.new.items ≡ out.old.items ++ told_text nodes.now) }
 {
     let mut said = Vec::new(alloc);
     let mut told: usize = 0;

@@ -1,7 +1,7 @@
 //! The sentences of a reason that supports a query.
 
 ghost use Rattle.std.specs.Prelude.{◌≡◌, ◌-◌, ◌≤◌, ◌∷◌, [], length, IfOk, IfSome, IsSome, IsTrue, List};
-ghost use Rattle.board_base.specs.Board.{array_of, at, is_in, opponent};
+ghost use Rattle.board_base.specs.Board.{array_of};
 ghost use Rattle.balance_rule.specs.Balance.{BalanceSupports};
 ghost use Rattle.cert_checker.specs.Reasons.{ReasonSupports};
 ghost use Rattle.men_account.specs.Account.{is_any};
@@ -9,21 +9,22 @@ ghost use Rattle.men_account.specs.Homes.{men_of};
 ghost use Rattle.pawn_assign.specs.PawnCosts.{pawn_squares};
 ghost use Rattle.static_rules.specs.SetRules.{CapsSupports, FrozenSupports, PromoSupports};
 ghost use Rattle.static_rules.specs.Supports.{Supports};
-ghost use Rattle.proof_prose.specs.Lessened.{is_changed};
-ghost use Rattle.proof_prose.specs.Reasons.{Adds, AddsReason, AddsRule, IsWayOf};
+ghost use Rattle.proof_prose.specs.Firsts.{IsFirst, is_changed};
+ghost use Rattle.proof_prose.specs.Reasons.{Adds, AddsReason, IsWayOf, TellsReason, TellsRule};
 ghost use Rattle.proof_prose.specs.Sentences.{NeverMoved, Says};
 
 use crate::lessening::lessened;
-use crate::pawns::men_of;
+use crate::rights::astray_right;
 use crate::sentences::Sentence;
 use crate::squares::{king_in_check, pawn_on_end};
 use crate::telling::push_sentence;
+use crate::ways::cheapest_way;
 use balance_rule::side_cost;
 use board_base::{Colour, Potentials, Square, SquareSet, array_of};
 use cage_rules::is_same_place;
 use capture_prices::Prices;
 use cert_text::Reason;
-use men_account::{allowance, counts, excess};
+use men_account::{allowance, counts, excess, men_of};
 use pawn_assign::{costs, least};
 use query_base::{Query, RuleLine};
 use std::alloc::{AllocError, Global};
@@ -39,7 +40,7 @@ fn is_changed(query: &Query, set: SquareSet, s: Square) -> bool
 fn changed_square(query: &Query, set: SquareSet) -> Option<Square>
     requires { FrozenSupports query.now.odds query.now set }
     ensures some { IsSome result }
-    ensures changed { IfSome result (λ s. IsTrue (is_in set s) × (at query.now.board s ≡ at (array_of query.now.odds) s → ⊥)) }
+    ensures first { IfSome result (IsFirst (is_changed query.now.odds query.now.board set)) }
 {
     for i in 0..64 {
         let s = Square::known(i);
@@ -50,16 +51,17 @@ fn changed_square(query: &Query, set: SquareSet) -> Option<Square>
     None
 }
 
-/// With how few captures the side's pawns, at most eight, came to where they stand.
+/// With how few captures the side's pawns, at most eight, came to where they stand, by the first of the cheapest ways.
 fn way_of(query: &Query, side: Colour) -> Option<Sentence>
     ensures says { IfSome result (λ s. Says s query.now) }
-    ensures shape { IfSome result (IsWayOf side) }
+    ensures shape { IfSome result (IsWayOf query.now side) }
     ensures some { length (pawn_squares side query.now.board) ≤ 8 → IsSome result }
 {
     match costs(&query.board, side, query.odds) {
         Some(costs) => {
             let least = least(&costs);
-            Some(Sentence::Way(side, least.cost, least.files))
+            let files = cheapest_way(&costs, &least);
+            Some(Sentence::Way(side, least.cost, files))
         }
         None => None,
     }
@@ -80,7 +82,7 @@ fn push_frozen(
     out: &mut Vec<u8>,
 ) -> Result<(), AllocError>
     requires { FrozenSupports query.now.odds query.now set }
-    ensures { IfOk result (λ _. AddsRule query.now (RuleLine.Frozen set) out.old.items out.new.items) }
+    ensures { IfOk result (λ _. TellsRule query.now (RuleLine.Frozen set) out.old.items out.new.items) }
 {
     let odd = changed_square(query, set).unwrap();
     push_sentence(alloc, query, &Sentence::Caged(set), out)?;
@@ -97,7 +99,7 @@ fn push_promo(
     out: &mut Vec<u8>,
 ) -> Result<(), AllocError>
     requires { PromoSupports query.now.odds query.now side set }
-    ensures { IfOk result (λ _. AddsRule query.now (RuleLine.Promo side set) out.old.items out.new.items) }
+    ensures { IfOk result (λ _. TellsRule query.now (RuleLine.Promo side set) out.old.items out.new.items) }
 {
     let pawns = counts(&query.board, side).pawns;
     let began = allowance(side, query.odds).pawns;
@@ -122,7 +124,7 @@ fn push_caps(
     out: &mut Vec<u8>,
 ) -> Result<(), AllocError>
     requires { CapsSupports query.now.odds query.now side set p.now.u p.now.v }
-    ensures { IfOk result (λ _. AddsRule query.now (RuleLine.Caps side set p.now) out.old.items out.new.items) }
+    ensures { IfOk result (λ _. TellsRule query.now (RuleLine.Caps side set p.now) out.old.items out.new.items) }
 {
     let way = way_of(query, side).unwrap();
     let other = side.other();
@@ -142,7 +144,7 @@ fn push_balance(
     out: &mut Vec<u8>,
 ) -> Result<(), AllocError>
     requires { BalanceSupports query.now set prices.now }
-    ensures { IfOk result (λ _. AddsReason query.now (Reason.Balance set prices.now) out.old.items out.new.items) }
+    ensures { IfOk result (λ _. TellsReason query.now (Reason.Balance set prices.now) out.old.items out.new.items) }
 {
     let white = side_cost(query, set, prices, Colour::White).unwrap();
     let black = side_cost(query, set, prices, Colour::Black).unwrap();
@@ -179,7 +181,7 @@ fn push_side(
     out: &mut Vec<u8>,
 ) -> Result<(), AllocError>
     requires { Supports query.now (RuleLine.Count side) }
-    ensures { IfOk result (λ _. AddsRule query.now (RuleLine.Count side) out.old.items out.new.items) }
+    ensures { IfOk result (λ _. TellsRule query.now (RuleLine.Count side) out.old.items out.new.items) }
 {
     let men = counts(&query.board, side);
     let allowed = allowance(side, query.odds);
@@ -196,7 +198,7 @@ fn push_side(
 /// Where a pawn stands that can't stand there.
 fn push_ranks(alloc: Global, query: &Query, out: &mut Vec<u8>) -> Result<(), AllocError>
     requires { Supports query.now RuleLine.Ranks }
-    ensures { IfOk result (λ _. AddsRule query.now RuleLine.Ranks out.old.items out.new.items) }
+    ensures { IfOk result (λ _. TellsRule query.now RuleLine.Ranks out.old.items out.new.items) }
 {
     let s = pawn_on_end(&query.board).unwrap();
     push_sentence(alloc, query, &Sentence::Ranks(s), out)?;
@@ -206,11 +208,21 @@ fn push_ranks(alloc: Global, query: &Query, out: &mut Vec<u8>) -> Result<(), All
 /// Which king stands in check.
 fn push_attacked(alloc: Global, query: &Query, out: &mut Vec<u8>) -> Result<(), AllocError>
     requires { Supports query.now RuleLine.Check }
-    ensures { IfOk result (λ _. AddsRule query.now RuleLine.Check out.old.items out.new.items) }
+    ensures { IfOk result (λ _. TellsRule query.now RuleLine.Check out.old.items out.new.items) }
 {
     let side = query.turn.other();
     let s = king_in_check(&query.board, side).unwrap();
     push_sentence(alloc, query, &Sentence::Check(side, s), out)?;
+    Ok(())
+}
+
+/// Which right to castle can't have been kept.
+fn push_rights(alloc: Global, query: &Query, out: &mut Vec<u8>) -> Result<(), AllocError>
+    requires { Supports query.now RuleLine.Rights }
+    ensures { IfOk result (λ _. TellsRule query.now RuleLine.Rights out.old.items out.new.items) }
+{
+    let castle = astray_right(query).unwrap();
+    push_sentence(alloc, query, &Sentence::Rights(castle), out)?;
     Ok(())
 }
 
@@ -222,13 +234,13 @@ fn push_rule(
     out: &mut Vec<u8>,
 ) -> Result<(), AllocError>
     requires { Supports query.now rule.now }
-    ensures { IfOk result (λ _. AddsRule query.now rule.now out.old.items out.new.items) }
+    ensures { IfOk result (λ _. TellsRule query.now rule.now out.old.items out.new.items) }
 {
     match rule {
         RuleLine::Kings => push_one(alloc, query, &Sentence::Kings, out),
         RuleLine::Ranks => push_ranks(alloc, query, out),
         RuleLine::Check => push_attacked(alloc, query, out),
-        RuleLine::Rights => push_one(alloc, query, &Sentence::Rights, out),
+        RuleLine::Rights => push_rights(alloc, query, out),
         RuleLine::Count(side) => push_side(alloc, query, *side, out),
         RuleLine::Frozen(set) => push_frozen(alloc, query, *set, out),
         RuleLine::Promo(side, set) => push_promo(alloc, query, *side, *set, out),
@@ -244,7 +256,7 @@ fn push_supported(
     out: &mut Vec<u8>,
 ) -> Result<(), AllocError>
     requires { ReasonSupports query.now reason.now }
-    ensures { IfOk result (λ _. AddsReason query.now reason.now out.old.items out.new.items) }
+    ensures { IfOk result (λ _. TellsReason query.now reason.now out.old.items out.new.items) }
 {
     match reason {
         Reason::Line(rule) => push_rule(alloc, query, rule, out),

@@ -1,5 +1,5 @@
 use arrayvec::ArrayVec;
-use board_base::{Colour, Square, SquareSet};
+use board_base::{Castle, Colour, Square, SquareSet};
 use capture_prices::Prices;
 
 /// A sentence that tells why no game reaches a query, or a part of that.
@@ -11,8 +11,8 @@ pub enum Sentence {
     Ranks(Square),
     /// The king of this side, which isn't to move, stands in check on this square.
     Check(Colour, Square),
-    /// A king or a rook that never moved isn't at home.
-    Rights,
+    /// The king or the rook of this castling, which never moved, was left out or isn't at home.
+    Rights(Castle),
     /// The side has so many pawns, with the men who must have been promoted so many, and began with so many pawns.
     Count(Colour, u8, u16, u8),
     /// The men on these squares shut each other in.

@@ -1,25 +1,23 @@
 //! Squares that a sentence names.
 
-ghost use Rattle.std.specs.Prelude.{◌≡◌, ◌&&◌, IfSome, IsSome, IsTrue};
-ghost use Rattle.board_base.specs.Attacks.{attacks};
-ghost use Rattle.board_base.specs.Board.{at, is_a, is_the, opponent};
+ghost use Rattle.std.specs.Prelude.{◌≡◌, IfSome, IsSome, IsTrue};
 ghost use Rattle.board_base.specs.Legal.{in_check};
-ghost use Rattle.board_base.specs.declared.men.Kind.TheVariants.{King, Pawn};
-ghost use Rattle.play_rules.specs.Laws.{HasNoPawnOnEnds, is_end};
+ghost use Rattle.play_rules.specs.Laws.{HasNoPawnOnEnds};
+ghost use Rattle.proof_prose.specs.Firsts.{IsFirst, is_king_attacked, is_pawn_on_end};
 
 use board_base::{Board, Colour, Kind, Square, is_a, is_the};
 
 fn is_pawn_on_end(board: &Board, s: Square) -> bool
-    ensures { result ≡ (is_end s && is_a Pawn (at board.now s)) }
+    ensures { result ≡ is_pawn_on_end board.now s }
 {
     (s.rank() == 0 || s.rank() == 7) && is_a(Kind::Pawn, board.at(s))
 }
 
-/// A square of rank 1 or 8 on which a pawn stands, where there is one.
+/// The first square of rank 1 or 8 on which a pawn stands, where there is one.
 pub(crate) fn pawn_on_end(board: &Board) -> Option<Square>
     requires { HasNoPawnOnEnds board.now → ⊥ }
     ensures some { IsSome result }
-    ensures found { IfSome result (λ s. IsTrue (is_end s && is_a Pawn (at board.now s))) }
+    ensures first { IfSome result (IsFirst (is_pawn_on_end board.now)) }
 {
     for i in 0..64 {
         let s = Square::known(i);
@@ -31,16 +29,16 @@ pub(crate) fn pawn_on_end(board: &Board) -> Option<Square>
 }
 
 fn is_king_attacked(board: &Board, side: Colour, s: Square) -> bool
-    ensures { result ≡ (is_the side King (at board.now s) && attacks board.now s (opponent side)) }
+    ensures { result ≡ is_king_attacked board.now side s }
 {
     is_the(side, Kind::King, board.at(s)) && board.attacked(s, side.other())
 }
 
-/// The square of a king of the side who stands in check, where one does.
+/// The first square of a king of the side who stands in check, where one does.
 pub(crate) fn king_in_check(board: &Board, side: Colour) -> Option<Square>
     requires { IsTrue (in_check board.now side) }
     ensures some { IsSome result }
-    ensures found { IfSome result (λ s. IsTrue (is_the side King (at board.now s) && attacks board.now s (opponent side))) }
+    ensures first { IfSome result (IsFirst (is_king_attacked board.now side)) }
 {
     for i in 0..64 {
         let s = Square::known(i);

@@ -6,16 +6,19 @@ ghost use Rattle.std.specs.Fmt.{decimal};
 ghost use Rattle.board_base.specs.Board.{array_of, is_in, opponent};
 ghost use Rattle.assignment.specs.Assignments.{IsInjection};
 ghost use Rattle.pawn_assign.specs.PawnCosts.{pawn_costs, pawn_home, pawn_squares};
-ghost use Rattle.proof_prose.specs.Sentences.{Says, around, back_words, barred_words, balanced_words, caged_words, captures_words, check_words, class_words, count_words, counted, difference_words, end_words, gate_words, gates_words, gone_words, is_gone, is_safe, lacks_words, missing_words, moved_words, net_words, pawn_words, priced_words, price_words, prices_words, settled_words, shut_words, some_words, still_words, stood_words, unmoved_men, way_words, ways_words, words_of};
+ghost use Rattle.proof_prose.specs.Pricing.{around};
+ghost use Rattle.proof_prose.specs.Sentences.{Says, back_words, barred_words, balanced_words, caged_words, captures_words, check_words, count_words, counted, difference_words, end_words, gone_words, is_gone, is_safe, lacks_words, missing_words, moved_words, net_words, pawn_words, rights_words, settled_words, shut_words, some_words, still_words, stood_words, unmoved_men, way_words, ways_words, words_of};
 ghost use Rattle.prose_words.specs.Words.{side_word, squares_words};
 
+use crate::heads::push_unmoved;
 use crate::numbers::push_number;
 use crate::pawns::pawn_squares;
+use crate::pricing::push_priced;
+use crate::rights::lacks_home;
 use crate::sentences::Sentence;
 use balance_rule::begun_with;
-use board_base::{Colour, Odds, Square, SquareSet, array_of, is_of};
+use board_base::{Castle, Colour, Odds, Square, SquareSet, array_of, is_of};
 use cage_rules::{is_dead, is_officer_home, is_shielded};
-use capture_prices::{Gate, Prices};
 use pawn_assign::{Costs, costs};
 use prose_words::{push_man, push_square, push_square_if, push_squares, say, side_word};
 use query_base::Query;
@@ -23,7 +26,12 @@ use retraction_bars::push_bars;
 use std::alloc::{AllocError, Global};
 
 /// Nothing where there is no list, else the list with what stands around it.
-fn push_around(front: &[u8], list: &[u8], back: &[u8], out: &mut Vec<u8>) -> Result<(), AllocError>
+pub(crate) fn push_around(
+    front: &[u8],
+    list: &[u8],
+    back: &[u8],
+    out: &mut Vec<u8>,
+) -> Result<(), AllocError>
     ensures { IfOk result (λ _. out.new.items ≡ out.old.items ++ around front.now list.now back.now) }
 {
     if list.len() == 0 {
@@ -208,7 +216,7 @@ fn ways_of(alloc: Global, query: &Query, side: Colour, files: &[u8]) -> Result<V
 }
 
 /// The list without its first letter.
-fn rest_of(list: &[u8]) -> &[u8]
+pub(crate) fn rest_of(list: &[u8]) -> &[u8]
     ensures { result.now ≡ drop 1 list.now }
 {
     if list.len() == 0 { list } else { &list[1..] }
@@ -309,6 +317,21 @@ fn push_check(side: Colour, s: Square, out: &mut Vec<u8>) -> Result<(), AllocErr
     Ok(())
 }
 
+/// Why the king and the rook of a castling can't have stayed.
+fn push_astray(odds: Odds, castle: Castle, out: &mut Vec<u8>) -> Result<(), AllocError>
+    ensures { IfOk result (λ _. out.new.items ≡ out.old.items ++ rights_words odds castle) }
+{
+    say(b"It can't be that ", out)?;
+    push_unmoved(castle, out)?;
+    push_either(
+        lacks_home(odds, castle),
+        b": the game began without the rook.",
+        b": they don't both stand there.",
+        out,
+    )?;
+    Ok(())
+}
+
 /// That these men shut each other in.
 fn push_shut(list: &[u8], out: &mut Vec<u8>) -> Result<(), AllocError>
     ensures { IfOk result (λ _. out.new.items ≡ out.old.items ++ shut_words list.now) }
@@ -348,7 +371,7 @@ fn set_squares(alloc: Global, set: SquareSet) -> Result<Vec<u8>, AllocError>
 }
 
 /// That these men never moved.
-fn push_unmoved(list: &[u8], out: &mut Vec<u8>) -> Result<(), AllocError>
+fn push_never_moved(list: &[u8], out: &mut Vec<u8>) -> Result<(), AllocError>
     ensures { IfOk result (λ _. out.new.items ≡ out.old.items ++ unmoved_men list.now) }
 {
     if list.len() == 3 {
@@ -362,7 +385,7 @@ fn push_settled(alloc: Global, set: SquareSet, out: &mut Vec<u8>) -> Result<(), 
     ensures { IfOk result (λ _. out.new.items ≡ out.old.items ++ settled_words set) }
 {
     let list = set_squares(alloc, set)?;
-    push_unmoved(list.as_slice(), out)?;
+    push_never_moved(list.as_slice(), out)?;
     Ok(())
 }
 
@@ -423,106 +446,6 @@ fn push_lacks(
         out,
     )?;
     say(b".", out)?;
-    Ok(())
-}
-
-/// What a capture on the squares of a class costs.
-fn push_class_price(k: u8, price: u8, out: &mut Vec<u8>) -> Result<(), AllocError>
-    requires { k < 16 }
-    ensures { IfOk result (λ _. out.new.items ≡ out.old.items ++ class_words price k) }
-{
-    say(b" ", out)?;
-    push_number(price as usize, out)?;
-    say(b" on ", out)?;
-    out.push(b'a' + k / 2)?;
-    push_either(k % 2 == 0, b" dark", b" light", out)?;
-    Ok(())
-}
-
-/// The same, where that isn't the usual price.
-fn push_price(k: u8, price: u8, usual: u8, out: &mut Vec<u8>) -> Result<(), AllocError>
-    requires { k < 16 }
-    ensures { IfOk result (λ _. out.new.items ≡ out.old.items ++ cond (price == usual) [] (class_words price k)) }
-{
-    if price == usual {
-        Ok(())
-    } else {
-        push_class_price(k, price, out)
-    }
-}
-
-/// The prices that aren't the usual one.
-fn unusual_prices(alloc: Global, prices: &[u8; 16], usual: u8) -> Result<Vec<u8>, AllocError>
-    ensures { IfOk result (λ v. v.items ≡ flat_map (price_words usual prices.now) (range_with_len 0 16)) }
-{
-    let mut list = Vec::new(alloc);
-    for k in 0..16 {
-        push_price(k, prices[k as usize], usual, &mut list)?;
-    }
-    Ok(list)
-}
-
-/// What a side's pawns pay for a capture.
-fn push_prices(alloc: Global, prices: &[u8; 16], out: &mut Vec<u8>) -> Result<(), AllocError>
-    ensures { IfOk result (λ _. out.new.items ≡ out.old.items ++ prices_words (slice_index prices.now 15) prices.now) }
-{
-    let usual = prices[15];
-    let list = unusual_prices(alloc, prices, usual)?;
-    say(b" ", out)?;
-    push_number(usual as usize, out)?;
-    push_around(b" (but", list.as_slice(), b")", out)?;
-    Ok(())
-}
-
-fn push_gate(gate: &Gate, out: &mut Vec<u8>) -> Result<(), AllocError>
-    requires { gate.now.square < 64 }
-    ensures { IfOk result (λ _. out.new.items ≡ out.old.items ++ gate_words gate.now) }
-{
-    say(b" ", out)?;
-    push_number(gate.toll as usize, out)?;
-    say(b" on ", out)?;
-    push_square(Square::known(gate.square), out)?;
-    Ok(())
-}
-
-/// The tolls of all gates.
-fn tolls_of(alloc: Global, gates: &[Gate]) -> Result<Vec<u8>, AllocError>
-    requires { All (λ g. g.square < 64) gates.now }
-    ensures { IfOk result (λ v. v.items ≡ flat_map gate_words gates.now) }
-{
-    let mut list = Vec::new(alloc);
-    for gate in gates {
-        push_gate(gate, &mut list)?;
-    }
-    Ok(list)
-}
-
-/// What a pawn that never captures pays for the squares that it treads.
-fn push_gates(alloc: Global, prices: &Prices, out: &mut Vec<u8>) -> Result<(), AllocError>
-    ensures { IfOk result (λ _. out.new.items ≡ out.old.items ++ gates_words prices.now.gates) }
-{
-    let list = tolls_of(alloc, prices.gates())?;
-    push_around(
-        b"A pawn that never captures pays for treading a square, as only one of the two pawns of a file can have:",
-        list.as_slice(),
-        b". ",
-        out,
-    )?;
-    Ok(())
-}
-
-fn push_priced(alloc: Global, prices: &Prices, out: &mut Vec<u8>) -> Result<(), AllocError>
-    ensures { IfOk result (λ _. out.new.items ≡ out.old.items ++ priced_words prices.now) }
-{
-    say(b"Let a capture by a white pawn cost", out)?;
-    push_prices(alloc, prices.takes(Colour::White), out)?;
-    say(b", and one by a black pawn", out)?;
-    push_prices(alloc, prices.takes(Colour::Black), out)?;
-    say(
-        b": the side that captures pays it, and the man who is taken earns it. ",
-        out,
-    )?;
-    push_gates(alloc, prices, out)?;
     Ok(())
 }
 
@@ -642,10 +565,7 @@ pub(crate) fn push_sentence(
         Sentence::Kings => say(b"Not each side has exactly one king.", out),
         Sentence::Ranks(s) => push_end(*s, out),
         Sentence::Check(side, s) => push_check(*side, *s, out),
-        Sentence::Rights => say(
-            b"A king or a rook that never moved isn't on its first square.",
-            out,
-        ),
+        Sentence::Rights(castle) => push_astray(query.odds, *castle, out),
         Sentence::Count(side, pawns, together, began) => {
             push_count(*side, *pawns, less(*together, *pawns), *began, out)
         }

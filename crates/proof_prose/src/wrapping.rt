@@ -1,55 +1,72 @@
 //! Lines that are not too long.
 
-ghost use Rattle.std.specs.Prelude.{ℕ, List, ◌≡◌, ◌++◌, ◌∷◌, ◌<◌, [], IfOk, codes, length, slice_index};
-ghost use Rattle.proof_prose.specs.Rows.{AreCut, AreRows, IsLetter, end_of, is_ended};
+ghost use Rattle.std.specs.Prelude.{ℕ, ◌≡◌, ◌++◌, ◌∷◌, ◌+◌, ◌<◌, ◌≤◌, ◌^◌, IfOk, length};
+ghost use Rattle.proof_prose.specs.Rows.{column_after, cut_from, end_of, is_cut, is_ended, is_gap, rows_of, word_length};
 
 use prose_words::say;
 use std::alloc::AllocError;
 
-/// How many letters come from this place on before the next blank or line end.
-fn word_length(line: &[u8], start: usize) -> usize {
-    let mut n: usize = 0;
-    for i in 0..line.len() {
-        if start <= i {
-            if line[i] == b' ' || line[i] == b'\n' {
-                return n;
-            }
-            n = n.saturating_add(1);
-        }
-    }
-    n
+fn is_gap(letter: u8) -> bool
+    ensures { result ≡ is_gap letter }
+{
+    letter == b' ' || letter == b'\n'
 }
 
-/// A letter of a line, of which so many stand in its last row already; the answer is how many then do. In the place of a blank comes a
-/// line end with an indent where the word that follows would not fit.
+/// How many letters come before the next blank or line end.
+fn word_length(line: &[u8]) -> usize
+    ensures number { result ≡ word_length line.now }
+    ensures few { result ≤ length line.now }
+{
+    for i in 0..line.len() {
+        if is_gap(line[i]) {
+            return i;
+        }
+    }
+    line.len()
+}
+
+/// Whether a row of `column` letters ends before this letter: it is a blank, and the word that follows it would not fit.
+fn is_cut(column: usize, letter: u8, rest: &[u8]) -> bool
+    requires { column + length rest.now < 2 ^ 64 }
+    ensures { result ≡ is_cut column letter rest.now }
+{
+    letter == b' ' && 100 <= column + word_length(rest)
+}
+
+fn column_after(column: usize, letter: u8) -> usize
+    requires { column + 1 < 2 ^ 64 }
+    ensures { result ≡ column_after column letter }
+{
+    if letter == b'\n' { 0 } else { column + 1 }
+}
+
+/// A letter of a line behind `column` others of its row; the answer is how many letters the row then has. In the place of a blank comes
+/// a line end with an indent where the word that follows it would not fit.
 fn push_letter(
-    letter: u8,
-    fits: bool,
     column: usize,
+    letter: u8,
+    rest: &[u8],
     out: &mut Vec<u8>,
 ) -> Result<usize, AllocError>
-    ensures { IfOk result (λ _. (cut : List ℕ) × IsLetter letter cut × (out.new.items ≡ out.old.items ++ cut)) }
+    requires { column + length rest.now + 1 < 2 ^ 64 }
+    ensures cut { IfOk result (λ next. out.new.items ++ cut_from next rest.now ≡ out.old.items ++ cut_from column (letter ∷ rest.now)) }
+    ensures next { IfOk result (λ next. (most : ℕ) → column + 1 ≤ most → 4 ≤ most → next ≤ most) }
 {
-    if letter == b' ' && !fits {
+    if is_cut(column, letter, rest) {
         say(b"\n    ", out)?;
         return Ok(4);
     }
     out.push(letter)?;
-    if letter == b'\n' {
-        Ok(0)
-    } else {
-        Ok(column.saturating_add(1))
-    }
+    Ok(column_after(column, letter))
 }
 
 /// The letters of a line, cut at blanks into rows of at most a hundred letters.
 fn push_cut(line: &[u8], out: &mut Vec<u8>) -> Result<(), AllocError>
-    ensures { IfOk result (λ _. (cut : List ℕ) × AreCut line.now cut × (out.new.items ≡ out.old.items ++ cut)) }
+    ensures { IfOk result (λ _. out.new.items ≡ out.old.items ++ cut_from 0 line.now) }
 {
     let mut column: usize = 0;
     for i in 0..line.len() {
-        let fits = column.saturating_add(word_length(line, i + 1)) < 100;
-        column = push_letter(line[i], fits, column, out)?;
+        column = push_letter(column, line[i], &line[i + 1..], out)?;
     }
     Ok(())
 }
@@ -74,7 +91,7 @@ fn push_end(line: &[u8], out: &mut Vec<u8>) -> Result<(), AllocError>
 
 /// The rows of a line.
 pub(crate) fn push_wrapped(line: &[u8], out: &mut Vec<u8>) -> Result<(), AllocError>
-    ensures { IfOk result (λ _. (rows : List ℕ) × AreRows line.now rows × (out.new.items ≡ out.old.items ++ rows)) }
+    ensures { IfOk result (λ _. out.new.items ≡ out.old.items ++ rows_of line.now) }
 {
     push_cut(line, out)?;
     push_end(line, out)?;

@@ -6,7 +6,7 @@ ghost use Rattle.board_base.specs.Board.{is_in};
 ghost use Rattle.board_base.specs.Texts.{square_text};
 ghost use Rattle.prose_words.specs.Words.{colour_word, given_square, initial, kind_word, man_letter, man_words, place_letter, side_word, squares_words, wing_word};
 
-use board_base::{Castle, Colour, Kind, Man, Square, SquareSet};
+use board_base::{Castle, Colour, Kind, Man, Square, SquareSet, kind_letter};
 use itoa::Buffer;
 use std::alloc::AllocError;
 
@@ -63,19 +63,6 @@ pub fn initial(kind: Kind) -> &'static [u8]
     }
 }
 
-fn small_letter(kind: Kind) -> u8
-    ensures { result ≡ man_letter Colour.Black kind }
-{
-    match kind {
-        Kind::Pawn => b'p',
-        Kind::Knight => b'n',
-        Kind::Bishop => b'b',
-        Kind::Rook => b'r',
-        Kind::Queen => b'q',
-        Kind::King => b'k',
-    }
-}
-
 fn capital_letter(kind: Kind) -> u8
     ensures { result ≡ man_letter Colour.White kind }
 {
@@ -97,7 +84,7 @@ pub fn place_letter(place: Option<Man>) -> u8
         None => b'.',
         Some(man) => match man.colour {
             Colour::White => capital_letter(man.kind),
-            Colour::Black => small_letter(man.kind),
+            Colour::Black => kind_letter(man.kind),
         },
     }
 }

@@ -1,7 +1,6 @@
 -- Each listed retraction is a way in which a man may have come.
 use Rattle.std.proofs.Common.{◌≡◌, ℕ, Bool, true, false, ◌&&◌, length, inl, inr, Option, Some, None, refl, sym}
 use Rattle.std.proofs.lemmas.Bool.{and_from, and_left, and_parts, and_right, both_ways, cases_Bool, not_from_false}
-use Rattle.std.specs.Bool.{beq}
 use Rattle.std.specs.Prelude.{is_some}
 use Rattle.board_base.specs.Board.{Places, at, is_a, is_the, opponent}
 use Rattle.board_base.specs.Legal.{is_move, legal_on, may_go, pawn_captures_en_passant, promotion_fits}
@@ -18,11 +17,11 @@ use Rattle.play_rules.specs.Laws.{HasNoPawnOnEnds, has_no_pawn_on_ends, is_end}
 use Rattle.play_rules.specs.Listed.{move_of}
 use Rattle.query_base.specs.Asked.{Asked}
 use Rattle.unmove_gen.proofs.Arrivals.{listed-made}
-use Rattle.unmove_gen.proofs.Parts.{parts}
+use Rattle.unmove_gen.proofs.Marking.{marked-passes}
+use Rattle.unmove_gen.proofs.Parts.{listed-sane, parts}
 use Rattle.unmove_gen.specs.Listed.{answered, before, every_right, is_listed, is_marked, mover}
 use Rattle.unmove_gen.specs.Sane.{is_sane}
 use Rattle.unmove_gen.specs.Ways.{may_have_made}
-use Rattle.retraction_bars.proofs.KeptOut.{sane}
 use Rattle.retraction_bars.specs.Ways.{has_no_pawn_on_end, is_way, passes_well}
 
 kept : (place : Option Man) (from to : ℕ) (promo : Option Kind) → may_have_made place (move_of from to promo) ≡ true → elim promo as (λ _. Bool) [ None ↦ true | Some k ↦ is_a k place ] ≡ true
@@ -33,7 +32,7 @@ kept (Some man) from to (Some k) h = (and_parts _ _ (and_parts _ _ h).0).0
 no_pawns : (q : Asked) (u : Unmove) → is_listed q u ≡ true → HasNoPawnOnEnds (before q u)
 unfolding is_sane
 no_pawns q u h =
-    let test : has_no_pawn_on_ends (before q u) ≡ true = (and_parts _ _ (and_parts _ _ (sane q u h)).0).1 in
+    let test : has_no_pawn_on_ends (before q u) ≡ true = (and_parts _ _ (and_parts _ _ (listed-sane q u h)).0).1 in
     (answers_law (before q u) true (sym test)).0 refl
 
 no_pawn : (board : Places) (s : ℕ) → HasNoPawnOnEnds board → has_no_pawn_on_end board s ≡ true
@@ -53,13 +52,9 @@ passer board c m h =
     let pawn = and_parts _ _ goes.0 in
     and_from (is_a Pawn (at board m.from)) (is_some (double_of m c)) pawn.0 (is_given (double_of m c) (λ d. is_move (double_of m c) d && is_the (opponent c) Pawn (at board d.to)) goes.1)
 
-same_true : (b : Bool) → beq true b ≡ true → b ≡ true
-same_true true h = refl
-same_true false h = h
-
 well : (board : Places) (c : Colour) (m : Move) (captured : Option Kind) (ep : Bool) → is_marked board c (record { mv = m; captured = captured; ep = ep }) ≡ true → passes_well board c (record { mv = m; captured = captured; ep = ep }) ≡ true
 well board c m captured false h = refl
-well board c m captured true h = passer board c m (same_true _ (and_parts (beq true (pawn_captures_en_passant board c (double_of m c) m)) _ h).0)
+well board c m captured true h = passer board c m (marked-passes board c m captured h)
 
 legal_parts : (board : Places) (c : Colour) (rights : Castle → Bool) (last : Option Move) (m : Move) → legal_on board c rights last m ≡ true → (promotion_fits board c m && may_go board c rights last m) ≡ true
 unfolding legal_on

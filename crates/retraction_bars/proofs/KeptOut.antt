@@ -2,7 +2,6 @@
 use Rattle.std.proofs.Common.{◌≡◌, ℕ, ◌<◌, Bool, true, false, cond, ◌&&◌, not, length, inl, inr, Option, Some, None, refl, sym, ap, ◌∙◌, arith}
 use Rattle.std.proofs.lemmas.Bool.{and_from, and_parts, both_ways, cases_lt, not-true}
 use Rattle.std.proofs.lemmas.List.{get_or_past}
-use Rattle.general_lemmas.proofs.Lists.{filter-contains}
 use Rattle.general_lemmas.proofs.Ranges.{any-found, any-one}
 use Rattle.std.specs.List.{Contains}
 use Rattle.board_base.specs.Attacks.{attacks, attacks_from}
@@ -18,26 +17,17 @@ use Rattle.board_base.specs.declared.men.Colour.TheVariants.{White, Black}
 use Rattle.board_base.specs.declared.men.Kind.TheVariants.{King}
 use Rattle.board_base.specs.declared.moves.Move.{Move}
 use Rattle.board_base.specs.declared.unmoves.Unmove.{Unmove}
+use Rattle.board_base.proofs.KindsOfMen.{opponent-twice}
 use Rattle.men_account.specs.Account.{accounts_for}
 use Rattle.query_base.specs.Asked.{Asked}
-use Rattle.unmove_gen.specs.Listed.{before, candidates, has_left, is_listed, is_retraction, keeps_held, mover, took_pawn, unmoves}
+use Rattle.unmove_gen.specs.Listed.{before, has_left, is_listed, keeps_held, mover, took_pawn}
 use Rattle.unmove_gen.specs.Sane.{is_sane}
 use Rattle.unmove_gen.proofs.Members.{length-back}
-use Rattle.unmove_gen.proofs.Parts.{clocked, parts}
+use Rattle.unmove_gen.proofs.Parts.{clocked, listed-sane, parts}
 use Rattle.retraction_bars.proofs.FirstBars.{each_passes}
 use Rattle.retraction_bars.specs.Bars.{attacks_a_king, bars, gives_check, is_late, is_left_full}
 use Rattle.retraction_bars.specs.declared.bars.Bar.{Bar}
 use Rattle.retraction_bars.specs.declared.bars.Bar.TheVariants.{Only, Check, Occupied, Itself, Held, Barred, Account, Clock, Passed, Otherwise}
-
--- what is in the list passes its test
-pub passes : (q : Asked) (u : Unmove) → Contains (unmoves q) u → is_listed q u ≡ true
-unfolding unmoves
-passes q u h = (filter-contains (is_listed q) candidates u h).1
-
--- the board before a listed retraction is sane
-pub sane : (q : Asked) (u : Unmove) → is_listed q u ≡ true → is_sane q.odds (before q u) (mover q) ≡ true
-unfolding is_retraction
-sane q u h = (and_parts _ _ (clocked q u h).0).1
 
 in_all : (x : Castle) → Contains all_castles x
 in_all WhiteShort = (0, omega arith, refl)
@@ -60,10 +50,6 @@ struck board c d s k inside e own hits =
     any-found (λ from. is_of (opponent d) (at board from) && attacks_from board from k) 0 64 s (omega arith) (omega arith)
     (and_from _ _ (ap (λ (x : Colour). is_of x (at board s)) e ∙ own) hits)
 
-twice : (c : Colour) → opponent (opponent c) ≡ c
-twice White = refl
-twice Black = refl
-
 checked : (board : Places) (c d : Colour) (s : ℕ) → length board ≡ 64 → opponent c ≡ d → opponent d ≡ c → gives_check board c s ≡ true → in_check board d ≡ true
 unfolding in_check attacks_a_king
 checked board c d s len there back h =
@@ -77,13 +63,13 @@ checked board c d s len there back h =
 unsafe : (q : Asked) (u : Unmove) (s : ℕ) → length q.board ≡ 64 → is_listed q u ≡ true → gives_check (before q u) (mover q) s ≡ true → ⊥
 unfolding is_sane
 unsafe q u s len h check =
-    both_ways _ (not-true _ (and_parts _ _ (sane q u h)).1)
-    (checked (before q u) (mover q) (opponent (mover q)) s (length-back q.board u ∙ len) refl (twice (mover q)) check)
+    both_ways _ (not-true _ (and_parts _ _ (listed-sane q u h)).1)
+    (checked (before q u) (mover q) (opponent (mover q)) s (length-back q.board u ∙ len) refl (opponent-twice (mover q)) check)
 
 counted : (q : Asked) (u : Unmove) (c : Colour) → is_listed q u ≡ true → accounts_for q.odds (before q u) c ≡ true
 unfolding is_sane
-counted q u White h = (and_parts _ _ (and_parts _ _ (and_parts _ _ (and_parts _ _ (and_parts _ _ (sane q u h)).0).0).0).0).1
-counted q u Black h = (and_parts _ _ (and_parts _ _ (and_parts _ _ (sane q u h)).0).0).1
+counted q u White h = (and_parts _ _ (and_parts _ _ (and_parts _ _ (and_parts _ _ (and_parts _ _ (listed-sane q u h)).0).0).0).0).1
+counted q u Black h = (and_parts _ _ (and_parts _ _ (and_parts _ _ (listed-sane q u h)).0).0).1
 
 left_full : (o : Option Move) (board : Places) → has_left o board ≡ true → is_left_full o board ≡ true → ⊥
 left_full None board h f = both_ways false refl f

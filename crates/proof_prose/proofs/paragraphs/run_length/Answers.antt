@@ -1,19 +1,14 @@
-use Rattle.std.proofs.Common.{List, subst}
-use Rattle.std.specs.List.{All}
-use Rattle.std.proofs.lemmas.List.{take_all}
-use Rattle.std.proofs.lemmas.List.Elements.{All-more, All-take}
-use Rattle.proof_prose.specs.Paragraphs.{TellsToo}
-use Rattle.proof_prose.specs.declared.nodes.Told.{Told}
+use Rattle.std.proofs.Common.{sym, ◌∙◌, arith, below_more}
+use Rattle.proof_prose.proofs.Runs.{run-told}
 use Rattle.proof_prose.proofs.paragraphs.run_length.Goals as goal
 
-pub loop-i-preserved : goal.loop-i-preserved
-loop-i-preserved c =
-    let tells : TellsToo c.args.first.now c.args.body.now c.index-nodes-i.result = c.in_ok-joins.ensures c.if-not-branch.false in
-    All-more (TellsToo c.args.first.now c.args.body.now) c.args.nodes.now c.loop-i.i c.index-nodes-i.result c.loop-i-test.true c.loop-i.invariant
-    (subst (λ (t : Told). TellsToo c.args.first.now c.args.body.now t) c.index-nodes-i.is tells)
+pub returns-then-not-joins_at-clause-run : goal.returns-then-not-joins_at-clause-run
+returns-then-not-joins_at-clause-run c =
+    run-told c.args.first.now c.args.rest.now c.loop-i.i c.args.first.now (omega (arith, c.loop-i-test.true)) c.loop-i.invariant (λ lt. sym c.joins_at.ensures ∙ c.if-not-joins_at.true)
 
-pub returns-clause-told : goal.returns-clause-told
-returns-clause-told c =
-    let all : All (TellsToo c.args.first.now c.args.body.now) c.args.nodes.now =
-    subst (λ (l : List Told). All (TellsToo c.args.first.now c.args.body.now) l) (take_all c.loop-i.i c.args.nodes.now c.loop-i-test.false) c.loop-i.invariant in
-    All-take (TellsToo c.args.first.now c.args.body.now) _ c.args.nodes.now all
+pub loop-i-preserved : goal.loop-i-preserved
+loop-i-preserved c = below_more _ _ c.loop-i.invariant (sym c.joins_at.ensures ∙ c.if-not-joins_at.false)
+
+pub returns-clause-run : goal.returns-clause-run
+returns-clause-run c =
+    run-told c.args.first.now c.args.rest.now _ c.args.first.now (omega arith) (λ k lt. c.loop-i.invariant k (omega (arith, lt, c.loop-i-test.false))) (λ lt. absurd (omega (arith, lt)))

@@ -1,10 +1,12 @@
-use Rattle.std.proofs.Common.{◌∙◌, sym, arith, below_more}
-use Rattle.proof_prose.proofs.Changes.{changed-means, none-changed}
+use Rattle.std.proofs.Common.{◌∙◌, sym, subst, arith, below_more}
+use Rattle.proof_prose.specs.Firsts.{IsFirst, is_changed}
+use Rattle.proof_prose.proofs.Changes.{none-changed}
 use Rattle.proof_prose.proofs.reasons.changed_square.Goals as goal
 
-pub returns-then-is_changed-clause-changed : goal.returns-then-is_changed-clause-changed
-returns-then-is_changed-clause-changed c =
-    changed-means c.args.query.now.odds c.args.query.now.board c.args.set c.known-s.result (sym c.is_changed.ensures ∙ c.if-is_changed.true)
+pub returns-then-is_changed-clause-first : goal.returns-then-is_changed-clause-first
+returns-then-is_changed-clause-first c =
+    subst (IsFirst (is_changed c.args.query.now.odds c.args.query.now.board c.args.set)) (sym c.known-s.ensures)
+    (rw c.known-s.ensures at (sym c.is_changed.ensures ∙ c.if-is_changed.true), c.loop-i.invariant)
 
 pub loop-i-preserved : goal.loop-i-preserved
 loop-i-preserved c = below_more _ _ c.loop-i.invariant (rw c.known-s.ensures at (sym c.is_changed.ensures ∙ c.if-is_changed.false))

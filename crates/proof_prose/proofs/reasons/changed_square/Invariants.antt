@@ -1,5 +1,5 @@
 use Rattle.std.proofs.Common.{◌≡◌, ℕ, ◌<◌, false}
-use Rattle.proof_prose.specs.Lessened.{is_changed}
+use Rattle.proof_prose.specs.Firsts.{is_changed}
 use Rattle.proof_prose.proofs.reasons.changed_square.Given as goal
 
 abbrev pub invariant-loop-i : goal.invariant-loop-i

@@ -23,7 +23,6 @@ returns c =
     let white = (rw c.unwrap-white.ensures at c.side_cost.ensures.value).1 in
     let black = (rw c.unwrap-black.ensures at c.side_cost-2.ensures.value).1 in
     let above : most_cost c.args.query.now.odds c.args.prices.now < c.unwrap-white.result + c.unwrap-black.result = rw (white, black) c.requires.above in (
-      c.args.set,
       c.unwrap-white.result,
       c.unwrap-black.result,
       adds-three c.args.query.now (Settled c.args.set) (Priced c.args.set c.args.prices.now) (Balanced c.args.set c.args.prices.now c.unwrap-white.result c.unwrap-black.result) c.args.out.now.items _ _ _ never never

@@ -28,7 +28,6 @@ returns c =
     let says = rw c.unwrap-way.ensures at c.way_of.ensures.says in
     let all = adds-three c.args.query.now (Settled c.args.set) c.unwrap-way.result (Lacks c.other-other.result c.args.set c.missing_of-missing.result) c.args.out.now.items _ _ c.push_sentence-3.new.out.items never says
     (never, c.missing_of-missing.ensures, (c.args.p.now, needs)) c.in_ok-push_sentence.ensures c.in_ok-push_sentence-2.ensures c.in_ok-push_sentence-3.ensures in (
-      c.args.set,
       c.unwrap-way.result,
       c.missing_of-missing.result,
       rw c.unwrap-way.ensures at c.way_of.ensures.shape,

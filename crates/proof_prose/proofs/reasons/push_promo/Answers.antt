@@ -25,7 +25,6 @@ returns c =
     ap (λ (n : Counts). n.pawns) c.counts-pawns.ensures ∙ ap (λ (q : Asked). men c.args.side Pawn is_any q.board) c.query.view_is in
     let began : c.allowance-began.result.pawns ≡ men c.args.side Pawn is_any (array_of c.args.query.now.odds) =
     ap (λ (n : Allowance). n.pawns) c.allowance-began.ensures ∙ ap (λ (q : Asked). men c.args.side Pawn is_any (array_of q.odds)) c.query.view_is in (
-      c.args.set,
       c.counts-pawns.result.pawns,
       c.allowance-began.result.pawns,
       adds-three c.args.query.now (Settled c.args.set) (Gone c.args.side c.args.set) (Promoted c.args.side c.args.set c.counts-pawns.result.pawns c.allowance-began.result.pawns) c.args.out.now.items _ _ _ never never

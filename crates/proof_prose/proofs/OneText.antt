@@ -1,0 +1,124 @@
+-- A certificate has one text: the same is said of each node.
+use Rattle.std.proofs.Common.{◌≡◌, ℕ, Bool, inl, inr, List, [], ◌∷◌, ◌++◌, map, refl, sym, ap, ◌∙◌, subst}
+use Rattle.std.specs.Prelude.{Option}
+use Rattle.std.specs.List.{All}
+use Rattle.std.proofs.lemmas.Bool.{both_ways, cases_order}
+use Rattle.std.proofs.lemmas.List.Elements.{All-head, All-tail}
+use Rattle.std.proofs.lemmas.Option.{same_Some}
+use Rattle.board_base.specs.Board.{opponent}
+use Rattle.board_base.specs.declared.castles.Castle.{Castle}
+use Rattle.board_base.specs.declared.men.Colour.{Colour}
+use Rattle.board_base.specs.declared.unmoves.Unmove.{Unmove}
+use Rattle.cert_text.specs.Certificate.{Certificate}
+use Rattle.cert_text.specs.declared.reasons.Reason.{Reason}
+use Rattle.cert_text.specs.declared.reasons.Reason.TheVariants.{Line, Balance}
+use Rattle.general_lemmas.proofs.Lists.{same_first, same_rest}
+use Rattle.query_base.specs.Asked.{Asked}
+use Rattle.query_base.specs.declared.rule_lines.RuleLine.{RuleLine}
+use Rattle.query_base.specs.declared.rule_lines.RuleLine.TheVariants as rule
+use Rattle.proof_prose.specs.Bodies.{IsBody, IsSpoken}
+use Rattle.proof_prose.specs.Firsts.{IsFirst, is_changed, is_king_attacked, is_pawn_on_end}
+use Rattle.proof_prose.specs.Heads.{closing_text, opening_text}
+use Rattle.proof_prose.specs.Paragraphs.{told_text}
+use Rattle.proof_prose.specs.Prose.{Explains}
+use Rattle.proof_prose.specs.Reasons.{Adds, AddsLine, IsWayOf, TellsReason, TellsRule, all_words}
+use Rattle.proof_prose.specs.Sentences.{Says}
+use Rattle.proof_prose.specs.declared.bodies.Spoken.{Spoken}
+use Rattle.proof_prose.specs.declared.nodes.Line.{Line as OwnLine}
+use Rattle.proof_prose.specs.declared.nodes.Line.TheVariants as line
+use Rattle.proof_prose.specs.declared.nodes.Told.{Told}
+use Rattle.proof_prose.specs.declared.sentences.Sentence.{Sentence}
+use Rattle.proof_prose.specs.declared.sentences.Sentence.TheVariants.{Ranks, Check, Rights, Count, Caged, Changed, Settled, Gone, Promoted, Way, Lacks, Priced, Balanced}
+use Rattle.proof_prose.proofs.OneLeast.{one-least}
+
+one-first : (p : ℕ → Bool) (a b : ℕ) → IsFirst p a → IsFirst p b → a ≡ b
+one-first p a b h k = elim (cases_order a b) [
+  | inl same ↦ same
+  | inr (inl below) ↦ absurd (both_ways (p a) (k.1 a below) h.0)
+  | inr (inr above) ↦ absurd (both_ways (p b) (h.1 b above) k.0)
+]
+
+-- a way on files that are given as a list
+abbrev way_on : Colour → ℕ → List ℕ → Sentence
+way_on c captures files = Way c captures (record { items = files })
+
+one-way : (q : Asked) (c : Colour) (a b : Sentence) → IsWayOf q c a → IsWayOf q c b → Says a q → Says b q → a ≡ b
+one-way q c a b (n, files, e, first) (m, others, f, also) h k =
+    let here : Says (Way c n files) q = subst (λ (s : Sentence). Says s q) e h in
+    let there : Says (Way c m others) q = subst (λ (s : Sentence). Says s q) f k in
+    let number : n ≡ m = here.3 ∙ sym there.3 in
+    let items : files.items ≡ others.items = same_Some files.items others.items (sym first ∙ also) in
+    e ∙ ap (λ (x : ℕ). Way c x files) number ∙ ap (way_on c m) items ∙ sym f
+
+-- the same sentences are written in the same words
+one-adds : (q : Asked) (ss ts : List Sentence) (o a b : List ℕ) → ss ≡ ts → Adds q ss o a → Adds q ts o b → a ≡ b
+one-adds q ss ts o a b same h k = h.1 ∙ ap (λ (l : List Sentence). o ++ all_words l q) same ∙ sym k.1
+
+one-rule : (q : Asked) (r : RuleLine) (o a b : List ℕ) → TellsRule q r o a → TellsRule q r o b → a ≡ b
+one-rule q rule.Kings o a b h k = h.1 ∙ sym k.1
+one-rule q rule.Ranks o a b (s, first, h) (t, also, k) =
+    let same : s ≡ t = one-first (is_pawn_on_end q.board) s t first also in
+    one-adds q (Ranks s ∷ []) (Ranks t ∷ []) o a b (ap (λ (x : ℕ). Ranks x ∷ []) same) h k
+one-rule q rule.Check o a b (s, first, h) (t, also, k) =
+    let c : Colour = opponent q.turn in
+    let same : s ≡ t = one-first (is_king_attacked q.board c) s t first also in
+    one-adds q (Check c s ∷ []) (Check c t ∷ []) o a b (ap (λ (x : ℕ). Check c x ∷ []) same) h k
+one-rule q rule.Rights o a b (x, first, h) (y, also, k) =
+    let same : x ≡ y = same_Some x y (sym first ∙ also) in
+    one-adds q (Rights x ∷ []) (Rights y ∷ []) o a b (ap (λ (z : Castle). Rights z ∷ []) same) h k
+one-rule q (rule.Count c) o a b (pawns, together, began, h) (men, sum, start, k) =
+    let p : pawns ≡ men = h.0.0.0 ∙ sym k.0.0.0 in
+    let t : together ≡ sum = h.0.0.1 ∙ sym k.0.0.1 in
+    let s : began ≡ start = h.0.0.2 ∙ sym k.0.0.2 in
+    let same : Count c pawns together began ∷ [] ≡ Count c men sum start ∷ [] = cc in
+    one-adds q (Count c pawns together began ∷ []) (Count c men sum start ∷ []) o a b same h k
+one-rule q (rule.Frozen set) o a b (s, first, h) (t, also, k) =
+    let same : s ≡ t = one-first (is_changed q.odds q.board set) s t first also in
+    one-adds q (Caged set ∷ Changed set s ∷ []) (Caged set ∷ Changed set t ∷ []) o a b (ap (λ (x : ℕ). Caged set ∷ Changed set x ∷ []) same) h k
+one-rule q (rule.Caps c set p) o a b (way, missing, is, h) (other, lacking, was, k) =
+    let w : way ≡ other = one-way q c way other is was h.0.1.0 k.0.1.0 in
+    let m : missing ≡ lacking = h.0.1.1.0.1 ∙ sym k.0.1.1.0.1 in
+    let same : Settled set ∷ way ∷ Lacks (opponent c) set missing ∷ [] ≡ Settled set ∷ other ∷ Lacks (opponent c) set lacking ∷ [] = cc in
+    one-adds q (Settled set ∷ way ∷ Lacks (opponent c) set missing ∷ []) (Settled set ∷ other ∷ Lacks (opponent c) set lacking ∷ []) o a b same h k
+one-rule q (rule.Promo c set) o a b (pawns, began, h) (men, start, k) =
+    let p : pawns ≡ men = h.0.1.1.0.0 ∙ sym k.0.1.1.0.0 in
+    let s : began ≡ start = h.0.1.1.0.1 ∙ sym k.0.1.1.0.1 in
+    let same : Settled set ∷ Gone c set ∷ Promoted c set pawns began ∷ [] ≡ Settled set ∷ Gone c set ∷ Promoted c set men start ∷ [] = cc in
+    one-adds q (Settled set ∷ Gone c set ∷ Promoted c set pawns began ∷ []) (Settled set ∷ Gone c set ∷ Promoted c set men start ∷ []) o a b same h k
+
+one-reason : (q : Asked) (r : Reason) (o a b : List ℕ) → TellsReason q r o a → TellsReason q r o b → a ≡ b
+one-reason q (Line r) o a b h k = one-rule q r o a b h k
+one-reason q (Balance set p) o a b (white, black, h) (bright, dark, k) =
+    let w : white ≡ bright = h.0.1.1.0.1 ∙ sym k.0.1.1.0.1 in
+    let d : black ≡ dark = h.0.1.1.0.2 ∙ sym k.0.1.1.0.2 in
+    let same : Settled set ∷ Priced set p ∷ Balanced set p white black ∷ [] ≡ Settled set ∷ Priced set p ∷ Balanced set p bright dark ∷ [] = cc in
+    one-adds q (Settled set ∷ Priced set p ∷ Balanced set p white black ∷ []) (Settled set ∷ Priced set p ∷ Balanced set p bright dark ∷ []) o a b same h k
+
+one-line : (label : Option Unmove) (l : OwnLine) (q : Asked) (o a b : List ℕ) → AddsLine label l q o a → AddsLine label l q o b → a ≡ b
+one-line label (line.Because r) q o a b (least, is, h) (other, was, k) =
+    one-reason q other o a b (subst (λ (x : Reason). TellsReason q x o a) (one-least q r least other is was) h) k
+one-line label (line.Back n) q o a b h k = h.1 ∙ sym k.1
+one-line label (line.Moves n) q o a b h k = h.1 ∙ sym k.1
+
+abbrev said_of_node : Told → List ℕ → Spoken
+said_of_node node body = record { node = node; body = body }
+
+one-spoken : (s t : Spoken) → s.node ≡ t.node → IsSpoken s → IsSpoken t → s ≡ t
+one-spoken s t same h k =
+    let said : IsBody t.node s.body = subst (λ (n : Told). IsBody n s.body) same h in
+    let body : s.body ≡ t.body = one-line t.node.label t.node.line t.node.query [] s.body t.body said k in
+    ap (λ (n : Told). said_of_node n s.body) same ∙ ap (said_of_node t.node) body
+
+one-each : (a b : List Spoken) → map (λ (s : Spoken). s.node) a ≡ map (λ (s : Spoken). s.node) b → All IsSpoken a → All IsSpoken b → a ≡ b
+one-each [] [] same h k = refl
+one-each [] (t ∷ b) same h k = absurd cc
+one-each (s ∷ a) [] same h k = absurd cc
+one-each (s ∷ a) (t ∷ b) same h k =
+    let first : s ≡ t = one-spoken s t (same_first same) (All-head IsSpoken s a h) (All-head IsSpoken t b k) in
+    let rest : a ≡ b = one-each a b (same_rest same) (All-tail IsSpoken s a h) (All-tail IsSpoken t b k) in
+    ap (λ (x : Spoken). x ∷ a) first ∙ ap (λ (l : List Spoken). t ∷ l) rest
+
+pub one-text : (cert : Certificate) (one other : List ℕ) → Explains cert one → Explains cert other → one ≡ other
+one-text cert one other (spoken, are, e) (told, were, f) =
+    let same : spoken ≡ told = one-each spoken told (sym are.0 ∙ were.0) are.1 were.1 in
+    e ∙ ap (λ (l : List Spoken). (opening_text cert.claim cert.query ++ told_text l) ++ closing_text cert.claim cert.query) same ∙ sym f

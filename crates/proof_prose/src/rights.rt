@@ -1,0 +1,48 @@
+//! The right to castle that can't have been kept.
+
+ghost use Rattle.std.specs.Prelude.{◌≡◌, IsSome};
+ghost use Rattle.std.specs.List.{find};
+ghost use Rattle.board_base.specs.Game.{lacks_home};
+ghost use Rattle.board_base.specs.Play.{all_castles};
+ghost use Rattle.static_rules.specs.Supports.{HasRightsHomes};
+ghost use Rattle.proof_prose.specs.Firsts.{is_astray};
+
+use board_base::{Castle, Odds};
+use castle_history::{are_at_home, home};
+use query_base::Query;
+
+/// Whether the king or the rook of the castling is left out.
+pub(crate) fn lacks_home(odds: Odds, castle: Castle) -> bool
+    ensures { result ≡ lacks_home odds castle }
+{
+    let (king, rook) = home(castle);
+    odds.set().has(king) || odds.set().has(rook)
+}
+
+/// Whether the right is held, and its king or its rook was left out or isn't at home.
+fn is_astray(query: &Query, castle: Castle) -> bool
+    ensures { result ≡ is_astray query.now castle }
+{
+    query.held.has(castle) && (lacks_home(query.odds, castle) || !are_at_home(&query.board, castle))
+}
+
+/// The first such right, where there is one.
+pub(crate) fn astray_right(query: &Query) -> Option<Castle>
+    requires { HasRightsHomes query.now → ⊥ }
+    ensures some { IsSome result }
+    ensures first { result ≡ find (is_astray query.now) all_castles }
+{
+    if is_astray(query, Castle::WhiteShort) {
+        return Some(Castle::WhiteShort);
+    }
+    if is_astray(query, Castle::WhiteLong) {
+        return Some(Castle::WhiteLong);
+    }
+    if is_astray(query, Castle::BlackShort) {
+        return Some(Castle::BlackShort);
+    }
+    if is_astray(query, Castle::BlackLong) {
+        return Some(Castle::BlackLong);
+    }
+    None
+}
