@@ -10,7 +10,7 @@ use Rattle.dossier_checker.specs.DossierAnswers.{DossierAnswer}
 use Rattle.dossier_checker.specs.DossierReading.{AnswersDossierAll}
 use Rattle.command_answers.specs.Inputs.{ReadsAll}
 use Rattle.command_answers.specs.AtLeasts.{AnswersAtLeast, TellsBound}
-use Rattle.command_answers.specs.LineChecks.{AnswersLine, TellsDossier}
+use Rattle.command_answers.specs.Lines.{AnswersLine, TellsDossier}
 use Rattle.command_answers.specs.Checks.{AnswersCheck, Tells}
 use Rattle.command_answers.specs.declared.statuses.Status.{Status}
 

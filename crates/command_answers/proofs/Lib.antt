@@ -5,3 +5,4 @@ pub mod Pieces
 pub mod OpenTexts
 pub mod Settled
 pub mod LegalGames
+pub mod Finding

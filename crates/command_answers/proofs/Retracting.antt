@@ -9,7 +9,7 @@ use Rattle.board_base.specs.declared.unmoves.Unmove.{Unmove}
 use Rattle.cert_text.specs.Lines.{ended}
 use Rattle.query_base.specs.Asked.{Asked}
 use Rattle.unmove_gen.specs.Listed.{unmoves}
-use Rattle.command_answers.specs.Retractions.{unmove_line, unmoves_lines}
+use Rattle.command_answers.specs.Unmoves.{unmove_line, unmoves_lines}
 
 -- the unmoves in front of those that are left, and their number
 pub record GivenSoFar (q : Asked) (left : List Unmove) (total : ℕ) : Type 0 where

@@ -8,7 +8,7 @@ use Rattle.line_claims.specs.declared.claims.LineClaim.{LineClaim}
 use Rattle.dossier_text.specs.Proving.{IsDossier}
 use Rattle.dossier_search.specs.ReachedParts.{IsDearPart, IsFirstOpenPart, IsPartAfforded, IsPartRefutable}
 use Rattle.question_text.specs.declared.faults.InputFault.{InputFault}
-use Rattle.command_answers.specs.LineChecks.{step_line}
+use Rattle.command_answers.specs.Lines.{step_line}
 use Rattle.command_answers.specs.Plays.{number_line}
 use Rattle.command_answers.specs.Questions.{fault_line}
 use Rattle.command_answers.specs.Solves.{IsCheap, spent_line}
@@ -41,8 +41,8 @@ AnswersLineClaim depth nodes claim q status.Spent text = (p : ℕ) × IsDearPart
 AnswersLineClaim depth nodes claim q _ text = ⊥
 
 -- the status and the text with which `dossier` answers these bytes
-abbrev pub AnswersMaking : ℕ → ℕ → List ℕ → Status → List ℕ → Type 0
-AnswersMaking depth nodes input ending text =
+abbrev pub AnswersDossier : ℕ → ℕ → List ℕ → Status → List ℕ → Type 0
+AnswersDossier depth nodes input ending text =
     ((claim : LineClaim) × (q : Asked) × StatesLine input claim q × AnswersLineClaim depth nodes claim q ending text)
     ⊎ ((why : InputFault) × IsNoLineStatement input why × (ending ≡ BadInput) × (text ≡ fault_line why))
 

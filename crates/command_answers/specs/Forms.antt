@@ -5,7 +5,7 @@ use Rattle.std.specs.List.{concat}
 use Rattle.cert_text.specs.Certificate.{HasText}
 use Rattle.cert_text.specs.SeenCert.{cert_of}
 use Rattle.cert_text.specs.Written.{cert_lines}
-use Rattle.command_answers.specs.Retractions.{unmoves_text}
+use Rattle.command_answers.specs.Unmoves.{unmoves_text}
 use Rattle.command_answers.specs.declared.texts.Form.{Form}
 use Rattle.command_answers.specs.declared.texts.Form.TheVariants.{Line, Lines, Retractions, Certificate}
 

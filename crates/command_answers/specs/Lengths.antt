@@ -32,8 +32,8 @@ AnswersLengthOf q status.Undecided text = HasManyMen White q × HasManyMen Black
 AnswersLengthOf q _ text = ⊥
 
 -- the status and the text with which `length` answers these bytes, which are to be the lines of a query without a clock
-abbrev pub AnswersHowLong : List ℕ → Status → List ℕ → Type 0
-AnswersHowLong input status text = AnswersPlain AnswersLengthOf input status text
+abbrev pub AnswersLength : List ℕ → Status → List ℕ → Type 0
+AnswersLength input status text = AnswersPlain AnswersLengthOf input status text
 
 -- the input is the lines of a query without a clock, of which some side has at most sixteen men
 abbrev pub AsksForLength : List ℕ → Type 0

@@ -9,13 +9,13 @@ pub mod Sans
 pub mod Spells
 pub mod Solves
 pub mod Settles
-pub mod Retractions
+pub mod Unmoves
 pub mod Verdicts
 pub mod Studies
 pub mod Trees
 pub mod Lengths
 pub mod AtLeasts
-pub mod LineChecks
+pub mod Lines
 pub mod Dossiers
 pub mod Explains
 pub mod Samples

@@ -1,5 +1,10 @@
--- The numbers with which a search or a sample is called.
+-- How much a command reads, and the numbers with which a search or a sample is called.
 use Rattle.std.specs.Prelude.{ℕ, ◌≤◌, ◌<◌, ◌^◌}
+use Rattle.retro_ports.specs.declared.piecewise.TheConstants.{MOST_BYTES}
+
+-- a command reads at most so many bytes, which are 64 MiB
+abbrev pub most_bytes : ℕ
+most_bytes = MOST_BYTES
 
 -- a search goes back at most 64 moves, and visits at least one query and at most 500,000
 pub record AreLimits (depth nodes : ℕ) : Type 0 where

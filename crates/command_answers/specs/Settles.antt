@@ -8,6 +8,7 @@ use Rattle.query_base.specs.declared.claims.Claim.{Claim}
 use Rattle.cert_text.specs.Certificate.{Certificate, IsTextOf}
 use Rattle.retro_search.specs.Answers.{IsProofOf}
 use Rattle.retro_search.specs.Unsettled.{IsAgainst, StaysUnsettled, WhereRefutable}
+use Rattle.command_answers.specs.Limits.{most_bytes}
 use Rattle.command_answers.specs.Questions.{fault_line}
 use Rattle.command_answers.specs.Solves.{countered_line, spent_line, undecided_line}
 use Rattle.command_answers.specs.Statements.{IsNoStatement, States}
@@ -22,7 +23,7 @@ pub record TellsSettlingProof (depth : ℕ) (claim : Claim) (q : Asked) (text : 
   pub cert : Certificate
   pub is_proof : IsProofOf depth cert claim q
   pub is_text : IsTextOf text cert
-  pub short : length text ≤ 67108864
+  pub short : length text ≤ most_bytes
 
 -- The claim's target isn't refutable at the depth by rule lines. The text tells a line of it that is open at the depth, ends elsewhere
 -- than at the array, and has fewer moves than the nodes.

@@ -1,6 +1,7 @@
-ghost use Rattle.std.specs.Prelude.{◌≡◌, ◌≢◌, ◌≤◌, ◌++◌, Err, IfOk, codes, length};
+ghost use Rattle.std.specs.Prelude.{◌≡◌, ◌≢◌, ◌≤◌, ◌++◌, ◌+◌, Err, IfOk, codes, length};
 ghost use Rattle.retro_ports.specs.Causes.{Rose};
 ghost use Rattle.retro_ports.specs.Ends.{ReadSome};
+ghost use Rattle.command_answers.specs.Limits.{most_bytes};
 ghost use Rattle.command_answers.specs.Inputs.{ReadsAll};
 ghost use Rattle.command_answers.specs.Checks.{AnswersCheck, why_word};
 
@@ -26,11 +27,11 @@ pub(crate) fn word(why: Why) -> &'static [u8]
 
 /// The status and the line with which `check` answers what the source gives, of at most 67,108,864 bytes. It takes no memory.
 #[inline(never)]
-pub fn check<S: Source>(src: &mut S) -> Result<(Status, ArrayVec<u8, 512>), ReadAllFault>
-    ensures answer { IfOk result (λ a. ReadsAll 67_108_864 (S.left src.old) (S.left src.new) (λ input. AnswersCheck input a.0 a.1.items)) }
+pub fn answer_check<S: Source>(src: &mut S) -> Result<(Status, ArrayVec<u8, 512>), ReadAllFault>
+    ensures answer { IfOk result (λ a. ReadsAll most_bytes (S.left src.old) (S.left src.new) (λ input. AnswersCheck input a.0 a.1.items)) }
     ensures remembers { result ≢ Err ReadAllFault.Memory }
-    ensures too_long { result ≡ Err ReadAllFault.TooLong → ReadSome (S.left src.old) (S.left src.new) (λ n. n ≡ 67_108_865) }
-    ensures failed { result ≡ Err ReadAllFault.Failed → ReadSome (S.left src.old) (S.left src.new) (λ n. n ≤ 67_108_864) }
+    ensures too_long { result ≡ Err ReadAllFault.TooLong → ReadSome (S.left src.old) (S.left src.new) (λ n. n ≡ most_bytes + 1) }
+    ensures failed { result ≡ Err ReadAllFault.Failed → ReadSome (S.left src.old) (S.left src.new) (λ n. n ≤ most_bytes) }
     ensures cause { result ≡ Err ReadAllFault.Failed → Rose (S.faults src.old) (S.faults src.new) }
     ensures kept { result ≢ Err ReadAllFault.Failed → S.faults src.new ≡ S.faults src.old }
     ensures later { S.faults src.old ≤ S.faults src.new }

@@ -1,8 +1,8 @@
 ghost use Rattle.std.specs.Prelude.{◌≡◌, ◌≤◌, IfOk, None, codes, length};
 ghost use Rattle.line_claims.specs.Lines.{HasLine};
-ghost use Rattle.command_answers.specs.Limits.{AreLimits};
-ghost use Rattle.command_answers.specs.Dossiers.{AnswersLineClaim, AnswersMaking};
-ghost use Rattle.command_answers.specs.LineChecks.{step_line};
+ghost use Rattle.command_answers.specs.Limits.{AreLimits, most_bytes};
+ghost use Rattle.command_answers.specs.Dossiers.{AnswersDossier, AnswersLineClaim};
+ghost use Rattle.command_answers.specs.Lines.{step_line};
 ghost use Rattle.command_answers.specs.Plays.{number_line};
 
 use crate::questions::write_fault;
@@ -53,15 +53,15 @@ fn answer_line_claim(
 
 /// The status and the text with which `dossier` answers these bytes: each part is searched as by `solve`, going back at most `depth`
 /// moves, from 0 to 64, and visiting at most `nodes` queries, from 1 to 500,000.
-pub fn make_dossier(
+pub fn answer_dossier(
     alloc: Global,
     depth: u8,
     nodes: u32,
     input: &[u8],
 ) -> Result<(Status, Vec<u8>), AllocError>
-    requires short { length input.now ≤ 67_108_864 }
+    requires short { length input.now ≤ most_bytes }
     requires limits { AreLimits depth nodes }
-    ensures { IfOk result (λ a. AnswersMaking depth nodes input.now a.0 a.1.items) }
+    ensures { IfOk result (λ a. AnswersDossier depth nodes input.now a.0 a.1.items) }
 {
     match read_line_statement(input) {
         Ok(statement) => answer_line_claim(alloc, &statement, depth, nodes),

@@ -1,6 +1,7 @@
 ghost use Rattle.std.specs.Prelude.{◌≤◌, IfOk, length};
 ghost use Rattle.cert_text.specs.Certificate.{Certificate, IsTextOf};
 ghost use Rattle.cert_checker.specs.Proving.{ProvesClaim};
+ghost use Rattle.command_answers.specs.Limits.{most_bytes};
 ghost use Rattle.command_answers.specs.Explains.{AnswersExplain, IsExplained};
 
 use crate::checks::word;
@@ -14,7 +15,7 @@ use std::alloc::{AllocError, Global};
 
 /// The proof in plain words of the certificate whose text these bytes are.
 fn explain_text(alloc: Global, input: &[u8]) -> Result<Text, AllocError>
-    requires short { length input.now ≤ 67_108_864 }
+    requires short { length input.now ≤ most_bytes }
     requires proof { (cert : Certificate) × IsTextOf input.now cert × ProvesClaim cert }
     ensures { IfOk result (λ text. IsExplained input.now text) }
 {
@@ -26,8 +27,8 @@ fn explain_text(alloc: Global, input: &[u8]) -> Result<Text, AllocError>
 }
 
 /// The status and the text with which `explain` answers these bytes.
-pub fn tell_proof(alloc: Global, input: &[u8]) -> Result<(Status, Text), AllocError>
-    requires { length input.now ≤ 67_108_864 }
+pub fn answer_explain(alloc: Global, input: &[u8]) -> Result<(Status, Text), AllocError>
+    requires { length input.now ≤ most_bytes }
     ensures { IfOk result (λ a. AnswersExplain input.now a.0 a.1) }
 {
     unlisted_have_texts();

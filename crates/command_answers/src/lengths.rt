@@ -1,5 +1,6 @@
 ghost use Rattle.std.specs.Prelude.{◌≡◌, ◌≤◌, IfOk, None, length};
-ghost use Rattle.command_answers.specs.Lengths.{AnswersHowLong, AnswersLengthOf};
+ghost use Rattle.command_answers.specs.Limits.{most_bytes};
+ghost use Rattle.command_answers.specs.Lengths.{AnswersLength, AnswersLengthOf};
 
 use crate::questions::write_fault;
 use crate::statuses::Status;
@@ -10,7 +11,7 @@ use question_text::read_lone_position;
 use std::alloc::{AllocError, Global};
 
 /// What is said of the query: the text of the length of its games, or that both sides have too many men for one.
-fn answer_length(alloc: Global, query: &Query) -> Result<(Status, Vec<u8>), AllocError>
+fn answer_query(alloc: Global, query: &Query) -> Result<(Status, Vec<u8>), AllocError>
     requires plain { query.now.barred ≡ None }
     requires free { query.now.clock ≡ None }
     ensures { IfOk result (λ a. AnswersLengthOf query.now a.0 a.1.items) }
@@ -24,12 +25,12 @@ fn answer_length(alloc: Global, query: &Query) -> Result<(Status, Vec<u8>), Allo
 }
 
 /// The status and the text with which `length` answers these bytes.
-pub fn measure(alloc: Global, input: &[u8]) -> Result<(Status, Vec<u8>), AllocError>
-    requires { length input.now ≤ 67_108_864 }
-    ensures { IfOk result (λ a. AnswersHowLong input.now a.0 a.1.items) }
+pub fn answer_length(alloc: Global, input: &[u8]) -> Result<(Status, Vec<u8>), AllocError>
+    requires { length input.now ≤ most_bytes }
+    ensures { IfOk result (λ a. AnswersLength input.now a.0 a.1.items) }
 {
     match read_lone_position(input) {
-        Ok(query) => answer_length(alloc, &query),
+        Ok(query) => answer_query(alloc, &query),
         Err(why) => Ok((Status::BadInput, write_fault(alloc, why)?)),
     }
 }

@@ -1,5 +1,6 @@
 ghost use Rattle.std.specs.Prelude.{◌≡◌, ◌≤◌, ◌<◌, ◌^◌, IfOk, codes, length};
 ghost use Rattle.board_base.specs.Game.{last_move};
+ghost use Rattle.command_answers.specs.Limits.{most_bytes};
 ghost use Rattle.command_answers.specs.Plays.{AnswersPlay, AnswersGame, AnswersMoves, number_line};
 
 use crate::questions::write_fault;
@@ -52,7 +53,7 @@ pub fn answer_moves(
 
 /// What is said of the words of a game that is to reach the query.
 fn answer_game(alloc: Global, query: &Query, bytes: &[u8]) -> Result<(Status, Vec<u8>), AllocError>
-    requires { length bytes.now ≤ 67_108_864 }
+    requires { length bytes.now ≤ most_bytes }
     ensures { IfOk result (λ a. AnswersGame query.now bytes.now a.0 a.1.items) }
 {
     match read_game(alloc, bytes) {
@@ -63,8 +64,8 @@ fn answer_game(alloc: Global, query: &Query, bytes: &[u8]) -> Result<(Status, Ve
 }
 
 /// The status and the line with which `play` answers these bytes.
-pub fn play(alloc: Global, input: &[u8]) -> Result<(Status, Vec<u8>), AllocError>
-    requires { length input.now ≤ 67_108_864 }
+pub fn answer_play(alloc: Global, input: &[u8]) -> Result<(Status, Vec<u8>), AllocError>
+    requires { length input.now ≤ most_bytes }
     ensures { IfOk result (λ a. AnswersPlay input.now a.0 a.1.items) }
 {
     match read_question(input) {

@@ -22,7 +22,7 @@ fn write_summary(alloc: Global, summary: Summary) -> Result<Vec<u8>, AllocError>
 
 /// The status and the line with which `sample` answers: it makes so many games from the start, from 1 to 1,000, each of at most `plies`
 /// moves, from 1 to 200.
-pub fn summarize(
+pub fn answer_sample(
     alloc: Global,
     start: u64,
     games: u32,

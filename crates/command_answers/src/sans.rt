@@ -1,6 +1,7 @@
 ghost use Rattle.std.specs.Prelude.{◌≡◌, ◌≤◌, ◌<◌, ◌^◌, ◌++◌, IfOk, codes, decimal, length};
 ghost use Rattle.board_base.specs.Game.{IsGame};
 ghost use Rattle.cert_text.specs.Lines.{ended};
+ghost use Rattle.command_answers.specs.Limits.{most_bytes};
 ghost use Rattle.command_answers.specs.Plays.{AnswersEnd};
 ghost use Rattle.command_answers.specs.Sans.{AnswersSan, AnswersSanGame};
 
@@ -41,8 +42,12 @@ fn answer_told(
 }
 
 /// What is said of the words of a game in algebraic notation that is to reach the query.
-fn answer_san(alloc: Global, query: &Query, bytes: &[u8]) -> Result<(Status, Vec<u8>), AllocError>
-    requires { length bytes.now ≤ 67_108_864 }
+fn answer_notation(
+    alloc: Global,
+    query: &Query,
+    bytes: &[u8],
+) -> Result<(Status, Vec<u8>), AllocError>
+    requires { length bytes.now ≤ most_bytes }
     ensures { IfOk result (λ a. AnswersSanGame query.now bytes.now a.0 a.1.items) }
 {
     match read_san_game(alloc, State::start_of(query.odds), bytes) {
@@ -55,12 +60,12 @@ fn answer_san(alloc: Global, query: &Query, bytes: &[u8]) -> Result<(Status, Vec
 }
 
 /// The status and the line with which `san` answers these bytes.
-pub fn read_notation(alloc: Global, input: &[u8]) -> Result<(Status, Vec<u8>), AllocError>
-    requires { length input.now ≤ 67_108_864 }
+pub fn answer_san(alloc: Global, input: &[u8]) -> Result<(Status, Vec<u8>), AllocError>
+    requires { length input.now ≤ most_bytes }
     ensures { IfOk result (λ a. AnswersSan input.now a.0 a.1.items) }
 {
     match read_question(input) {
-        Ok(question) => answer_san(alloc, &question.query, question.rest),
+        Ok(question) => answer_notation(alloc, &question.query, question.rest),
         Err(why) => Ok((Status::BadInput, write_fault(alloc, why)?)),
     }
 }

@@ -1,13 +1,15 @@
-ghost use Rattle.std.specs.Prelude.{◌≡◌, ◌≤◌, ◌∷◌, ◌++◌, IfOk, IsTrue, None, OnOk, length};
+ghost use Rattle.std.specs.Prelude.{◌≡◌, ◌≤◌, ◌∷◌, ◌++◌, IfOk, IsTrue, OnOk, length};
 ghost use Rattle.std.specs.List.{All};
 ghost use Rattle.board_base.specs.Texts.{can_promote, move_text, unmove_text};
-ghost use Rattle.cert_text.specs.ClaimLines.{promotes_well};
-ghost use Rattle.command_answers.specs.Limits.{AreLimits};
-ghost use Rattle.command_answers.specs.Solves.{AnswersClaim, AnswersSolve, countered_line, spent_line, undecided_line};
-ghost use Rattle.command_answers.specs.Told.{IsSpelled};
+ghost use Rattle.cert_text.specs.Certificate.{HasText};
+ghost use Rattle.cert_text.specs.SeenCert.{cert_of};
+ghost use Rattle.retro_search.specs.Answers.{IfCountered, IfProved, IfUndecided};
+ghost use Rattle.command_answers.specs.Limits.{AreLimits, most_bytes};
+ghost use Rattle.command_answers.specs.Solves.{AnswersSolve, countered_line, spent_line, undecided_line};
+ghost use Rattle.command_answers.specs.Told.{IsSpelled, TellsFound};
 
 use crate::questions::write_fault;
-use crate::statements::{Statement, read_statement};
+use crate::statements::read_statement;
 use crate::statuses::Status;
 use crate::texts::Text;
 use arrayvec::ArrayVec;
@@ -39,7 +41,7 @@ fn push_move(text: &mut Vec<u8>, m: &Move) -> Result<(), AllocError>
 }
 
 /// The line `undecided`, with the unmoves behind it.
-pub(crate) fn write_undecided(alloc: Global, line: &UnmoveList) -> Result<Vec<u8>, AllocError>
+fn write_undecided(alloc: Global, line: &UnmoveList) -> Result<Vec<u8>, AllocError>
     requires { All IsSpelled line.now }
     ensures { IfOk result (λ v. v.items ≡ undecided_line line.now) }
 {
@@ -52,7 +54,7 @@ pub(crate) fn write_undecided(alloc: Global, line: &UnmoveList) -> Result<Vec<u8
 }
 
 /// The line `countered`, with the moves behind it.
-pub(crate) fn write_countered(alloc: Global, game: &MoveList) -> Result<Vec<u8>, AllocError>
+fn write_countered(alloc: Global, game: &MoveList) -> Result<Vec<u8>, AllocError>
     requires { All (λ m. IsTrue (can_promote m.promo)) game.now }
     ensures { IfOk result (λ v. v.items ≡ countered_line game.now) }
 {
@@ -71,23 +73,13 @@ pub(crate) fn write_spent(alloc: Global, nodes: u32) -> Result<Vec<u8>, AllocErr
     Ok(format!(in alloc; "spent {nodes}\n")?.into_bytes())
 }
 
-/// What is said of the claim about the query.
-fn answer_claim(
-    alloc: Global,
-    statement: &Statement,
-    depth: u8,
-    nodes: u32,
-) -> Result<(Status, Text), AllocError>
-    requires plain { statement.now.query.barred ≡ None }
-    requires promotion { IsTrue (promotes_well statement.now.claim) }
-    requires limits { AreLimits depth nodes }
-    ensures { IfOk result (λ a. AnswersClaim depth nodes statement.now.claim statement.now.query a.0 a.1) }
+/// The status and the text that tell what a search found.
+pub(crate) fn write_found(alloc: Global, found: Found) -> Result<(Status, Text), AllocError>
+    requires proved { IfProved found (λ cert. HasText (cert_of cert)) }
+    requires undecided { IfUndecided found (λ line. All IsSpelled line) }
+    requires countered { IfCountered found (λ game. All (λ m. IsTrue (can_promote m.promo)) game) }
+    ensures { IfOk result (λ a. TellsFound found a.0 a.1) }
 {
-    unmoves_have_texts();
-    let found = match solve(alloc, &statement.query, &statement.claim, depth, nodes) {
-        Ok(found) => found,
-        Err(_) => return Err(AllocError),
-    };
     match found {
         Found::Proved(cert) => Ok((Status::Done, Text::of_certificate(cert))),
         Found::Undecided(line) => Ok((
@@ -107,18 +99,23 @@ fn answer_claim(
 
 /// The status and the text with which `solve` answers these bytes: it goes back at most `depth` moves, from 0 to 64, and visits at most
 /// `nodes` queries, from 1 to 500,000.
-pub fn search(
+pub fn answer_solve(
     alloc: Global,
     depth: u8,
     nodes: u32,
     input: &[u8],
 ) -> Result<(Status, Text), AllocError>
-    requires short { length input.now ≤ 67_108_864 }
+    requires short { length input.now ≤ most_bytes }
     requires limits { AreLimits depth nodes }
     ensures { IfOk result (λ a. AnswersSolve depth nodes input.now a.0 a.1) }
 {
-    match read_statement(input) {
-        Ok(statement) => answer_claim(alloc, &statement, depth, nodes),
-        Err(why) => Ok((Status::BadInput, Text::of_lines(write_fault(alloc, why)?))),
+    let statement = match read_statement(input) {
+        Ok(statement) => statement,
+        Err(why) => return Ok((Status::BadInput, Text::of_lines(write_fault(alloc, why)?))),
+    };
+    unmoves_have_texts();
+    match solve(alloc, &statement.query, &statement.claim, depth, nodes) {
+        Ok(found) => write_found(alloc, found),
+        Err(_) => Err(AllocError),
     }
 }

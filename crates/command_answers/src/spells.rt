@@ -1,4 +1,5 @@
 ghost use Rattle.std.specs.Prelude.{◌≡◌, ◌≤◌, ◌<◌, ◌^◌, IfOk, length};
+ghost use Rattle.command_answers.specs.Limits.{most_bytes};
 ghost use Rattle.command_answers.specs.Spells.{AnswersSpell, AnswersSpelling};
 
 use crate::plays::{write_ply, write_word};
@@ -25,8 +26,8 @@ fn answer_spelling(alloc: Global, moves: &[Move]) -> Result<(Status, Vec<u8>), A
 }
 
 /// The status and the line with which `spell` answers these bytes.
-pub fn spell(alloc: Global, input: &[u8]) -> Result<(Status, Vec<u8>), AllocError>
-    requires { length input.now ≤ 67_108_864 }
+pub fn answer_spell(alloc: Global, input: &[u8]) -> Result<(Status, Vec<u8>), AllocError>
+    requires { length input.now ≤ most_bytes }
     ensures { IfOk result (λ a. AnswersSpell input.now a.0 a.1.items) }
 {
     match read_game(alloc, input) {

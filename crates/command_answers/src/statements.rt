@@ -2,6 +2,7 @@ ghost use Rattle.std.specs.Prelude.{◌≡◌, ◌+◌, ◌≤◌, ◌<◌, ◌^
 ghost use Rattle.cert_text.specs.ClaimLines.{promotes_well};
 ghost use Rattle.line_claims.specs.Lines.{HasLine};
 ghost use Rattle.question_text.specs.Questions.{AsksAlone};
+ghost use Rattle.command_answers.specs.Limits.{most_bytes};
 ghost use Rattle.command_answers.specs.Statements.{IsNoLineStatement, IsNoStatement, IsNoneBehind, States, StatesLine};
 
 use cert_text::{one_text_of_a_claim, read_claim};
@@ -25,7 +26,7 @@ pub struct LineStatement {
 
 /// The query of the lines behind a claim. `BadLine`, counted from the claim on, and `BadFen` come as from `read_lone_question`.
 fn read_behind(rest: &[u8]) -> Result<Query, InputFault>
-    requires { length rest.now ≤ 67_108_864 }
+    requires { length rest.now ≤ most_bytes }
     ensures asked { IfOk result (AsksAlone rest.now) }
     ensures plain { IfOk result (λ query. query.barred ≡ None) }
     ensures none { IfErr result (IsNoneBehind rest.now) }
@@ -41,7 +42,7 @@ fn read_behind(rest: &[u8]) -> Result<Query, InputFault>
 /// comes where the first line is no claim, and `BadLine`, counted from the claim on, and `BadFen` as from `read_lone_question` of what
 /// follows it.
 pub fn read_statement(input: &[u8]) -> Result<Statement, InputFault>
-    requires { length input.now ≤ 67_108_864 }
+    requires { length input.now ≤ most_bytes }
     ensures states { IfOk result (λ s. States input.now s.claim s.query) }
     ensures promotion { IfOk result (λ s. IsTrue (promotes_well s.claim)) }
     ensures plain { IfOk result (λ s. s.query.barred ≡ None) }
@@ -61,7 +62,7 @@ pub fn read_statement(input: &[u8]) -> Result<Statement, InputFault>
 /// The claim of several steps of the input's first line, and the query of the lines behind it. `BadLine` and `BadFen` come as from
 /// `read_statement`.
 pub fn read_line_statement(input: &[u8]) -> Result<LineStatement, InputFault>
-    requires { length input.now ≤ 67_108_864 }
+    requires { length input.now ≤ most_bytes }
     ensures states { IfOk result (λ s. StatesLine input.now s.claim s.query) }
     ensures lined { IfOk result (λ s. HasLine s.claim) }
     ensures plain { IfOk result (λ s. s.query.barred ≡ None) }

@@ -6,11 +6,11 @@ ghost use Rattle.cert_text.specs.SeenCert.{cert_of};
 ghost use Rattle.cert_text.specs.Written.{cert_lines};
 ghost use Rattle.retro_ports.specs.Causes.{HasCause};
 ghost use Rattle.retro_ports.specs.Ends.{TakesPrefix};
-ghost use Rattle.command_answers.specs.Retractions.{unmoves_text};
+ghost use Rattle.command_answers.specs.Unmoves.{unmoves_text};
 
 use crate::certificates::write_certificate;
-use crate::retractions::write_retractions;
 use crate::statuses::Status;
+use crate::unmoves::write_retractions;
 use arrayvec::ArrayVec;
 use cert_text::Cert;
 use query_base::Query;

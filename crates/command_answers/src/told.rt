@@ -10,7 +10,7 @@ ghost use Rattle.query_base.specs.Asked.{IsShortClock};
 ghost use Rattle.command_answers.specs.AtLeasts.{bound_line};
 ghost use Rattle.line_claims.specs.Lines.{HasLine};
 ghost use Rattle.command_answers.specs.Checks.{accepted_line, accepted_words_line, clock_words, odds_words, refusal_line};
-ghost use Rattle.command_answers.specs.LineChecks.{accepted_steps_line, line_in, part_line, step_line};
+ghost use Rattle.command_answers.specs.Lines.{accepted_steps_line, line_in, part_line, step_line};
 
 use arrayvec::ArrayVec;
 use board_base::{Odds, Unmove, write_unmove};

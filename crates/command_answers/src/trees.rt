@@ -1,5 +1,5 @@
 ghost use Rattle.std.specs.Prelude.{◌≡◌, ◌≤◌, IfOk, None, length};
-ghost use Rattle.command_answers.specs.Limits.{AreLimits};
+ghost use Rattle.command_answers.specs.Limits.{AreLimits, most_bytes};
 ghost use Rattle.command_answers.specs.Trees.{AnswersTree, AnswersTreeOf};
 
 use crate::questions::write_fault;
@@ -30,13 +30,13 @@ fn answer_query(
 
 /// The status and the text with which `tree` answers these bytes: the tree goes back at most `depth` moves, from 0 to 64, and has at
 /// most `nodes` lines, from 1 to 500,000.
-pub fn browse(
+pub fn answer_tree(
     alloc: Global,
     depth: u8,
     nodes: u32,
     input: &[u8],
 ) -> Result<(Status, Vec<u8>), AllocError>
-    requires short { length input.now ≤ 67_108_864 }
+    requires short { length input.now ≤ most_bytes }
     requires limits { AreLimits depth nodes }
     ensures { IfOk result (λ a. AnswersTree depth nodes input.now a.0 a.1.items) }
 {

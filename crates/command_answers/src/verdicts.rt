@@ -2,7 +2,7 @@ ghost use Rattle.std.specs.Prelude.{◌≡◌, ◌≤◌, ◌++◌, IfOk, MatchO
 ghost use Rattle.std.specs.List.{All};
 ghost use Rattle.codex_verdict.specs.Rights.{claim_of};
 ghost use Rattle.codex_verdict.specs.Verdicts.{Promotes, verdict_text};
-ghost use Rattle.command_answers.specs.Limits.{AreLimits};
+ghost use Rattle.command_answers.specs.Limits.{AreLimits, most_bytes};
 ghost use Rattle.retro_search.specs.Lone.{IsDear};
 ghost use Rattle.command_answers.specs.Verdicts.{AnswersPosition, AnswersVerdict, Each, IsSettled, verdicts_text};
 ghost use Rattle.command_answers.specs.Told.{HasDearRight};
@@ -18,7 +18,7 @@ use retro_search::{Found, solve};
 use std::alloc::{AllocError, Global};
 
 /// Whether the right's claim is settled; None where the search was spent.
-fn settle(
+fn decide(
     alloc: Global,
     query: &Query,
     right: &Right,
@@ -41,7 +41,7 @@ fn settle(
 }
 
 /// Which of the rights are settled, each by a search of its own; None where one of these was spent.
-fn settle_all(
+fn decide_all(
     alloc: Global,
     query: &Query,
     rights: &[Right],
@@ -55,7 +55,7 @@ fn settle_all(
 {
     let mut all: ArrayVec<bool, 18> = ArrayVec::new();
     for right in rights {
-        match settle(alloc, query, right, depth, nodes)? {
+        match decide(alloc, query, right, depth, nodes)? {
             Some(settled) => all.push(settled),
             None => return Ok(None),
         }
@@ -108,7 +108,7 @@ fn answer_position(
     ensures { IfOk result (λ a. AnswersPosition depth nodes query.now a.0 a.1.items) }
 {
     let rights = rights(query);
-    match settle_all(alloc, query, rights.as_slice(), depth, nodes)? {
+    match decide_all(alloc, query, rights.as_slice(), depth, nodes)? {
         Some(settled) => Ok((
             Status::Done,
             write_verdicts(alloc, rights.as_slice(), settled.as_slice(), depth)?,
@@ -119,13 +119,13 @@ fn answer_position(
 
 /// The status and the text with which `verdict` answers these bytes: for each right it goes back at most `depth` moves, from 0 to 64,
 /// and visits at most `nodes` queries, from 1 to 500,000.
-pub fn judge(
+pub fn answer_verdict(
     alloc: Global,
     depth: u8,
     nodes: u32,
     input: &[u8],
 ) -> Result<(Status, Vec<u8>), AllocError>
-    requires short { length input.now ≤ 67_108_864 }
+    requires short { length input.now ≤ most_bytes }
     requires limits { AreLimits depth nodes }
     ensures { IfOk result (λ a. AnswersVerdict depth nodes input.now a.0 a.1.items) }
 {

@@ -22,12 +22,12 @@ use Rattle.question_text.specs.Questions.{AsksAlone, IsNoLoneQuestion, after_que
 use Rattle.question_text.specs.declared.faults.InputFault.{InputFault}
 use Rattle.command_answers.specs.AtLeasts.{TellsBound}
 use Rattle.command_answers.specs.Dossiers.{AnswersLineClaim}
-use Rattle.command_answers.specs.LineChecks.{TellsDossier}
+use Rattle.command_answers.specs.Lines.{TellsDossier}
 use Rattle.command_answers.specs.Lengths.{AnswersLengthOf}
 use Rattle.command_answers.specs.Questions.{AnswersOne}
 use Rattle.command_answers.specs.Settles.{AnswersSettling}
 use Rattle.command_answers.specs.Solves.{AnswersClaim}
-use Rattle.command_answers.specs.Retractions.{ListsUnmoves}
+use Rattle.command_answers.specs.Unmoves.{ListsUnmoves}
 use Rattle.command_answers.specs.Statuses.{IsAnswer}
 use Rattle.command_answers.specs.Trees.{AnswersTreeOf}
 use Rattle.command_answers.specs.Verdicts.{AnswersPosition, AnswersRights}

@@ -2,7 +2,8 @@
 use Rattle.std.proofs.Common.{◌≡◌, ℕ, List, sym, subst}
 use Rattle.std.specs.Prelude.{Option, Some, None, IfSome}
 use Rattle.retro_top.specs.Answers.{AnswersAs, IsUnspent, MustSucceed, ReadsBy, Succeeds, Suffices}
-use Rattle.command_answers.specs.Retractions.{ListsUnmoves}
+use Rattle.command_answers.specs.Limits.{most_bytes}
+use Rattle.command_answers.specs.Unmoves.{ListsUnmoves}
 use Rattle.command_answers.specs.Trees.{AnswersTreeOf}
 use Rattle.command_answers.specs.Verdicts.{AnswersPosition}
 use Rattle.command_answers.specs.Studies.{AnswersStudyOf}
@@ -17,7 +18,7 @@ use Rattle.retro_top.proofs.Asking.{done-alone, said-alone}
 use Rattle.retro_top.proofs.Searching.{OneTextEach, cheap-done, few-done}
 use Rattle.retro_top.proofs.Solving.{cheap-unspent, done-refutable, refutable-done}
 use Rattle.retro_top.proofs.Settling.{done-provable-claim, settle-done}
-use Rattle.retro_top.proofs.LineProofs.{AcceptedAreDossiers, OneDossier, done-line, done-provable, line-done, making-done, making-unspent}
+use Rattle.retro_top.proofs.LineProofs.{AcceptedAreDossiers, OneDossier, done-line, done-provable, line-done, dossier-done, dossier-unspent}
 use Rattle.retro_top.proofs.Lengthy.{OneLength, done-length, done-shown, length-done, shown-done}
 use Rattle.retro_top.proofs.Explaining.{explain-done}
 use Rattle.retro_top.proofs.Headline.{OneAnswer, CertificatesProve, done-proved, proves-done}
@@ -38,7 +39,7 @@ succeeds-done law length dossier accepted one game sound (Tree depth nodes) inpu
 succeeds-done law length dossier accepted one game sound Length input ending text answers good = length-done input ending text answers good
 succeeds-done law length dossier accepted one game sound AtLeast input ending text answers good = shown-done length input ending text answers good
 succeeds-done law length dossier accepted one game sound Line input ending text answers good = line-done dossier accepted input ending text answers good
-succeeds-done law length dossier accepted one game sound (Dossier depth nodes) input ending text answers good = making-done depth nodes input ending text answers good.0 good.1
+succeeds-done law length dossier accepted one game sound (Dossier depth nodes) input ending text answers good = dossier-done depth nodes input ending text answers good.0 good.1
 succeeds-done law length dossier accepted one game sound (Sample start games plies) input ending text answers good = answers.done
 
 -- where the nodes suffice, no search is spent
@@ -48,7 +49,7 @@ suffices-unspent one (Settle depth nodes) input ending text answers enough = sub
 suffices-unspent one (Verdict depth nodes) input ending text answers enough = subst IsUnspent (sym (cheap-done depth nodes input ending text answers enough)) tt
 suffices-unspent one (Study depth nodes) input ending text answers enough = subst IsUnspent (sym (study-done depth nodes input ending text answers enough)) tt
 suffices-unspent one (Tree depth nodes) input ending text answers enough = subst IsUnspent (sym (few-done one depth nodes input ending text answers enough)) tt
-suffices-unspent one (Dossier depth nodes) input ending text answers enough = making-unspent depth nodes input ending text answers enough
+suffices-unspent one (Dossier depth nodes) input ending text answers enough = dossier-unspent depth nodes input ending text answers enough
 suffices-unspent one _ input ending text answers enough = absurd enough
 
 -- where the command succeeds, its input is such a one
@@ -75,6 +76,6 @@ whatever None = tt
 whatever (Some input) = tt
 
 -- of all that was left; `sample` asks nothing of it
-pub succeeds_left : (command : Command) (left new : Option (List ℕ)) (input : List ℕ) → ReadsBy command 67108864 left new (λ bytes. bytes ≡ input) → Succeeds command input → IfSome left (Succeeds command)
+pub succeeds_left : (command : Command) (left new : Option (List ℕ)) (input : List ℕ) → ReadsBy command most_bytes left new (λ bytes. bytes ≡ input) → Succeeds command input → IfSome left (Succeeds command)
 succeeds_left (Sample start games plies) left new input read good = whatever left
 succeeds_left command left new input read good = of_left command left new input (Succeeds command) tt read good

@@ -7,7 +7,8 @@ use Rattle.query_base.specs.Asked.{Asked}
 use Rattle.query_base.specs.Reach.{Reaches}
 use Rattle.cert_text.specs.Certificate.{Lines}
 use Rattle.cert_text.specs.Lines.{cut}
-use Rattle.length_bound.specs.LengthAnswers.{AnswersLength, IsShown, LengthAnswer, at_least, bad_text, unsupported}
+use Rattle.length_bound.specs.LengthAnswers.{IsShown, LengthAnswer, at_least, bad_text, unsupported}
+use Rattle.length_bound.specs.LengthAnswers as bounds
 use Rattle.length_bound.specs.LengthText.{AreLengthLines}
 use Rattle.length_bound.specs.Longest.{IsBest}
 use Rattle.length_bound.specs.SideBounds.{men_squares}
@@ -16,14 +17,14 @@ use Rattle.length_bound.proofs.Longer.{some_men}
 use Rattle.question_text.specs.Positions.{IsLonePosition, IsNoLonePosition}
 use Rattle.retro_top.specs.Answers.{BoundsGames}
 use Rattle.command_answers.specs.AtLeasts.{AnswersAtLeast, ShowsLength, TellsBound, bound_line}
-use Rattle.command_answers.specs.Lengths.{AnswersHowLong, AnswersLengthOf, AsksForLength, TellsLength}
+use Rattle.command_answers.specs.Lengths.{AnswersLength, AnswersLengthOf, AsksForLength, TellsLength}
 use Rattle.command_answers.specs.declared.statuses.Status.{Status}
 use Rattle.command_answers.specs.declared.statuses.Status.TheVariants.{Done, Undecided}
 use Rattle.retro_top.proofs.Asking.{done-one, said-plain}
 
 -- there is one answer to a text of a length
 abbrev pub OneLength : Type 0
-OneLength = (lines : Lines) (a b : LengthAnswer) → AnswersLength lines a → AnswersLength lines b → a ≡ b
+OneLength = (lines : Lines) (a b : LengthAnswer) → bounds.AnswersLength lines a → bounds.AnswersLength lines b → a ≡ b
 
 -- what potentials show holds of every game, and the best ones show their number
 abbrev pub ShownHold : Type 0
@@ -38,12 +39,12 @@ few-done White q Undecided text answers few = absurd (omega (arith, answers.0))
 few-done Black q Undecided text answers few = absurd (omega (arith, answers.1))
 few-done c q _ text answers few = absurd answers
 
-pub length-done : (input : List ℕ) (ending : Status) (text : List ℕ) → AnswersHowLong input ending text → AsksForLength input → ending ≡ Done
+pub length-done : (input : List ℕ) (ending : Status) (text : List ℕ) → AnswersLength input ending text → AsksForLength input → ending ≡ Done
 length-done input ending text answers good =
     let said = said-plain AnswersLengthOf (λ q. length (men_squares good.1 q.board) ≤ 16) input good.0 ending text answers good.2 good.3 in
     few-done good.1 said.0 ending text said.2 said.1
 
-pub done-length : (input text : List ℕ) → AnswersHowLong input Done text → AsksForLength input
+pub done-length : (input text : List ℕ) → AnswersLength input Done text → AsksForLength input
 done-length input text answers =
     let done = done-one (IsLonePosition input) (IsNoLonePosition input) AnswersLengthOf text answers in
     (done.0, done.2.said.side, done.1, some_men done.2.said.side done.0 done.2.said.at_least done.2.best.at_least)
@@ -64,7 +65,7 @@ pub record Bounded (input text : List ℕ) : Type 0 where
   pub shown : IsShown said
   pub line : text ≡ bound_line said.at_least said.query
 
-bounded-by : (input : List ℕ) (answer : LengthAnswer) (text : List ℕ) → AnswersLength (cut input) answer → TellsBound answer Done text → Bounded input text
+bounded-by : (input : List ℕ) (answer : LengthAnswer) (text : List ℕ) → bounds.AnswersLength (cut input) answer → TellsBound answer Done text → Bounded input text
 bounded-by input (at_least n q) text is tells = record {
   said = is.0;
   lines = is.1;
@@ -90,7 +91,7 @@ pub record Measured (input text : List ℕ) : Type 0 where
 best-holds : ShownHold → BestAreShown → (q : Asked) (said : LengthText) → IsBest q said → BoundsGames q said.at_least
 best-holds hold shown q said best = subst (λ (r : Asked). BoundsGames r said.at_least) best.query (hold said (shown q said best))
 
-pub done-measured : ShownHold → BestAreShown → (input text : List ℕ) → AnswersHowLong input Done text → Measured input text
+pub done-measured : ShownHold → BestAreShown → (input text : List ℕ) → AnswersLength input Done text → Measured input text
 done-measured hold shown input text answers =
     let done = done-one (IsLonePosition input) (IsNoLonePosition input) AnswersLengthOf text answers in
     record { query = done.0; asks = done.1; told = done.2; holds = best-holds hold shown done.0 done.2.said done.2.best }

@@ -9,11 +9,12 @@ use Rattle.line_claims.specs.Lines.{line_claim_of}
 use Rattle.line_claims.specs.Listing.{HasParts}
 use Rattle.line_claims.specs.declared.claims.LineClaim.{LineClaim}
 use Rattle.dossier_text.specs.Proving.{IsDossier}
-use Rattle.dossier_checker.specs.DossierAnswers.{AnswersDossier, DossierAnswer, bad_text_in, fault_in, line_accepted, no_head, no_part, other_part, unlisted_step}
+use Rattle.dossier_checker.specs.DossierAnswers.{DossierAnswer, bad_text_in, fault_in, line_accepted, no_head, no_part, other_part, unlisted_step}
+use Rattle.dossier_checker.specs.DossierAnswers as dossiers
 use Rattle.dossier_search.specs.ReachedParts.{IsPartRefutable}
 use Rattle.retro_top.specs.Answers.{IsUnspent}
-use Rattle.command_answers.specs.Dossiers.{AnswersLineClaim, AnswersMaking, AreCheapParts, AreRefutable, StatesCheapLine, StatesProvable}
-use Rattle.command_answers.specs.LineChecks.{AnswersLine, ProvesLine, TellsDossier, accepted_steps_line}
+use Rattle.command_answers.specs.Dossiers.{AnswersDossier, AnswersLineClaim, AreCheapParts, AreRefutable, StatesCheapLine, StatesProvable}
+use Rattle.command_answers.specs.Lines.{AnswersLine, ProvesLine, TellsDossier, accepted_steps_line}
 use Rattle.command_answers.specs.Solves.{IsCheap}
 use Rattle.command_answers.specs.Statements.{StatesLine}
 use Rattle.command_answers.specs.declared.statuses.Status.{Status}
@@ -23,11 +24,11 @@ use Rattle.dossier_checker.proofs.OneDossier.{no_step}
 
 -- there is one answer to a dossier
 abbrev pub OneDossier : Type 0
-OneDossier = (bytes : List ℕ) (a b : DossierAnswer) → AnswersDossier bytes a → AnswersDossier bytes b → a ≡ b
+OneDossier = (bytes : List ℕ) (a b : DossierAnswer) → dossiers.AnswersDossier bytes a → dossiers.AnswersDossier bytes b → a ≡ b
 
 -- a claim is accepted exactly where the bytes are a dossier of it
 abbrev pub AcceptedAreDossiers : Type 0
-AcceptedAreDossiers = (bytes : List ℕ) (claim : LineClaim) (q : Asked) → AnswersDossier bytes (line_accepted claim q) ↔ IsDossier bytes claim q
+AcceptedAreDossiers = (bytes : List ℕ) (claim : LineClaim) (q : Asked) → dossiers.AnswersDossier bytes (line_accepted claim q) ↔ IsDossier bytes claim q
 
 -- the claim of a dossier holds
 abbrev pub DossiersProve : Type 0
@@ -37,11 +38,11 @@ DossiersProve = (bytes : List ℕ) (claim : LineClaim) (q : Asked) → IsDossier
 pub record AcceptedBy (input text : List ℕ) : Type 0 where
   pub claim : LineClaim
   pub query : Asked
-  pub answers : AnswersDossier input (line_accepted claim query)
+  pub answers : dossiers.AnswersDossier input (line_accepted claim query)
   pub is_dossier : IsDossier input claim query
   pub line : text ≡ accepted_steps_line claim query
 
-accepted-by : AcceptedAreDossiers → (input : List ℕ) (answer : DossierAnswer) (text : List ℕ) → AnswersDossier input answer → TellsDossier answer Done text → AcceptedBy input text
+accepted-by : AcceptedAreDossiers → (input : List ℕ) (answer : DossierAnswer) (text : List ℕ) → dossiers.AnswersDossier input answer → TellsDossier answer Done text → AcceptedBy input text
 accepted-by law input (line_accepted claim q) text is tells = record { claim = claim; query = q; answers = is; is_dossier = (law input claim q).0 is; line = tells.1 }
 accepted-by law input no_head text is tells = let e = tells.0 in cc
 accepted-by law input (unlisted_step i) text is tells = let e = tells.0 in cc
@@ -98,8 +99,8 @@ abbrev IsCheapLine : ℕ → ℕ → LineClaim → Asked → Type 0
 IsCheapLine depth nodes claim q = HasParts claim q × AreCheapParts depth nodes claim q
 
 -- where the nodes suffice, no search is spent
-pub making-unspent : (depth nodes : ℕ) (input : List ℕ) (ending : Status) (text : List ℕ) → AnswersMaking depth nodes input ending text → StatesCheapLine depth nodes input → IsUnspent ending
-making-unspent depth nodes input ending text answers cheap = elim answers [
+pub dossier-unspent : (depth nodes : ℕ) (input : List ℕ) (ending : Status) (text : List ℕ) → AnswersDossier depth nodes input ending text → StatesCheapLine depth nodes input → IsUnspent ending
+dossier-unspent depth nodes input ending text answers cheap = elim answers [
   | inl said ↦
       let both = stated-by line_claim_of (IsCheapLine depth nodes) input cheap.0 said.0 cheap.1 said.1 cheap.2 said.2 (cheap.3, cheap.4) in
       line_claim-unspent depth nodes said.0 said.1 ending text said.3 both.0 both.1
@@ -107,16 +108,16 @@ making-unspent depth nodes input ending text answers cheap = elim answers [
 ]
 
 -- where the targets are refutable and the nodes suffice, a dossier is written
-pub making-done : (depth nodes : ℕ) (input : List ℕ) (ending : Status) (text : List ℕ) → AnswersMaking depth nodes input ending text → StatesProvable depth input → StatesCheapLine depth nodes input → ending ≡ Done
-making-done depth nodes input ending text answers good cheap =
-    let unspent = making-unspent depth nodes input ending text answers cheap in
+pub dossier-done : (depth nodes : ℕ) (input : List ℕ) (ending : Status) (text : List ℕ) → AnswersDossier depth nodes input ending text → StatesProvable depth input → StatesCheapLine depth nodes input → ending ≡ Done
+dossier-done depth nodes input ending text answers good cheap =
+    let unspent = dossier-unspent depth nodes input ending text answers cheap in
     elim answers [
       | inl said ↦ line_claim-done depth nodes said.0 said.1 ending text said.3 unspent (stated-by line_claim_of (AreRefutable depth) input good.0 said.0 good.1 said.1 good.2 said.2 good.4)
       | inr none ↦ absurd (states-some-by line_claim_of input good.0 good.1 none.0 good.2 none.1)
     ]
 
 -- a dossier is written only where the targets are refutable
-pub done-provable : (depth nodes : ℕ) (input text : List ℕ) → AnswersMaking depth nodes input Done text → StatesProvable depth input
+pub done-provable : (depth nodes : ℕ) (input text : List ℕ) → AnswersDossier depth nodes input Done text → StatesProvable depth input
 done-provable depth nodes input text answers = elim answers [
   | inl said ↦ (said.0, said.1, said.2, said.3.is_dossier.listed, said.3.refutable)
   | inr none ↦ let e = none.2 in cc
@@ -129,7 +130,7 @@ pub record Made (input text : List ℕ) : Type 0 where
   pub states : StatesLine input claim query
   pub is_dossier : IsDossier text claim query
 
-pub done-made : (depth nodes : ℕ) (input text : List ℕ) → AnswersMaking depth nodes input Done text → Made input text
+pub done-made : (depth nodes : ℕ) (input text : List ℕ) → AnswersDossier depth nodes input Done text → Made input text
 done-made depth nodes input text answers = elim answers [
   | inl said ↦ record { claim = said.0; query = said.1; states = said.2; is_dossier = said.3.is_dossier }
   | inr none ↦ let e = none.2 in cc

@@ -1,5 +1,5 @@
 -- Which status `settle` answers, and what it says.
-use Rattle.std.proofs.Common.{◌≡◌, inl, inr, ℕ, List, [], refl, sym, subst, arith}
+use Rattle.std.proofs.Common.{◌≡◌, inl, inr, ℕ, List, [], refl, arith}
 use Rattle.query_base.specs.Asked.{Asked}
 use Rattle.query_base.specs.Reach.{Holds}
 use Rattle.query_base.specs.Targets.{target}
@@ -13,7 +13,7 @@ use Rattle.command_answers.specs.Solves.{IsCheap}
 use Rattle.command_answers.specs.Statements.{States}
 use Rattle.command_answers.specs.declared.statuses.Status.{Status}
 use Rattle.command_answers.specs.declared.statuses.Status.TheVariants.{Done, Undecided, Spent, Countered}
-use Rattle.retro_top.proofs.Solving.{CounteredBy, Solved}
+use Rattle.retro_top.proofs.Solving.{CounteredBy, Solved, solved-by}
 use Rattle.retro_top.proofs.Stated.{stated, states-some}
 
 settling-done : (depth nodes : ℕ) (claim : Claim) (q : Asked) (ending : Status) (text : List ℕ) → AnswersSettling depth nodes claim q ending text → IsRefutable (target q claim) depth [] → IsCheap depth nodes claim q → ending ≡ Done
@@ -39,16 +39,9 @@ done-provable-claim depth nodes input text answers = elim answers [
   | inr none ↦ let e = none.2 in cc
 ]
 
--- where `settle` is done, its text is that of a certificate that proves the claim that the input states
 pub done-settled : ((cert : Certificate) → ProvesClaim cert → Holds cert.claim cert.query) → (depth nodes : ℕ) (input text : List ℕ) → AnswersSettle depth nodes input Done text → Solved input text
 done-settled law depth nodes input text answers = elim answers [
-  | inl said ↦ record {
-    cert = said.3.cert;
-    states = subst (λ (x : Claim). States input x said.3.cert.query) (sym said.3.is_proof.claim_is) (subst (States input said.0) (sym said.3.is_proof.query_is) said.2);
-    is_text = said.3.is_text;
-    proves = said.3.is_proof.proves;
-    holds = law said.3.cert said.3.is_proof.proves;
-  }
+  | inl said ↦ solved-by law depth input text said.0 said.1 said.3.cert said.2 said.3.is_proof said.3.is_text
   | inr none ↦ let e = none.2 in cc
 ]
 

@@ -7,6 +7,7 @@ use Rattle.query_base.specs.Targets.{target}
 use Rattle.query_base.specs.declared.claims.Claim.{Claim}
 use Rattle.cert_text.specs.Certificate.{Certificate, IsTextOf}
 use Rattle.cert_checker.specs.Proving.{ProvesClaim}
+use Rattle.retro_search.specs.Answers.{IsProofOf}
 use Rattle.retro_search.specs.Refutable.{IsRefutable}
 use Rattle.retro_top.specs.Answers.{IsUnspent, StatesCheap, StatesRefutable}
 use Rattle.command_answers.specs.Solves.{AnswersClaim, AnswersSolve, IsCheap, countered_line}
@@ -51,7 +52,7 @@ done-refutable depth nodes input text answers = elim answers [
   | inr none ↦ let e = none.2 in cc
 ]
 
--- where `solve` is done, its text is that of a certificate that proves the claim that the input states
+-- where `solve` or `settle` is done, its text is that of a certificate that proves the claim that the input states
 pub record Solved (input text : List ℕ) : Type 0 where
   pub cert : Certificate
   pub states : States input cert.claim cert.query
@@ -59,15 +60,18 @@ pub record Solved (input text : List ℕ) : Type 0 where
   pub proves : ProvesClaim cert
   pub holds : Holds cert.claim cert.query
 
+pub solved-by : ((cert : Certificate) → ProvesClaim cert → Holds cert.claim cert.query) → (depth : ℕ) (input text : List ℕ) (claim : Claim) (q : Asked) (cert : Certificate) → States input claim q → IsProofOf depth cert claim q → IsTextOf text cert → Solved input text
+solved-by law depth input text claim q cert states is_proof is_text = record {
+  cert = cert;
+  states = subst (λ (x : Claim). States input x cert.query) (sym is_proof.claim_is) (subst (States input claim) (sym is_proof.query_is) states);
+  is_text = is_text;
+  proves = is_proof.proves;
+  holds = law cert is_proof.proves;
+}
+
 pub done-solved : ((cert : Certificate) → ProvesClaim cert → Holds cert.claim cert.query) → (depth nodes : ℕ) (input text : List ℕ) → AnswersSolve depth nodes input Done text → Solved input text
 done-solved law depth nodes input text answers = elim answers [
-  | inl said ↦ record {
-    cert = said.3.cert;
-    states = subst (λ (x : Claim). States input x said.3.cert.query) (sym said.3.is_proof.claim_is) (subst (States input said.0) (sym said.3.is_proof.query_is) said.2);
-    is_text = said.3.is_text;
-    proves = said.3.is_proof.proves;
-    holds = law said.3.cert said.3.is_proof.proves;
-  }
+  | inl said ↦ solved-by law depth input text said.0 said.1 said.3.cert said.2 said.3.is_proof said.3.is_text
   | inr none ↦ let e = none.2 in cc
 ]
 

@@ -34,16 +34,16 @@ use Rattle.length_bound.specs.LengthText.{AreLengthLines}
 use Rattle.length_bound.specs.declared.texts.LengthText.{LengthText}
 use Rattle.question_text.specs.Positions.{IsLonePosition}
 use Rattle.question_text.specs.Questions.{Asks, AsksAlone, AsksForOne, after_question}
-use Rattle.command_answers.specs.Retractions.{AnswersUnmoves}
+use Rattle.command_answers.specs.Unmoves.{AnswersUnmoves}
 use Rattle.command_answers.specs.Samples.{AnswersSample}
 use Rattle.command_answers.specs.Statements.{States, StatesLine}
 use Rattle.command_answers.specs.Settles.{AnswersSettle}
 use Rattle.command_answers.specs.Solves.{AnswersSolve, IsCheap, countered_line}
 use Rattle.command_answers.specs.Trees.{AnswersTree, AsksForFewLines}
-use Rattle.command_answers.specs.Lengths.{AnswersHowLong, AsksForLength, TellsLength}
+use Rattle.command_answers.specs.Lengths.{AnswersLength, AsksForLength, TellsLength}
 use Rattle.command_answers.specs.Explains.{AnswersExplain}
-use Rattle.command_answers.specs.Dossiers.{AnswersMaking, StatesCheapLine, StatesProvable}
-use Rattle.command_answers.specs.LineChecks.{AnswersLine, ProvesLine, accepted_steps_line}
+use Rattle.command_answers.specs.Dossiers.{AnswersDossier, StatesCheapLine, StatesProvable}
+use Rattle.command_answers.specs.Lines.{AnswersLine, ProvesLine, accepted_steps_line}
 use Rattle.command_answers.specs.AtLeasts.{AnswersAtLeast, ShowsLength, bound_line}
 use Rattle.command_answers.specs.Studies.{AnswersStudy}
 use Rattle.diagram_study.specs.Studies.{IsStudy}
@@ -66,10 +66,10 @@ AnswersAs (Settle depth nodes) input status text = AnswersSettle depth nodes inp
 AnswersAs (Verdict depth nodes) input status text = AnswersVerdict depth nodes input status text
 AnswersAs (Study depth nodes) input status text = AnswersStudy depth nodes input status text
 AnswersAs (Tree depth nodes) input status text = AnswersTree depth nodes input status text
-AnswersAs Length input status text = AnswersHowLong input status text
+AnswersAs Length input status text = AnswersLength input status text
 AnswersAs AtLeast input status text = AnswersAtLeast input status text
 AnswersAs Line input status text = AnswersLine input status text
-AnswersAs (Dossier depth nodes) input status text = AnswersMaking depth nodes input status text
+AnswersAs (Dossier depth nodes) input status text = AnswersDossier depth nodes input status text
 AnswersAs (Sample start games plies) input status text = AnswersSample start games plies status text
 
 -- the status and the text with which the words answer an input

@@ -4,7 +4,8 @@ use Rattle.board_base.specs.Texts.{unmove_text}
 use Rattle.board_base.specs.declared.unmoves.Unmove.{Unmove}
 use Rattle.command_answers.specs.Solves.{unmove_words}
 use Rattle.command_answers.specs.Told.{IsSpelled}
-use Rattle.command_answers.proofs.Pieces.{all_at, piece_more, some_within}
+use Rattle.diagram_study.proofs.Steps.{some_within}
+use Rattle.command_answers.proofs.Pieces.{all_at, piece_more}
 use Rattle.command_answers.proofs.solves.write_undecided.Goals as goal
 
 pub loop-i-init : goal.loop-i-init

@@ -1,5 +1,5 @@
 use Rattle.std.proofs.Common.{ℕ, List, ap, ◌∙◌}
-use Rattle.command_answers.specs.LineChecks.{line_in, part_line}
+use Rattle.command_answers.specs.Lines.{line_in, part_line}
 use Rattle.command_answers.proofs.told.unlisted_in.Goals as goal
 
 pub returns : goal.returns
