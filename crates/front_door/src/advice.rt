@@ -1,5 +1,8 @@
 //! What a user is told whose words or whose input aren't what a command takes: the table of all texts.
 
+ghost use Rattle.std.specs.Prelude.{IsTrue};
+ghost use Rattle.front_door.specs.OneLine.{is_one_line};
+
 /// What is wrong with the words of the command line.
 #[derive(Clone, Copy, PartialEq, Eq, Debug)]
 pub enum WordAdvice {
@@ -18,7 +21,9 @@ pub enum WordAdvice {
 }
 
 impl WordAdvice {
-    pub fn text(self) -> &'static str {
+    pub fn text(self) -> &'static str
+        ensures { IsTrue (is_one_line result.now) }
+    {
         match self {
             WordAdvice::NotUtf8 => "a word isn't UTF-8",
             WordAdvice::StandsAlone => "`--help` and `--version` stand alone",
@@ -57,7 +62,9 @@ pub enum LineAdvice {
 }
 
 impl LineAdvice {
-    pub fn text(self) -> &'static str {
+    pub fn text(self) -> &'static str
+        ensures { IsTrue (is_one_line result.now) }
+    {
         match self {
             LineAdvice::Empty => "the input is empty; it comes by `<` or a pipe",
             LineAdvice::Claim => {
@@ -122,7 +129,9 @@ pub enum FenAdvice {
 }
 
 impl FenAdvice {
-    pub fn text(self) -> &'static str {
+    pub fn text(self) -> &'static str
+        ensures { IsTrue (is_one_line result.now) }
+    {
         match self {
             FenAdvice::EmptyLine => "the line that is due as a FEN is empty",
             FenAdvice::ClaimLine => {
@@ -174,7 +183,9 @@ pub enum MoveAdvice {
 }
 
 impl MoveAdvice {
-    pub fn text(self) -> &'static str {
+    pub fn text(self) -> &'static str
+        ensures { IsTrue (is_one_line result.now) }
+    {
         match self {
             MoveAdvice::UseSan => {
                 "a move is its origin and its target here, as g1f3; use `san` for Nf3"
@@ -206,7 +217,9 @@ pub enum TextAdvice {
 }
 
 impl TextAdvice {
-    pub fn text(self) -> &'static str {
+    pub fn text(self) -> &'static str
+        ensures { IsTrue (is_one_line result.now) }
+    {
         match self {
             TextAdvice::Dossier => "this is a dossier, which `retractor line` checks",
             TextAdvice::Length => "this is the text of a length, which `retractor atleast` checks",
@@ -249,7 +262,9 @@ pub enum Advice {
 
 impl Advice {
     /// The text of the advice, without the line's end.
-    pub fn text(self) -> &'static str {
+    pub fn text(self) -> &'static str
+        ensures { IsTrue (is_one_line result.now) }
+    {
         match self {
             Advice::Words(advice) => advice.text(),
             Advice::Lines(advice) => advice.text(),

@@ -1,5 +1,10 @@
 //! How each command is called. A new command is a row of `CALLS`.
 
+ghost use Rattle.std.specs.Prelude.{ℕ, ◌≡◌, ◌≤◌, ◌↔◌, IfOk, IfSome, IsSome, map, string_bytes};
+ghost use Rattle.std.specs.List.{Contains, list_all};
+ghost use Rattle.front_door.specs.Calls.{Describes, HasRows, IsCommand, IsUsage, facts, is_one_row, names_of, row_of};
+ghost use Rattle.front_door.specs.Numbers.{MayStand};
+
 use std::alloc::{AllocError, Global};
 
 /// A number among the words of a call.
@@ -19,7 +24,9 @@ pub enum Number {
 
 impl Number {
     /// The least and the greatest number that may stand there.
-    pub fn range(self) -> (u64, u64) {
+    pub fn range(self) -> (u64, u64)
+        ensures { (n : ℕ) → MayStand self n ↔ (result.0 ≤ n) × (n ≤ result.1) }
+    {
         match self {
             Number::Depth => (0, 64),
             Number::Nodes => (1, 500_000),
@@ -183,14 +190,27 @@ pub const CALLS: [Call; 16] = [
     },
 ];
 
-/// The call of the command of this name.
-pub fn call_of(name: &[u8]) -> Option<Call> {
-    for call in CALLS {
+/// The first of these calls whose command has this name.
+fn find(calls: &[Call], name: &[u8]) -> Option<Call>
+    ensures named { IfSome result (λ call. call.name.now ≡ name.now) }
+    ensures held { IfSome result (λ call. Contains (map facts calls.now) (facts call)) }
+    ensures known { IsSome result ↔ Contains (names_of calls.now) name.now }
+{
+    for call in calls {
         if call.name.as_bytes() == name {
-            return Some(call);
+            return Some(*call);
         }
     }
     None
+}
+
+/// The call of the command of this name; None exactly where no command has it.
+pub fn call_of(name: &[u8]) -> Option<Call>
+    ensures named { IfSome result (λ call. call.name.now ≡ name.now) }
+    ensures described { IfSome result (λ call. Describes (facts call)) }
+    ensures known { IsSome result ↔ IsCommand name.now }
+{
+    find(&CALLS, name)
 }
 
 /// What stands behind the calls in the usage.
@@ -206,15 +226,31 @@ failed, 8 writing failed, 9 not enough memory, 10 the input has more than 671088
 docs/COMMANDS.md has every command, its input and its answers, docs/TUTORIAL.md solved problems.
 ";
 
-/// How each command is called, what it reads, and what it answers; the numbers and the statuses.
-pub fn usage(alloc: Global) -> Result<String, AllocError> {
+/// The row of a call in the usage: how its command is called, and in a column behind it what it answers.
+fn row(alloc: Global, call: &Call) -> Result<String, AllocError>
+    ensures { IfOk result (λ text. string_bytes text ≡ row_of call.now) }
+{
+    let line = call.line;
+    let answer = call.answer;
+    format!(in alloc; "  retractor {line:<36} {answer}\n")
+}
+
+/// The head of the usage, and the rows of these calls.
+fn rows(alloc: Global, calls: &[Call]) -> Result<String, AllocError>
+    ensures { IfOk result (λ text. HasRows (string_bytes text) (names_of calls.now) (list_all is_one_row calls.now)) }
+{
     let mut text = String::from_str(alloc, "usage:\n")?;
-    for call in CALLS {
-        let line = call.line;
-        let answer = call.answer;
-        let row = format!(in alloc; "  retractor {line:<36} {answer}\n")?;
-        text.push_str(row.as_str())?;
+    for call in calls {
+        text.push_str(row(alloc, call)?.as_str())?;
     }
+    Ok(text)
+}
+
+/// How each command is called, what it reads, and what it answers, a row each; the numbers and the statuses.
+pub fn usage(alloc: Global) -> Result<String, AllocError>
+    ensures { IfOk result (λ text. IsUsage (string_bytes text)) }
+{
+    let mut text = rows(alloc, &CALLS)?;
     text.push_str(FURTHER)?;
     Ok(text)
 }

@@ -1,9 +1,9 @@
 //! Which advice a user gets, by the words, the front of the input, the status, and the front of what was written.
 
-ghost use Rattle.std.specs.Prelude.{◌≡◌, ◌↔◌, IfSome, IsSome, IsTrue, List, String};
+ghost use Rattle.std.specs.Prelude.{ℕ, ◌≡◌, ◌↔◌, ◌⊎◌, IfSome, IsSome, IsTrue, List, String, codes};
 ghost use Rattle.std.specs.Global.{Global as AGlobal};
 ghost use Rattle.command_answers.specs.declared.statuses.Status.TheVariants.{BadInput, BadWords, Refused};
-ghost use Rattle.front_door.specs.Hints.{AskForCertificate, AskForGame, Begin, GoesWith};
+ghost use Rattle.front_door.specs.Hints.{AskForCertificate, AskForGame, Begin, Concerns, GoesWith, Says, status_of};
 
 use crate::advice::{Advice, LineAdvice, MoveAdvice, WordAdvice};
 use crate::calls::{Call, call_of};
@@ -75,7 +75,8 @@ fn name_of(words: &[String]) -> &[u8] {
 
 /// What is wrong with an input that isn't of the command's form, by the line that says where.
 fn advise_input(name: &[u8], input: &[u8], answer: &[u8]) -> Advice
-    ensures { (words : List (String AGlobal)) → GoesWith result words BadInput }
+    ensures status { status_of result ≡ BadInput }
+    ensures whatever { (words : List (String AGlobal)) (text : List ℕ) → Concerns result words text }
 {
     match refusal_of(answer) {
         Some(Refusal::Fen { field, at }) => {
@@ -87,7 +88,9 @@ fn advise_input(name: &[u8], input: &[u8], answer: &[u8]) -> Advice
 }
 
 /// What is wrong with a game that is refused, by the line that says so; None where it is a game's text.
-fn advise_game(name: &[u8], input: &[u8], answer: &[u8]) -> Option<MoveAdvice> {
+fn advise_game(name: &[u8], input: &[u8], answer: &[u8]) -> Option<MoveAdvice>
+    ensures { IsSome result → Says answer.now (codes "refused word ") ⊎ Says answer.now (codes "refused ply ") }
+{
     let game = if matches!(name, b"spell") {
         input
     } else {
@@ -100,11 +103,18 @@ fn advise_game(name: &[u8], input: &[u8], answer: &[u8]) -> Option<MoveAdvice> {
     }
 }
 
+/// The answer refuses the first line of a certificate, as text.
+fn refuses_first_line(answer: &[u8]) -> bool
+    ensures { IsTrue result → Says answer.now (codes "refused line 1 text") }
+{
+    matches!(refusal_of(answer), Some(Refusal::FirstLine))
+}
+
 /// What is wrong with an input that is refused; None where it is of the command's form, or isn't known.
 fn advise_refused(words: &[String], input: &[u8], answer: &[u8]) -> Option<Advice>
-    ensures { IfSome result (λ advice. GoesWith advice words.now Refused) }
+    ensures { IfSome result (λ advice. GoesWith advice words.now Refused answer.now) }
 {
-    if ask_for_certificate(words) && refusal_of(answer) == Some(Refusal::FirstLine) {
+    if ask_for_certificate(words) && refuses_first_line(answer) {
         match advise_text(name_of(words), input) {
             Some(advice) => Some(Advice::Texts(advice)),
             None => None,
@@ -139,7 +149,7 @@ pub fn advise(
     status: Status,
     answer: &[u8],
 ) -> Option<Hint>
-    ensures fits { IfSome result (λ hint. GoesWith hint.advice words.now status) }
+    ensures fits { IfSome result (λ hint. GoesWith hint.advice words.now status answer.now) }
     ensures bad_words { status ≡ BadWords → IsSome result }
     ensures bad_input { status ≡ BadInput → IsSome result }
 {

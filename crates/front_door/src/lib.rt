@@ -44,11 +44,16 @@ pub struct Ended {
 }
 
 impl Model for Ended {
+    ghost use Rattle.std.specs.Prelude.{◌≡◌, IfSome};
     ghost use Rattle.command_answers.specs.declared.statuses.Status.{Status};
+    ghost use Rattle.front_door.specs.Hints.{status_of};
 
     ghost Value = { Status };
 
     ghost view = { λ e. e.status };
+
+    // A hint is kept only with the status with which it goes: bad words, bad input, or a refused text.
+    ghost invariant = { λ e. IfSome e.hint (λ hint. e.status ≡ status_of hint.advice) };
 }
 
 impl Termination for Ended {

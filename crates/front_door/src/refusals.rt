@@ -1,8 +1,12 @@
 //! What a line says that refuses an input.
 
+ghost use Rattle.std.specs.Prelude.{IfSome, IsSome};
+ghost use Rattle.front_door.specs.Hints.{Says};
+ghost use Rattle.front_door.specs.Refusals.{front_of};
+
 /// What was refused, by the line that says so.
 #[derive(Clone, Copy, PartialEq, Eq, Debug)]
-pub(crate) enum Refusal {
+pub enum Refusal {
     /// The line of this number.
     Line(u32),
     /// The FEN line, behind so many bytes, in this field.
@@ -30,7 +34,9 @@ fn split_number(text: &[u8]) -> (u32, &[u8]) {
 }
 
 /// What follows the text in the line, if it begins with it.
-fn behind<'a>(line: &'a [u8], text: &[u8]) -> Option<&'a [u8]> {
+fn behind<'a>(line: &'a [u8], text: &[u8]) -> Option<&'a [u8]>
+    ensures { IsSome result → Says line.now text.now }
+{
     if line.starts_with(text) {
         Some(&line[text.len()..])
     } else {
@@ -39,7 +45,9 @@ fn behind<'a>(line: &'a [u8], text: &[u8]) -> Option<&'a [u8]> {
 }
 
 /// What the line refuses; None where it is no such line.
-pub(crate) fn refusal_of(line: &[u8]) -> Option<Refusal> {
+pub(crate) fn refusal_of(line: &[u8]) -> Option<Refusal>
+    ensures { IfSome result (λ refusal. Says line.now (front_of refusal)) }
+{
     if let Some(rest) = behind(line, b"bad fen field ") {
         let (field, rest) = split_number(rest);
         let at = split_number(behind(rest, b" byte ")?).0 as usize;
