@@ -1,4 +1,4 @@
-//! Tests of the calls of the crates below: what each answers on boards, men, queries and streams that are written out.
+//! Tests of the calls of the crates below: what each answers on boards, men, queries and streams that are written out, and of a search.
 #![tactic(auto)]
 
 #[cfg(test)]
@@ -13,5 +13,7 @@ mod odds;
 mod ports;
 #[cfg(test)]
 mod queries;
+#[cfg(test)]
+mod searches;
 #[cfg(test)]
 mod step_claims;

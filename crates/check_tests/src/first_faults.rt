@@ -28,6 +28,9 @@ const TWICE_AND_MORE: &[u8] =
 const EXTRA_LINE: &[u8] =
     b"retro 1\nclaim illegal\nfen 4k3/8/8/8/8/8/8/4K3 w - -\nroot expand 0\nx\n";
 
+/// A byte that is no ASCII.
+const NO_ASCII: &[u8] = b"retro 1\nclaim illegal\nfen 8/8/8/8/8/8/8/8 w - -\n\xffroot rule kings\n";
+
 /// What `check_bytes` answers to a text, if it has no more bytes than it takes.
 pub(crate) fn checked(alloc: Global, text: &[u8]) -> Result<Accepted, Refused> {
     if text.len() > 67_108_864 {
@@ -42,7 +45,7 @@ fn unsupported(line: u32, why: Why) -> Option<Refused> {
 
 /// Texts, each with its refusal, or none where it proves its claim. No last move lets knights on c7 and g7 give check at once. After
 /// Black's double step White can't have moved before it: king and rook are unmoved, and the pawn stands at home.
-pub(crate) fn rows() -> [(&'static [u8], Option<Refused>); 8] {
+pub(crate) fn rows() -> [(&'static [u8], Option<Refused>); 9] {
     let king = Unmove {
         mv: Move {
             from: Square::known(51),
@@ -67,6 +70,7 @@ pub(crate) fn rows() -> [(&'static [u8], Option<Refused>); 8] {
         (NO_RULE, unsupported(4, Why::Rule)),
         (EXTRA_LINE, Some(Refused::BadText { line: 5 })),
         (TWICE_AND_MORE, Some(Refused::BadText { line: 7 })),
+        (NO_ASCII, Some(Refused::BadText { line: 4 })),
     ]
 }
 

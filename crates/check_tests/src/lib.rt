@@ -1,12 +1,6 @@
-//! Tests of the checker: certificates that are written out, whole and broken, deep and wide, and in pieces.
+//! Tests of the checker: what it answers to certificates that are written out, in pieces and whole. More stand among the rows of `rows_run`.
 #![tactic(auto)]
 
-#[cfg(test)]
-mod balance_certificates;
-#[cfg(test)]
-mod broken_certificates;
-#[cfg(test)]
-mod deep_certificates;
 #[cfg(test)]
 mod first_faults;
 #[cfg(test)]

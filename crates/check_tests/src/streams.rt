@@ -65,11 +65,7 @@ fn is_alike(alloc: Global, text: &[u8], piece: usize) -> Result<bool, AllocError
 }
 
 /// Whether a text is refused so, or is accepted where no refusal is given: whole, and in reads of one byte and of seven.
-pub(crate) fn is_answered(
-    alloc: Global,
-    text: &[u8],
-    refused: Option<Refused>,
-) -> Result<bool, AllocError> {
+fn is_answered(alloc: Global, text: &[u8], refused: Option<Refused>) -> Result<bool, AllocError> {
     let whole = checked(alloc, text);
     let as_wanted = match refused {
         Some(refused) => whole == Err(refused),
@@ -83,6 +79,23 @@ fn answers_alike_in_pieces_and_whole(rt: HostRuntime) -> Result<(), Fail> {
     for (text, refused) in rows() {
         assert!(rt; is_answered(rt.alloc(), text, refused)?);
         assert!(rt; is_alike(rt.alloc(), text, 4096)?);
+    }
+    Ok(())
+}
+
+/// A part of a certificate from its front on is bad text at the line that isn't whole.
+#[test]
+fn refuses_each_front_part(rt: HostRuntime) -> Result<(), Fail> {
+    let mut line = 1;
+    for (length, byte) in DOUBLE_STEP.iter().enumerate() {
+        let part = &DOUBLE_STEP[..length];
+        assert!(rt;
+            is_answered(rt.alloc(), part, Some(Refused::BadText { line }))?,
+            "{length}"
+        );
+        if *byte == b'\n' {
+            line = u32::wrapping_add(line, 1);
+        }
     }
     Ok(())
 }

@@ -9,12 +9,10 @@ mod bounds;
 #[cfg(test)]
 mod cages;
 #[cfg(test)]
-mod length_texts;
+mod closing;
 #[cfg(test)]
 mod lengths;
 #[cfg(test)]
 mod origins;
 #[cfg(test)]
 mod pawns;
-#[cfg(test)]
-mod rules_on_sets;

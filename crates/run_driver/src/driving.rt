@@ -7,11 +7,11 @@ use std::alloc::{AllocError, Global};
 
 /// Words and an input, with the status and the text that answer them.
 #[derive(Clone, Copy)]
-pub struct Row {
-    pub words: &'static [&'static str],
-    pub input: &'static [u8],
+pub struct Row<'a> {
+    pub words: &'a [&'a str],
+    pub input: &'a [u8],
     pub status: Status,
-    pub text: &'static [u8],
+    pub text: &'a [u8],
 }
 
 /// What a source and a sink do.
@@ -72,4 +72,10 @@ pub fn run_on(
     };
     let status = run(alloc, &words, &mut source, &mut sink);
     Ok((status, sink))
+}
+
+/// Whether the row's words on its input end with its status and its text.
+pub fn is_answered(alloc: Global, row: &Row, ports: Ports) -> Result<bool, AllocError> {
+    let (status, sink) = run_on(alloc, row.words, row.input, ports)?;
+    Ok(status == row.status && sink.taken() == row.text)
 }

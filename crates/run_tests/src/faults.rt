@@ -1,83 +1,79 @@
 //! Runs in which a read or a write fails: nothing is written then, or the front of the answer.
 
-use retro_ports::MemSink;
+use crate::rows::{BLOCKED_PAWN, CAPTURES, DOUBLE_STEP, NO_KINGS, TWO_STEPS};
 use retro_top::Status;
-use run_driver::{BLOCKED_PAWN, CAPTURES, DOUBLE_STEP, NO_KINGS, Ports, WHOLE, run_on};
+use run_driver::{Ports, Row, WHOLE, is_answered, run_on};
 use std::alloc::Global;
 use std::process::Abort;
 use std::test::Fail;
 
-/// A read gives at most ten bytes, and a write takes one.
-const SMALL_PIECES: Ports = Ports {
-    most_read: 10,
-    most_written: 1,
-    failing_read: None,
-    failing_write: None,
-};
-
-/// A run ends with this status and this text.
-fn assert_whole(
-    rt: &(impl Abort + Alloc<A = Global>),
-    ended: (Status, &MemSink),
-    wanted: (Status, &[u8]),
-) {
-    assert_eq!(rt; ended.0, wanted.0);
-    assert!(rt; ended.1.taken() == wanted.1);
+/// What fails.
+#[derive(Clone, Copy)]
+enum Failing {
+    Read,
+    Write,
 }
 
-/// Each read fails in turn, until a run ends without a fault. There is a read for every ten bytes of the input, and one that finds its end.
-fn assert_read_faults(
-    rt: &(impl Abort + Alloc<A = Global>),
-    words: &[&str],
-    input: &[u8],
-    wanted: (Status, &[u8]),
-) -> Result<(), Fail> {
-    for number in 0..1_000_u32 {
-        let ports = Ports {
-            failing_read: Some(number),
-            ..SMALL_PIECES
-        };
-        let (status, sink) = run_on(rt.alloc(), words, input, ports)?;
-        if status != Status::ReadFault {
-            assert_whole(rt, (status, &sink), wanted);
-            assert_eq!(rt; number as usize, input.len().div_ceil(10).saturating_add(1));
-            return Ok(());
-        }
-        assert!(rt; sink.taken().is_empty());
+/// A read gives at most ten bytes, and a write takes one. The read or the write of this number fails.
+fn small_pieces(failing: Failing, number: u32) -> Ports {
+    let (failing_read, failing_write) = match failing {
+        Failing::Read => (Some(number), None),
+        Failing::Write => (None, Some(number)),
+    };
+    Ports {
+        most_read: 10,
+        most_written: 1,
+        failing_read,
+        failing_write,
     }
-    Err(Fail::from("each run had a fault"))
 }
 
-/// Each write fails in turn, until a run ends without a fault. What was taken before is a byte of the answer for each write.
-fn assert_write_faults(
-    rt: &(impl Abort + Alloc<A = Global>),
-    words: &[&str],
-    input: &[u8],
-    wanted: (Status, &[u8]),
+/// How many reads or writes there are: a read for every ten bytes of the input and one that finds its end, and a write for every byte of the
+/// answer.
+fn count_calls(failing: Failing, row: &Row) -> usize {
+    match failing {
+        Failing::Read => row.input.len().div_ceil(10).saturating_add(1),
+        Failing::Write => row.text.len(),
+    }
+}
+
+/// The run in which this read or this write fails ends so. What was taken before is nothing, or a byte of the answer for each write.
+fn assert_fault(
+    rt: &(impl Abort + AllocGlobal),
+    row: &Row,
+    failing: Failing,
+    number: u32,
 ) -> Result<(), Fail> {
+    let (fault, taken) = match failing {
+        Failing::Read => (Status::ReadFault, 0),
+        Failing::Write => (Status::WriteFault, number as usize),
+    };
+    let ports = small_pieces(failing, number);
+    let (status, sink) = run_on(rt.alloc(), row.words, row.input, ports)?;
+    assert_eq!(rt; status, fault);
+    assert_eq!(rt; sink.taken().len(), taken);
+    assert!(rt; row.text.starts_with(sink.taken()));
+    Ok(())
+}
+
+/// Each read or each write fails in turn, and the run in which none does ends as the row says.
+fn assert_faults(rt: &(impl Abort + AllocGlobal), row: &Row, failing: Failing) -> Result<(), Fail> {
+    let calls = count_calls(failing, row);
     for number in 0..1_000_u32 {
-        let ports = Ports {
-            failing_write: Some(number),
-            ..SMALL_PIECES
-        };
-        let (status, sink) = run_on(rt.alloc(), words, input, ports)?;
-        if status != Status::WriteFault {
-            assert_whole(rt, (status, &sink), wanted);
-            assert_eq!(rt; number as usize, wanted.1.len());
+        if number as usize == calls {
+            assert!(rt; is_answered(rt.alloc(), row, small_pieces(failing, number))?);
             return Ok(());
         }
-        assert_eq!(rt; sink.taken().len(), number as usize);
-        assert!(rt; wanted.1.starts_with(sink.taken()));
+        assert_fault(rt, row, failing, number)?;
     }
-    Err(Fail::from("each run had a fault"))
+    Err(Fail::from("too many calls"))
 }
 
 #[test]
 fn stops_at_each_fault(rt: HostRuntime) -> Result<(), Fail> {
-    for row in [NO_KINGS, BLOCKED_PAWN, CAPTURES, DOUBLE_STEP] {
-        let wanted = (row.status, row.text);
-        assert_read_faults(&rt, row.words, row.input, wanted)?;
-        assert_write_faults(&rt, row.words, row.input, wanted)?;
+    for row in [NO_KINGS, BLOCKED_PAWN, CAPTURES, DOUBLE_STEP, TWO_STEPS] {
+        assert_faults(&rt, &row, Failing::Read)?;
+        assert_faults(&rt, &row, Failing::Write)?;
     }
     Ok(())
 }
@@ -87,9 +83,14 @@ fn stops_at_each_fault(rt: HostRuntime) -> Result<(), Fail> {
 fn stops_telling_at_each_fault(rt: HostRuntime) -> Result<(), Fail> {
     let words: &[&str] = &["explain"];
     let (status, told) = run_on(rt.alloc(), words, NO_KINGS.input, WHOLE)?;
-    let wanted = (status, told.taken());
     assert_eq!(rt; status, Status::Done);
-    assert_read_faults(&rt, words, NO_KINGS.input, wanted)?;
-    assert_write_faults(&rt, words, NO_KINGS.input, wanted)?;
+    let row = Row {
+        words,
+        input: NO_KINGS.input,
+        status,
+        text: told.taken(),
+    };
+    assert_faults(&rt, &row, Failing::Read)?;
+    assert_faults(&rt, &row, Failing::Write)?;
     Ok(())
 }

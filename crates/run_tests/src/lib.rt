@@ -1,21 +1,19 @@
-//! Tests of runs: failing reads and writes, refused memory, wide and deep inputs, lengths, claims of several steps, studies and proofs in plain words.
+//! Tests of runs: failing reads and writes, refused memory, wide and deep inputs, inputs that are cut, and odd words.
 #![tactic(auto)]
 
 #[cfg(test)]
-mod dossiers;
-#[cfg(test)]
-mod driving;
-#[cfg(test)]
-mod explanations;
-#[cfg(test)]
-mod extremes;
-#[cfg(test)]
 mod faults;
 #[cfg(test)]
-mod lengths;
+mod fronts;
+#[cfg(test)]
+mod long_certificates;
+#[cfg(test)]
+mod refusals;
 #[cfg(test)]
 mod refused_memory;
 #[cfg(test)]
-mod studies;
+mod rows;
 #[cfg(test)]
 mod wide_certificates;
+#[cfg(test)]
+mod words;

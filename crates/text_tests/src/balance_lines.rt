@@ -1,10 +1,9 @@
-//! The lines of nodes with the reason `balance`: a set, prices and gates.
+//! The lines of nodes with the reason `balance`: a set, prices and gates. Lines that are none stand among the rows of `rows_run`.
 
 use crate::written_certificates::line_again;
 use board_base::{Colour, read_unmove};
 use capture_prices::{Gate, Prices};
 use cert_text::{BodyLine, NodeLine, Reason, read_line};
-use std::alloc::{AllocError, Global};
 use std::test::Fail;
 
 /// What stands before the prices of the root's line.
@@ -37,186 +36,12 @@ const GOOD: [(&str, &str, &str); 9] = [
     ),
 ];
 
-/// What isn't a price.
-const NO_PRICES: [&str; 12] = [
-    "",
-    "-",
-    "/",
-    "00",
-    "01",
-    "096",
-    "97",
-    "960",
-    "-1",
-    "+1",
-    "x",
-    "4294967296",
-];
-
-/// Where no gates stand, or not in the order of their squares, or not with tolls from 1 to 96.
-const NO_GATES: [&str; 26] = [
-    " ",
-    " /",
-    " e3",
-    " e3 ",
-    " 12",
-    " 12 e3",
-    "  e3 12",
-    " e3  12",
-    " e3 12 ",
-    " e3 0",
-    " e3 97",
-    " e3 012",
-    " e3 -1",
-    " e3 +1",
-    " i9 12",
-    " i3 12",
-    " e9 12",
-    " e0 12",
-    " E3 12",
-    " e 12",
-    " e33 12",
-    " e3 12 e4",
-    " e3 12 e3 12",
-    " e3 12 e3 13",
-    " e4 12 e3 12",
-    " a2 1 h1 1",
-];
-
-fn body_of(text: &[u8]) -> Option<BodyLine> {
-    match read_line(text, 0) {
-        Some(line) => Some(line.body),
-        None => None,
-    }
-}
-
 #[test]
 fn reads_and_writes_balances(rt: HostRuntime) -> Result<(), Fail> {
     for (white, black, gates) in GOOD {
         let text = format!(in rt.alloc(); "{FRONT} {white} / {black} /{gates}")?;
         let written = line_again(text.as_bytes(), 0).ok_or("no line")?;
         assert_eq!(rt; written.as_slice(), text.as_bytes());
-    }
-    Ok(())
-}
-
-/// Sixteen words of which one, counted from 0, is this and the others are prices.
-fn with_word(alloc: Global, place: usize, word: &str) -> Result<String, AllocError> {
-    let mut words = String::new(alloc);
-    for i in 0..16_usize {
-        if i > 0 {
-            words.push(' ')?;
-        }
-        words.push_str(if i == place { word } else { "7" })?;
-    }
-    Ok(words)
-}
-
-#[test]
-fn reads_no_other_prices(rt: HostRuntime) -> Result<(), Fail> {
-    for place in [0, 8, 15] {
-        for word in NO_PRICES {
-            let wrong = with_word(rt.alloc(), place, word)?;
-            let white = format!(in rt.alloc(); "{FRONT} {wrong} / {FREE} /")?;
-            let black = format!(in rt.alloc(); "{FRONT} {FREE} / {wrong} /")?;
-            assert!(rt; body_of(white.as_bytes()).is_none(), "{white}");
-            assert!(rt; body_of(black.as_bytes()).is_none(), "{black}");
-        }
-    }
-    Ok(())
-}
-
-/// Fifteen prices of nothing.
-const FIFTEEN: &str = "0 0 0 0 0 0 0 0 0 0 0 0 0 0 0";
-
-/// The pieces of lines with fifteen or seventeen prices, slashes left out or too many, blanks too many, and sets that are none.
-const NO_SHAPES: [&[&str]; 31] = [
-    &["root rule balance"],
-    &["root rule balance "],
-    &[FRONT],
-    &[FRONT, " "],
-    &[FRONT, " /"],
-    &[FRONT, " / /"],
-    &[FRONT, " ", FREE],
-    &[FRONT, " ", FREE, " /"],
-    &[FRONT, " ", FREE, " / ", FREE],
-    &[FRONT, " ", FREE, " / ", FREE, " "],
-    &[FRONT, " ", FREE, " / ", FREE, " e3 12"],
-    &[FRONT, " ", FREE, " ", FREE, " / /"],
-    &[FRONT, " ", FREE, " ", FREE, " /"],
-    &[FRONT, " ", FREE, " 0 / ", FREE, " /"],
-    &[FRONT, " ", FREE, " / ", FREE, " 0 /"],
-    &[FRONT, " ", FIFTEEN, " / ", FREE, " /"],
-    &[FRONT, " ", FREE, " / ", FIFTEEN, " /"],
-    &[FRONT, " ", FIFTEEN, " / ", FREE, " 0 /"],
-    &[FRONT, " ", FREE, "/ ", FREE, " /"],
-    &[FRONT, " ", FREE, " /", FREE, " /"],
-    &[FRONT, " ", FREE, "  / ", FREE, " /"],
-    &[FRONT, " ", FREE, " /  ", FREE, " /"],
-    &[FRONT, " ", FREE, " // ", FREE, " /"],
-    &[FRONT, "  ", FREE, " / ", FREE, " /"],
-    &[FRONT, " ", FREE, " / ", FREE, " /\n"],
-    &[
-        "root rule balance  0000000000004080 ",
-        FREE,
-        " / ",
-        FREE,
-        " /",
-    ],
-    &[
-        "root rule balance 000000000000408 ",
-        FREE,
-        " / ",
-        FREE,
-        " /",
-    ],
-    &[
-        "root rule balance 000000000000408A ",
-        FREE,
-        " / ",
-        FREE,
-        " /",
-    ],
-    &[
-        "root rule balance w 0000000000004080 ",
-        FREE,
-        " / ",
-        FREE,
-        " /",
-    ],
-    &[
-        "root rule Balance 0000000000004080 ",
-        FREE,
-        " / ",
-        FREE,
-        " /",
-    ],
-    &["root balance 0000000000004080 ", FREE, " / ", FREE, " /"],
-];
-
-/// These texts, one behind the other.
-fn joined(alloc: Global, pieces: &[&str]) -> Result<String, AllocError> {
-    let mut text = String::new(alloc);
-    for piece in pieces {
-        text.push_str(piece)?;
-    }
-    Ok(text)
-}
-
-#[test]
-fn reads_no_other_shapes(rt: HostRuntime) -> Result<(), Fail> {
-    for pieces in NO_SHAPES {
-        let text = joined(rt.alloc(), pieces)?;
-        assert!(rt; body_of(text.as_bytes()).is_none(), "{text}");
-    }
-    Ok(())
-}
-
-#[test]
-fn reads_no_other_gates(rt: HostRuntime) -> Result<(), Fail> {
-    for gates in NO_GATES {
-        let text = format!(in rt.alloc(); "{FRONT} {FREE} / {FREE} /{gates}")?;
-        assert!(rt; body_of(text.as_bytes()).is_none(), "{text}");
     }
     Ok(())
 }

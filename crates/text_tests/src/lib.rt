@@ -1,4 +1,4 @@
-//! Tests of texts: what FENs, lines, games, notation and certificates that are written out are read as, and what is written.
+//! Tests of texts: what FENs, lines, games, notation, certificates and lengths are read as, and what is written.
 #![tactic(auto)]
 
 #[cfg(test)]
@@ -9,6 +9,8 @@ mod certificate_texts;
 mod fens;
 #[cfg(test)]
 mod games;
+#[cfg(test)]
+mod length_texts;
 #[cfg(test)]
 mod lines;
 #[cfg(test)]
