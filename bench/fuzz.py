@@ -55,7 +55,7 @@ HINTING = ("check", "explain", "play", "san", "spell")
 FORMS = {
     ("check", 0): rf"accepted {CLAIM} {FEN}(?: {ODDS})?(?: {CLOCK})?\n",
     ("check", 1): rf"refused line [1-9]\d* {FAULT}\n",
-    ("explain", 0): r"  a b c d e f g h\n(?:[1-8](?: [.PNBRQKpnbrqk]){8}(?:     (?:White|Black) to move)?\n){8}(?:The game began without the men of(?: [a-h][1278]){1,30}\.\n)?(?:[!-~][ -~]{0,99}\n| {1,99}[!-~][ -~]{0,98}\n)+",
+    ("explain", 0): r"  a b c d e f g h\n(?:[1-8](?: [.PNBRQKpnbrqk]){8}(?:     (?:White|Black) to move)?\n){8}(?:[!-~][ -~]{0,99}\n| {1,99}[!-~][ -~]{0,98}\n)+",
     ("explain", 1): rf"refused line [1-9]\d* {FAULT}\n",
     ("play", 0): r"legal\n",
     ("play", 1): r"refused (?:(?:word|ply) [1-9]\d*|end)\n",
@@ -244,9 +244,7 @@ def wrong_explained(case, text):
         return "another diagram than that of the position"
     if not told[-1].endswith("QED"):
         return "a proof without its end"
-    # (the line of the odds isn't cut)
-    rest = [line for line in told if not line.startswith("The game began without ")]
-    return "a long line, or a blank at an end" if any(len(line) > 100 or line.endswith(" ") for line in rest) else None
+    return "a long line, or a blank at an end" if any(len(line) > 100 or line.endswith(" ") for line in told) else None
 
 
 def wrong_balance(case, accepted):
