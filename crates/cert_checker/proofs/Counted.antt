@@ -15,8 +15,8 @@ use Rattle.cert_checker.specs.Frames.{OnLine}
 use Rattle.cert_checker.specs.Framing.{due_of, popped, stopped_by, IsOpen, IsStack}
 use Rattle.cert_checker.specs.Stages.{nodes, Stepped, Rest}
 use Rattle.cert_checker.specs.declared.frames.Frame.{Frame}
-use Rattle.cert_checker.specs.declared.frames.Found.{Found}
-use Rattle.cert_checker.specs.declared.frames.Found.TheVariants.{Unlisted, Unsupported}
+use Rattle.cert_checker.specs.declared.frames.FirstFault.{FirstFault}
+use Rattle.cert_checker.specs.declared.frames.FirstFault.TheVariants.{Unlisted, Unsupported}
 use Rattle.cert_checker.proofs.Opening.{rest_settled}
 
 -- the numbers of frames
@@ -51,17 +51,24 @@ pub counts_after : (body : BodyLine) (d e : ℕ) (others : List ℕ) → 0 < d �
 counts_after body d e others some room counts =
     counts_popped (put_due body (e ∷ others)) (counts_put body (e ∷ others) room (λ more. counts.0 some, counts.1))
 
+-- the same by the numbers before and after it
+pub counts_kept : (body : BodyLine) (olds news : List ℕ) → 0 < length olds → IsDue olds → HasRoom (length olds) body → AreCounts olds → ((due : ℕ) (above : List ℕ) → olds ≡ suc due ∷ above → news ≡ put_due body (due ∷ above)) → AreCounts (popped news)
+counts_kept body [] news some due room counts put = absurd (omega arith)
+counts_kept body (zero ∷ above) news some due room counts put = absurd (omega arith)
+counts_kept body (suc d ∷ above) news some due room counts put =
+    subst (λ (n : List ℕ). AreCounts (popped n)) (sym (put d above refl)) (counts_after body (suc d) d above due room counts)
+
 -- after a fault each line leaves it as it is
-on_stopped : (x : Found) (n : ℕ) (line : List ℕ) → OnLine (stopped_by x) n line (stopped_by x)
+on_stopped : (x : FirstFault) (n : ℕ) (line : List ℕ) → OnLine (stopped_by x) n line (stopped_by x)
 on_stopped (Unlisted m u) n line = refl
 on_stopped (Unsupported m w) n line = refl
 
-settled_stopped : (x : Found) (claim : Claim) (q : Asked) (due : List ℕ) (n : ℕ) (lines : Lines) (a : Answer) → Rest (nodes claim q (stopped_by x) (popped due)) n lines a → Rest (nodes claim q (stopped_by x) due) n lines a
+settled_stopped : (x : FirstFault) (claim : Claim) (q : Asked) (due : List ℕ) (n : ℕ) (lines : Lines) (a : Answer) → Rest (nodes claim q (stopped_by x) (popped due)) n lines a → Rest (nodes claim q (stopped_by x) due) n lines a
 settled_stopped (Unlisted m u) claim q due n lines a rest = rest_settled lines claim q (stopped_by (Unlisted m u)) due n a rest
 settled_stopped (Unsupported m w) claim q due n lines a rest = rest_settled lines claim q (stopped_by (Unsupported m w)) due n a rest
 
 -- a line that says what a child at its depth says
-pub counted_rest : (x : Found) (claim : Claim) (q : Asked) (olds due news : List ℕ) (n : ℕ) (line : List ℕ) (lines : Lines) (a : Answer) → step olds line ≡ Some due → news ≡ popped due → Rest (nodes claim q (stopped_by x) news) (n + 1) lines a → Rest (nodes claim q (stopped_by x) olds) n (line ∷ lines) a
+pub counted_rest : (x : FirstFault) (claim : Claim) (q : Asked) (olds due news : List ℕ) (n : ℕ) (line : List ℕ) (lines : Lines) (a : Answer) → step olds line ≡ Some due → news ≡ popped due → Rest (nodes claim q (stopped_by x) news) (n + 1) lines a → Rest (nodes claim q (stopped_by x) olds) n (line ∷ lines) a
 counted_rest x claim q olds due news n line lines a goes settled rest =
     let here = subst (λ (d : List ℕ). Rest (nodes claim q (stopped_by x) d) (n + 1) lines a) settled rest in (
       nodes claim q (stopped_by x) due,

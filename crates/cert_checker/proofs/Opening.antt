@@ -20,8 +20,8 @@ use Rattle.cert_checker.specs.Frames.{Walking, going, stopped, go_on, Onto, ende
 use Rattle.cert_checker.specs.Framing.{popped, due_of, stopped_by, walking, with_body, IsOpen, IsStack}
 use Rattle.cert_checker.specs.Stages.{Stage, nodes, Stepped, answer_by, Rest}
 use Rattle.cert_checker.specs.declared.frames.Frame.{Frame}
-use Rattle.cert_checker.specs.declared.frames.Found.{Found}
-use Rattle.cert_checker.specs.declared.frames.Found.TheVariants.{Unlisted, Unsupported}
+use Rattle.cert_checker.specs.declared.frames.FirstFault.{FirstFault}
+use Rattle.cert_checker.specs.declared.frames.FirstFault.TheVariants.{Unlisted, Unsupported}
 
 -- the query so many steps from the end
 pub ancestor_at : (frames : List Frame) (k : ℕ) (f : Frame) → (k ≡ 0 → ⊥) → k ≤ length frames → ancestor (map query_of_frame (reverse frames)) k ≡ Some (get_or frames (length frames - k) f).query
@@ -32,7 +32,7 @@ ancestor_at frames (suc k) f some inside =
     ∙ ap (option_map query_of_frame) (slice_get-get_or (reverse frames) k f (omega (arith, length-reverse frames))
     ∙ ap (λ (x : Frame). Some x) (get_or-reverse frames k f (omega arith) ∙ ap (λ (i : ℕ). get_or frames i f) place))
 
-pub stays : (f : Found) (go : List Frame → Walking) → go_on (stopped_by f) go ≡ stopped_by f
+pub stays : (f : FirstFault) (go : List Frame → Walking) → go_on (stopped_by f) go ≡ stopped_by f
 stays (Unlisted n u) go = refl
 stays (Unsupported n w) go = refl
 
@@ -42,7 +42,7 @@ open_end (suc m) f frames later some = refl
 
 -- where the innermost frame has a child due, no frame is taken off
 
-pub open_stands : (found : Option Found) (frames : List Frame) → IsOpen frames → go_on (walking found frames) ended ≡ walking found frames
+pub open_stands : (found : Option FirstFault) (frames : List Frame) → IsOpen frames → go_on (walking found frames) ended ≡ walking found frames
 open_stands None [] some = refl
 open_stands None (f ∷ frames) some = open_end f.due f frames (ended frames) some
 open_stands (Some x) frames some = stays x ended

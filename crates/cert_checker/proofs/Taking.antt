@@ -18,7 +18,7 @@ use Rattle.cert_checker.specs.Frames.{Walking, going, Onto, OnKid, OnSaid, OnOpe
 use Rattle.cert_checker.specs.Framing.{due_of, walking, with_body, IsListed, IsStack}
 use Rattle.cert_checker.specs.Stages.{nodes, Stepped}
 use Rattle.cert_checker.specs.declared.frames.Frame.{Frame}
-use Rattle.cert_checker.specs.declared.frames.Found.{Found}
+use Rattle.cert_checker.specs.declared.frames.FirstFault.{FirstFault}
 use Rattle.cert_checker.proofs.Opening.{listed_rest, open_stands, stack_with}
 
 onto_kid : (f : Frame) (frames : List Frame) (n : ℕ) (line : List ℕ) (label : Unmove) (body : BodyLine) (after : Walking) → said (kid_body (suc (length frames))) line ≡ Some (label, body) → OnKid f frames n label body after → OnOpen n line (f ∷ frames) after
@@ -30,7 +30,7 @@ step_kid d others line label body some says =
     ap (λ (k : ℕ). step (k ∷ others) line) one ∙ ap (option_map (λ (kid : Unmove × BodyLine). put_due kid.1 ((d - 1) ∷ others))) says
 
 -- the line is a child's
-pub stage_kid : (result : Option Found) (f : Frame) (olds frames after : List Frame) (n depth : ℕ) (line : List ℕ) (label : Unmove) (body : BodyLine) (claim : Claim) (q : Asked) → olds ≡ f ∷ frames → 0 < f.due → depth ≡ suc (length frames) → said (kid_body depth) line ≡ Some (label, body)
+pub stage_kid : (result : Option FirstFault) (f : Frame) (olds frames after : List Frame) (n depth : ℕ) (line : List ℕ) (label : Unmove) (body : BodyLine) (claim : Claim) (q : Asked) → olds ≡ f ∷ frames → 0 < f.due → depth ≡ suc (length frames) → said (kid_body depth) line ≡ Some (label, body)
     → OnKid f frames n label body (walking result after) → map due_of after ≡ put_due body ((f.due - 1) ∷ map due_of frames)
     → Stepped (step (map due_of olds) line) claim q (going olds) n line (nodes claim q (walking result after) (map due_of after))
 stage_kid result f olds frames after n depth line label body claim q first some deep says walk dues =
@@ -41,8 +41,8 @@ stage_kid result f olds frames after n depth line label body claim q first some 
     subst (λ (l : List Frame). Stepped (step (map due_of l) line) claim q (going l) n line (nodes claim q (walking result after) (map due_of after))) (sym first) goes
 
 -- what a line says has room at its depth
-pub kid_room : (depth size : ℕ) (line : List ℕ) (label : Unmove) (body : BodyLine) → depth ≡ suc size → said (kid_body depth) line ≡ Some (label, body) → HasRoom (suc size) body
-kid_room depth size line label body deep says =
+pub kid_room : (depth at : ℕ) (line : List ℕ) (label : Unmove) (body : BodyLine) → depth ≡ at → said (kid_body depth) line ≡ Some (label, body) → HasRoom at body
+kid_room depth at line label body deep says =
     subst (λ (d : ℕ). HasRoom d body) deep (subst (λ (o : Option (Unmove × BodyLine)). IfSome o (λ kid. HasRoom depth kid.1)) says (kid_fits depth line))
 
 -- the frames after a child's line

@@ -11,3 +11,7 @@ AreCounts (n ∷ due) = (0 < n → length due < 255) × AreCounts due
 abbrev pub IsDue : List ℕ → Type 0
 IsDue [] = Unit {0}
 IsDue (n ∷ due) = 0 < n
+
+-- there is an innermost node, and it has a child due
+abbrev pub SomeDue : List ℕ → Type 0
+SomeDue due = 0 < length due × IsDue due

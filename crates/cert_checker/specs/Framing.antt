@@ -11,8 +11,8 @@ use Rattle.cert_text.specs.declared.node_lines.BodyLine.TheVariants.{Rule, Back,
 use Rattle.cert_checker.specs.Walk.{unlisted, unsupported}
 use Rattle.cert_checker.specs.Frames.{Walking, going, stopped, end_unmoves}
 use Rattle.cert_checker.specs.declared.frames.Frame.{Frame}
-use Rattle.cert_checker.specs.declared.frames.Found.{Found}
-use Rattle.cert_checker.specs.declared.frames.Found.TheVariants as found
+use Rattle.cert_checker.specs.declared.frames.FirstFault.{FirstFault}
+use Rattle.cert_checker.specs.declared.frames.FirstFault.TheVariants as found
 
 abbrev pub due_of : Frame → ℕ
 due_of f = f.due
@@ -28,11 +28,11 @@ popped (zero ∷ due) = popped due
 popped (suc n ∷ due) = suc n ∷ due
 
 -- the walk at these frames, or at the fault that was found
-abbrev pub stopped_by : Found → Walking
+abbrev pub stopped_by : FirstFault → Walking
 stopped_by (found.Unlisted n u) = stopped n (unlisted u)
 stopped_by (found.Unsupported n w) = stopped n (unsupported w)
 
-abbrev pub walking : Option Found → List Frame → Walking
+abbrev pub walking : Option FirstFault → List Frame → Walking
 walking None frames = going frames
 walking (Some f) frames = stopped_by f
 

@@ -10,7 +10,7 @@ use Rattle.cert_checker.specs.Frames.{going}
 use Rattle.cert_checker.specs.Framing.{IsOpen, IsStack, due_of, stopped_by, walking}
 use Rattle.cert_checker.specs.Counting.{AreCounts, IsDue}
 use Rattle.cert_checker.specs.declared.frames.Frame.{Frame}
-use Rattle.cert_checker.specs.declared.frames.Found.{Found}
+use Rattle.cert_checker.specs.declared.frames.FirstFault.{FirstFault}
 use Rattle.cert_checker.specs.declared.stages.Step.{Step}
 use Rattle.cert_checker.specs.declared.stages.Step.TheVariants as at
 
@@ -19,7 +19,7 @@ abbrev pub rooting : Claim → Asked → Stage
 rooting claim q = in_head (RootDue claim q)
 
 -- the stage after a line of a node, from what a function answers
-abbrev pub taken : Option (Option Found) → Claim → Asked → List Frame → ℕ → Stage
+abbrev pub taken : Option (Option FirstFault) → Claim → Asked → List Frame → ℕ → Stage
 taken None claim q frames n = bad n
 taken (Some f) claim q frames n = nodes claim q (walking f frames) (map due_of frames)
 

@@ -1,8 +1,8 @@
-ghost use Rattle.std.specs.Prelude.{◌≡◌, ◌<◌, ◌≤◌, ◌∷◌, ◌↔◌, IsTrue, List, MatchBool, None, Some, ℕ, length, map, reverse};
+ghost use Rattle.std.specs.Prelude.{◌≡◌, ◌<◌, ◌≤◌, ◌∷◌, ◌↔◌, IsTrue, List, MatchBool, None, Some, ℕ, length, map, reverse, suc};
 ghost use Rattle.std.specs.Bool.{OnTrue};
 ghost use Rattle.arrayvec.specs.ArrayVec.{array_vec_len};
 ghost use Rattle.cert_text.specs.Due.{put_due, step};
-ghost use Rattle.cert_checker.specs.Counting.{AreCounts, IsDue};
+ghost use Rattle.cert_checker.specs.Counting.{AreCounts, IsDue, SomeDue};
 ghost use Rattle.cert_checker.specs.Framing.{due_of, popped};
 
 use crate::frames::Frame;
@@ -20,12 +20,14 @@ pub(crate) fn count_frames(frames: &[Frame], counts: &mut ArrayVec<u32, 256>)
     }
 }
 
-/// Puts what is due below the parent of a node onto the others, and what is due below the node, where it has children.
-fn put_counts(counts: &mut ArrayVec<u32, 256>, due: u32, body: &BodyLine)
-    requires { array_vec_len counts.old < 255 }
-    ensures { reverse counts.new.items ≡ put_due body.now (due ∷ reverse counts.old.items) }
+/// Takes off one child of the innermost node, and puts on what is due below this child, where it has children.
+fn put_counts(counts: &mut ArrayVec<u32, 256>, body: &BodyLine)
+    requires room { array_vec_len counts.old < 256 }
+    requires open { SomeDue (reverse counts.old.items) }
+    ensures { (due : ℕ) (above : List ℕ) → reverse counts.old.items ≡ suc due ∷ above → reverse counts.new.items ≡ put_due body.now (due ∷ above) }
 {
-    counts.push(due);
+    let last = counts.len() - 1;
+    counts[last] -= 1;
     if let BodyLine::Expand(number) = body {
         counts.push(*number);
     }
@@ -57,14 +59,14 @@ pub(crate) fn count_line(counts: &mut ArrayVec<u32, 256>, line: &[u8]) -> bool
     ensures counts { OnTrue result (AreCounts (reverse counts.new.items)) }
     ensures open { OnTrue result (IsDue (reverse counts.new.items)) }
 {
-    let Some(due) = counts.pop() else {
+    if counts.is_empty() {
         return false;
-    };
-    let depth = (counts.len() + 1) as u8;
+    }
+    let depth = counts.len() as u8;
     match read_kid_line(depth, line) {
         None => false,
         Some((_, body)) => {
-            put_counts(counts, due - 1, &body);
+            put_counts(counts, &body);
             settle_counts(counts);
             true
         }

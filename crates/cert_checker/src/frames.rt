@@ -60,7 +60,7 @@ impl Default for Frame {
 
 /// The first fault of a walk.
 #[derive(Clone, Copy, PartialEq, Eq, Debug)]
-pub enum Found {
+pub enum FirstFault {
     /// This unmove of a node's query is the label of none of its children.
     Unlisted { line: u32, unmove: Unmove },
     /// The node on this line doesn't prove its query.
@@ -76,14 +76,14 @@ fn take_first(left: &mut LeftUnmoves) -> Option<Unmove>
 }
 
 /// The fault of a frame that has no child due, unless there was one before.
-fn left_over(frame: Frame, found: Option<Found>) -> Option<Found>
+fn left_over(frame: Frame, found: Option<FirstFault>) -> Option<FirstFault>
     ensures { (frames : List AnyFrame) → go_on (walking found frames) (end_unmoves_of frame) ≡ walking result frames }
 {
     let mut left = frame.left;
     match found {
         Some(fault) => Some(fault),
         None => match left.next() {
-            Some(unmove) => Some(Found::Unlisted {
+            Some(unmove) => Some(FirstFault::Unlisted {
                 line: frame.line,
                 unmove,
             }),
@@ -109,7 +109,7 @@ pub(crate) fn body_fault(
     query: &Query,
     frames: &[Frame],
     line: u32,
-) -> Option<Found>
+) -> Option<FirstFault>
     ensures { OnBody body.now query.now (reverse frames.now) line (walking result (with_body body.now query.now (reverse frames.now) line)) }
 {
     match body {
@@ -117,7 +117,7 @@ pub(crate) fn body_fault(
             if reason_supports(query, reason) {
                 None
             } else {
-                Some(Found::Unsupported {
+                Some(FirstFault::Unsupported {
                     line,
                     why: Why::Rule,
                 })
@@ -127,7 +127,7 @@ pub(crate) fn body_fault(
             if is_covered(frames, *steps, query) {
                 None
             } else {
-                Some(Found::Unsupported {
+                Some(FirstFault::Unsupported {
                     line,
                     why: Why::Back,
                 })
@@ -135,7 +135,7 @@ pub(crate) fn body_fault(
         }
         BodyLine::Expand(_) => {
             if is_array(query) {
-                Some(Found::Unsupported {
+                Some(FirstFault::Unsupported {
                     line,
                     why: Why::Array,
                 })
@@ -175,11 +175,11 @@ fn look_at(
     query: &Query,
     frames: &[Frame],
     line: u32,
-) -> (Option<Found>, Query)
+) -> (Option<FirstFault>, Query)
     requires { IfSome first (λ u. Contains (unmoves query.now) u) }
     ensures { OnFirst first query.now (reverse frames.now) line label.now body.now (walking result.0 (with_body body.now result.1 (reverse frames.now) line)) }
 {
-    let stray = Found::Unsupported {
+    let stray = FirstFault::Unsupported {
         line,
         why: Why::Stray,
     };
@@ -187,7 +187,7 @@ fn look_at(
         None => (Some(stray), *query),
         Some(unmove) => match cmp_unmove(label, &unmove) {
             Ordering::Less => (Some(stray), *query),
-            Ordering::Greater => (Some(Found::Unlisted { line, unmove }), *query),
+            Ordering::Greater => (Some(FirstFault::Unlisted { line, unmove }), *query),
             Ordering::Equal => {
                 let before = pred(query, &unmove);
                 (body_fault(body, &before, frames, line), before)
@@ -203,7 +203,7 @@ fn walk_kid(
     line: u32,
     label: &Unmove,
     body: &BodyLine,
-) -> Option<Found>
+) -> Option<FirstFault>
     requires due { 0 < top.due }
     requires room { array_vec_len frames.old < 255 }
     requires listed { IsListed top }
@@ -235,7 +235,7 @@ pub(crate) fn take_line(
     frames: &mut ArrayVec<Frame, 256>,
     number: u32,
     line: &[u8],
-) -> Option<Option<Found>>
+) -> Option<Option<FirstFault>>
     requires stack { IsStack (reverse frames.old.items) }
     requires open { IsOpen (reverse frames.old.items) }
     ensures stage { (claim : AnyClaim) (q : Asked) → Stepped (step (map due_of (reverse frames.old.items)) line.now) claim q (going (reverse frames.old.items)) number line.now
@@ -260,7 +260,10 @@ fn is_open(frames: &[Frame]) -> bool
 }
 
 /// Takes off the frames that have no child due, up to the first that has one. None of their unmoves may be left.
-pub(crate) fn settle(frames: &mut ArrayVec<Frame, 256>, found: Option<Found>) -> Option<Found>
+pub(crate) fn settle(
+    frames: &mut ArrayVec<Frame, 256>,
+    found: Option<FirstFault>,
+) -> Option<FirstFault>
     requires { IsStack (reverse frames.old.items) }
     ensures walk { walking result (reverse frames.new.items) ≡ go_on (walking found (reverse frames.old.items)) ended }
     ensures due { map due_of (reverse frames.new.items) ≡ popped (map due_of (reverse frames.old.items)) }

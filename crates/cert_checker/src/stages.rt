@@ -9,7 +9,7 @@ ghost use Rattle.cert_checker.specs.Stages.{Rest, answer_at, answer_by, in_head,
 ghost use Rattle.cert_checker.specs.Staging.{BarsNothing, IsReady, ReadsMore, rooting, stage_of, stop_at};
 
 use crate::counting::{count_frames, count_line};
-use crate::frames::{Found, Frame, body_fault, push_body, settle, take_line};
+use crate::frames::{FirstFault, Frame, body_fault, push_body, settle, take_line};
 use crate::refusals::{Accepted, Fault};
 use arrayvec::ArrayVec;
 use cert_text::{Head, read_head_line, read_root_line};
@@ -23,7 +23,7 @@ pub enum Step {
     /// A line below the root's, or none, where the walk has met no fault.
     Walking(Claim, Query),
     /// A line below the root's, or none, where the walk has met this fault. From there on only the children due are counted.
-    Counting(Claim, Query, Found),
+    Counting(Claim, Query, FirstFault),
     /// The text went bad at this line.
     Bad(u32),
 }
@@ -32,7 +32,7 @@ pub enum Step {
 fn step_at(
     claim: Claim,
     query: Query,
-    found: Option<Found>,
+    found: Option<FirstFault>,
     frames: &ArrayVec<Frame, 256>,
     counts: &mut ArrayVec<u32, 256>,
 ) -> Step
@@ -181,12 +181,12 @@ pub(crate) fn stop(step: &Step, number: u32) -> Step
     }
 }
 
-fn fault_of(found: Found) -> Fault
+fn fault_of(found: FirstFault) -> Fault
     ensures { (claim : AnyClaim) (q : Asked) → answer_as (Err result) ≡ answer_by claim q (stopped_by found) }
 {
     match found {
-        Found::Unlisted { line, unmove } => Fault::Unlisted { line, unmove },
-        Found::Unsupported { line, why } => Fault::Unsupported { line, why },
+        FirstFault::Unlisted { line, unmove } => Fault::Unlisted { line, unmove },
+        FirstFault::Unsupported { line, why } => Fault::Unsupported { line, why },
     }
 }
 
