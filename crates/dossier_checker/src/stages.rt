@@ -7,7 +7,7 @@ ghost use Rattle.dossier_checker.specs.StageAnswers.{IsTold, StageRemains, Stage
 use crate::parts::Parts;
 use crate::refusals::{AcceptedLine, DossierRefused};
 use arrayvec::ArrayVec;
-use dossier_text::{Head, read_head};
+use dossier_text::{DossierHead, read_head};
 use fen_text::push_text;
 use line_claims::unlisted_step;
 
@@ -33,7 +33,7 @@ fn begin(front: &[u8]) -> Result<Parts, DossierRefused>
     let Some(head) = read_head(front) else {
         return Err(DossierRefused::Head);
     };
-    let Head { claim, query, rest } = head;
+    let DossierHead { claim, query, rest } = head;
     if let Some(step) = unlisted_step(&query, &claim) {
         return Err(DossierRefused::UnlistedStep { step });
     }

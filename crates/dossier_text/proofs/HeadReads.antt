@@ -19,7 +19,7 @@ use Rattle.cert_text.proofs.TreeTexts.{cut_back}
 use Rattle.line_claims.specs.Lines.{line_claim_of}
 use Rattle.line_claims.specs.declared.claims.LineClaim.{LineClaim}
 use Rattle.dossier_text.specs.Dossiers.{AreHeadLines, BeginsWithHead, HasNoHead, IsHead, format_line}
-use Rattle.dossier_text.specs.declared.heads.Head.{Head}
+use Rattle.dossier_text.specs.declared.heads.DossierHead.{DossierHead}
 use Rattle.dossier_text.specs.HeadReading.{claim_first, claimed_of, head_first}
 use Rattle.dossier_text.proofs.HeadTexts.{cut_head, head_is, head_lines, head_wholly}
 use Rattle.board_base.proofs.TextLemmas.{mapped_some}
@@ -116,6 +116,6 @@ no_query lines line after claim first e none =
 behind_format : (line : List ℕ) (lines : Lines) → bytes_eq line format_line ≡ true → head_first (line ∷ lines) ≡ claim_first lines
 behind_format line lines is = cond-true (bytes_eq line format_line) (claim_first lines) None is
 
-pub answered : (bytes line : List ℕ) (after : Lines) (o : Option Head) → cut bytes ≡ line ∷ after → bytes_eq line format_line ≡ true → MatchOption o (claim_first after ≡ None) (λ h. claim_first after ≡ Some (h.claim, h.query, cut h.rest.now)) → MatchOption o (HasNoHead bytes) (λ h. BeginsWithHead bytes h.claim h.query h.rest.now)
+pub answered : (bytes line : List ℕ) (after : Lines) (o : Option DossierHead) → cut bytes ≡ line ∷ after → bytes_eq line format_line ≡ true → MatchOption o (claim_first after ≡ None) (λ h. claim_first after ≡ Some (h.claim, h.query, cut h.rest.now)) → MatchOption o (HasNoHead bytes) (λ h. BeginsWithHead bytes h.claim h.query h.rest.now)
 answered bytes line after None first is e = nothing_read bytes (ap head_first first ∙ behind_format line after is ∙ e)
 answered bytes line after (Some h) first is e = head_read bytes h.claim h.query h.rest.now (ap head_first first ∙ behind_format line after is ∙ e)

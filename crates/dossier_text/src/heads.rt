@@ -11,7 +11,7 @@ use query_base::Query;
 
 /// The head with which bytes begin: a claim of several steps about a query.
 #[derive(Drop, Debug)]
-pub struct Head<'a> {
+pub struct DossierHead<'a> {
     pub claim: LineClaim,
     pub query: Query,
     /// What follows the head.
@@ -33,7 +33,7 @@ fn read_claim_line(line: &[u8]) -> Option<LineClaim>
 }
 
 /// What the lines of a head behind the first say.
-fn read_below(bytes: &[u8]) -> Option<Head<'_>>
+fn read_below(bytes: &[u8]) -> Option<DossierHead<'_>>
     ensures { MatchOption result (claim_first (cut bytes.now) ≡ None) (λ h. claim_first (cut bytes.now) ≡ Some (h.claim, h.query, cut h.rest.now)) }
 {
     let Some((line, rest)) = first_line(bytes) else {
@@ -43,7 +43,7 @@ fn read_below(bytes: &[u8]) -> Option<Head<'_>>
         return None;
     };
     match take_query(rest) {
-        Some(first) => Some(Head {
+        Some(first) => Some(DossierHead {
             claim,
             query: first.query,
             rest: first.rest,
@@ -56,7 +56,7 @@ fn read_below(bytes: &[u8]) -> Option<Head<'_>>
 /// `read_odds` reads it, where there are any; that of the clock, as `read_clock` reads it, where one is demanded; `fen`, a space and
 /// a FEN of four fields. What follows this line is left. None comes exactly where no front of the bytes is a head. It takes no
 /// memory.
-pub fn read_head(bytes: &[u8]) -> Option<Head<'_>>
+pub fn read_head(bytes: &[u8]) -> Option<DossierHead<'_>>
     ensures { MatchOption result (HasNoHead bytes.now) (λ h. BeginsWithHead bytes.now h.claim h.query h.rest.now) }
 {
     let Some((line, rest)) = first_line(bytes) else {

@@ -3,7 +3,7 @@ ghost use Rattle.unmove_gen.specs.Listed.{unmoves};
 
 use crate::candidates::Cursor;
 use crate::facts::{QueryFacts, facts_of};
-use crate::stops::{Stop, stop_after, stop_from};
+use crate::stops::{ListedMove, stop_after, stop_from};
 use crate::targets::{arrivals_by, targets_of};
 use board_base::{SquareSet, Unmove};
 use query_base::Query;
@@ -25,7 +25,7 @@ pub struct Unmoves {
     query: Query,
     facts: Option<QueryFacts>,
     targets: SquareSet,
-    stop: Stop,
+    stop: ListedMove,
 }
 
 impl Model for Unmoves {

@@ -13,7 +13,7 @@ use query_base::Query;
 
 /// A candidate, and for each of the seven candidates of its move whether it is listed.
 #[derive(Clone, Copy)]
-pub struct Stop {
+pub struct ListedMove {
     pub cursor: Cursor,
     pub listed: [bool; 7],
     /// It is known that with the man on the candidate's target taken off the king of the side to move is left alone.
@@ -52,7 +52,12 @@ fn next_listed(listed: &[bool; 7], start: u8) -> u8
 }
 
 /// The first candidate from this one on of the same move that is listed, with what is listed of the move; None where none is.
-fn stop_on(query: &Query, facts: &Option<QueryFacts>, start: Cursor, alone: bool) -> Option<Stop>
+fn stop_on(
+    query: &Query,
+    facts: &Option<QueryFacts>,
+    start: Cursor,
+    alone: bool,
+) -> Option<ListedMove>
     requires inside { start.to < 64 }
     requires facts { IfSome facts.now (λ f. AreFacts query.now f) }
     requires alone { IfSome facts.now (λ f. KnowsAlone query.now f.king start.to alone) }
@@ -65,7 +70,7 @@ fn stop_on(query: &Query, facts: &Option<QueryFacts>, start: Cursor, alone: bool
     let listed = listed(query, facts, &start.mv(), alone);
     let place = next_listed(&listed, start.capture);
     if place < 7 {
-        Some(Stop {
+        Some(ListedMove {
             cursor: Cursor {
                 to: start.to,
                 from: start.from,
@@ -88,7 +93,7 @@ pub fn stop_from(
     start: Cursor,
     last: u8,
     alone: bool,
-) -> Stop
+) -> ListedMove
     requires alone { IfSome facts.now (λ f. KnowsAlone query.now f.king last alone) }
     requires facts { IfSome facts.now (λ f. AreFacts query.now f) }
     requires targets { AreTargets query.now targets }
@@ -118,7 +123,7 @@ pub fn stop_from(
             }
         }
     }
-    Stop {
+    ListedMove {
         cursor: there,
         listed: [false; 7],
         alone: false,
@@ -130,8 +135,8 @@ pub fn stop_after(
     query: &Query,
     facts: &Option<QueryFacts>,
     targets: SquareSet,
-    here: &Stop,
-) -> Stop
+    here: &ListedMove,
+) -> ListedMove
     requires alone { IfSome facts.now (λ f. KnowsAlone query.now f.king here.now.cursor.to here.now.alone) }
     requires inside { here.now.cursor.to < 64 }
     requires facts { IfSome facts.now (λ f. AreFacts query.now f) }
@@ -145,7 +150,7 @@ pub fn stop_after(
     let cursor = here.cursor;
     let place = next_listed(&here.listed, cursor.capture + 1);
     if place < 7 {
-        Stop {
+        ListedMove {
             cursor: Cursor {
                 to: cursor.to,
                 from: cursor.from,
