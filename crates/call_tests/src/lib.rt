@@ -1,4 +1,4 @@
-//! Tests of the calls of the crates below: what each answers on boards, men, queries and streams that are written out, and of a search.
+//! Tests of the calls of the crates below: what each answers on boards, men, queries and streams that are written out.
 #![tactic(auto)]
 
 #[cfg(test)]
@@ -13,7 +13,5 @@ mod odds;
 mod ports;
 #[cfg(test)]
 mod queries;
-#[cfg(test)]
-mod searches;
 #[cfg(test)]
 mod step_claims;

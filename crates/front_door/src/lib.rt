@@ -7,8 +7,6 @@ ghost use Rattle.std.specs.Process.{exit_status};
 ghost use Rattle.command_answers.specs.Statuses.{code_of};
 
 mod advice;
-#[cfg(test)]
-mod advice_tests;
 mod calls;
 mod certificates;
 mod fens;
@@ -17,8 +15,6 @@ mod hints;
 mod inputs;
 mod lines;
 mod refusals;
-#[cfg(test)]
-mod tests;
 mod watching;
 mod words;
 

@@ -1,6 +1,9 @@
-//! Tests of runs: failing reads and writes, refused memory, wide and deep inputs, inputs that are cut, and odd words.
+//! Tests of runs: failing reads and writes, refused memory, wide and deep inputs, inputs that are cut, odd words, what is said on
+//! standard error, and how the program ends.
 #![tactic(auto)]
 
+#[cfg(test)]
+mod advice;
 #[cfg(test)]
 mod faults;
 #[cfg(test)]
@@ -13,6 +16,8 @@ mod refusals;
 mod refused_memory;
 #[cfg(test)]
 mod rows;
+#[cfg(test)]
+mod serving;
 #[cfg(test)]
 mod wide_certificates;
 #[cfg(test)]

@@ -1,13 +1,12 @@
 //! What is said on standard error, case by case.
 
-use crate::advice::{Advice, FenAdvice, LineAdvice, MoveAdvice, TextAdvice, WordAdvice};
-use crate::hints::advise;
+use front_door::{Advice, FenAdvice, LineAdvice, MoveAdvice, TextAdvice, WordAdvice, advise};
 use retro_ports::{MemSink, MemSource};
 use retro_top::{Status, run};
 use std::alloc::{AllocError, Global};
 
 /// Words that call no command, what is said of them, and how the command that is meant is called.
-const WORDS: [(&[&str], WordAdvice, &str); 36] = [
+const WORDS: [(&[&str], WordAdvice, &str); 38] = [
     (&[], WordAdvice::Usage, ""),
     (&["help"], WordAdvice::Usage, ""),
     (&["-h"], WordAdvice::Usage, ""),
@@ -115,6 +114,16 @@ const WORDS: [(&[&str], WordAdvice, &str); 36] = [
         "solve DEPTH NODES < CLAIM-AND-FEN",
     ),
     (
+        &["solve", "64", "500001"],
+        WordAdvice::Nodes,
+        "solve DEPTH NODES < CLAIM-AND-FEN",
+    ),
+    (
+        &["solve", "0", "0"],
+        WordAdvice::Nodes,
+        "solve DEPTH NODES < CLAIM-AND-FEN",
+    ),
+    (
         &["tree", "1", "500001"],
         WordAdvice::Nodes,
         "tree DEPTH NODES < FEN",
@@ -146,10 +155,21 @@ const WORDS: [(&[&str], WordAdvice, &str); 36] = [
     ),
 ];
 
+/// The words of commands that read a position, and how each is called.
+const READING: [(&[&str], &str); 4] = [
+    (&["solve", "1", "100"], "solve DEPTH NODES < CLAIM-AND-FEN"),
+    (&["settle"], "settle [DEPTH NODES] < CLAIM-AND-FEN"),
+    (&["unmoves"], "unmoves < FEN"),
+    (&["study"], "study [DEPTH NODES] < FEN"),
+];
+
 /// The words of a command with a claim and of one without, and inputs of theirs with a bad line.
-const LINES: [(&[&str], &[u8], LineAdvice); 23] = [
-    (&["solve", "1", "100"], b"", LineAdvice::Empty),
-    (&["unmoves"], b"", LineAdvice::Empty),
+const LINES: [(&[&str], &[u8], LineAdvice); 22] = [
+    (
+        &["settle"],
+        b"4k3/8/8/8/8/8/8/4K3 w - -\n",
+        LineAdvice::Claim,
+    ),
     (
         &["solve", "1", "100"],
         b"4k3/8/8/8/8/8/8/4K3 w - -\n",
@@ -497,12 +517,20 @@ fn tells_what_is_wrong_with_words(rt: HostRuntime) {
 }
 
 #[test]
+fn tells_how_to_give_an_input(rt: HostRuntime) {
+    for (words, call) in READING {
+        let told = told(rt.alloc(), words, b"");
+        let empty = Some(Advice::Lines(LineAdvice::Empty));
+        assert!(rt; told == Ok((Status::BadInput, empty, call)), "{words:?}");
+    }
+}
+
+#[test]
 fn tells_what_is_wrong_with_lines(rt: HostRuntime) {
     for (words, input, advice) in LINES {
         let told = told(rt.alloc(), words, input);
-        let want = Some(Advice::Lines(advice));
         assert!(rt;
-            matches!(told, Ok((Status::BadInput, said, _)) if said == want),
+            told == Ok((Status::BadInput, Some(Advice::Lines(advice)), "")),
             "{input:?}"
         );
     }

@@ -1,0 +1,274 @@
+//! The program as a whole on a system that is made up: the status with which it ends, and what it says on standard error then.
+
+use front_door::serve;
+use std::alloc::{Allocator, Global};
+use std::cell::Cell;
+use std::env::{Env, FillError};
+use std::fmt::Display;
+use std::io;
+use std::io::{BufRead, ErrorKind, IsTerminal, Lines, Read};
+use std::process::{ExitCode, Termination};
+
+/// A system with these words and this input.
+#[derive(Clone, Copy)]
+struct Desk {
+    words: &'static [&'static [u8]],
+    input: &'static [u8],
+    reads_fail: bool,
+    /// A write fails that doesn't begin so, and each where there is None.
+    begins: Option<&'static [u8]>,
+}
+
+/// A system on which nothing fails.
+fn working(words: &'static [&'static [u8]], input: &'static [u8]) -> Desk {
+    Desk {
+        words,
+        input,
+        reads_fail: false,
+        begins: Some(b""),
+    }
+}
+
+/// A system whose reads fail.
+fn unreadable(words: &'static [&'static [u8]]) -> Desk {
+    Desk {
+        words,
+        input: b"",
+        reads_fail: true,
+        begins: Some(b""),
+    }
+}
+
+/// A system whose writes fail but for one that begins so, if that is said.
+fn beginning(
+    words: &'static [&'static [u8]],
+    input: &'static [u8],
+    begins: Option<&'static [u8]>,
+) -> Desk {
+    Desk {
+        words,
+        input,
+        reads_fail: false,
+        begins,
+    }
+}
+
+/// The input of a desk.
+#[derive(Drop)]
+struct Given {
+    left: &'static [u8],
+    fails: bool,
+}
+
+impl Read for Given {
+    fn read(&mut self, buf: &mut [u8]) -> io::Result<usize> {
+        if self.fails {
+            return Err(ErrorKind::Other.into());
+        }
+        let n = buf.len().min(self.left.len());
+        buf[..n].copy_from_slice(&self.left[..n]);
+        self.left = &self.left[n..];
+        Ok(n)
+    }
+}
+
+impl BufRead for Given {
+    fn fill_buf(&mut self) -> io::Result<&[u8]> {
+        Ok(self.left)
+    }
+
+    fn consume(&mut self, amount: usize) {
+        let n = amount.min(self.left.len());
+        self.left = &self.left[n..];
+    }
+}
+
+impl IsTerminal for Given {
+    fn is_terminal(&self) -> bool {
+        false
+    }
+}
+
+impl Input for Desk {
+    type Reader = Given;
+
+    fn read_line<A: Allocator + Clone>(&self, buf: &mut String<A>) -> io::Result<usize> {
+        self.reader().read_line(buf)
+    }
+
+    fn lines<A: Allocator>(&self, alloc: A) -> Lines<Given, A> {
+        self.reader().lines(alloc)
+    }
+
+    fn reader(&self) -> Given {
+        Given {
+            left: self.input,
+            fails: self.reads_fail,
+        }
+    }
+}
+
+impl Env for Desk {
+    fn arg(&self, i: usize, buf: &mut [u8]) -> Result<usize, FillError> {
+        let Some(word) = self.words.get(i) else {
+            return Err(FillError::NotPresent);
+        };
+        if word.len() > buf.len() {
+            return Err(FillError::TooLong);
+        }
+        buf[..word.len()].copy_from_slice(word);
+        Ok(word.len())
+    }
+
+    fn var(&self, _name: &str, _buf: &mut [u8]) -> Result<usize, FillError> {
+        Err(FillError::NotPresent)
+    }
+
+    fn var_at(&self, _i: usize, _buf: &mut [u8]) -> Result<usize, FillError> {
+        Err(FillError::NotPresent)
+    }
+}
+
+impl Eprint for Desk {
+    fn eprint<D: Display + Drop>(&self, value: D) -> io::Result<()> {
+        drop(value);
+        Ok(())
+    }
+
+    fn eprintln<D: Display + Drop>(&self, value: D) -> io::Result<()> {
+        self.eprint(value)
+    }
+}
+
+impl Print for Desk {
+    fn print<D: Display + Drop>(&self, value: D) -> io::Result<()> {
+        drop(value);
+        self.write_all(b"")
+    }
+
+    fn println<D: Display + Drop>(&self, value: D) -> io::Result<()> {
+        self.print(value)
+    }
+
+    fn write_all(&self, bytes: &[u8]) -> io::Result<()> {
+        match self.begins {
+            Some(begins) if bytes.starts_with(begins) => Ok(()),
+            _ => Err(ErrorKind::Other.into()),
+        }
+    }
+}
+
+const CHECK: &[&[u8]] = &[b"retractor", b"check"];
+
+const KINGLESS: &[u8] = b"retro 1\nclaim illegal\nfen 8/8/8/8/8/8/8/8 w - -\nroot rule kings\n";
+
+/// A claim that one move back doesn't settle, and one that a game of no moves contradicts.
+const TWO_KINGS: &[u8] = b"claim illegal\n4k3/8/8/8/8/8/8/4K3 w - -\n";
+
+const ARRAY: &[u8] = b"claim illegal\nrnbqkbnr/pppppppp/8/8/8/8/PPPPPPPP/RNBQKBNR w KQkq -\n";
+
+const HELP: &[&[u8]] = &[b"retractor", b"--help"];
+
+const VERSION: &[&[u8]] = &[b"retractor", b"--version"];
+
+const SOLVE: &[&[u8]] = &[b"retractor", b"solve", b"1", b"100"];
+
+const SOLVE_BY_ONE_NODE: &[&[u8]] = &[b"retractor", b"solve", b"1", b"1"];
+
+/// What `--help` writes begins as the usage does, and what `--version` writes with the name and the version.
+#[test]
+fn ends_with_the_number_of_the_status(rt: HostRuntime) {
+    for (desk, want) in [
+        (working(CHECK, KINGLESS), 0),
+        (working(CHECK, b"retro 1\n"), 1),
+        (working(SOLVE, TWO_KINGS), 2),
+        (working(SOLVE_BY_ONE_NODE, TWO_KINGS), 3),
+        (working(SOLVE, ARRAY), 4),
+        (working(&[], KINGLESS), 5),
+        (working(&[b"retractor", b"\xff"], KINGLESS), 5),
+        (working(&[b"retractor", b"--usage"], KINGLESS), 5),
+        (unreadable(&[b"retractor", b"--version", b"check"]), 5),
+        (working(&[b"retractor", b"unmoves"], KINGLESS), 6),
+        (unreadable(CHECK), 7),
+        (beginning(CHECK, KINGLESS, None), 8),
+        (unreadable(HELP), 0),
+        (beginning(HELP, b"", Some(b"usage:\n")), 0),
+        (beginning(HELP, b"", Some(b"retractor")), 8),
+        (beginning(HELP, b"", None), 8),
+        (unreadable(VERSION), 0),
+        (beginning(VERSION, b"", Some(b"retractor 1.0\n")), 0),
+        (beginning(VERSION, b"", Some(b"usage:\n")), 8),
+    ] {
+        let code = serve(&(desk, rt.alloc())).report(&rt);
+        assert_eq!(rt; code, ExitCode::from(want));
+    }
+}
+
+/// Where standard error goes: how many lines were the one that is wanted, and how many others.
+#[derive(Drop)]
+struct Ears {
+    alloc: Global,
+    wanted: &'static str,
+    heard: Cell<u32>,
+    others: Cell<u32>,
+}
+
+impl Eprint for Ears {
+    fn eprint<D: Display + Drop>(&self, value: D) -> io::Result<()> {
+        drop(value);
+        self.others.set(self.others.get().wrapping_add(1));
+        Ok(())
+    }
+
+    fn eprintln<D: Display + Drop>(&self, value: D) -> io::Result<()> {
+        let line = format!(in self.alloc; "{value}");
+        match line {
+            Ok(line) if line.as_str() == self.wanted => {
+                self.heard.set(self.heard.get().wrapping_add(1));
+            }
+            _ => self.others.set(self.others.get().wrapping_add(1)),
+        }
+        Ok(())
+    }
+}
+
+/// At the end one line is said, or nothing where none is wanted.
+#[test]
+fn says_one_line_or_nothing(rt: HostRuntime) {
+    for (desk, wanted) in [
+        (working(CHECK, KINGLESS), ""),
+        (working(SOLVE_BY_ONE_NODE, TWO_KINGS), ""),
+        (working(CHECK, b"retro 1\n"), ""),
+        (
+            working(&[], KINGLESS),
+            "retractor: `retractor --help` says how each command is called",
+        ),
+        (
+            working(&[b"retractor", b"\xff"], KINGLESS),
+            "retractor: a word isn't UTF-8",
+        ),
+        (
+            working(&[b"retractor", b"unmoves"], KINGLESS),
+            "retractor: a FEN is due, and this is a certificate, a length or a dossier, which `check`, `atleast` and `line` read",
+        ),
+        (
+            working(&[b"retractor", b"solve", b"65", b"1"], TWO_KINGS),
+            "retractor: DEPTH is a number from 0 to 64: retractor solve DEPTH NODES < CLAIM-AND-FEN",
+        ),
+        (unreadable(CHECK), "retractor: reading the input failed"),
+        (
+            beginning(CHECK, KINGLESS, None),
+            "retractor: writing the answer failed",
+        ),
+    ] {
+        let ears = Ears {
+            alloc: rt.alloc(),
+            wanted,
+            heard: Cell::new(0),
+            others: Cell::new(0),
+        };
+        let _ = serve(&(desk, rt.alloc())).report(&ears);
+        let lines = if wanted == "" { 0 } else { 1 };
+        assert_eq!(rt; (ears.heard.get(), ears.others.get()), (lines, 0));
+    }
+}
