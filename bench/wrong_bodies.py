@@ -1,0 +1,75 @@
+#!/usr/bin/env python3
+"""Tries wrong bodies, outside the gate: the contracts have to refuse each.
+
+wrong_bodies.py [CRATE ..]   those of bench/wrong_bodies/CRATE.txt, or of each file there, by `rt must-fail` on a copy of the crates
+
+A wrong body stands under a line `# name`, as a must-fail edit does: a file, and pairs of an old and a new text. Those of known.txt are let
+through, each with why. The exit status is 1 where another is let through, where one of known.txt is refused, and where one can't be tried;
+each is printed.
+"""
+import argparse
+import pathlib
+import re
+import shutil
+import subprocess
+import sys
+import tempfile
+
+TOP = pathlib.Path(__file__).resolve().parent.parent
+BODIES = TOP / "bench" / "wrong_bodies"
+TOLD = re.compile(r"must-fail (\S+)\.edit: (refused|NOT REFUSED|BAD EDIT|NOT TRIED)")
+
+
+def bodies(crate):
+    """The wrong bodies of a crate, each as its name and the text of an edit."""
+    for part in re.split(r"(?m)^# ", (BODIES / f"{crate}.txt").read_text())[1:]:
+        name, text = part.split("\n", 1)
+        yield name, text.rstrip("\n") + "\n"
+
+
+def known():
+    """Those that are let through, by crate and name."""
+    lines = (BODIES / "known.txt").read_text().splitlines()
+    return {line.split(":", 1)[0] for line in lines if line and not line.startswith("#")}
+
+
+def tried(crates):
+    """What `rt must-fail` says of each wrong body of the crates."""
+    with tempfile.TemporaryDirectory() as folder:
+        top = pathlib.Path(folder)
+        shutil.copy(TOP / "crates.txt", top)
+        shutil.copy(TOP / "HANDLES", top)
+        subprocess.run(["git", "init", "-q", folder], check=True)
+        for crate in (TOP / "crates").iterdir():
+            shutil.copytree(crate, top / "crates" / crate.name, ignore=shutil.ignore_patterns("out", "must-fail"))
+        for crate in crates:
+            edits = top / "crates" / crate / "must-fail"
+            edits.mkdir()
+            for name, text in bodies(crate):
+                (edits / f"{name}.edit").write_text(text)
+        done = subprocess.run(["rt", "must-fail", *crates], cwd=folder, stdout=subprocess.PIPE, stderr=subprocess.STDOUT, text=True)
+        return dict(TOLD.findall(done.stdout)), done.stdout
+
+
+def main():
+    every = sorted(it.stem for it in BODIES.glob("*.txt") if it.stem != "known")
+    parser = argparse.ArgumentParser()
+    parser.add_argument("crates", nargs="*", choices=[*every, []])
+    crates = parser.parse_args().crates or every
+    told, text = tried(crates)
+    passed, strange = known(), 0
+    for crate in crates:
+        for name, _ in bodies(crate):
+            body = f"{crate}/{name}"
+            want = "NOT REFUSED" if body in passed else "refused"
+            if told.get(body) != want:
+                strange += 1
+                print(f"{body}: {told.get(body, 'nothing was said')}")
+    print(f"{len(told)} wrong bodies, {sum(it == 'refused' for it in told.values())} refused, {strange} otherwise than they should be")
+    if not told:
+        print(text, file=sys.stderr)
+    sys.exit(1 if strange else 0)
+
+
+if __name__ == "__main__":
+    main()
