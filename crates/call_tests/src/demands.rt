@@ -128,66 +128,75 @@ fn matches_the_clock(rt: HostRuntime) -> Result<(), Fail> {
     Ok(())
 }
 
-/// FEN, odds, rule line, whether it supports the query, and whether it does at no odds.
-const RULES: [(&str, u64, RuleLine, bool, bool); 7] = [
-    (
-        "4k3/8/8/8/8/1P6/1PPPPPPP/4K3 w - -",
-        1 << 8,
-        RuleLine::Count(Colour::White),
-        true,
-        false,
-    ),
-    (
-        "4k3/8/8/8/8/1P6/1PPPPPPP/4K3 w - -",
-        1 << 48,
-        RuleLine::Count(Colour::White),
-        false,
-        false,
-    ),
-    (
-        "rnbqkbnr/pppppppp/8/8/8/N4N2/PPPPPPPP/R1BQKB1R w KQkq -",
-        2,
-        RuleLine::Count(Colour::White),
-        true,
-        false,
-    ),
-    (
-        "4k3/8/8/8/8/8/8/4K2R w K -",
-        1 << 7,
-        RuleLine::Rights,
-        true,
-        false,
-    ),
-    (
-        "4k3/8/8/8/8/8/8/4K2R w K -",
-        1,
-        RuleLine::Rights,
-        false,
-        false,
-    ),
-    (
-        "4k3/8/8/8/8/8/8/4K3 w - -",
-        1 << 7,
-        RuleLine::Kings,
-        false,
-        false,
-    ),
-    (
-        "4k3/8/8/8/8/8/8/4K2R w Q -",
-        1 << 7,
-        RuleLine::Rights,
-        true,
-        true,
-    ),
+/// A rule line, and of which games it supports the query of a FEN: of those at these odds, and of those at none.
+#[derive(Drop)]
+struct Support {
+    fen: &'static str,
+    odds: u64,
+    rule: RuleLine,
+    at_odds: bool,
+    at_none: bool,
+}
+
+const SUPPORTS: [Support; 7] = [
+    Support {
+        fen: "4k3/8/8/8/8/1P6/1PPPPPPP/4K3 w - -",
+        odds: 1 << 8,
+        rule: RuleLine::Count(Colour::White),
+        at_odds: true,
+        at_none: false,
+    },
+    Support {
+        fen: "4k3/8/8/8/8/1P6/1PPPPPPP/4K3 w - -",
+        odds: 1 << 48,
+        rule: RuleLine::Count(Colour::White),
+        at_odds: false,
+        at_none: false,
+    },
+    Support {
+        fen: "rnbqkbnr/pppppppp/8/8/8/N4N2/PPPPPPPP/R1BQKB1R w KQkq -",
+        odds: 2,
+        rule: RuleLine::Count(Colour::White),
+        at_odds: true,
+        at_none: false,
+    },
+    Support {
+        fen: "4k3/8/8/8/8/8/8/4K2R w K -",
+        odds: 1 << 7,
+        rule: RuleLine::Rights,
+        at_odds: true,
+        at_none: false,
+    },
+    Support {
+        fen: "4k3/8/8/8/8/8/8/4K2R w K -",
+        odds: 1,
+        rule: RuleLine::Rights,
+        at_odds: false,
+        at_none: false,
+    },
+    Support {
+        fen: "4k3/8/8/8/8/8/8/4K3 w - -",
+        odds: 1 << 7,
+        rule: RuleLine::Kings,
+        at_odds: false,
+        at_none: false,
+    },
+    Support {
+        fen: "4k3/8/8/8/8/8/8/4K2R w Q -",
+        odds: 1 << 7,
+        rule: RuleLine::Rights,
+        at_odds: true,
+        at_none: true,
+    },
 ];
 
 #[test]
 fn supports_at_odds(rt: HostRuntime) -> Result<(), Fail> {
-    for (fen, bits, rule, at_odds, whole) in RULES {
-        let query = asked(fen, bits, None).ok_or("unread")?;
-        assert_eq!(rt; supports(&query, &rule), at_odds);
-        let plain = asked(fen, 0, None).ok_or("unread")?;
-        assert_eq!(rt; supports(&plain, &rule), whole);
+    for row in SUPPORTS {
+        let query = asked(row.fen, row.odds, None).ok_or("unread")?;
+        assert_eq!(rt; supports(&query, &row.rule), row.at_odds);
+        let plain = asked(row.fen, 0, None).ok_or("unread")?;
+        assert_eq!(rt; supports(&plain, &row.rule), row.at_none);
     }
     let pawn = asked("4k3/8/8/8/8/8/P7/4K3 w - -", 1 << 8, None).ok_or("unread")?;
     let frozen = RuleLine::Frozen(SquareSet::from_bits(1 << 8));

@@ -30,21 +30,27 @@ impl Read for Reader {
     }
 }
 
-/// A writer that takes at most so many bytes a call, and passes them on when it is flushed. Its
-/// first write may fail, and its first flush.
+/// The call that fails, once: the first of its kind.
+#[derive(Clone, Copy, PartialEq, Eq)]
+enum Failing {
+    Nothing,
+    Write,
+    Flush,
+}
+
+/// A writer that takes at most so many bytes a call, and passes them on when it is flushed.
 #[derive(Drop)]
 struct Writer {
     most: usize,
-    write_fails: bool,
-    flush_fails: bool,
+    failing: Failing,
     held: Vec<u8>,
     passed_on: Vec<u8>,
 }
 
 impl Write for Writer {
     fn write(&mut self, buf: &[u8]) -> io::Result<usize> {
-        if self.write_fails {
-            self.write_fails = false;
+        if self.failing == Failing::Write {
+            self.failing = Failing::Nothing;
             return Err(ErrorKind::Interrupted.into());
         }
         let n = self.most.min(buf.len());
@@ -53,8 +59,8 @@ impl Write for Writer {
     }
 
     fn flush(&mut self) -> io::Result<()> {
-        if self.flush_fails {
-            self.flush_fails = false;
+        if self.failing == Failing::Flush {
+            self.failing = Failing::Nothing;
             return Err(ErrorKind::Interrupted.into());
         }
         self.passed_on.extend_from_slice(&self.held)?;
@@ -93,17 +99,17 @@ fn reads_from_any_reader_to_its_end(rt: HostRuntime) -> Result<(), Fail> {
 
 #[test]
 fn writes_through_any_writer(rt: HostRuntime) -> Result<(), Fail> {
-    for (most, write_fails, flush_fails, want, passed_on) in [
-        (2, false, false, [Ok(2), Ok(2)], b"abab".as_slice()),
-        (1, false, false, [Ok(1), Ok(1)], b"aa".as_slice()),
-        (0, false, false, [Err(Failed), Err(Failed)], b"".as_slice()),
-        (2, true, false, [Err(Failed), Ok(2)], b"ab".as_slice()),
-        (2, false, true, [Err(Failed), Ok(2)], b"abab".as_slice()),
+    let failed = Err(Failed);
+    for (most, failing, want, passed_on) in [
+        (2, Failing::Nothing, [Ok(2), Ok(2)], b"abab".as_slice()),
+        (1, Failing::Nothing, [Ok(1), Ok(1)], b"aa".as_slice()),
+        (0, Failing::Nothing, [failed, failed], b"".as_slice()),
+        (2, Failing::Write, [failed, Ok(2)], b"ab".as_slice()),
+        (2, Failing::Flush, [failed, Ok(2)], b"abab".as_slice()),
     ] {
         let mut writer = Writer {
             most,
-            write_fails,
-            flush_fails,
+            failing,
             held: Vec::new(rt.alloc()),
             passed_on: Vec::new(rt.alloc()),
         };

@@ -19,7 +19,7 @@ use Rattle.query_base.specs.Asked.{Asked}
 use Rattle.query_base.specs.declared.claims.Claim.{Claim}
 use Rattle.query_base.specs.declared.claims.Claim.TheVariants.{Illegal, Last, Lost, Ep}
 use Rattle.proof_prose.specs.Rows.{rows_of}
-use Rattle.prose_words.specs.Words.{initial, place_letter, side_word, squares_words, wing_word}
+use Rattle.prose_words.specs.Words.{initial, place_initial, place_letter, side_word, squares_words, wing_word}
 
 -- a place of the diagram after a space
 abbrev pub place_text : Places → ℕ → List ℕ
@@ -96,11 +96,6 @@ right_given given x = cond given (right_words x) []
 abbrev pub givens_text : Asked → List ℕ
 givens_text q =
     odds_given q.odds ++ clock_given q.clock ++ only_given q.only ++ right_given (holds q.held WhiteShort) WhiteShort ++ right_given (holds q.held WhiteLong) WhiteLong ++ right_given (holds q.held BlackShort) BlackShort ++ right_given (holds q.held BlackLong) BlackLong
-
--- the letter of the man on a place in long notation
-abbrev pub place_initial : Option Man → List ℕ
-place_initial None = []
-place_initial (Some m) = initial m.kind
 
 -- the letter of the man who made the move that ends on this place; a pawn that was promoted has none
 abbrev pub mover_initial : Option Man → Option Kind → List ℕ

@@ -1,15 +1,17 @@
 //! The diagram, the claim and what is supposed.
 
 ghost use Rattle.std.specs.Prelude.{◌≡◌, ◌++◌, ◌<◌, IfOk, codes};
-ghost use Rattle.proof_prose.specs.Heads.{became, claim_words, clock_given, clock_words, closing_text, last_words, legal_words, lost_words, not_words, odds_line, odds_words, right_words, stayed_words, diagram_text, givens_text, lower_text, rank_line, upper_text, move_words, mover_initial, odds_given, only_given, opening_text, other_words, place_initial, place_text, rank_text, right_given, supposed_words, unmoved_words};
+ghost use Rattle.proof_prose.specs.Heads.{became, claim_words, clock_given, clock_words, closing_text, last_words, legal_words, lost_words, not_words, odds_line, odds_words, right_words, stayed_words, diagram_text, givens_text, lower_text, rank_line, upper_text, move_words, mover_initial, odds_given, only_given, opening_text, other_words, place_text, rank_text, right_given, supposed_words, unmoved_words};
 ghost use Rattle.board_base.specs.Board.{at};
 
-use crate::numbers::push_number;
 use crate::wrapping::push_wrapped;
 use board_base::{Board, Castle, Colour, Kind, Man, Move, Odds, Square};
 use castle_history::home;
 use ep_history::{double_of, ep_fits};
-use prose_words::{initial, place_letter, push_square, push_squares, say, side_word, wing_word};
+use prose_words::{
+    initial, place_initial, place_letter, push_number, push_square, push_squares, say, side_word,
+    wing_word,
+};
 use query_base::{Claim, Query};
 use std::alloc::{AllocError, Global};
 
@@ -201,15 +203,6 @@ fn push_givens(alloc: Global, query: &Query, out: &mut Vec<u8>) -> Result<(), Al
     push_right(query.held.has(Castle::BlackShort), Castle::BlackShort, out)?;
     push_right(query.held.has(Castle::BlackLong), Castle::BlackLong, out)?;
     Ok(())
-}
-
-fn place_initial(place: Option<Man>) -> &'static [u8]
-    ensures { result.now ≡ place_initial place }
-{
-    match place {
-        None => b"",
-        Some(man) => initial(man.kind),
-    }
 }
 
 fn mover_initial(place: Option<Man>, promo: Option<Kind>) -> &'static [u8]

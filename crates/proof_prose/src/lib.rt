@@ -8,7 +8,6 @@ mod laws;
 mod lessening;
 mod letters;
 mod nodes;
-mod numbers;
 mod paragraphs;
 mod pawns;
 mod pricing;

@@ -12,11 +12,10 @@ ghost use Rattle.proof_prose.specs.Standing.{Stands};
 ghost use Rattle.unmove_gen.specs.Listed.{unmoves};
 
 use crate::letters::{Letters, copied};
-use crate::numbers::push_number;
 use board_base::Unmove;
 use cert_text::{Body, Cert, Kids, Node, Reason};
 use ep_history::{double_of, ep_fits};
-use prose_words::say;
+use prose_words::{push_number, say};
 use query_base::{Claim, Query};
 use std::alloc::{AllocError, Global};
 use unmove_gen::pred;

@@ -8,10 +8,9 @@ use crate::bodies::Spoken;
 use crate::labels::push_label;
 use crate::letters::{Letters, are_same, copied, kept};
 use crate::nodes::{Line, Told};
-use crate::numbers::push_number;
 use crate::wrapping::push_wrapped;
 use board_base::{Kind, Unmove, is_move};
-use prose_words::{kind_word, say};
+use prose_words::{kind_word, push_number, say};
 use query_base::Query;
 use std::alloc::{AllocError, Global};
 

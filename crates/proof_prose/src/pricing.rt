@@ -4,11 +4,10 @@ ghost use Rattle.std.specs.Prelude.{◌≡◌, ◌++◌, ◌<◌, IfOk, slice_in
 ghost use Rattle.std.specs.List.{All, flat_map};
 ghost use Rattle.proof_prose.specs.Pricing.{file_if, files_words, gate_words, gates_words, item_words, light_front, price_words, priced_words, prices_words, shade_words, shades_words};
 
-use crate::numbers::push_number;
 use crate::telling::{push_around, rest_of};
 use board_base::{Colour, Square};
 use capture_prices::{Gate, Prices};
-use prose_words::{push_square, say};
+use prose_words::{push_number, push_square, say};
 use std::alloc::{AllocError, Global};
 
 /// A file after a space, where a capture on its squares of this shade has this price; the dark shade is 0, the light one 1.

@@ -11,7 +11,6 @@ ghost use Rattle.proof_prose.specs.Sentences.{Says, back_words, barred_words, ba
 ghost use Rattle.prose_words.specs.Words.{side_word, squares_words};
 
 use crate::heads::push_unmoved;
-use crate::numbers::push_number;
 use crate::pawns::pawn_squares;
 use crate::pricing::push_priced;
 use crate::rights::lacks_home;
@@ -20,7 +19,9 @@ use balance_rule::begun_with;
 use board_base::{Castle, Colour, Odds, Square, SquareSet, array_of, is_of};
 use cage_rules::{is_dead, is_officer_home, is_shielded};
 use pawn_assign::{Costs, costs};
-use prose_words::{push_man, push_square, push_square_if, push_squares, say, side_word};
+use prose_words::{
+    push_man, push_number, push_square, push_square_if, push_squares, say, side_word,
+};
 use query_base::Query;
 use retraction_bars::push_bars;
 use std::alloc::{AllocError, Global};

@@ -38,6 +38,11 @@ initial Rook = codes "R"
 initial Queen = codes "Q"
 initial King = codes "K"
 
+-- the same for the man of a place; none where nobody stands there
+abbrev pub place_initial : Option Man → List ℕ
+place_initial None = []
+place_initial (Some m) = initial m.kind
+
 -- the letter of a man in the diagram: a capital one for White's
 abbrev pub man_letter : Colour → Kind → ℕ
 man_letter White k = letter_of k - 32

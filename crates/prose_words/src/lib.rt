@@ -4,6 +4,6 @@
 mod words;
 
 pub use words::{
-    colour_word, initial, kind_word, place_letter, push_man, push_number, push_square,
-    push_square_if, push_squares, say, side_word, wing_word,
+    colour_word, initial, kind_word, place_initial, place_letter, push_man, push_number,
+    push_square, push_square_if, push_squares, say, side_word, wing_word,
 };

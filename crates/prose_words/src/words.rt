@@ -4,7 +4,7 @@ ghost use Rattle.std.specs.Prelude.{◌≡◌, ◌∷◌, ◌++◌, IfOk};
 ghost use Rattle.std.specs.Fmt.{decimal};
 ghost use Rattle.board_base.specs.Board.{is_in};
 ghost use Rattle.board_base.specs.Texts.{square_text};
-ghost use Rattle.prose_words.specs.Words.{colour_word, given_square, initial, kind_word, man_letter, man_words, place_letter, side_word, squares_words, wing_word};
+ghost use Rattle.prose_words.specs.Words.{colour_word, given_square, initial, kind_word, man_letter, man_words, place_initial, place_letter, side_word, squares_words, wing_word};
 
 use board_base::{Castle, Colour, Kind, Man, Square, SquareSet, kind_letter};
 use itoa::Buffer;
@@ -63,6 +63,16 @@ pub fn initial(kind: Kind) -> &'static [u8]
     }
 }
 
+/// The same for the man of a place; none where nobody stands there.
+pub fn place_initial(place: Option<Man>) -> &'static [u8]
+    ensures { result.now ≡ place_initial place }
+{
+    match place {
+        None => b"",
+        Some(man) => initial(man.kind),
+    }
+}
+
 fn capital_letter(kind: Kind) -> u8
     ensures { result ≡ man_letter Colour.White kind }
 {
@@ -107,7 +117,8 @@ pub fn push_square(s: Square, out: &mut Vec<u8>) -> Result<(), AllocError>
     Ok(())
 }
 
-pub fn push_number(n: u32, out: &mut Vec<u8>) -> Result<(), AllocError>
+/// A number in decimal digits.
+pub fn push_number(n: usize, out: &mut Vec<u8>) -> Result<(), AllocError>
     ensures { IfOk result (λ _. out.new.items ≡ out.old.items ++ decimal n) }
 {
     let mut digits = Buffer::new();

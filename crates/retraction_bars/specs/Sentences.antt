@@ -5,9 +5,8 @@ use Rattle.std.specs.List.{flat_map, list_any, range_with_len}
 use Rattle.board_base.specs.Board.{at}
 use Rattle.board_base.specs.Play.{king_home, rook_home}
 use Rattle.board_base.specs.Texts.{square_text}
-use Rattle.board_base.specs.declared.men.Man.{Man}
 use Rattle.board_base.specs.declared.moves.Move.{Move}
-use Rattle.prose_words.specs.Words.{initial, side_word}
+use Rattle.prose_words.specs.Words.{place_initial, side_word}
 use Rattle.query_base.specs.Asked.{Asked}
 use Rattle.retraction_bars.specs.Numbers.{bar_at}
 use Rattle.retraction_bars.specs.Phrases.{phrase}
@@ -28,11 +27,6 @@ text_if b text = cond b text []
 abbrev pub double_words : Option Move → List ℕ
 double_words None = []
 double_words (Some m) = square_text m.from ++ 45 ∷ square_text m.to
-
--- the letter of the man on the place
-abbrev pub place_initial : Option Man → List ℕ
-place_initial None = []
-place_initial (Some man) = initial man.kind
 
 -- what bars a retraction, in words
 abbrev pub bar_words : Asked → Bar → List ℕ

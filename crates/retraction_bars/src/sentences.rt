@@ -2,16 +2,16 @@ ghost use Rattle.std.specs.Prelude.{◌≡◌, ◌++◌, IfOk};
 ghost use Rattle.std.specs.List.{list_any};
 ghost use Rattle.retraction_bars.specs.Phrases.{phrase};
 ghost use Rattle.retraction_bars.specs.Numbers.{bar_at};
-ghost use Rattle.retraction_bars.specs.Sentences.{bar_words, double_words, is_ground, label_words, manner_words, origin_words, origins_words, place_initial, sentence_words, sentences_words, spaced, start_of, tells, text_if, whole_words};
+ghost use Rattle.retraction_bars.specs.Sentences.{bar_words, double_words, is_ground, label_words, manner_words, origin_words, origins_words, sentence_words, sentences_words, spaced, start_of, tells, text_if, whole_words};
 
 use crate::bars::Bar;
 use crate::gathering::Clause;
 use crate::numbers::bar_at;
 use crate::phrases::{Phrase, say_phrase};
 use crate::scopes::{Manner, same_manner};
-use board_base::{Castle, Colour, Man, Move, Square};
+use board_base::{Castle, Colour, Move, Square};
 use castle_history::home;
-use prose_words::{initial, push_square, say, side_word};
+use prose_words::{place_initial, push_square, say, side_word};
 use query_base::Query;
 use std::alloc::AllocError;
 
@@ -248,15 +248,6 @@ pub fn push_sentences(
     push_manner(query, cs, t, Manner::Taking, out)?;
     push_manner(query, cs, t, Manner::Passing, out)?;
     Ok(())
-}
-
-fn place_initial(place: Option<Man>) -> &'static [u8]
-    ensures { result.now ≡ place_initial place }
-{
-    match place {
-        None => b"",
-        Some(man) => initial(man.kind),
-    }
 }
 
 /// A man by his letter and his square, after a space.

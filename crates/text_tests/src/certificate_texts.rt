@@ -167,15 +167,16 @@ fn e5d6(promo: Option<Kind>) -> Move {
 fn fits_claims(rt: HostRuntime) -> Result<(), Fail> {
     let text = b"retro 1\nclaim illegal\nfen 8/8/8/8/8/8/8/8 w - -\nroot rule kings\n";
     let mut cert = read(rt.alloc(), text)?;
-    for (promo, last, ep) in [
-        (None, true, true),
-        (Some(Kind::Queen), true, false),
-        (Some(Kind::King), false, false),
+    for (claim, fits) in [
+        (Claim::Last(e5d6(None)), true),
+        (Claim::Last(e5d6(Some(Kind::Queen))), true),
+        (Claim::Last(e5d6(Some(Kind::King))), false),
+        (Claim::Ep(e5d6(None)), true),
+        (Claim::Ep(e5d6(Some(Kind::Queen))), false),
+        (Claim::Ep(e5d6(Some(Kind::King))), false),
     ] {
-        cert.claim = Claim::Last(e5d6(promo));
-        assert_eq!(rt; fits_format(&cert), last);
-        cert.claim = Claim::Ep(e5d6(promo));
-        assert_eq!(rt; fits_format(&cert), ep);
+        cert.claim = claim;
+        assert_eq!(rt; fits_format(&cert), fits);
     }
     Ok(())
 }
