@@ -4,7 +4,6 @@ use balance_rule::balances;
 use board_base::{Odds, SquareSet};
 use capture_prices::Prices;
 use fen_text::read_four_fields;
-use std::test::Fail;
 
 /// The pawns of e2, a7, f7 and g7, who have never moved.
 const AT_HOME: u64 = 0x0061_0000_0000_1000;
@@ -16,11 +15,21 @@ const WITH_KING: u64 = AT_HOME | 1 << 51;
 /// promoted on such a square.
 const TWO_BISHOPS: &str = "1KRqb3/p2krpp1/2ppp3/PB6/BrPPP3/1p1P4/2p1P3/Q7 b - -";
 
+/// Whether the set and these prices support the query of that problem, at these odds: white pawns pay so much on light squares of the g file,
+/// so much elsewhere, and black pawns nothing. None where these can't be read.
+fn is_balanced(odds: u64, set: u64, on_g8: u8, elsewhere: u8) -> Option<bool> {
+    let mut query = read_four_fields(TWO_BISHOPS.as_bytes())?;
+    query.odds = Odds::new(SquareSet::from_bits(odds))?;
+    let mut white = [elsewhere; 16];
+    white[13] = on_g8;
+    let prices = Prices::new(&white, &[0; 16], &[])?;
+    Some(balances(&query, SquareSet::from_bits(set), &prices))
+}
+
 /// Case, odds, set, what white pawns pay on light squares of the g file and elsewhere, and whether these prices support the query, where
 /// black pawns pay nothing. White's pawns captured four men at least, one of them on g8, and Black is missing three.
 #[test]
-fn weighs_captures(rt: HostRuntime) -> Result<(), Fail> {
-    let query = read_four_fields(TWO_BISHOPS.as_bytes()).ok_or("unread")?;
+fn weighs_captures(rt: HostRuntime) {
     let rows: [(&str, u64, u64, u8, u8, bool); 6] = [
         ("four captures, three men", 0, AT_HOME, 1, 1, true),
         ("the greatest prices", 0, AT_HOME, 96, 96, true),
@@ -44,13 +53,7 @@ fn weighs_captures(rt: HostRuntime) -> Result<(), Fail> {
         ),
     ];
     for (case, odds, set, on_g8, elsewhere, supported) in rows {
-        let mut asked = query;
-        asked.odds = Odds::new(SquareSet::from_bits(odds)).ok_or("homes")?;
-        let mut white = [elsewhere; 16];
-        white[13] = on_g8;
-        let prices = Prices::new(&white, &[0; 16], &[]).ok_or("in range")?;
-        let set = SquareSet::from_bits(set);
-        assert_eq!(rt; balances(&asked, set, &prices), supported, "{case}");
+        let balanced = is_balanced(odds, set, on_g8, elsewhere);
+        assert_eq!(rt; balanced, Some(supported), "{case}");
     }
-    Ok(())
 }

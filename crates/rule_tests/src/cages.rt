@@ -8,7 +8,6 @@ use cage_rules::{
 };
 use fen_text::{read_four_fields, read_set};
 use query_base::Query;
-use std::test::Fail;
 
 fn query(cell: Option<&str>) -> Option<Query> {
     read_four_fields(cell?.as_bytes())
@@ -67,18 +66,27 @@ const FROZEN_SETS: &str = "\
 0000000000000001|4k3/8/8/8/8/8/8/4K3 w - -|free|other|an empty square
 000000000000ffff|4k3/8/8/8/8/8/PPPPPPPP/RNBQKBNR w - -|free|array|White's array without rights";
 
-#[test]
-fn tells_frozen_sets(rt: HostRuntime) -> Result<(), Fail> {
-    for row in FROZEN_SETS.lines() {
-        let mut cells = row.split('|');
-        let set = set(cells.next()).ok_or("no set")?;
-        let query = query(cells.next()).ok_or("no FEN")?;
-        let frozen = is_first(cells.next(), ("frozen", "free")).ok_or("neither")?;
-        let array = is_first(cells.next(), ("array", "other")).ok_or("neither")?;
-        assert_eq!(rt; is_frozen(&query, set), frozen, "{row}");
-        assert_eq!(rt; as_array(&query.board, set, Odds::none()), array, "{row}");
+/// What is answered otherwise than the row says: whether the set is frozen, and whether it is as in the array. None where it can't be read.
+fn frozen_otherwise(row: &str) -> Option<Option<(bool, bool)>> {
+    let mut cells = row.split('|');
+    let set = set(cells.next())?;
+    let query = query(cells.next())?;
+    let frozen = is_first(cells.next(), ("frozen", "free"))?;
+    let array = is_first(cells.next(), ("array", "other"))?;
+    let frozen_now = is_frozen(&query, set);
+    let array_now = as_array(&query.board, set, Odds::none());
+    if frozen_now == frozen && array_now == array {
+        Some(None)
+    } else {
+        Some(Some((frozen_now, array_now)))
     }
-    Ok(())
+}
+
+#[test]
+fn tells_frozen_sets(rt: HostRuntime) {
+    for row in FROZEN_SETS.lines() {
+        assert_eq!(rt; frozen_otherwise(row), Some(None), "{row}");
+    }
 }
 
 /// FEN, the greatest frozen set, and the greatest that is as in the array.
@@ -97,17 +105,26 @@ rnbqkbnr/pppppppp/8/8/8/8/PPPPPPPP/RNBQKBNR w KQkq -|bdff00000000ffbd|bdff000000
 2kr4/ppp5/8/8/8/8/8/4K3 w - -|0007000000000000|0007000000000000|a king castled long
 4k3/8/8/8/3P4/2P5/1P6/4K3 w - -|0000000000000200|0000000000000200|pawns b2, c3 and d4";
 
-#[test]
-fn finds_greatest(rt: HostRuntime) -> Result<(), Fail> {
-    for row in GREATEST_SETS.lines() {
-        let mut cells = row.split('|');
-        let query = query(cells.next()).ok_or("no FEN")?;
-        let frozen = set(cells.next()).ok_or("no set")?;
-        let array = set(cells.next()).ok_or("no set")?;
-        assert_eq!(rt; greatest_frozen(&query).bits(), frozen.bits(), "{row}");
-        assert_eq!(rt; greatest_as_array(&query).bits(), array.bits(), "{row}");
+/// The sets that are found, where they are others than the row says. None where it can't be read.
+fn greatest_otherwise(row: &str) -> Option<Option<(u64, u64)>> {
+    let mut cells = row.split('|');
+    let query = query(cells.next())?;
+    let frozen = set(cells.next())?.bits();
+    let array = set(cells.next())?.bits();
+    let found = greatest_frozen(&query).bits();
+    let found_as_array = greatest_as_array(&query).bits();
+    if found == frozen && found_as_array == array {
+        Some(None)
+    } else {
+        Some(Some((found, found_as_array)))
     }
-    Ok(())
+}
+
+#[test]
+fn finds_greatest(rt: HostRuntime) {
+    for row in GREATEST_SETS.lines() {
+        assert_eq!(rt; greatest_otherwise(row), Some(None), "{row}");
+    }
 }
 
 /// The region of a home; None where no knight, bishop, rook or queen begins there.
@@ -138,20 +155,38 @@ const REGIONS: &str = "\
 000000000000ff00|b1|ffffffffffff00ff|b1 over the pawns
 0000000000000003|a1|fffffffffffffffd|the home in the set";
 
+/// The region that is found, where it is another than the row says. None where it can't be read, or no officer begins on its square.
+fn region_otherwise(row: &str) -> Option<Option<u64>> {
+    let mut cells = row.split('|');
+    let frozen = set(cells.next())?;
+    let home = square(cells.next())?;
+    let squares = set(cells.next())?.bits();
+    let found = region_of(frozen, home)?;
+    if found == squares {
+        Some(None)
+    } else {
+        Some(Some(found))
+    }
+}
+
 #[test]
-fn finds_regions(rt: HostRuntime) -> Result<(), Fail> {
+fn finds_regions(rt: HostRuntime) {
     for row in REGIONS.lines() {
-        let mut cells = row.split('|');
-        let frozen = set(cells.next()).ok_or("no set")?;
-        let home = square(cells.next()).ok_or("no square")?;
-        let squares = set(cells.next()).ok_or("no set")?;
-        assert_eq!(rt; region_of(frozen, home), Some(squares.bits()), "{row}");
+        assert_eq!(rt; region_otherwise(row), Some(None), "{row}");
     }
-    for home in ["e1", "e8", "a2", "d4", "a7"] {
-        let home = square(Some(home)).ok_or("no square")?;
-        assert_eq!(rt; region_of(SquareSet::from_bits(0), home), None);
+}
+
+/// Whether a region is asked for from this square, of a set without squares. None where it can't be read.
+fn has_region(name: &str) -> Option<bool> {
+    let home = square(Some(name))?;
+    Some(region_of(SquareSet::from_bits(0), home).is_some())
+}
+
+#[test]
+fn begins_regions_where_officers_begin(rt: HostRuntime) {
+    for name in ["e1", "e8", "a2", "d4", "a7"] {
+        assert_eq!(rt; has_region(name), Some(false));
     }
-    Ok(())
 }
 
 /// Whether a home is dead, and whether it is shielded; None where no knight, bishop, rook or queen begins there.
@@ -195,16 +230,25 @@ const HOMES: &str = "\
 2b1k3/2ppp3/8/8/8/8/8/4K3 w - -|141c000000000000|d8|dead|shielded|queen d8 gone
 2b1k3/2p1p3/8/8/8/8/8/q3K3 w - -|1414000000000000|d8|alive|open|queen d8 promoted elsewhere";
 
-#[test]
-fn tells_dead(rt: HostRuntime) -> Result<(), Fail> {
-    for row in HOMES.lines() {
-        let mut cells = row.split('|');
-        let query = query(cells.next()).ok_or("no FEN")?;
-        let frozen = set(cells.next()).ok_or("no set")?;
-        let home = square(cells.next()).ok_or("no square")?;
-        let dead = is_first(cells.next(), ("dead", "alive")).ok_or("neither")?;
-        let shielded = is_first(cells.next(), ("shielded", "open")).ok_or("neither")?;
-        assert_eq!(rt; fate(&query, frozen, home), Some((dead, shielded)), "{row}");
+/// What is answered otherwise than the row says: whether the home is dead, and whether it is shielded. None where it can't be read.
+fn fate_otherwise(row: &str) -> Option<Option<(bool, bool)>> {
+    let mut cells = row.split('|');
+    let query = query(cells.next())?;
+    let frozen = set(cells.next())?;
+    let home = square(cells.next())?;
+    let dead = is_first(cells.next(), ("dead", "alive"))?;
+    let shielded = is_first(cells.next(), ("shielded", "open"))?;
+    let (dead_now, shielded_now) = fate(&query, frozen, home)?;
+    if dead_now == dead && shielded_now == shielded {
+        Some(None)
+    } else {
+        Some(Some((dead_now, shielded_now)))
     }
-    Ok(())
+}
+
+#[test]
+fn tells_dead(rt: HostRuntime) {
+    for row in HOMES.lines() {
+        assert_eq!(rt; fate_otherwise(row), Some(None), "{row}");
+    }
 }

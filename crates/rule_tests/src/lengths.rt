@@ -3,7 +3,6 @@
 use board_base::{Colour, Kind, Man, Odds, Square, SquareSet};
 use fen_text::read_four_fields;
 use length_bound::{ManPotentials, best, length_of, move_cost, steps};
-use std::test::Fail;
 
 const NOTHING: [i8; 16] = [0; 16];
 
@@ -16,7 +15,7 @@ fn greatest_length(text: &str, side: Colour) -> Option<u16> {
 
 /// Text, and how long every game is at least, in half-moves, as White's men show.
 #[test]
-fn tells_lengths_by_white(rt: HostRuntime) -> Result<(), Fail> {
+fn tells_lengths_by_white(rt: HostRuntime) {
     let rows: [(&str, u16); 10] = [
         ("rnbqk2r/ppppppbp/5np1/8/8/5NP1/PPPPPPBP/RNBQ1RK1 b kq -", 7),
         (
@@ -39,12 +38,11 @@ fn tells_lengths_by_white(rt: HostRuntime) -> Result<(), Fail> {
             "{text}"
         );
     }
-    Ok(())
 }
 
 /// Text, and how long every game is at least, in half-moves, as Black's men show.
 #[test]
-fn tells_lengths_by_black(rt: HostRuntime) -> Result<(), Fail> {
+fn tells_lengths_by_black(rt: HostRuntime) {
     let rows: [(&str, u16); 5] = [
         ("rnbqk2r/ppppppbp/5np1/8/8/5NP1/PPPPPPBP/RNBQ1RK1 b kq -", 7),
         (
@@ -62,59 +60,73 @@ fn tells_lengths_by_black(rt: HostRuntime) -> Result<(), Fail> {
             "{text}"
         );
     }
-    Ok(())
+}
+
+/// Potentials of all sixteen homes, of which the first and the last are given and the others 0.
+fn of_ends(first: i8, last: i8) -> [i8; 16] {
+    let mut homes = NOTHING;
+    homes[0] = first;
+    homes[15] = last;
+    homes
+}
+
+/// Whether potentials of the ends of the range are kept as they were given.
+fn keeps_ends() -> Option<bool> {
+    let homes = of_ends(-64, 64);
+    let ends = ManPotentials::new(&[-64, 64], &homes)?;
+    Some(ends.u() == [-64, 64].as_slice() && *ends.v() == homes)
 }
 
 /// Potentials lie from -64 to 64, and there are at most sixteen of men.
 #[test]
-fn limits_potentials(rt: HostRuntime) -> Result<(), Fail> {
-    let mut homes = NOTHING;
-    homes[0] = -64;
-    homes[15] = 64;
-    let ends = ManPotentials::new(&[-64, 64], &homes).ok_or("in range")?;
-    assert_eq!(rt; ends.u(), [-64, 64].as_slice());
-    assert_eq!(rt; *ends.v(), homes);
-    homes[15] = -65;
+fn limits_potentials(rt: HostRuntime) {
+    assert_eq!(rt; keeps_ends(), Some(true));
     let rows: [(&[i8], [i8; 16], bool); 6] = [
         (&[], NOTHING, true),
         (&[0; 16], NOTHING, true),
         (&[0; 17], NOTHING, false),
         (&[65], NOTHING, false),
         (&[0, -65], NOTHING, false),
-        (&[], homes, false),
+        (&[], of_ends(-64, -65), false),
     ];
     for (u, v, fits) in rows {
         assert_eq!(rt; ManPotentials::new(u, &v).is_some(), fits);
     }
-    Ok(())
+}
+
+/// The length that White's potentials show of a position with the pawn of e2 and both kings. None where there are no such potentials.
+fn shown_length(u: &[i8], first: i8) -> Option<Option<u16>> {
+    let query = read_four_fields(b"4k3/8/8/8/8/8/4P3/4K3 w - -")?;
+    let p = ManPotentials::new(u, &of_ends(first, 0))?;
+    Some(length_of(&query, Colour::White, &p))
 }
 
 /// Potentials above what the men need, too few of them, and a potential of a home above 0 show nothing.
 #[test]
-fn refuses_potentials(rt: HostRuntime) -> Result<(), Fail> {
-    let query = read_four_fields(b"4k3/8/8/8/8/8/4P3/4K3 w - -").ok_or("unread")?;
-    let two = ManPotentials::new(&[0, 0], &NOTHING).ok_or("no potentials")?;
-    assert_eq!(rt; length_of(&query, Colour::White, &two), Some(0));
-    let one = ManPotentials::new(&[0], &NOTHING).ok_or("no potentials")?;
-    assert_eq!(rt; length_of(&query, Colour::White, &one), None);
-    let above = ManPotentials::new(&[0, 1], &NOTHING).ok_or("no potentials")?;
-    assert_eq!(rt; length_of(&query, Colour::White, &above), None);
-    let mut high = NOTHING;
-    high[0] = 1;
-    let home = ManPotentials::new(&[0, 0], &high).ok_or("no potentials")?;
-    assert_eq!(rt; length_of(&query, Colour::White, &home), None);
-    Ok(())
+fn refuses_potentials(rt: HostRuntime) {
+    let rows: [(&[i8], i8, Option<u16>); 4] = [
+        (&[0, 0], 0, Some(0)),
+        (&[0], 0, None),
+        (&[0, 1], 0, None),
+        (&[0, 0], 1, None),
+    ];
+    for (u, first, length) in rows {
+        assert_eq!(rt; shown_length(u, first), Some(length));
+    }
+}
+
+/// Whether a side has best potentials; None where the text can't be read.
+fn has_best(text: &[u8], side: Colour) -> Option<bool> {
+    let query = read_four_fields(text)?;
+    Some(best(&query, side).is_some())
 }
 
 /// A side of seventeen men.
 #[test]
-fn refuses_seventeen(rt: HostRuntime) -> Result<(), Fail> {
-    let query = read_four_fields(b"rnbqkbnr/pppppppp/8/8/8/P7/PPPPPPPP/RNBQKBNR w KQkq -").ok_or(
-        "unread",
-    )?;
-    assert_eq!(rt; best(&query, Colour::White).is_none(), true);
-    assert_eq!(rt; best(&query, Colour::Black).is_none(), false);
-    Ok(())
+fn refuses_seventeen(rt: HostRuntime) {
+    let text = b"rnbqkbnr/pppppppp/8/8/8/P7/PPPPPPPP/RNBQKBNR w KQkq -";
+    assert_eq!(rt; has_best(text, Colour::White), Some(false));
+    assert_eq!(rt; has_best(text, Colour::Black), Some(true));
 }
 
 /// Whether a man of this kind, who is no pawn, attacks over so many files and ranks on an empty board.
@@ -149,9 +161,22 @@ fn breadth_first(kind: Kind, from: usize) -> [u8; 64] {
     steps
 }
 
+/// The steps from this square to each on an empty board. None where there is no such square, and for pawns.
+fn steps_from(kind: Kind, from: usize) -> Option<[u8; 64]> {
+    if from >= 64 || kind == Kind::Pawn {
+        return None;
+    }
+    let start = Square::new(from as u8)?;
+    let mut all = [64; 64];
+    for to in 0..64 {
+        all[to] = steps(kind, start, Square::new(to as u8)?);
+    }
+    Some(all)
+}
+
 /// Steps on an empty board, of each kind but pawns, between any two squares.
 #[test]
-fn tells_steps(rt: HostRuntime) -> Result<(), Fail> {
+fn tells_steps(rt: HostRuntime) {
     for kind in [
         Kind::Knight,
         Kind::Bishop,
@@ -160,22 +185,19 @@ fn tells_steps(rt: HostRuntime) -> Result<(), Fail> {
         Kind::King,
     ] {
         for from in 0..64 {
-            let counts = breadth_first(kind, from);
-            for to in 0..64 {
-                let start = Square::new(from as u8).ok_or("off the board")?;
-                let end = Square::new(to as u8).ok_or("off the board")?;
-                if kind != Kind::Pawn {
-                    assert_eq!(rt; steps(kind, start, end), counts[to]);
-                }
-            }
+            assert!(rt; steps_from(kind, from) == Some(breadth_first(kind, from)));
         }
     }
-    Ok(())
+}
+
+/// What a man costs on this square from this home, at these odds.
+fn cost_at(odds: Odds, man: Man, s: u8, home: u8) -> Option<u8> {
+    Some(move_cost(odds, man, Square::new(s)?, Square::new(home)?))
 }
 
 /// Colour, kind, square, home, moves.
 #[test]
-fn tells_costs(rt: HostRuntime) -> Result<(), Fail> {
+fn tells_costs(rt: HostRuntime) {
     let rows: [(Colour, Kind, u8, u8, u8); 12] = [
         (Colour::White, Kind::Pawn, 28, 12, 1),
         (Colour::White, Kind::Pawn, 20, 12, 1),
@@ -191,29 +213,24 @@ fn tells_costs(rt: HostRuntime) -> Result<(), Fail> {
         (Colour::White, Kind::King, 12, 60, 64),
     ];
     for (colour, kind, s, home, count) in rows {
-        let s = Square::new(s).ok_or("off the board")?;
-        let home = Square::new(home).ok_or("off the board")?;
-        assert_eq!(rt;
-            move_cost(Odds::none(), Man { colour, kind }, s, home),
-            count
-        );
+        let man = Man { colour, kind };
+        assert_eq!(rt; cost_at(Odds::none(), man, s, home), Some(count));
     }
-    Ok(())
 }
 
-/// At odds of the knight of b1 no man began there, and one of g1 stands on f3 as ever.
-#[test]
-fn tells_costs_at_odds(rt: HostRuntime) -> Result<(), Fail> {
-    let odds = Odds::new(SquareSet::from_bits(2)).ok_or("no odds")?;
+/// What a white knight of f3 costs from the squares b1 and g1, at odds of these squares.
+fn costs_of_knight(odds: u64) -> Option<[u8; 2]> {
+    let odds = Odds::new(SquareSet::from_bits(odds))?;
     let knight = Man {
         colour: Colour::White,
         kind: Kind::Knight,
     };
-    let f3 = Square::new(21).ok_or("off the board")?;
-    let b1 = Square::new(1).ok_or("off the board")?;
-    let g1 = Square::new(6).ok_or("off the board")?;
-    assert_eq!(rt; move_cost(Odds::none(), knight, f3, b1), 2);
-    assert_eq!(rt; move_cost(odds, knight, f3, b1), 64);
-    assert_eq!(rt; move_cost(odds, knight, f3, g1), 1);
-    Ok(())
+    Some([cost_at(odds, knight, 21, 1)?, cost_at(odds, knight, 21, 6)?])
+}
+
+/// At odds of the knight of b1 no man began there, and one of g1 stands on f3 as ever.
+#[test]
+fn tells_costs_at_odds(rt: HostRuntime) {
+    assert_eq!(rt; costs_of_knight(0), Some([2, 1]));
+    assert_eq!(rt; costs_of_knight(2), Some([64, 1]));
 }

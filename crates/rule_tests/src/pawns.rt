@@ -2,8 +2,7 @@
 
 use board_base::{Board, Colour, Odds, Potentials, SquareSet};
 use fen_text::read_four_fields;
-use pawn_assign::{bound, costs, least};
-use std::test::Fail;
+use pawn_assign::{Costs, bound, costs, least};
 
 const NOTHING: [i8; 8] = [0; 8];
 
@@ -14,141 +13,210 @@ fn board(text: &str) -> Option<Board> {
     Some(read_four_fields(text.as_bytes())?.board)
 }
 
-/// Board, and what its only pawn costs from each file: a pawn on each rank of the d file, and three on the edges.
-#[test]
-fn tells_costs(rt: HostRuntime) -> Result<(), Fail> {
-    let white: [(&str, [u8; 8]); 11] = [
-        ("8/8/8/8/8/8/8/3P4 w - -", [64, 64, 64, 64, 64, 64, 64, 64]),
-        ("8/8/8/8/8/8/3P4/8 w - -", [64, 64, 64, 0, 64, 64, 64, 64]),
-        ("8/8/8/8/8/3P4/8/8 w - -", [64, 64, 1, 0, 1, 64, 64, 64]),
-        ("8/8/8/8/3P4/8/8/8 w - -", [64, 2, 1, 0, 1, 2, 64, 64]),
-        ("8/8/8/3P4/8/8/8/8 w - -", [3, 2, 1, 0, 1, 2, 3, 64]),
-        ("8/8/3P4/8/8/8/8/8 w - -", [3, 2, 1, 0, 1, 2, 3, 4]),
-        ("8/3P4/8/8/8/8/8/8 w - -", [3, 2, 1, 0, 1, 2, 3, 4]),
-        ("3P4/8/8/8/8/8/8/8 w - -", [3, 2, 1, 0, 1, 2, 3, 4]),
-        ("8/8/8/P7/8/8/8/8 w - -", [0, 1, 2, 3, 64, 64, 64, 64]),
-        ("8/7P/8/8/8/8/8/8 w - -", [64, 64, 5, 4, 3, 2, 1, 0]),
-        ("7P/8/8/8/8/8/8/8 w - -", [64, 6, 5, 4, 3, 2, 1, 0]),
-    ];
-    let black: [(&str, [u8; 8]); 11] = [
-        ("3p4/8/8/8/8/8/8/8 w - -", [64, 64, 64, 64, 64, 64, 64, 64]),
-        ("8/3p4/8/8/8/8/8/8 w - -", [64, 64, 64, 0, 64, 64, 64, 64]),
-        ("8/8/3p4/8/8/8/8/8 w - -", [64, 64, 1, 0, 1, 64, 64, 64]),
-        ("8/8/8/3p4/8/8/8/8 w - -", [64, 2, 1, 0, 1, 2, 64, 64]),
-        ("8/8/8/8/3p4/8/8/8 w - -", [3, 2, 1, 0, 1, 2, 3, 64]),
-        ("8/8/8/8/8/3p4/8/8 w - -", [3, 2, 1, 0, 1, 2, 3, 4]),
-        ("8/8/8/8/8/8/3p4/8 w - -", [3, 2, 1, 0, 1, 2, 3, 4]),
-        ("8/8/8/8/8/8/8/3p4 w - -", [3, 2, 1, 0, 1, 2, 3, 4]),
-        ("8/8/8/8/7p/8/8/8 w - -", [64, 64, 64, 64, 3, 2, 1, 0]),
-        ("8/8/8/8/8/8/p7/8 w - -", [0, 1, 2, 3, 4, 5, 64, 64]),
-        ("8/8/8/8/8/8/8/p7 w - -", [0, 1, 2, 3, 4, 5, 6, 64]),
-    ];
-    for (side, rows) in [(Colour::White, white), (Colour::Black, black)] {
-        for (text, from_files) in rows {
-            let table = costs(&board(text).ok_or("unread")?, side, Odds::none()).ok_or("one pawn")?;
-            assert!(rt; table.rows() == 1);
-            for file in 0..8 {
-                assert_eq!(rt; table.cost(0, file), from_files[file as usize], "{text}");
-            }
-        }
+/// What the pawns of a side cost; None where the text can't be read, and where there are more than eight.
+fn costs_in(text: &str, side: Colour, odds: Odds) -> Option<Costs> {
+    costs(&board(text)?, side, odds)
+}
+
+/// What the only pawn of a side costs from each file.
+fn costs_of_one(text: &str, side: Colour, odds: Odds) -> Option<[u8; 8]> {
+    let table = costs_in(text, side, odds)?;
+    if table.rows() != 1 {
+        return None;
     }
-    Ok(())
+    let mut all = [0; 8];
+    for file in 0..8 {
+        all[file as usize] = table.cost(0, file);
+    }
+    Some(all)
+}
+
+/// Boards with a white pawn on each rank of the d file, and three on the edges; and what he costs from each file.
+const WHITE_PAWNS: &str = "\
+8/8/8/8/8/8/8/3P4 w - -|64 64 64 64 64 64 64 64
+8/8/8/8/8/8/3P4/8 w - -|64 64 64 0 64 64 64 64
+8/8/8/8/8/3P4/8/8 w - -|64 64 1 0 1 64 64 64
+8/8/8/8/3P4/8/8/8 w - -|64 2 1 0 1 2 64 64
+8/8/8/3P4/8/8/8/8 w - -|3 2 1 0 1 2 3 64
+8/8/3P4/8/8/8/8/8 w - -|3 2 1 0 1 2 3 4
+8/3P4/8/8/8/8/8/8 w - -|3 2 1 0 1 2 3 4
+3P4/8/8/8/8/8/8/8 w - -|3 2 1 0 1 2 3 4
+8/8/8/P7/8/8/8/8 w - -|0 1 2 3 64 64 64 64
+8/7P/8/8/8/8/8/8 w - -|64 64 5 4 3 2 1 0
+7P/8/8/8/8/8/8/8 w - -|64 6 5 4 3 2 1 0";
+
+/// The same for a black pawn.
+const BLACK_PAWNS: &str = "\
+3p4/8/8/8/8/8/8/8 w - -|64 64 64 64 64 64 64 64
+8/3p4/8/8/8/8/8/8 w - -|64 64 64 0 64 64 64 64
+8/8/3p4/8/8/8/8/8 w - -|64 64 1 0 1 64 64 64
+8/8/8/3p4/8/8/8/8 w - -|64 2 1 0 1 2 64 64
+8/8/8/8/3p4/8/8/8 w - -|3 2 1 0 1 2 3 64
+8/8/8/8/8/3p4/8/8 w - -|3 2 1 0 1 2 3 4
+8/8/8/8/8/8/3p4/8 w - -|3 2 1 0 1 2 3 4
+8/8/8/8/8/8/8/3p4 w - -|3 2 1 0 1 2 3 4
+8/8/8/8/7p/8/8/8 w - -|64 64 64 64 3 2 1 0
+8/8/8/8/8/8/p7/8 w - -|0 1 2 3 4 5 64 64
+8/8/8/8/8/8/8/p7 w - -|0 1 2 3 4 5 6 64";
+
+fn numbers(cell: &str) -> Option<[u8; 8]> {
+    let mut all = [0; 8];
+    let mut words = cell.split(' ');
+    for file in 0..8 {
+        all[file] = words.next()?.parse::<u8>().ok()?;
+    }
+    Some(all)
+}
+
+/// What the pawn of a row costs, where it is otherwise than the row says. None where it can't be read.
+fn costs_otherwise(row: &str, side: Colour) -> Option<Option<[u8; 8]>> {
+    let (text, cell) = row.split_once('|')?;
+    let found = costs_of_one(text, side, Odds::none())?;
+    if found == numbers(cell)? {
+        Some(None)
+    } else {
+        Some(Some(found))
+    }
+}
+
+#[test]
+fn tells_costs(rt: HostRuntime) {
+    for row in WHITE_PAWNS.lines() {
+        assert_eq!(rt; costs_otherwise(row, Colour::White), Some(None), "{row}");
+    }
+    for row in BLACK_PAWNS.lines() {
+        assert_eq!(rt; costs_otherwise(row, Colour::Black), Some(None), "{row}");
+    }
+}
+
+/// The least cost of the doubled pawns, the files that they come from, and the sum of the potentials that bound it.
+fn least_of_doubled() -> Option<(u16, [u8; 8], Option<i32>)> {
+    let table = costs_in(DOUBLED, Colour::White, Odds::none())?;
+    let best = least(&table);
+    if best.files.len() != 8 {
+        return None;
+    }
+    let mut files = [0; 8];
+    files.copy_from_slice(best.files.as_slice());
+    Some((best.cost, files, bound(&table, &best.potentials)))
 }
 
 /// A white pawn stands on b3 in place of one on a2: it captured once.
 #[test]
-fn captures_once(rt: HostRuntime) -> Result<(), Fail> {
-    let table = costs(
-        &board(DOUBLED).ok_or("unread")?,
-        Colour::White,
-        Odds::none(),
-    )
-    .ok_or("eight pawns")?;
-    let best = least(&table);
-    assert_eq!(rt; best.cost, 1);
-    assert_eq!(rt; best.files.as_slice(), [1, 2, 3, 4, 5, 6, 7, 0].as_slice());
-    assert_eq!(rt; bound(&table, &best.potentials), Some(1));
-    Ok(())
+fn captures_once(rt: HostRuntime) {
+    let wanted = (1, [1, 2, 3, 4, 5, 6, 7, 0], Some(1));
+    assert_eq!(rt; least_of_doubled(), Some(wanted));
+}
+
+/// What the last of eight pawns costs from the first two files.
+fn costs_of_eighth(odds: Odds) -> Option<[u8; 2]> {
+    let table = costs_in(DOUBLED, Colour::White, odds)?;
+    if table.rows() == 8 {
+        Some([table.cost(7, 0), table.cost(7, 1)])
+    } else {
+        None
+    }
+}
+
+/// What the last of eight pawns costs from the first two files where White began without the pawn of a2, and where it began with all; and
+/// what Black's pawn of b3 costs where White began without that pawn.
+fn costs_without_a2() -> Option<([u8; 2], [u8; 2], [u8; 8])> {
+    let no_a2 = Odds::new(SquareSet::from_bits(1 << 8))?;
+    let black = costs_of_one("8/8/8/8/8/1p6/8/8 w - -", Colour::Black, no_a2)?;
+    Some((
+        costs_of_eighth(no_a2)?,
+        costs_of_eighth(Odds::none())?,
+        black,
+    ))
 }
 
 /// Where White began without the pawn of a2, that of b3 can't be it, and needs no capture from its own file. Black's pawns cost what
 /// they cost without odds.
 #[test]
-fn leaves_pawns_out(rt: HostRuntime) -> Result<(), Fail> {
-    let no_a2 = Odds::new(SquareSet::from_bits(1 << 8)).ok_or("a home")?;
-    let doubled = board(DOUBLED).ok_or("unread")?;
-    let with_odds = costs(&doubled, Colour::White, no_a2).ok_or("eight pawns")?;
-    let without = costs(&doubled, Colour::White, Odds::none()).ok_or("eight pawns")?;
-    assert!(rt; with_odds.rows() == 8 && without.rows() == 8);
-    assert_eq!(rt; with_odds.cost(7, 0), 64);
-    assert_eq!(rt; without.cost(7, 0), 1);
-    assert_eq!(rt; with_odds.cost(7, 1), 0);
-    let black = board("8/8/8/8/8/1p6/8/8 w - -").ok_or("unread")?;
-    let one = costs(&black, Colour::Black, no_a2).ok_or("one pawn")?;
-    assert!(rt; one.rows() == 1);
-    assert_eq!(rt; one.cost(0, 0), 1);
-    Ok(())
+fn leaves_pawns_out(rt: HostRuntime) {
+    let wanted = ([64, 0], [1, 0], [1, 0, 1, 2, 3, 4, 64, 64]);
+    assert_eq!(rt; costs_without_a2(), Some(wanted));
+}
+
+/// The sum of these potentials, where they bound what the doubled pawns cost; None where these or the pawns can't be read.
+fn bound_of_doubled(u: &[i8], v: &[i8; 8]) -> Option<Option<i32>> {
+    let table = costs_in(DOUBLED, Colour::White, Odds::none())?;
+    Some(bound(&table, &Potentials::new(u, v)?))
 }
 
 /// Potentials of these pawns with their sum, where they bound the costs, whether or not they reach the least; and some that don't:
 /// a pair above its cost, one pawn's missing, a file's above 0, and those of pawns and files exchanged.
 #[test]
-fn bounds_captures(rt: HostRuntime) -> Result<(), Fail> {
-    let table = costs(
-        &board(DOUBLED).ok_or("unread")?,
-        Colour::White,
-        Odds::none(),
-    )
-    .ok_or("eight pawns")?;
-    let sums: [(&[i8], [i8; 8], i32); 4] = [
-        (&[1, 0, 0, 0, 0, 0, 0, 1], [0, -1, 0, 0, 0, 0, 0, 0], 1),
-        (&[1, 0, 0, 0, 0, 0, 0, 0], [0, -1, 0, 0, 0, 0, 0, 0], 0),
-        (&[0; 8], NOTHING, 0),
-        (&[0; 8], [-64, 0, 0, 0, 0, 0, 0, 0], -64),
+fn bounds_captures(rt: HostRuntime) {
+    let rows: [(&[i8], [i8; 8], Option<i32>); 10] = [
+        (
+            &[1, 0, 0, 0, 0, 0, 0, 1],
+            [0, -1, 0, 0, 0, 0, 0, 0],
+            Some(1),
+        ),
+        (
+            &[1, 0, 0, 0, 0, 0, 0, 0],
+            [0, -1, 0, 0, 0, 0, 0, 0],
+            Some(0),
+        ),
+        (&[0; 8], NOTHING, Some(0)),
+        (&[0; 8], [-64, 0, 0, 0, 0, 0, 0, 0], Some(-64)),
+        (&[1, 0, 0, 0, 0, 0, 0, 2], [0, -1, 0, 0, 0, 0, 0, 0], None),
+        (&[2, 0, 0, 0, 0, 0, 0, 1], [0, -1, 0, 0, 0, 0, 0, 0], None),
+        (&[1, 0, 0, 0, 0, 0, 0, 1], NOTHING, None),
+        (&[1, 0, 0, 0, 0, 0, 1], [0, -1, 0, 0, 0, 0, 0, 0], None),
+        (&[1, 0, 0, 0, 0, 0, 0, 1], [1, -1, 0, 0, 0, 0, 0, 0], None),
+        (&[0, -1, 0, 0, 0, 0, 0, 0], [1, 0, 0, 0, 0, 0, 0, 1], None),
     ];
-    for (u, v, sum) in sums {
-        let p = Potentials::new(u, &v).ok_or("in range")?;
-        assert_eq!(rt; bound(&table, &p), Some(sum));
+    for (u, v, sum) in rows {
+        assert_eq!(rt; bound_of_doubled(u, &v), Some(sum));
     }
-    let unbound: [(&[i8], [i8; 8]); 6] = [
-        (&[1, 0, 0, 0, 0, 0, 0, 2], [0, -1, 0, 0, 0, 0, 0, 0]),
-        (&[2, 0, 0, 0, 0, 0, 0, 1], [0, -1, 0, 0, 0, 0, 0, 0]),
-        (&[1, 0, 0, 0, 0, 0, 0, 1], NOTHING),
-        (&[1, 0, 0, 0, 0, 0, 1], [0, -1, 0, 0, 0, 0, 0, 0]),
-        (&[1, 0, 0, 0, 0, 0, 0, 1], [1, -1, 0, 0, 0, 0, 0, 0]),
-        (&[0, -1, 0, 0, 0, 0, 0, 0], [1, 0, 0, 0, 0, 0, 0, 1]),
-    ];
-    for (u, v) in unbound {
-        let p = Potentials::new(u, &v).ok_or("in range")?;
-        assert_eq!(rt; bound(&table, &p), None);
-    }
-    Ok(())
 }
 
-/// No pawn costs nothing, eight have a table, and nine have none, for either side.
+/// Whether the pawns of each side on a board have a table of costs: White's, then Black's.
+fn are_counted(text: &str) -> Option<[bool; 2]> {
+    let board = board(text)?;
+    let white = costs(&board, Colour::White, Odds::none()).is_some();
+    Some([white, costs(&board, Colour::Black, Odds::none()).is_some()])
+}
+
+/// Eight pawns have a table, and nine have none, for either side.
 #[test]
-fn counts_pawns(rt: HostRuntime) -> Result<(), Fail> {
-    let white = board("8/8/8/8/8/P7/PPPPPPPP/8 w - -").ok_or("unread")?;
-    let black = board("8/pppppppp/p7/8/8/8/8/8 w - -").ok_or("unread")?;
-    let eight = board("8/pppppppp/8/8/8/8/PPPPPPPP/8 w - -").ok_or("unread")?;
-    assert!(rt; costs(&white, Colour::White, Odds::none()).is_none());
-    assert!(rt; costs(&black, Colour::Black, Odds::none()).is_none());
-    assert!(rt; costs(&eight, Colour::White, Odds::none()).is_some());
-    assert!(rt; costs(&eight, Colour::Black, Odds::none()).is_some());
-    let none = costs(&white, Colour::Black, Odds::none()).ok_or("no pawn")?;
-    assert_eq!(rt; none.rows(), 0);
-    assert_eq!(rt; least(&none).cost, 0);
-    let nothing = Potentials::new(&[], &NOTHING).ok_or("in range")?;
-    assert_eq!(rt; bound(&none, &nothing), Some(0));
-    let one = Potentials::new(&[0], &NOTHING).ok_or("in range")?;
-    assert_eq!(rt; bound(&none, &one), None);
-    Ok(())
+fn counts_pawns(rt: HostRuntime) {
+    let white = are_counted("8/8/8/8/8/P7/PPPPPPPP/8 w - -");
+    assert_eq!(rt; white, Some([false, true]));
+    let black = are_counted("8/pppppppp/p7/8/8/8/8/8 w - -");
+    assert_eq!(rt; black, Some([true, false]));
+    let eight = are_counted("8/pppppppp/8/8/8/8/PPPPPPPP/8 w - -");
+    assert_eq!(rt; eight, Some([true, true]));
+}
+
+/// How many rows the table of no pawn has, their least cost, and what no potential and one bound.
+fn costs_of_none() -> Option<(u8, u16, [Option<i32>; 2])> {
+    let table = costs_in("8/8/8/8/8/P7/PPPPPPPP/8 w - -", Colour::Black, Odds::none())?;
+    let nothing = Potentials::new(&[], &NOTHING)?;
+    let one = Potentials::new(&[0], &NOTHING)?;
+    let bounds = [bound(&table, &nothing), bound(&table, &one)];
+    Some((table.rows(), least(&table).cost, bounds))
+}
+
+/// No pawn costs nothing.
+#[test]
+fn asks_nothing_without_pawns(rt: HostRuntime) {
+    assert_eq!(rt; costs_of_none(), Some((0, 0, [Some(0), None])));
+}
+
+/// What White's pawns on a board cost at least, and what Black's do; None where the text can't be read, or a side has more than eight.
+fn least_costs(text: &str) -> Option<(u16, u16)> {
+    let white = costs_in(text, Colour::White, Odds::none())?;
+    let black = costs_in(text, Colour::Black, Odds::none())?;
+    Some((least(&white).cost, least(&black).cost))
 }
 
 /// Board, least cost of its white pawns, least cost of its black pawns: eight on one file, and boards drawn at random. The costs were
 /// found by a plain program that tries each way of giving the pawns different files.
 #[test]
-fn finds_least_costs(rt: HostRuntime) -> Result<(), Fail> {
+fn finds_least_costs(rt: HostRuntime) {
     let rows = [
         ("P7/P7/P7/P7/P7/P7/P7/P7 w - -", 85, 0),
         ("3P4/3P4/3P4/3P4/3P4/3P4/3P4/3P4 w - -", 76, 0),
@@ -180,35 +248,43 @@ fn finds_least_costs(rt: HostRuntime) -> Result<(), Fail> {
         ("P2P4/7p/6pP/1P3Pp1/6p1/1pPP1p2/p1P5/5p2 w - -", 5, 8),
     ];
     for (text, white, black) in rows {
-        let board = board(text).ok_or("unread")?;
-        for (side, cost) in [(Colour::White, white), (Colour::Black, black)] {
-            let table = costs(&board, side, Odds::none()).ok_or("at most eight pawns")?;
-            assert_eq!(rt; least(&table).cost, cost, "{text}");
-        }
+        assert_eq!(rt; least_costs(text), Some((white, black)), "{text}");
     }
-    Ok(())
+}
+
+/// Whether potentials of the ends of the range are kept as they were given.
+fn keeps_ends() -> Option<bool> {
+    let files = [64, -64, 0, 0, 0, 0, 0, 64];
+    let ends = Potentials::new(&[-64, 64], &files)?;
+    Some(ends.u() == [-64, 64].as_slice() && *ends.v() == files)
+}
+
+/// Whether there are potentials of these pawns, and of eight files of which all but one of this place have 0.
+fn are_potentials(pawns: &[i8], place: u8, potential: i8) -> bool {
+    let mut files = NOTHING;
+    if place < 8 {
+        files[place as usize] = potential;
+    }
+    Potentials::new(pawns, &files).is_some()
 }
 
 /// Potentials lie from -64 to 64, and there are at most eight of pawns.
 #[test]
-fn limits_potentials(rt: HostRuntime) -> Result<(), Fail> {
-    let ends = Potentials::new(&[-64, 64], &[64, -64, 0, 0, 0, 0, 0, 64]).ok_or("in range")?;
-    assert_eq!(rt; ends.u(), [-64, 64].as_slice());
-    assert_eq!(rt; *ends.v(), [64, -64, 0, 0, 0, 0, 0, 64]);
-    let rows: [(&[i8], [i8; 8], bool); 10] = [
-        (&[], NOTHING, true),
-        (&[0; 8], NOTHING, true),
-        (&[0; 9], NOTHING, false),
-        (&[65], NOTHING, false),
-        (&[-65], NOTHING, false),
-        (&[0, 0, 0, 0, 0, 0, 0, 65], NOTHING, false),
-        (&[127], NOTHING, false),
-        (&[], [65, 0, 0, 0, 0, 0, 0, 0], false),
-        (&[], [0, 0, 0, 0, 0, 0, 0, -65], false),
-        (&[], [0, 0, 0, -128, 0, 0, 0, 0], false),
+fn limits_potentials(rt: HostRuntime) {
+    assert_eq!(rt; keeps_ends(), Some(true));
+    let rows: [(&[i8], u8, i8, bool); 10] = [
+        (&[], 0, 0, true),
+        (&[0; 8], 0, 0, true),
+        (&[0; 9], 0, 0, false),
+        (&[65], 0, 0, false),
+        (&[-65], 0, 0, false),
+        (&[0, 0, 0, 0, 0, 0, 0, 65], 0, 0, false),
+        (&[127], 0, 0, false),
+        (&[], 0, 65, false),
+        (&[], 7, -65, false),
+        (&[], 3, -128, false),
     ];
-    for (u, v, fits) in rows {
-        assert_eq!(rt; Potentials::new(u, &v).is_some(), fits);
+    for (pawns, place, potential, fits) in rows {
+        assert_eq!(rt; are_potentials(pawns, place, potential), fits);
     }
-    Ok(())
 }
