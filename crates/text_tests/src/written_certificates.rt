@@ -74,9 +74,7 @@ const CLAIMS: [&str; 8] = [
 
 /// The certificate of the tree with this claim.
 fn with_tree(alloc: Global, claim: &str) -> Result<String, AllocError> {
-    format!(in alloc;
-        "retro 1\nclaim {claim}\nfen r3k2r/8/8/5pP1/8/8/8/R3K2R w KQkq f6\n{TREE}"
-    )
+    format!(in alloc; "retro 1\nclaim {claim}\nfen r3k2r/8/8/5pP1/8/8/8/R3K2R w KQkq f6\n{TREE}")
 }
 
 /// The length of a certificate that is written as it was read; and otherwise what is written.
@@ -90,10 +88,18 @@ fn cert_again(alloc: Global, bytes: &[u8]) -> Result<usize, Option<Vec<u8>>> {
 #[test]
 fn writes_certificates_as_they_were_read(rt: HostRuntime) {
     for text in EXAMPLES {
-        assert_eq!(rt; cert_again(rt.alloc(), text.as_bytes()), Ok(text.len()), "{text}");
+        assert_eq!(rt;
+            cert_again(rt.alloc(), text.as_bytes()),
+            Ok(text.len()),
+            "{text}"
+        );
     }
     for text in FORMAT_2 {
-        assert_eq!(rt; cert_again(rt.alloc(), text.as_bytes()), Ok(text.len()), "{text}");
+        assert_eq!(rt;
+            cert_again(rt.alloc(), text.as_bytes()),
+            Ok(text.len()),
+            "{text}"
+        );
     }
 }
 
