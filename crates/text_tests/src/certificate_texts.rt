@@ -21,63 +21,40 @@ fn kids_of(node: &Node) -> Option<&Kids> {
     }
 }
 
-/// What a certificate says, and what its root's children do.
-#[derive(Clone, Copy, PartialEq, Debug)]
-struct Outline {
-    claim: Claim,
-    double_step: Option<Move>,
-    has_text: bool,
-    kids: Option<usize>,
-    first_label: Option<Unmove>,
-    kids_of_first: Option<usize>,
-    second_label: Option<Unmove>,
+fn count_of(node: &Node) -> Option<usize> {
+    Some(kids_of(node)?.len())
 }
 
-fn outline_of(cert: &Cert) -> Outline {
-    let kids = kids_of(&cert.root);
-    let first = match kids {
-        Some(kids) => kids.get(0),
-        None => None,
-    };
-    let second = match kids {
-        Some(kids) => kids.get(1),
-        None => None,
-    };
-    let below = match first {
-        Some(kid) => kids_of(&kid.node),
-        None => None,
-    };
-    Outline {
-        claim: cert.claim,
-        double_step: cert.query.only,
-        has_text: fits_format(cert),
-        kids: kids.map(|kids| kids.len()),
-        first_label: first.map(|kid| kid.label),
-        kids_of_first: below.map(|kids| kids.len()),
-        second_label: second.map(|kid| kid.label),
-    }
+fn label_at(node: &Node, place: usize) -> Option<Unmove> {
+    Some(kids_of(node)?.get(place)?.label)
 }
 
-/// The outline of the certificate that is read of a text.
-fn read_outline(alloc: Global, text: &[u8]) -> Result<Outline, CertFault> {
+fn count_at(node: &Node, place: usize) -> Option<usize> {
+    count_of(&kids_of(node)?.get(place)?.node)
+}
+
+/// The claim, the double step that is demanded, and whether there is a text.
+type Head = (Claim, Option<Move>, bool);
+
+/// How many children the root has, the labels of the first two, and how many children the first has.
+type Tree = (Option<usize>, [Option<Unmove>; 2], Option<usize>);
+
+/// What the certificate says that is read of a text.
+fn outline_of(alloc: Global, text: &[u8]) -> Result<(Head, Tree), CertFault> {
     let cert = read(alloc, text)?;
-    Ok(outline_of(&cert))
+    let root = &cert.root;
+    let head = (cert.claim, cert.query.only, fits_format(&cert));
+    let labels = [label_at(root, 0), label_at(root, 1)];
+    Ok((head, (count_of(root), labels, count_at(root, 0))))
 }
 
 #[test]
 fn reads_a_certificate(rt: HostRuntime) {
     let text =
         b"retro 1\nclaim illegal\nfen 4k3/8/8/3p4/8/8/P7/4K2R w K d6\nroot expand 1\nd7d5 expand 0\n";
-    let wanted = Outline {
-        claim: Claim::Illegal,
-        double_step: read_move(b"d7d5"),
-        has_text: true,
-        kids: Some(1),
-        first_label: read_unmove(b"d7d5"),
-        kids_of_first: Some(0),
-        second_label: None,
-    };
-    assert_eq!(rt; read_outline(rt.alloc(), text), Ok(wanted));
+    let head = (Claim::Illegal, read_move(b"d7d5"), true);
+    let tree = (Some(1), [read_unmove(b"d7d5"), None], Some(0));
+    assert_eq!(rt; outline_of(rt.alloc(), text), Ok((head, tree)));
 }
 
 /// A line, its depth, and its body.
@@ -137,11 +114,20 @@ fn body_of(text: &[u8], depth: u8) -> Option<BodyLine> {
     }
 }
 
+/// The first line that isn't read so, its depth, and what it is read as.
+fn first_misread() -> Option<(&'static [u8], u8, Option<BodyLine>)> {
+    for (text, depth, body) in LINES {
+        let answer = body_of(text, depth);
+        if answer != body {
+            return Some((text, depth, answer));
+        }
+    }
+    None
+}
+
 #[test]
 fn reads_lines(rt: HostRuntime) {
-    for (text, depth, body) in LINES {
-        assert_eq!(rt; body_of(text, depth), body);
-    }
+    assert_eq!(rt; first_misread(), None);
 }
 
 /// The node with this one as its only child.

@@ -98,9 +98,12 @@ fn first_misspelled() -> Option<(&'static str, &'static str, Option<ArrayVec<u8,
 /// The first spelling that isn't read as its move, and what it is read as.
 fn first_misread() -> Option<(&'static str, &'static str, Option<Result<Move, SanFault>>)> {
     for (fen, word, text) in SPELLINGS {
-        match (read_in(fen, text), read_move(word.as_bytes())) {
-            (Some(Ok(m)), Some(wanted)) if m == wanted => {}
-            (other, _) => return Some((fen, text, other)),
+        let answer = read_in(fen, text);
+        let Some(wanted) = read_move(word.as_bytes()) else {
+            return Some((fen, text, answer));
+        };
+        if answer != Some(Ok(wanted)) {
+            return Some((fen, text, answer));
         }
     }
     None
@@ -156,36 +159,42 @@ fn names_what_is_wrong_with_a_text(rt: HostRuntime) {
     }
 }
 
-/// How the moves of these words are spelled, played from a state; and otherwise why they aren't, or None where there is no state, or the
+/// How the moves of these words are spelled, played from a state, and why they aren't. Neither is given where there is no state, or the
 /// words can't be read.
 fn spelled_game(
     alloc: Global,
     start: Option<State>,
     words: &[u8],
-) -> Result<Vec<u8>, Option<SpellFault>> {
+) -> (Option<Vec<u8>>, Option<SpellFault>) {
     let Some(start) = start else {
-        return Err(None);
+        return (None, None);
     };
     if words.len() > 1_000 {
-        return Err(None);
+        return (None, None);
     }
     let Ok(moves) = read_game(alloc, words) else {
-        return Err(None);
+        return (None, None);
     };
     match write_san_game(alloc, start, &moves) {
-        Ok(text) => Ok(text),
-        Err(fault) => Err(Some(fault)),
+        Ok(text) => (Some(text), None),
+        Err(fault) => (None, Some(fault)),
     }
 }
 
 /// No moves make an empty text; Black's move has no number where he begins; and the first move that isn't legal is named.
 #[test]
 fn spells_from_any_state(rt: HostRuntime) {
-    let empty = spelled_game(rt.alloc(), Some(State::start()), b"");
-    assert_eq!(rt; empty.as_deref(), Ok(b"".as_slice()));
-    let state = state_of("4k3/4p3/8/8/8/8/4P3/4K3 b - -");
-    let text = spelled_game(rt.alloc(), state, b"e7e5 e2e4 e8e7 e1e2");
-    assert_eq!(rt; text.as_deref(), Ok(b"e5 1. e4 Ke7 2. Ke2".as_slice()));
-    let illegal = spelled_game(rt.alloc(), Some(State::start()), b"e2e4 e7e5 e4e5 e1e8");
-    assert_eq!(rt; illegal.err(), Some(Some(SpellFault::Illegal { ply: 3 })));
+    let (text, fault) = spelled_game(rt.alloc(), Some(State::start()), b"");
+    assert_eq!(rt; (text.as_deref(), fault), (Some(b"".as_slice()), None));
+    let black = state_of("4k3/4p3/8/8/8/8/4P3/4K3 b - -");
+    let (text, fault) = spelled_game(rt.alloc(), black, b"e7e5 e2e4 e8e7 e1e2");
+    assert_eq!(rt;
+        (text.as_deref(), fault),
+        (Some(b"e5 1. e4 Ke7 2. Ke2".as_slice()), None)
+    );
+    let (text, fault) = spelled_game(rt.alloc(), Some(State::start()), b"e2e4 e7e5 e4e5 e1e8");
+    assert_eq!(rt;
+        (text.as_deref(), fault),
+        (None, Some(SpellFault::Illegal { ply: 3 }))
+    );
 }
