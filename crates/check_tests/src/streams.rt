@@ -75,8 +75,9 @@ fn is_answered(alloc: Global, text: &[u8], refused: Option<Refused>) -> Result<b
 
 /// The number of the first row that isn't answered as it says, counted from 0.
 fn first_otherwise(alloc: Global) -> Result<Option<usize>, AllocError> {
-    for (number, (text, refused)) in rows().into_iter().enumerate() {
-        if !is_answered(alloc, text, refused)? || !is_alike(alloc, text, 4096)? {
+    let rows = rows();
+    for (number, (text, refused)) in rows.iter().enumerate() {
+        if !is_answered(alloc, text, *refused)? || !is_alike(alloc, text, 4096)? {
             return Ok(Some(number));
         }
     }

@@ -152,11 +152,20 @@ const FAULTS: [(&str, &str, SanFault); 26] = [
     (AFTER_TWO_MOVES, "e4=Q", SanFault::NoMove),
 ];
 
+/// The first text of a fault that isn't read so, and what it is read as.
+fn first_misnamed() -> Option<(&'static str, &'static str, Option<Result<Move, SanFault>>)> {
+    for (fen, text, fault) in FAULTS {
+        let answer = read_in(fen, text);
+        if answer != Some(Err(fault)) {
+            return Some((fen, text, answer));
+        }
+    }
+    None
+}
+
 #[test]
 fn names_what_is_wrong_with_a_text(rt: HostRuntime) {
-    for (fen, text, fault) in FAULTS {
-        assert_eq!(rt; read_in(fen, text), Some(Err(fault)), "{text} in {fen}");
-    }
+    assert_eq!(rt; first_misnamed(), None);
 }
 
 /// How the moves of these words are spelled, played from a state, and why they aren't. Neither is given where there is no state, or the

@@ -85,26 +85,26 @@ fn cert_again(alloc: Global, bytes: &[u8]) -> Result<usize, Option<Vec<u8>>> {
     }
 }
 
+/// The first of these texts that isn't written as it was read, and what is written.
+fn first_changed(alloc: Global, texts: &[&'static str]) -> Option<(&'static str, Option<Vec<u8>>)> {
+    for text in texts {
+        if let Err(written) = cert_again(alloc, text.as_bytes()) {
+            return Some((*text, written));
+        }
+    }
+    None
+}
+
 #[test]
 fn writes_certificates_as_they_were_read(rt: HostRuntime) {
-    for text in EXAMPLES {
-        assert_eq!(rt;
-            cert_again(rt.alloc(), text.as_bytes()),
-            Ok(text.len()),
-            "{text}"
-        );
-    }
-    for text in FORMAT_2 {
-        assert_eq!(rt;
-            cert_again(rt.alloc(), text.as_bytes()),
-            Ok(text.len()),
-            "{text}"
-        );
-    }
+    assert_eq!(rt; first_changed(rt.alloc(), &EXAMPLES), None);
+    assert_eq!(rt; first_changed(rt.alloc(), &FORMAT_2), None);
 }
 
 /// The first claim whose certificate with the tree isn't written as it was read, and what is written.
-fn first_changed(alloc: Global) -> Result<Option<(&'static str, Option<Vec<u8>>)>, AllocError> {
+fn first_changed_claim(
+    alloc: Global,
+) -> Result<Option<(&'static str, Option<Vec<u8>>)>, AllocError> {
     for claim in CLAIMS {
         let text = with_tree(alloc, claim)?;
         if let Err(written) = cert_again(alloc, text.as_bytes()) {
@@ -116,7 +116,7 @@ fn first_changed(alloc: Global) -> Result<Option<(&'static str, Option<Vec<u8>>)
 
 #[test]
 fn writes_trees_as_they_were_read(rt: HostRuntime) {
-    assert_eq!(rt; first_changed(rt.alloc()), Ok(None));
+    assert_eq!(rt; first_changed_claim(rt.alloc()), Ok(None));
 }
 
 /// The text that is written of a line, or None where there is none.
