@@ -142,7 +142,7 @@ fn in_one(piece: &[u8]) -> (Result<Accepted, Fault>, u32) {
 #[test]
 fn wants_the_last_line_to_end(rt: HostRuntime) {
     let text = b"retro 1\nclaim illegal\nfen 4k3/8/8/8/8/8/8/4K3 w - -\nroot expand 0";
-    assert!(rt; in_one(text) == (Err(Fault::BadText { line: 4 }), 65));
+    assert_eq!(rt; in_one(text), (Err(Fault::BadText { line: 4 }), 65));
 }
 
 /// Whether the answer to a text is that to the whole, or that a read failed.
