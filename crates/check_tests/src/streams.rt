@@ -4,7 +4,6 @@ use crate::first_faults::{ARRAY, DOUBLE_STEP, checked, rows};
 use cert_checker::{Accepted, Checker, Fault, Refused, StreamRefused, check_stream};
 use retro_ports::MemSource;
 use std::alloc::{AllocError, Global};
-use std::test::Fail;
 
 /// The answer to a text whose bytes come at most so many at a time, and of which the reads of these numbers fail.
 fn streamed(
@@ -74,30 +73,41 @@ fn is_answered(alloc: Global, text: &[u8], refused: Option<Refused>) -> Result<b
     Ok(as_wanted && is_alike(alloc, text, 1)? && is_alike(alloc, text, 7)?)
 }
 
-#[test]
-fn answers_alike_in_pieces_and_whole(rt: HostRuntime) -> Result<(), Fail> {
-    for (text, refused) in rows() {
-        assert!(rt; is_answered(rt.alloc(), text, refused)?);
-        assert!(rt; is_alike(rt.alloc(), text, 4096)?);
+/// The number of the first row that isn't answered as it says, counted from 0.
+fn first_otherwise(alloc: Global) -> Result<Option<usize>, AllocError> {
+    let rows = rows();
+    for (number, (text, refused)) in rows.iter().enumerate() {
+        if !is_answered(alloc, text, *refused)? || !is_alike(alloc, text, 4096)? {
+            return Ok(Some(number));
+        }
     }
-    Ok(())
+    Ok(None)
 }
 
-/// A part of a certificate from its front on is bad text at the line that isn't whole.
 #[test]
-fn refuses_each_front_part(rt: HostRuntime) -> Result<(), Fail> {
+fn answers_alike_in_pieces_and_whole(rt: HostRuntime) {
+    assert_eq!(rt; first_otherwise(rt.alloc()), Ok(None));
+}
+
+/// The length of the first front part that isn't refused at the line that isn't whole.
+fn first_taken(alloc: Global) -> Result<Option<usize>, AllocError> {
     let mut line = 1;
     for (length, byte) in DOUBLE_STEP.iter().enumerate() {
         let part = &DOUBLE_STEP[..length];
-        assert!(rt;
-            is_answered(rt.alloc(), part, Some(Refused::BadText { line }))?,
-            "{length}"
-        );
+        if !is_answered(alloc, part, Some(Refused::BadText { line }))? {
+            return Ok(Some(length));
+        }
         if *byte == b'\n' {
             line = u32::wrapping_add(line, 1);
         }
     }
-    Ok(())
+    Ok(None)
+}
+
+/// A part of a certificate from its front on is bad text at the line that isn't whole.
+#[test]
+fn refuses_each_front_part(rt: HostRuntime) {
+    assert_eq!(rt; first_taken(rt.alloc()), Ok(None));
 }
 
 #[test]
@@ -122,24 +132,34 @@ fn takes_no_long_line_for_two(rt: HostRuntime) {
     }
 }
 
-#[test]
-fn wants_the_last_line_to_end(rt: HostRuntime) {
+/// The answer to one piece, and how many bytes were fed.
+fn in_one(piece: &[u8]) -> (Result<Accepted, Fault>, u32) {
     let mut checker = Checker::new();
-    feed(
-        &mut checker,
-        b"retro 1\nclaim illegal\nfen 4k3/8/8/8/8/8/8/4K3 w - -\nroot expand 0",
-    );
-    assert!(rt; checker.finish() == Err(Fault::BadText { line: 4 }));
-    assert_eq!(rt; checker.fed(), 65);
+    feed(&mut checker, piece);
+    (checker.finish(), checker.fed())
 }
 
 #[test]
-fn tells_a_failed_read_after_a_fault(rt: HostRuntime) -> Result<(), Fail> {
-    // The fault stands on line 4, which ends in the third read of forty bytes. The fourth read fails.
-    let whole = checked(rt.alloc(), ARRAY);
-    match streamed(rt.alloc(), ARRAY, 40, &[3])? {
-        Ok(accepted) => assert!(rt; whole == Ok(accepted)),
-        Err(refused) => assert!(rt; refused == StreamRefused::ReadFault),
+fn wants_the_last_line_to_end(rt: HostRuntime) {
+    let text = b"retro 1\nclaim illegal\nfen 4k3/8/8/8/8/8/8/4K3 w - -\nroot expand 0";
+    assert_eq!(rt; in_one(text), (Err(Fault::BadText { line: 4 }), 65));
+}
+
+/// Whether the answer to a text is that to the whole, or that a read failed.
+fn is_whole_or_failed(
+    alloc: Global,
+    text: &[u8],
+    piece: usize,
+    failing: &[u32],
+) -> Result<bool, AllocError> {
+    match streamed(alloc, text, piece, failing)? {
+        Ok(accepted) => Ok(checked(alloc, text) == Ok(accepted)),
+        Err(refused) => Ok(refused == StreamRefused::ReadFault),
     }
-    Ok(())
+}
+
+#[test]
+fn tells_a_failed_read_after_a_fault(rt: HostRuntime) {
+    // The fault stands on line 4, which ends in the third read of forty bytes. The fourth read fails.
+    assert_eq!(rt; is_whole_or_failed(rt.alloc(), ARRAY, 40, &[3]), Ok(true));
 }

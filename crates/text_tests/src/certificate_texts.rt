@@ -1,12 +1,11 @@
 //! The texts of certificates: what is read of lines and of whole texts, and which trees have one.
 
-use board_base::{Colour, Kind, Memory, Move, Square, Unmove, read_unmove};
+use board_base::{Colour, Kind, Memory, Move, Square, Unmove, read_move, read_unmove};
 use cert_text::{
     Body, BodyLine, Cert, CertFault, Kid, Kids, Node, Reason, fits_format, read_cert, read_line,
 };
 use query_base::{Claim, RuleLine};
 use std::alloc::Global;
-use std::test::Fail;
 
 fn read(alloc: Global, bytes: &[u8]) -> Result<Cert, CertFault> {
     if bytes.len() > 67_108_864 {
@@ -22,21 +21,40 @@ fn kids_of(node: &Node) -> Option<&Kids> {
     }
 }
 
+fn count_of(node: &Node) -> Option<usize> {
+    Some(kids_of(node)?.len())
+}
+
+fn label_at(node: &Node, place: usize) -> Option<Unmove> {
+    Some(kids_of(node)?.get(place)?.label)
+}
+
+fn count_at(node: &Node, place: usize) -> Option<usize> {
+    count_of(&kids_of(node)?.get(place)?.node)
+}
+
+/// The claim, the double step that is demanded, and whether there is a text.
+type Head = (Claim, Option<Move>, bool);
+
+/// How many children the root has, the labels of the first two, and how many children the first has.
+type Tree = (Option<usize>, [Option<Unmove>; 2], Option<usize>);
+
+/// What the certificate says that is read of a text.
+fn outline_of(alloc: Global, text: &[u8]) -> Result<(Head, Tree), CertFault> {
+    let cert = read(alloc, text)?;
+    let root = &cert.root;
+    let head = (cert.claim, cert.query.only, fits_format(&cert));
+    let labels = [label_at(root, 0), label_at(root, 1)];
+    Ok((head, (count_of(root), labels, count_at(root, 0))))
+}
+
 #[test]
-fn reads_a_certificate(rt: HostRuntime) -> Result<(), Fail> {
+fn reads_a_certificate(rt: HostRuntime) {
     let text =
         b"retro 1\nclaim illegal\nfen 4k3/8/8/3p4/8/8/P7/4K2R w K d6\nroot expand 1\nd7d5 expand 0\n";
-    let cert = read(rt.alloc(), text)?;
-    assert_eq!(rt; cert.claim, Claim::Illegal);
-    assert!(rt; cert.query.only.is_some());
-    assert!(rt; fits_format(&cert));
-    let kids = kids_of(&cert.root).ok_or("a leaf")?;
-    assert_eq!(rt; kids.len(), 1);
-    let kid = kids.get(0).ok_or("no child")?;
-    assert_eq!(rt; Some(kid.label), read_unmove(b"d7d5"));
-    assert_eq!(rt; kids_of(&kid.node).ok_or("a leaf")?.len(), 0);
-    assert!(rt; kids.get(1).is_none());
-    Ok(())
+    let head = (Claim::Illegal, read_move(b"d7d5"), true);
+    let tree = (Some(1), [read_unmove(b"d7d5"), None], Some(0));
+    assert_eq!(rt; outline_of(rt.alloc(), text), Ok((head, tree)));
 }
 
 /// A line, its depth, and its body.
@@ -96,11 +114,20 @@ fn body_of(text: &[u8], depth: u8) -> Option<BodyLine> {
     }
 }
 
+/// The first line that isn't read so, its depth, and what it is read as.
+fn first_misread() -> Option<(&'static [u8], u8, Option<BodyLine>)> {
+    for (text, depth, body) in LINES {
+        let answer = body_of(text, depth);
+        if answer != body {
+            return Some((text, depth, answer));
+        }
+    }
+    None
+}
+
 #[test]
 fn reads_lines(rt: HostRuntime) {
-    for (text, depth, body) in LINES {
-        assert_eq!(rt; body_of(text, depth), body);
-    }
+    assert_eq!(rt; first_misread(), None);
 }
 
 /// The node with this one as its only child.
@@ -134,10 +161,21 @@ fn chain(alloc: Global, depth: u16, steps: u8) -> Result<Node, Memory> {
     Ok(node)
 }
 
-#[test]
-fn fits_depths_to_255(rt: HostRuntime) -> Result<(), Fail> {
+/// A certificate whose claim and tree may be others.
+fn plain_cert(alloc: Global) -> Option<Cert> {
     let text = b"retro 1\nclaim illegal\nfen 8/8/8/8/8/8/8/8 w - -\nroot rule kings\n";
-    let mut cert = read(rt.alloc(), text)?;
+    read(alloc, text).ok()
+}
+
+/// Whether a certificate has a text with a chain of this depth, whose leaf leads back so many steps.
+fn fits_chain(alloc: Global, depth: u16, steps: u8) -> Option<bool> {
+    let mut cert = plain_cert(alloc)?;
+    cert.root = chain(alloc, depth, steps).ok()?;
+    Some(fits_format(&cert))
+}
+
+#[test]
+fn fits_depths_to_255(rt: HostRuntime) {
     for (depth, steps, fits) in [
         (1, 1, true),
         (1, 2, false),
@@ -145,13 +183,12 @@ fn fits_depths_to_255(rt: HostRuntime) -> Result<(), Fail> {
         (255, 255, true),
         (256, 255, false),
     ] {
-        cert.root = chain(rt.alloc(), depth, steps).ok().ok_or("no memory")?;
-        assert!(rt;
-            fits_format(&cert) == fits,
+        assert_eq!(rt;
+            fits_chain(rt.alloc(), depth, steps),
+            Some(fits),
             "{steps} steps at depth {depth}"
         );
     }
-    Ok(())
 }
 
 fn e5d6(promo: Option<Kind>) -> Move {
@@ -162,11 +199,16 @@ fn e5d6(promo: Option<Kind>) -> Move {
     }
 }
 
+/// Whether a certificate has a text with this claim.
+fn fits_claim(alloc: Global, claim: Claim) -> Option<bool> {
+    let mut cert = plain_cert(alloc)?;
+    cert.claim = claim;
+    Some(fits_format(&cert))
+}
+
 /// A claimed capture en passant promotes nothing, and a claimed last move to no king.
 #[test]
-fn fits_claims(rt: HostRuntime) -> Result<(), Fail> {
-    let text = b"retro 1\nclaim illegal\nfen 8/8/8/8/8/8/8/8 w - -\nroot rule kings\n";
-    let mut cert = read(rt.alloc(), text)?;
+fn fits_claims(rt: HostRuntime) {
     for (claim, fits) in [
         (Claim::Last(e5d6(None)), true),
         (Claim::Last(e5d6(Some(Kind::Queen))), true),
@@ -175,8 +217,6 @@ fn fits_claims(rt: HostRuntime) -> Result<(), Fail> {
         (Claim::Ep(e5d6(Some(Kind::Queen))), false),
         (Claim::Ep(e5d6(Some(Kind::King))), false),
     ] {
-        cert.claim = claim;
-        assert_eq!(rt; fits_format(&cert), fits);
+        assert_eq!(rt; fits_claim(rt.alloc(), claim), Some(fits));
     }
-    Ok(())
 }

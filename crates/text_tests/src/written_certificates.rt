@@ -2,19 +2,18 @@
 
 use arrayvec::ArrayVec;
 use cert_text::{fits_format, read_cert, read_line, write_cert, write_line};
-use std::alloc::Global;
-use std::test::Fail;
+use std::alloc::{AllocError, Global};
 
-/// The text that is written of the certificate that was read of these bytes.
-fn written_again(alloc: Global, bytes: &[u8]) -> Result<Vec<u8>, Fail> {
+/// The text that is written of the certificate that was read of these bytes, if there are both.
+fn written_again(alloc: Global, bytes: &[u8]) -> Option<Vec<u8>> {
     if bytes.len() > 67_108_864 {
-        return Err(Fail::from("too long"));
+        return None;
     }
-    let cert = read_cert(alloc, bytes)?;
+    let cert = read_cert(alloc, bytes).ok()?;
     if fits_format(&cert) {
-        Ok(write_cert(alloc, &cert)?)
+        write_cert(alloc, &cert).ok()
     } else {
-        Err(Fail::from("no text"))
+        None
     }
 }
 
@@ -61,37 +60,70 @@ f7f8 rule caps b ffffffffffffffff / 64 -64 10 -9 0 0 0 7
 f2f3 rule caps b 00000000000000ff -12 / 0 0 0 0 0 0 0 0
 ";
 
-#[test]
-fn writes_certificates_as_they_were_read(rt: HostRuntime) -> Result<(), Fail> {
-    for text in EXAMPLES {
-        let written = written_again(rt.alloc(), text.as_bytes())?;
-        assert_eq!(rt; written.as_slice(), text.as_bytes());
-    }
-    for text in FORMAT_2 {
-        let written = written_again(rt.alloc(), text.as_bytes())?;
-        assert_eq!(rt; written.as_slice(), text.as_bytes());
-    }
-    for claim in [
-        "illegal",
-        "last e2e4",
-        "last a7b8q",
-        "lost K",
-        "lost Q",
-        "lost k",
-        "lost q",
-        "ep g5f6",
-    ] {
-        let text = format!(in rt.alloc();
-            "retro 1\nclaim {claim}\nfen r3k2r/8/8/5pP1/8/8/8/R3K2R w KQkq f6\n{TREE}"
-        )?;
-        let written = written_again(rt.alloc(), text.as_bytes())?;
-        assert_eq!(rt; written.as_slice(), text.as_bytes());
-    }
-    Ok(())
+/// What is claimed above the tree.
+const CLAIMS: [&str; 8] = [
+    "illegal",
+    "last e2e4",
+    "last a7b8q",
+    "lost K",
+    "lost Q",
+    "lost k",
+    "lost q",
+    "ep g5f6",
+];
+
+/// The certificate of the tree with this claim.
+fn with_tree(alloc: Global, claim: &str) -> Result<String, AllocError> {
+    format!(in alloc; "retro 1\nclaim {claim}\nfen r3k2r/8/8/5pP1/8/8/8/R3K2R w KQkq f6\n{TREE}")
 }
 
+/// The length of a certificate that is written as it was read; and otherwise what is written.
+fn cert_again(alloc: Global, bytes: &[u8]) -> Result<usize, Option<Vec<u8>>> {
+    match written_again(alloc, bytes) {
+        Some(written) if written.as_slice() == bytes => Ok(bytes.len()),
+        other => Err(other),
+    }
+}
+
+/// The first of these texts that isn't written as it was read, and what is written.
+fn first_changed(alloc: Global, texts: &[&'static str]) -> Option<(&'static str, Option<Vec<u8>>)> {
+    for text in texts {
+        if let Err(written) = cert_again(alloc, text.as_bytes()) {
+            return Some((*text, written));
+        }
+    }
+    None
+}
+
+#[test]
+fn writes_certificates_as_they_were_read(rt: HostRuntime) {
+    assert_eq!(rt; first_changed(rt.alloc(), &EXAMPLES), None);
+    assert_eq!(rt; first_changed(rt.alloc(), &FORMAT_2), None);
+}
+
+/// The first claim whose certificate with the tree isn't written as it was read, and what is written.
+fn first_changed_claim(
+    alloc: Global,
+) -> Result<Option<(&'static str, Option<Vec<u8>>)>, AllocError> {
+    for claim in CLAIMS {
+        let text = with_tree(alloc, claim)?;
+        if let Err(written) = cert_again(alloc, text.as_bytes()) {
+            return Ok(Some((claim, written)));
+        }
+    }
+    Ok(None)
+}
+
+#[test]
+fn writes_trees_as_they_were_read(rt: HostRuntime) {
+    assert_eq!(rt; first_changed_claim(rt.alloc()), Ok(None));
+}
+
+/// The text that is written of a line, or None where there is none.
+pub(crate) type Written = Option<ArrayVec<u8, 256>>;
+
 /// The text that is written of the line that was read of these bytes at this depth.
-pub(crate) fn line_again(bytes: &[u8], depth: u8) -> Option<ArrayVec<u8, 256>> {
+fn line_again(bytes: &[u8], depth: u8) -> Written {
     match read_line(bytes, depth) {
         Some(line) => {
             let mut out = ArrayVec::new();
@@ -102,22 +134,30 @@ pub(crate) fn line_again(bytes: &[u8], depth: u8) -> Option<ArrayVec<u8, 256>> {
     }
 }
 
+/// The length of a line that is written as it was read at this depth; and otherwise what is written.
+pub(crate) fn length_again(bytes: &[u8], depth: u8) -> Result<usize, Written> {
+    match line_again(bytes, depth) {
+        Some(written) if written.as_slice() == bytes => Ok(bytes.len()),
+        other => Err(other),
+    }
+}
+
 /// The longest line with a rule of the eight.
 const LONG: &str =
     "a7b8qxq rule caps w ffffffffffffffff -64 -64 -64 -64 -64 -64 -64 -64 / -64 -64 -64 -64 -64 -64 -64 -64";
 
+/// Lines, their depths and their lengths.
+const LINES: [(&str, u8, usize); 5] = [
+    ("root rule kings", 0, 15),
+    ("root expand 999999", 0, 18),
+    ("a1a2 back 255", 255, 13),
+    ("a1a2 expand 0", 255, 13),
+    (LONG, 1, 102),
+];
+
 #[test]
-fn writes_lines_as_they_were_read(rt: HostRuntime) -> Result<(), Fail> {
-    assert_eq!(rt; LONG.len(), 102);
-    for (text, depth) in [
-        ("root rule kings", 0),
-        ("root expand 999999", 0),
-        ("a1a2 back 255", 255),
-        ("a1a2 expand 0", 255),
-        (LONG, 1),
-    ] {
-        let written = line_again(text.as_bytes(), depth).ok_or("no line")?;
-        assert_eq!(rt; written.as_slice(), text.as_bytes());
+fn writes_lines_as_they_were_read(rt: HostRuntime) {
+    for (text, depth, length) in LINES {
+        assert_eq!(rt; length_again(text.as_bytes(), depth), Ok(length), "{text}");
     }
-    Ok(())
 }
