@@ -84,9 +84,10 @@ fn demands_in_target(claim: Claim) -> Option<(u64, Option<u16>)> {
 /// The target of a claim has the query's odds and its clock.
 #[test]
 fn keeps_demands_in_targets(rt: HostRuntime) {
-    for claim in [Claim::Illegal, Claim::Lost(Castle::WhiteShort)] {
-        assert_eq!(rt; (claim, demands_in_target(claim)), (claim, Some((2, Some(7)))));
-    }
+    let illegal = demands_in_target(Claim::Illegal);
+    let lost = demands_in_target(Claim::Lost(Castle::WhiteShort));
+    let want = Some((2, Some(7)));
+    assert_eq!(rt; (illegal, lost), (want, want));
 }
 
 const NO_ROOK: &str = "rnbqkbnr/pppppppp/8/8/8/8/PPPPPPPP/RNBQKBN1 w Qkq -";
@@ -154,76 +155,81 @@ fn matches_the_clock(rt: HostRuntime) {
     }
 }
 
-/// A rule line, and of which games it supports the query of a FEN: of those at these odds, and of those at none.
+/// Of which games a rule line supports a query: of those at some odds, and of those at none.
 #[derive(Clone, Copy, PartialEq, Eq, Debug)]
-struct Support {
-    fen: &'static str,
-    odds: u64,
-    rule: RuleLine,
+struct Supported {
     at_odds: bool,
     at_none: bool,
 }
 
-const SUPPORTS: [Support; 7] = [
-    Support {
-        fen: "4k3/8/8/8/8/1P6/1PPPPPPP/4K3 w - -",
-        odds: 1 << 8,
-        rule: RuleLine::Count(Colour::White),
-        at_odds: true,
-        at_none: false,
-    },
-    Support {
-        fen: "4k3/8/8/8/8/1P6/1PPPPPPP/4K3 w - -",
-        odds: 1 << 48,
-        rule: RuleLine::Count(Colour::White),
-        at_odds: false,
-        at_none: false,
-    },
-    Support {
-        fen: "rnbqkbnr/pppppppp/8/8/8/N4N2/PPPPPPPP/R1BQKB1R w KQkq -",
-        odds: 2,
-        rule: RuleLine::Count(Colour::White),
-        at_odds: true,
-        at_none: false,
-    },
-    Support {
-        fen: "4k3/8/8/8/8/8/8/4K2R w K -",
-        odds: 1 << 7,
-        rule: RuleLine::Rights,
-        at_odds: true,
-        at_none: false,
-    },
-    Support {
-        fen: "4k3/8/8/8/8/8/8/4K2R w K -",
-        odds: 1,
-        rule: RuleLine::Rights,
-        at_odds: false,
-        at_none: false,
-    },
-    Support {
-        fen: "4k3/8/8/8/8/8/8/4K3 w - -",
-        odds: 1 << 7,
-        rule: RuleLine::Kings,
-        at_odds: false,
-        at_none: false,
-    },
-    Support {
-        fen: "4k3/8/8/8/8/8/8/4K2R w Q -",
-        odds: 1 << 7,
-        rule: RuleLine::Rights,
-        at_odds: true,
-        at_none: true,
-    },
+const AT_BOTH: Supported = Supported {
+    at_odds: true,
+    at_none: true,
+};
+
+const AT_ODDS: Supported = Supported {
+    at_odds: true,
+    at_none: false,
+};
+
+const AT_NEITHER: Supported = Supported {
+    at_odds: false,
+    at_none: false,
+};
+
+/// A FEN, odds, a rule line, and of which games it supports the query.
+const SUPPORTS: [(&str, u64, RuleLine, Supported); 7] = [
+    (
+        "4k3/8/8/8/8/1P6/1PPPPPPP/4K3 w - -",
+        1 << 8,
+        RuleLine::Count(Colour::White),
+        AT_ODDS,
+    ),
+    (
+        "4k3/8/8/8/8/1P6/1PPPPPPP/4K3 w - -",
+        1 << 48,
+        RuleLine::Count(Colour::White),
+        AT_NEITHER,
+    ),
+    (
+        "rnbqkbnr/pppppppp/8/8/8/N4N2/PPPPPPPP/R1BQKB1R w KQkq -",
+        2,
+        RuleLine::Count(Colour::White),
+        AT_ODDS,
+    ),
+    (
+        "4k3/8/8/8/8/8/8/4K2R w K -",
+        1 << 7,
+        RuleLine::Rights,
+        AT_ODDS,
+    ),
+    (
+        "4k3/8/8/8/8/8/8/4K2R w K -",
+        1,
+        RuleLine::Rights,
+        AT_NEITHER,
+    ),
+    (
+        "4k3/8/8/8/8/8/8/4K3 w - -",
+        1 << 7,
+        RuleLine::Kings,
+        AT_NEITHER,
+    ),
+    (
+        "4k3/8/8/8/8/8/8/4K2R w Q -",
+        1 << 7,
+        RuleLine::Rights,
+        AT_BOTH,
+    ),
 ];
 
-/// The row with what is answered of its query.
-fn supported(row: Support) -> Option<Support> {
-    let query = asked(row.fen, row.odds, None)?;
-    let plain = asked(row.fen, 0, None)?;
-    Some(Support {
-        at_odds: supports(&query, &row.rule),
-        at_none: supports(&plain, &row.rule),
-        ..row
+/// Of which games a rule line supports the query of a FEN.
+fn support_of(fen: &str, bits: u64, rule: &RuleLine) -> Option<Supported> {
+    let query = asked(fen, bits, None)?;
+    let plain = asked(fen, 0, None)?;
+    Some(Supported {
+        at_odds: supports(&query, rule),
+        at_none: supports(&plain, rule),
     })
 }
 
@@ -246,8 +252,9 @@ fn found_of_a_pawn(bits: u64) -> Option<Found> {
 
 #[test]
 fn supports_at_odds(rt: HostRuntime) {
-    for row in SUPPORTS {
-        assert_eq!(rt; supported(row), Some(row));
+    for (fen, bits, rule, want) in SUPPORTS {
+        let answer = support_of(fen, bits, &rule);
+        assert_eq!(rt; (fen, bits, answer), (fen, bits, Some(want)));
     }
     let both = Found {
         supported: true,
@@ -262,7 +269,7 @@ fn supports_at_odds(rt: HostRuntime) {
 }
 
 /// How many retractions a query has; None where there are more than 199.
-fn count(query: &Query) -> Option<u8> {
+pub(crate) fn count(query: &Query) -> Option<u8> {
     let mut list = Unmoves::new(query);
     for counted in 0..200 {
         if list.next().is_none() {
@@ -322,9 +329,15 @@ fn goes_back_in_time(rt: HostRuntime) {
         (0, "d7e8xn", None),
         (9_999, "d7e8", Some(9_998)),
     ] {
-        assert_eq!(rt; (clock, demands_before(clock, text)), (clock, Some((2, before))));
+        assert_eq!(rt;
+            (clock, demands_before(clock, text)),
+            (clock, Some((2, before)))
+        );
     }
-    assert_eq!(rt; (is_listed(2, "d7e8xn"), is_listed(0, "d7e8")), (Some(false), Some(false)));
+    assert_eq!(rt;
+        (is_listed(2, "d7e8xn"), is_listed(0, "d7e8")),
+        (Some(false), Some(false))
+    );
 }
 
 /// What is found of a predecessor: whether White's short castling is held, whether the rights support it, whether some rule line

@@ -19,7 +19,10 @@ fn leaves_out_homes(rt: HostRuntime) {
         let refused = (odds(1 << square), odds(1 << square | 1));
         assert_eq!(rt; (square, refused), (square, (None, None)));
     }
-    assert_eq!(rt; (odds(0), Odds::none().set().bits()), (Some(Odds::none()), 0));
+    assert_eq!(rt;
+        (odds(0), Odds::none().set().bits()),
+        (Some(Odds::none()), 0)
+    );
 }
 
 /// Whether the array at these odds is the board of a FEN.
@@ -100,7 +103,10 @@ fn counts_what_a_side_began_with(rt: HostRuntime) {
         (Colour::White, 1 << 8, false),
         (Colour::Black, 1 << 8, true),
     ] {
-        assert_eq!(rt; (side, bits, is_accounted(side, bits)), (side, bits, Some(want)));
+        assert_eq!(rt;
+            (side, bits, is_accounted(side, bits)),
+            (side, bits, Some(want))
+        );
     }
     let want = Allowance {
         pawns: 7,
