@@ -149,9 +149,8 @@ fn bars_the_double_step(rt: HostRuntime) {
         to: Square::known(35),
         promo: None,
     };
-    assert_eq!(rt; barred_by(b"e5d6"), Some(Some(d7d5)));
-    assert_eq!(rt; barred_by(b"e5d6q"), Some(None));
-    assert_eq!(rt; barred_by(b"e5f6"), Some(None));
+    let barred = [barred_by(b"e5d6"), barred_by(b"e5d6q"), barred_by(b"e5f6")];
+    assert_eq!(rt; barred, [Some(Some(d7d5)), Some(None), Some(None)]);
 }
 
 /// What is found where White's king stands alone on e1: which of Black's castlings are held in the target of a claim that the long one is

@@ -50,11 +50,14 @@ fn asks_the_same() -> Option<bool> {
     Some(target(&query, &Claim::Illegal) == query)
 }
 
+fn e2e4() -> Move {
+    step(Square::known(12), Square::known(28))
+}
+
 #[test]
 fn targets_ask_more(rt: HostRuntime) {
-    let m = step(Square::known(12), Square::known(28));
     let last = Asked {
-        barred: Some(m),
+        barred: Some(e2e4()),
         long: false,
         short: false,
         covered: true,
@@ -68,7 +71,7 @@ fn targets_ask_more(rt: HostRuntime) {
         covering: false,
     };
     assert_eq!(rt; asks_the_same(), Some(true));
-    assert_eq!(rt; asked_by(&Claim::Last(m)), Some(last));
+    assert_eq!(rt; asked_by(&Claim::Last(e2e4())), Some(last));
     assert_eq!(rt; asked_by(&Claim::Lost(Castle::WhiteLong)), Some(lost));
 }
 

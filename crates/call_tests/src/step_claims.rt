@@ -58,15 +58,18 @@ fn step(from: Square, to: Square) -> Move {
     }
 }
 
-#[test]
-fn takes_one_to_sixteen_steps(rt: HostRuntime) {
-    let d7d5 = Unmove {
+fn d7d5() -> Unmove {
+    Unmove {
         mv: step(Square::known(51), Square::known(35)),
         captured: None,
         ep: false,
-    };
-    assert_eq!(rt; length_and_last(&[d7d5; 16]), Some((16, d7d5)));
-    assert!(rt; StepList::new(&[d7d5; 17]).is_none());
+    }
+}
+
+#[test]
+fn takes_one_to_sixteen_steps(rt: HostRuntime) {
+    assert_eq!(rt; length_and_last(&[d7d5(); 16]), Some((16, d7d5())));
+    assert!(rt; StepList::new(&[d7d5(); 17]).is_none());
     assert!(rt; StepList::new(&[]).is_none());
 }
 
