@@ -113,7 +113,7 @@ const CAPTURES: &str = "\
 8/8/8/3p4/8/8/8/4K3 w - -|e5d6|other|no pawn on e5
 8/8/3n4/3pP3/8/8/8/4K3 w - -|e5d6|other|a man on d6
 8/3n4/8/3pP3/8/8/8/4K3 w - -|e5d6|other|a man on d7
-8/8/8/3pP3/4K3/8/8/8 w - -|e5d6|answers|the pawn that made the double step attacks the king, and is captured
+8/8/8/3pP3/4K3/8/8/8 w - -|e5d6|answers|the pawn of d5 attacks the king, and is captured
 8/8/8/K2pP2r/8/8/8/8 w - -|e5d6|other|the capture opens the rank to the king
 4r3/8/8/3pP3/8/8/8/4K3 w - -|e5d6|other|the capture opens the file to the king
 b7/8/8/3pP3/8/8/8/7K w - -|e5d6|other|the capture opens the diagonal to the king

@@ -27,8 +27,9 @@ fn leaves_out_homes(rt: HostRuntime) {
 
 /// Whether the array at these odds is the board of a FEN.
 fn is_array_at(bits: u64, fen: &str) -> Option<bool> {
-    let board = read_four_fields(fen.as_bytes())?.board;
-    Some(array_of(odds(bits)?).is_same(&board))
+    let query = read_four_fields(fen.as_bytes())?;
+    let array = array_of(odds(bits)?);
+    Some(array.is_same(&query.board))
 }
 
 /// Without the knight of b1 and the pawn of f7 the array has the other men.
