@@ -10,7 +10,6 @@ use ep_history::ep_fits;
 use fen_text::read_fen;
 use query_base::{Claim, Query, RuleLine, target};
 use static_rules::supports;
-use std::test::Fail;
 
 /// Whether this is the text of the claim, and is read as it.
 fn is_spelled(claim: Claim, text: &[u8]) -> bool
@@ -86,66 +85,103 @@ pub(crate) fn position(fen: &[u8]) -> Option<Query>
     }
 }
 
-/// Whether the side to move may capture so, if the double step was the last move.
-fn fits(fen: &[u8], capture: &[u8]) -> Option<bool>
-    requires { length fen.now < 2 ^ 32 }
-{
+/// Whether a row of the captures says what is answered of its board and its capture.
+fn is_answered(row: &str) -> Option<bool> {
+    let mut cells = row.split('|');
+    let fen = cells.next()?.as_bytes();
+    let capture = read_move(cells.next()?.as_bytes())?;
+    let answers = match cells.next()? {
+        "answers" => true,
+        "other" => false,
+        _ => return None,
+    };
+    if fen.len() > 100 {
+        return None;
+    }
     let query = position(fen)?;
-    Some(ep_fits(&query.board, query.turn, &read_move(capture)?))
+    Some(ep_fits(&query.board, query.turn, &capture) == answers)
 }
 
-/// A board and a side to move, and whether the capture answers a double step there.
-const CAPTURES: [(&[u8], &[u8], bool); 16] = [
-    (b"8/8/8/3pP3/8/8/8/4K3 w - -", b"e5d6", true),
-    (b"8/8/8/2Pp4/8/8/8/4K3 w - -", b"c5d6", true),
-    (b"4k3/8/8/8/3Pp3/8/8/8 b - -", b"e4d3", true),
-    (b"4k3/8/8/8/3Pp3/8/8/8 w - -", b"e4d3", false),
-    (b"8/8/8/3pP3/8/8/8/4K3 w - -", b"e5d6q", false),
-    (b"8/8/8/3pP3/8/8/8/4K3 w - -", b"e5f6", false),
-    (b"8/8/8/3p4/8/8/8/4K3 w - -", b"e5d6", false),
-    (b"8/8/3n4/3pP3/8/8/8/4K3 w - -", b"e5d6", false),
-    (b"8/3n4/8/3pP3/8/8/8/4K3 w - -", b"e5d6", false),
-    // The pawn that made the double step attacks the king, and is captured.
-    (b"8/8/8/3pP3/4K3/8/8/8 w - -", b"e5d6", true),
-    // The capture opens the rank, the file and the diagonal to the king.
-    (b"8/8/8/K2pP2r/8/8/8/8 w - -", b"e5d6", false),
-    (b"4r3/8/8/3pP3/8/8/8/4K3 w - -", b"e5d6", false),
-    (b"b7/8/8/3pP3/8/8/8/7K w - -", b"e5d6", false),
-    // Of two kings none may be left attacked; without a king none is.
-    (b"8/8/8/3pP3/8/8/8/K6K w - -", b"e5d6", true),
-    (b"7r/8/8/3pP3/8/8/8/K6K w - -", b"e5d6", false),
-    (b"8/8/8/3pP3/8/8/8/8 w - -", b"e5d6", true),
-];
+/// A board and a side to move, a capture, whether it answers a double step there, and what the row shows.
+const CAPTURES: &str = "\
+8/8/8/3pP3/8/8/8/4K3 w - -|e5d6|answers|White captures to the left
+8/8/8/2Pp4/8/8/8/4K3 w - -|c5d6|answers|White captures to the right
+4k3/8/8/8/3Pp3/8/8/8 b - -|e4d3|answers|Black captures
+4k3/8/8/8/3Pp3/8/8/8 w - -|e4d3|other|the other side is to move
+8/8/8/3pP3/8/8/8/4K3 w - -|e5d6q|other|a promotion
+8/8/8/3pP3/8/8/8/4K3 w - -|e5f6|other|no pawn on f5
+8/8/8/3p4/8/8/8/4K3 w - -|e5d6|other|no pawn on e5
+8/8/3n4/3pP3/8/8/8/4K3 w - -|e5d6|other|a man on d6
+8/3n4/8/3pP3/8/8/8/4K3 w - -|e5d6|other|a man on d7
+8/8/8/3pP3/4K3/8/8/8 w - -|e5d6|answers|the pawn of d5 attacks the king, and is captured
+8/8/8/K2pP2r/8/8/8/8 w - -|e5d6|other|the capture opens the rank to the king
+4r3/8/8/3pP3/8/8/8/4K3 w - -|e5d6|other|the capture opens the file to the king
+b7/8/8/3pP3/8/8/8/7K w - -|e5d6|other|the capture opens the diagonal to the king
+8/8/8/3pP3/8/8/8/K6K w - -|e5d6|answers|neither of two kings is left attacked
+7r/8/8/3pP3/8/8/8/K6K w - -|e5d6|other|one of two kings is attacked
+8/8/8/3pP3/8/8/8/8 w - -|e5d6|answers|without a king none is left attacked";
 
 #[test]
 fn tells_captures_that_fit(rt: HostRuntime) {
-    for (fen, capture, want) in CAPTURES {
-        assert_eq!(rt; fits(fen, capture), Some(want));
+    for row in CAPTURES.lines() {
+        assert_eq!(rt; is_answered(row), Some(true), "{row}");
+    }
+}
+
+/// What is barred in the target of a claim of this capture, if all else in it is as in the query.
+fn barred_by(capture: &[u8]) -> Option<Option<Move>> {
+    let query = position(b"8/8/8/3pP3/8/8/8/4K3 w - -")?;
+    let found = target(&query, &Claim::Ep(read_move(capture)?));
+    let mut rest = found;
+    rest.barred = None;
+    if rest == query {
+        Some(found.barred)
+    } else {
+        None
     }
 }
 
 /// The double step is barred where the capture fits, and nothing elsewhere.
 #[test]
-fn bars_the_double_step(rt: HostRuntime) -> Result<(), Fail> {
-    let query = position(b"8/8/8/3pP3/8/8/8/4K3 w - -").ok_or("no FEN")?;
-    let e5d6 = read_move(b"e5d6").ok_or("no move")?;
-    let promoting = read_move(b"e5d6q").ok_or("no move")?;
-    let other = read_move(b"e5f6").ok_or("no move")?;
-    let barred = target(&query, &Claim::Ep(e5d6));
-    assert!(rt; barred.barred == read_move(b"d7d5"));
-    assert!(rt; barred.board.is_same(&query.board) && barred.turn == query.turn);
-    assert!(rt; target(&query, &Claim::Ep(promoting)) == query);
-    assert!(rt; target(&query, &Claim::Ep(other)) == query);
-    Ok(())
+fn bars_the_double_step(rt: HostRuntime) {
+    let d7d5 = Move {
+        from: Square::known(51),
+        to: Square::known(35),
+        promo: None,
+    };
+    let barred = [barred_by(b"e5d6"), barred_by(b"e5d6q"), barred_by(b"e5f6")];
+    assert_eq!(rt; barred, [Some(Some(d7d5)), Some(None), Some(None)]);
+}
+
+/// What is found where White's king stands alone on e1: which of Black's castlings are held in the target of a claim that the long one is
+/// lost, and whether the rule line of rights supports the target and the query.
+#[derive(Clone, Copy, PartialEq, Eq, Debug)]
+struct Held {
+    long: bool,
+    short: bool,
+    supported: bool,
+    query_supported: bool,
+}
+
+fn held_without_men() -> Option<Held> {
+    let query = position(b"8/8/8/8/8/8/8/4K3 w - -")?;
+    let lost = target(&query, &Claim::Lost(Castle::BlackLong));
+    Some(Held {
+        long: lost.held.has(Castle::BlackLong),
+        short: lost.held.has(Castle::BlackShort),
+        supported: supports(&lost, &RuleLine::Rights),
+        query_supported: supports(&query, &RuleLine::Rights),
+    })
 }
 
 /// A castling is held in the target also where the board has lost its king and its rook, and no game reaches it then.
 #[test]
-fn holds_what_the_board_lacks(rt: HostRuntime) -> Result<(), Fail> {
-    let query = position(b"8/8/8/8/8/8/8/4K3 w - -").ok_or("no FEN")?;
-    let lost = target(&query, &Claim::Lost(Castle::BlackLong));
-    assert!(rt; lost.held.has(Castle::BlackLong) && !lost.held.has(Castle::BlackShort));
-    assert!(rt; !supports(&query, &RuleLine::Rights));
-    assert!(rt; supports(&lost, &RuleLine::Rights));
-    Ok(())
+fn holds_what_the_board_lacks(rt: HostRuntime) {
+    let want = Held {
+        long: true,
+        short: false,
+        supported: true,
+        query_supported: false,
+    };
+    assert_eq!(rt; held_without_men(), Some(want));
 }

@@ -5,14 +5,13 @@ use castle_history::{castle_of, held_fits, home, touches};
 use ep_history::double_of;
 use men_account::{Allowance, Counts, account_ok, counts, excess};
 use play_rules::{has_no_pawn_on_ends, has_one_king_each, in_check};
-use std::test::Fail;
 
-fn step(from: u8, to: u8) -> Option<Move> {
-    Some(Move {
-        from: Square::new(from)?,
-        to: Square::new(to)?,
+fn step(from: Square, to: Square) -> Move {
+    Move {
+        from,
+        to,
         promo: None,
-    })
+    }
 }
 
 /// Each side begins with the men of article 2.2, and no pawn can have been promoted yet.
@@ -44,33 +43,45 @@ fn tests_boards(rt: HostRuntime) {
     assert!(rt; !in_check(&array, Colour::White));
 }
 
-/// White's king and rook stand on e1 and h1, and a short castling goes to g1.
-#[test]
-fn tells_castlings(rt: HostRuntime) -> Result<(), Fail> {
-    let (king, rook) = home(Castle::WhiteShort);
-    assert_eq!(rt; (king.index(), rook.index()), (4, 7));
-    assert!(rt; held_fits(&Board::array(), CastleSet::all()));
-    assert!(rt; !held_fits(&Board::empty(), CastleSet::all()));
-    let mv = step(4, 6).ok_or("no square")?;
-    assert!(rt; touches(&mv, Castle::WhiteLong));
+/// The castling that a king's step from e1 to g1 was, on a board where he stands on g1, and on one where nobody stands.
+fn castlings() -> (Option<Castle>, Option<Castle>) {
     let short = Unmove {
-        mv,
+        mv: step(Square::known(4), Square::known(6)),
         captured: None,
         ep: false,
     };
     let mut castled = Board::empty();
     castled.put(Square::known(6), Board::array().at(Square::known(4)));
-    assert!(rt; castle_of(&short, &castled) == Some(Castle::WhiteShort));
-    assert!(rt; castle_of(&short, &Board::empty()).is_none());
-    Ok(())
+    (
+        castle_of(&short, &castled),
+        castle_of(&short, &Board::empty()),
+    )
+}
+
+/// White's king and rook stand on e1 and h1, and a short castling goes to g1.
+#[test]
+fn tells_castlings(rt: HostRuntime) {
+    let (king, rook) = home(Castle::WhiteShort);
+    assert_eq!(rt; (king.index(), rook.index()), (4, 7));
+    assert!(rt; held_fits(&Board::array(), CastleSet::all()));
+    assert!(rt; !held_fits(&Board::empty(), CastleSet::all()));
+    assert!(rt; touches(&step(Square::known(4), Square::known(6)), Castle::WhiteLong));
+    assert_eq!(rt; castlings(), (Some(Castle::WhiteShort), None));
+}
+
+/// The double steps that White's e5d6 and e4d5 answer.
+fn double_steps() -> (Option<Move>, Option<Move>) {
+    let capture = step(Square::known(36), Square::known(43));
+    let other = step(Square::known(28), Square::known(35));
+    (
+        double_of(&capture, Colour::White),
+        double_of(&other, Colour::White),
+    )
 }
 
 /// e5d6 by White answers d7d5, and e4d5 answers no double step.
 #[test]
-fn tells_double_steps(rt: HostRuntime) -> Result<(), Fail> {
-    let capture = step(36, 43).ok_or("no square")?;
-    assert!(rt; double_of(&capture, Colour::White) == step(51, 35));
-    let other = step(28, 35).ok_or("no square")?;
-    assert!(rt; double_of(&other, Colour::White).is_none());
-    Ok(())
+fn tells_double_steps(rt: HostRuntime) {
+    let d7d5 = step(Square::known(51), Square::known(35));
+    assert_eq!(rt; double_steps(), (Some(d7d5), None));
 }

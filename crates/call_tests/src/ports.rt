@@ -1,12 +1,13 @@
 //! Sources and sinks over any reader and writer, in memory, and without faults.
 
+use arrayvec::ArrayVec;
 use retro_ports::{
     Failed, MemSink, MemSource, QuietSink, QuietSource, ReadAllFault, Sink, Source, StdSink,
     StdSource, read_all, write_all,
 };
+use std::alloc::Global;
 use std::io;
 use std::io::{ErrorKind, Read, Write};
-use std::test::Fail;
 
 /// A reader that gives at most so many bytes a call, and may fail once, at its second call.
 #[derive(Drop)]
@@ -69,36 +70,64 @@ impl Write for Writer {
     }
 }
 
+/// Reads two bytes at most, and adds them to all that was read.
+fn read_more(source: &mut StdSource<Reader>, all: &mut ArrayVec<u8, 8>) -> Result<usize, Failed> {
+    let mut buf = [0; 2];
+    let n = source.read(&mut buf)?;
+    let _ = all.try_extend_from_slice(&buf[..n]);
+    Ok(n)
+}
+
+/// The answers of four reads from `abc`, and all that they read.
+fn four_reads(most: usize, fails: bool) -> ([Result<usize, Failed>; 4], ArrayVec<u8, 8>) {
+    let mut source = StdSource::new(Reader {
+        left: b"abc",
+        most,
+        calls: 0,
+        fails,
+    });
+    let mut all = ArrayVec::new();
+    let first = read_more(&mut source, &mut all);
+    let second = read_more(&mut source, &mut all);
+    let third = read_more(&mut source, &mut all);
+    let fourth = read_more(&mut source, &mut all);
+    ([first, second, third, fourth], all)
+}
+
 #[test]
-fn reads_from_any_reader_to_its_end(rt: HostRuntime) -> Result<(), Fail> {
+fn reads_from_any_reader_to_its_end(rt: HostRuntime) {
     for (most, fails, want) in [
         (2, false, [Ok(2), Ok(1), Ok(0), Ok(0)]),
         (1, false, [Ok(1), Ok(1), Ok(1), Ok(0)]),
         (2, true, [Ok(2), Err(Failed), Ok(1), Ok(0)]),
         (1, true, [Ok(1), Err(Failed), Ok(1), Ok(1)]),
     ] {
-        let mut source = StdSource::new(Reader {
-            left: b"abc",
-            most,
-            calls: 0,
-            fails,
-        });
-        let mut all = Vec::new(rt.alloc());
-        for answer in want {
-            let mut buf = [0; 2];
-            let read = source.read(&mut buf);
-            assert_eq!(rt; read, answer);
-            if let Ok(n) = read {
-                all.extend_from_slice(&buf[..n])?;
-            }
-        }
-        assert!(rt; all.as_slice() == b"abc".as_slice());
+        let (answers, all) = four_reads(most, fails);
+        assert_eq!(rt; (answers, all.as_slice()), (want, b"abc".as_slice()));
     }
-    Ok(())
+}
+
+/// The answers of two writes of `ab`, and the bytes that were passed on.
+fn two_writes(
+    alloc: Global,
+    most: usize,
+    failing: Failing,
+) -> ([Result<usize, Failed>; 2], Vec<u8>) {
+    let mut writer = Writer {
+        most,
+        failing,
+        held: Vec::new(alloc),
+        passed_on: Vec::new(alloc),
+    };
+    let mut sink = StdSink::new(&mut writer);
+    let first = sink.write(b"ab");
+    let second = sink.write(b"ab");
+    drop(sink);
+    ([first, second], writer.passed_on)
 }
 
 #[test]
-fn writes_through_any_writer(rt: HostRuntime) -> Result<(), Fail> {
+fn writes_through_any_writer(rt: HostRuntime) {
     let failed = Err(Failed);
     for (most, failing, want, passed_on) in [
         (2, Failing::Nothing, [Ok(2), Ok(2)], b"abab".as_slice()),
@@ -107,73 +136,96 @@ fn writes_through_any_writer(rt: HostRuntime) -> Result<(), Fail> {
         (2, Failing::Write, [failed, Ok(2)], b"ab".as_slice()),
         (2, Failing::Flush, [failed, Ok(2)], b"abab".as_slice()),
     ] {
-        let mut writer = Writer {
-            most,
-            failing,
-            held: Vec::new(rt.alloc()),
-            passed_on: Vec::new(rt.alloc()),
-        };
-        let mut sink = StdSink::new(&mut writer);
-        for answer in want {
-            assert_eq!(rt; sink.write(b"ab"), answer);
-        }
-        drop(sink);
-        assert!(rt; writer.passed_on.as_slice() == passed_on);
+        let (answers, bytes) = two_writes(rt.alloc(), most, failing);
+        assert_eq!(rt; (answers, bytes.as_slice()), (want, passed_on));
     }
-    Ok(())
+}
+
+/// Whether all that is read of `abcde` within a limit is that, or the fault. The read of this number fails, and each gives two bytes at most.
+fn reads_five(alloc: Global, limit: u32, failing: u32) -> Option<Result<bool, ReadAllFault>> {
+    let bytes = Vec::from_slice(alloc, b"abcde").ok()?;
+    let fails = Vec::from_slice(alloc, &[failing]).ok()?;
+    let mut source = MemSource::new(bytes, fails, 2);
+    match read_all(alloc, &mut source, limit as usize) {
+        Ok(all) => Some(Ok(all.as_slice() == b"abcde".as_slice())),
+        Err(fault) => Some(Err(fault)),
+    }
 }
 
 #[test]
-fn reads_all_within_the_limit(rt: HostRuntime) -> Result<(), Fail> {
+fn reads_all_within_the_limit(rt: HostRuntime) {
     for (limit, failing, want) in [
-        (5, 9, None),
-        (4, 9, Some(ReadAllFault::TooLong)),
-        (5, 1, Some(ReadAllFault::Failed)),
-        (4, 2, Some(ReadAllFault::Failed)),
+        (5, 9, Ok(true)),
+        (4, 9, Err(ReadAllFault::TooLong)),
+        (5, 1, Err(ReadAllFault::Failed)),
+        (4, 2, Err(ReadAllFault::Failed)),
     ] {
-        let bytes = Vec::from_slice(rt.alloc(), b"abcde")?;
-        let fails = Vec::from_slice(rt.alloc(), &[failing])?;
-        let mut source = MemSource::new(bytes, fails, 2);
-        match read_all(rt.alloc(), &mut source, limit) {
-            Ok(all) => {
-                assert_eq!(rt; want, None);
-                assert!(rt; all.as_slice() == b"abcde".as_slice());
-            }
-            Err(fault) => assert_eq!(rt; Some(fault), want),
-        }
+        let row = (limit, failing);
+        assert_eq!(rt;
+            (row, reads_five(rt.alloc(), limit, failing)),
+            (row, Some(want))
+        );
     }
-    Ok(())
+}
+
+/// Of a write of `abcde` whether it went well, how many bytes were taken, and whether they are the first.
+#[derive(Clone, Copy, PartialEq, Eq, Debug)]
+struct Written {
+    well: bool,
+    taken: usize,
+    first: bool,
+}
+
+/// What is written into this room, by two bytes at most at a time, where the write of this number fails.
+fn written_into(alloc: Global, room: usize, failing: u32) -> Option<Written> {
+    let fails = Vec::from_slice(alloc, &[failing]).ok()?;
+    let mut sink = MemSink::new(alloc, room, fails, 2).ok()?;
+    let well = write_all(&mut sink, b"abcde").is_ok();
+    Some(Written {
+        well,
+        taken: sink.taken().len(),
+        first: b"abcde".as_slice().starts_with(sink.taken()),
+    })
 }
 
 #[test]
-fn writes_all_within_the_room(rt: HostRuntime) -> Result<(), Fail> {
+fn writes_all_within_the_room(rt: HostRuntime) {
     for (room, failing, taken) in [(5, 9, 5), (4, 9, 4), (5, 1, 2)] {
-        let fails = Vec::from_slice(rt.alloc(), &[failing])?;
-        let mut sink = MemSink::new(rt.alloc(), room, fails, 2)?;
-        assert_eq!(rt; write_all(&mut sink, b"abcde").is_ok(), taken == 5);
-        assert_eq!(rt; sink.taken().len(), taken);
-        assert!(rt; b"abcde".as_slice().starts_with(sink.taken()));
+        let want = Written {
+            well: taken == 5,
+            taken,
+            first: true,
+        };
+        let row = (room, failing);
+        assert_eq!(rt;
+            (row, written_into(rt.alloc(), room, failing)),
+            (row, Some(want))
+        );
     }
-    Ok(())
 }
 
-#[test]
-fn reads_with_no_fault(rt: HostRuntime) -> Result<(), Fail> {
-    let mut source = QuietSource::new(Vec::from_slice(rt.alloc(), b"abc")?);
+/// The answers of three reads from `abc` into two bytes, and the bytes that were read.
+fn three_reads(alloc: Global) -> Option<([Result<usize, Failed>; 3], [u8; 3])> {
+    let mut source = QuietSource::new(Vec::from_slice(alloc, b"abc").ok()?);
     let mut buf = [0; 2];
-    assert_eq!(rt; source.read(&mut buf), Ok(2));
-    assert!(rt; buf.as_slice() == b"ab".as_slice());
-    assert_eq!(rt; source.read(&mut buf), Ok(1));
-    assert_eq!(rt; buf[0], b'c');
-    assert_eq!(rt; source.read(&mut buf), Ok(0));
-    Ok(())
+    let first = source.read(&mut buf);
+    let [a, b] = buf;
+    let second = source.read(&mut buf);
+    let c = buf[0];
+    let third = source.read(&mut buf);
+    Some(([first, second, third], [a, b, c]))
 }
 
 #[test]
-fn takes_any_piece_whole(rt: HostRuntime) -> Result<(), Fail> {
+fn reads_with_no_fault(rt: HostRuntime) {
+    let want = ([Ok(2), Ok(1), Ok(0)], *b"abc");
+    assert_eq!(rt; three_reads(rt.alloc()), Some(want));
+}
+
+#[test]
+fn takes_any_piece_whole(rt: HostRuntime) {
     let mut sink = QuietSink::new();
-    assert_eq!(rt; sink.write(b"a"), Ok(1));
-    assert_eq!(rt; sink.write(b"abcde"), Ok(5));
+    let answers = [sink.write(b"a"), sink.write(b"abcde")];
+    assert_eq!(rt; answers, [Ok(1), Ok(5)]);
     assert!(rt; write_all(&mut sink, b"").is_ok());
-    Ok(())
 }
