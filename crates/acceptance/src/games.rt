@@ -6,8 +6,7 @@ use board_base::{Kind, Move, Odds, SquareSet, Unmove, is_a};
 use game_text::read_game;
 use play_rules::{State, step};
 use query_base::Query;
-use std::process::Abort;
-use std::test::Fail;
+use std::alloc::Global;
 use unmove_gen::{is_unmove, pred};
 
 /// Games that were played: Morphy's at the opera, Anderssen's immortal one, Byrne against Fischer in 1956, Gundersen against Faul
@@ -51,52 +50,77 @@ fn clock_of(state: &State) -> Option<u16>
     }
 }
 
-/// Each move of the game at these odds is a retraction of the position after it, and its predecessor is the position before, whose clock
-/// is told where the move didn't set it to 0.
-fn assert_retractions(rt: &impl Abort, odds: Odds, moves: &[Move]) {
+/// Whether the move from this state to the next is a retraction of the position after it, and its predecessor is the position before,
+/// whose clock is told where the move didn't set it to 0.
+fn is_taken_back(odds: Odds, state: &State, m: &Move, next: &State) -> bool {
+    let u = unmove_of(state, m);
+    let query = Query {
+        board: *next.board(),
+        turn: next.turn(),
+        odds,
+        held: next.rights(),
+        only: None,
+        barred: None,
+        clock: clock_of(next),
+    };
+    if !is_unmove(&query, &u) {
+        return false;
+    }
+    let before = pred(&query, &u);
+    before.board == *state.board()
+        && before.turn == state.turn()
+        && before.odds == odds
+        && before.clock.is_none() == (next.clock() == 0)
+        && (before.clock.is_none() || before.clock == clock_of(state))
+        && u.ep == before.only.is_some()
+}
+
+/// The number of the first move of the game at these odds that can't be made, or isn't taken back, counted from 0.
+fn first_otherwise(odds: Odds, moves: &[Move]) -> Option<usize> {
     let mut state = State::start_of(odds);
-    for m in moves {
-        let u = unmove_of(&state, m);
-        let after = step(&state, m);
-        assert!(rt; after.is_ok());
-        let Ok(next) = after else {
-            return;
+    for (i, m) in moves.iter().enumerate() {
+        let Ok(next) = step(&state, m) else {
+            return Some(i);
         };
-        let query = Query {
-            board: *next.board(),
-            turn: next.turn(),
-            odds,
-            held: next.rights(),
-            only: None,
-            barred: None,
-            clock: clock_of(&next),
-        };
-        let listed = is_unmove(&query, &u);
-        assert!(rt; listed);
-        if listed {
-            let before = pred(&query, &u);
-            assert!(rt; before.board == *state.board());
-            assert!(rt; before.turn == state.turn());
-            assert!(rt; before.odds == odds);
-            assert_eq!(rt; before.clock.is_none(), next.clock() == 0);
-            assert!(rt; before.clock.is_none() || before.clock == clock_of(&state));
-            assert!(rt; u.ep == before.only.is_some());
+        if !is_taken_back(odds, &state, m, &next) {
+            return Some(i);
         }
         state = next;
     }
+    None
+}
+
+/// A game that isn't taken back, with the number of its first move that isn't, or None where it can't be read.
+type Otherwise = (&'static [u8], Option<usize>);
+
+/// The game at these odds, if it isn't taken back.
+fn otherwise(alloc: Global, odds: Odds, game: &'static [u8]) -> Option<Otherwise> {
+    if game.len() > 10_000 {
+        return Some((game, None));
+    }
+    let Ok(moves) = read_game(alloc, game) else {
+        return Some((game, None));
+    };
+    match first_otherwise(odds, &moves) {
+        Some(i) => Some((game, Some(i))),
+        None => None,
+    }
+}
+
+/// The first game that isn't taken back.
+fn first_of_games(alloc: Global) -> Option<Otherwise> {
+    for game in GAMES {
+        let found = otherwise(alloc, Odds::none(), game);
+        if found.is_some() {
+            return found;
+        }
+    }
+    None
 }
 
 #[test]
-fn takes_games_back(rt: HostRuntime) -> Result<(), Fail> {
-    for game in GAMES {
-        let read = read_game(rt.alloc(), game);
-        assert!(rt; read.is_ok());
-        let Ok(moves) = read else {
-            return Ok(());
-        };
-        assert_retractions(&rt, Odds::none(), &moves);
-    }
-    Ok(())
+fn takes_games_back(rt: HostRuntime) {
+    assert_eq!(rt; first_of_games(rt.alloc()), None);
 }
 
 /// A game without the knight of b1, and one without the rook of a1 and the pawn of f7, in which White castles on the other side and a pawn
@@ -112,12 +136,21 @@ const AT_ODDS: [(u64, &[u8]); 2] = [
     ),
 ];
 
-#[test]
-fn takes_games_at_odds_back(rt: HostRuntime) -> Result<(), Fail> {
+/// The first game at odds that isn't taken back, or whose odds can't be given.
+fn first_at_odds(alloc: Global) -> Option<Otherwise> {
     for (bits, game) in AT_ODDS {
-        let odds = Odds::new(SquareSet::from_bits(bits)).ok_or("homes")?;
-        let moves = read_game(rt.alloc(), game)?;
-        assert_retractions(&rt, odds, &moves);
+        let Some(odds) = Odds::new(SquareSet::from_bits(bits)) else {
+            return Some((game, None));
+        };
+        let found = otherwise(alloc, odds, game);
+        if found.is_some() {
+            return found;
+        }
     }
-    Ok(())
+    None
+}
+
+#[test]
+fn takes_games_at_odds_back(rt: HostRuntime) {
+    assert_eq!(rt; first_at_odds(rt.alloc()), None);
 }

@@ -1,8 +1,7 @@
-use board_base::read_move;
+use board_base::{Move, read_move};
 use fen_text::read_fen;
 use play_rules::{State, legal_moves, step};
 use std::alloc::Global;
-use std::test::Fail;
 
 /// How many lines of so many legal moves begin in this state.
 fn perft(alloc: Global, state: &State, depth: u8) -> Option<u64> {
@@ -61,16 +60,23 @@ fn counts_lines(rt: HostRuntime) {
 }
 
 /// The 20 first moves, by origin and target.
-#[test]
-fn lists_first_moves(rt: HostRuntime) -> Result<(), Fail> {
-    let moves = legal_moves(rt.alloc(), &State::start())?;
-    let texts = [
-        "b1a3", "b1c3", "g1f3", "g1h3", "a2a3", "a2a4", "b2b3", "b2b4", "c2c3", "c2c4", "d2d3",
-        "d2d4", "e2e3", "e2e4", "f2f3", "f2f4", "g2g3", "g2g4", "h2h3", "h2h4",
-    ];
-    assert_eq!(rt; moves.len(), texts.len());
-    for (m, text) in moves.iter().zip(&texts) {
-        assert_eq!(rt; read_move(text.as_bytes()), Some(*m), "{text}");
+const FIRST_MOVES: [&str; 20] = [
+    "b1a3", "b1c3", "g1f3", "g1h3", "a2a3", "a2a4", "b2b3", "b2b4", "c2c3", "c2c4", "d2d3", "d2d4",
+    "e2e3", "e2e4", "f2f3", "f2f4", "g2g3", "g2g4", "h2h3", "h2h4",
+];
+
+/// How many first moves are listed, and the first that isn't the one of its text, with the text.
+fn first_moves(alloc: Global) -> Option<(usize, Option<(Move, &'static str)>)> {
+    let moves = legal_moves(alloc, &State::start()).ok()?;
+    for (m, text) in moves.iter().zip(&FIRST_MOVES) {
+        if read_move(text.as_bytes()) != Some(*m) {
+            return Some((moves.len(), Some((*m, *text))));
+        }
     }
-    Ok(())
+    Some((moves.len(), None))
+}
+
+#[test]
+fn lists_first_moves(rt: HostRuntime) {
+    assert_eq!(rt; first_moves(rt.alloc()), Some((FIRST_MOVES.len(), None)));
 }
