@@ -15,6 +15,9 @@ fn read(alloc: Global, words: &[u8]) -> Result<Vec<Move>, GameFault> {
 /// How many moves words tell, and whose turn it is after them, or the first that is illegal.
 fn replayed(alloc: Global, words: &[u8]) -> Result<(usize, Result<Colour, IllegalAt>), GameFault> {
     let moves = read(alloc, words)?;
+    if moves.len() > 1_000 {
+        return Err(GameFault::Memory);
+    }
     let turn = match replay(&moves) {
         Ok(state) => Ok(state.turn()),
         Err(fault) => Err(fault),
