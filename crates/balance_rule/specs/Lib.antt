@@ -1,5 +1,6 @@
 pub mod Costs
 pub mod Balance
+pub mod EqualPrices
 pub mod LeastWays
 pub mod Tariffs
 pub mod Grounds

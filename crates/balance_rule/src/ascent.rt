@@ -1,7 +1,8 @@
-ghost use Rattle.std.specs.Prelude.{IfSome, Some, ◌<◌};
+ghost use Rattle.std.specs.Prelude.{IfSome, IsSome, Some, ◌≡◌, ◌<◌};
 ghost use Rattle.balance_rule.specs.Balance.{BalanceSupports};
+ghost use Rattle.balance_rule.specs.EqualPrices.{EqualPricesSupport, equal_prices};
 
-use crate::balance::{balances, most_cost};
+use crate::balance::{balances, is_whole, most_cost};
 use crate::grounds::{Ground, ground_of, set_prices};
 use crate::tables::{begun_with, cost_table};
 use crate::tallies::{Tally, tally_of};
@@ -209,11 +210,23 @@ fn ascend(query: &Query, set: SquareSet) -> Option<Prices> {
     None
 }
 
-/// Prices that support the query with this set, if they are found. The search begins with equal prices and no gates, and moves each
-/// price along its slope: what would be paid for it at the least cost, less what would be earned.
-fn find_prices(query: &Query, set: SquareSet) -> Option<Prices>
-    ensures { IfSome result (λ prices. BalanceSupports query.now set prices) }
+/// Each capture costs one unit, and there are no gates.
+fn equal_prices() -> Prices
+    ensures { result ≡ equal_prices }
 {
+    Prices::known(&[24; 16], &[24; 16], &[])
+}
+
+/// Prices that support the query with this set, if they are found. Equal prices without gates are tried first. The search begins with
+/// these, and moves each price along its slope: what would be paid for it at the least cost, less what would be earned.
+fn find_prices(query: &Query, set: SquareSet) -> Option<Prices>
+    ensures supports { IfSome result (λ prices. BalanceSupports query.now set prices) }
+    ensures equal { BalanceSupports query.now set equal_prices → IsSome result }
+{
+    let equal = equal_prices();
+    if balances(query, set, &equal) {
+        return Some(equal);
+    }
     let prices = ascend(query, set)?;
     if balances(query, set, &prices) {
         Some(prices)
@@ -222,12 +235,14 @@ fn find_prices(query: &Query, set: SquareSet) -> Option<Prices>
     }
 }
 
-/// A set and prices that support the query, if they are found: none need be, even where there are some. The set is the greatest one that
-/// is as in the array.
+/// A set and prices that support the query, if they are found. They are where equal prices support it; elsewhere none need be, even
+/// where there are some. The set is the greatest one that is as in the array.
 pub fn find_balance(query: &Query) -> Option<(SquareSet, Prices)>
-    ensures { IfSome result (λ found. BalanceSupports query.now found.0 found.1) }
+    ensures supports { IfSome result (λ found. BalanceSupports query.now found.0 found.1) }
+    ensures equal { EqualPricesSupport query.now → IsSome result }
 {
     let set = greatest_as_array(query);
+    is_whole(set);
     match find_prices(query, set) {
         Some(prices) => Some((set, prices)),
         None => None,

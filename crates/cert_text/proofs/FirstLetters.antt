@@ -1,5 +1,5 @@
 -- A line of odds, of a clock and of a FEN begin with different letters, so a line of one kind is none of another.
-use Rattle.std.proofs.Common.{◌≡◌, ℕ, Bool, List, get_or, Option, Some, None, sym, ap, ◌∙◌, arith}
+use Rattle.std.proofs.Common.{◌≡◌, ℕ, Bool, List, get_or, Some, None, sym, ap, ◌∙◌, arith}
 use Rattle.query_base.specs.Asked.{Asked}
 use Rattle.fen_text.specs.ClockLines.{clock_line}
 use Rattle.fen_text.specs.OddsLines.{odds_line}

@@ -6,8 +6,9 @@ use Rattle.query_base.specs.Asked.{Asked}
 use Rattle.query_base.specs.Targets.{target}
 use Rattle.query_base.specs.declared.claims.Claim.{Claim}
 use Rattle.cert_text.specs.Certificate.{Certificate, IsTextOf}
+use Rattle.balance_rule.specs.EqualPrices.{EqualPricesSupport}
 use Rattle.retro_search.specs.Answers.{IsProofOf}
-use Rattle.retro_search.specs.Unsettled.{IsAgainst, StaysUnsettled, WhereRefutable}
+use Rattle.retro_search.specs.Unsettled.{IsAgainst, IsUnpriced, StaysUnsettled, WhereRefutable}
 use Rattle.command_answers.specs.Limits.{most_bytes}
 use Rattle.command_answers.specs.Questions.{fault_line}
 use Rattle.command_answers.specs.Solves.{countered_line, spent_line, undecided_line}
@@ -25,12 +26,15 @@ pub record TellsSettlingProof (depth : ℕ) (claim : Claim) (q : Asked) (text : 
   pub is_text : IsTextOf text cert
   pub short : length text ≤ most_bytes
 
--- The claim's target isn't refutable at the depth by rule lines. The text tells a line of it that is open at the depth, ends elsewhere
--- than at the array, and has fewer moves than the nodes.
+-- The claim's target isn't refutable at the depth by rule lines, and equal prices don't support it. The text tells a line of it that is
+-- open at the depth, ends elsewhere than at the array, and has fewer moves than the nodes. Where these are at most 250,000, equal prices
+-- support no query on the line.
 pub record TellsUnsettledLine (depth nodes : ℕ) (claim : Claim) (q : Asked) (text : List ℕ) : Type 0 where
   pub line : List Unmove
   pub unsettled : StaysUnsettled line (target q claim) depth
   pub few : length line < nodes
+  pub unpriced : EqualPricesSupport (target q claim) → ⊥
+  pub line_unpriced : nodes ≤ 250000 → IsUnpriced (target q claim) line
   pub text_is : text ≡ undecided_line line
 
 -- The text tells a game that contradicts the claim, and has no more moves than the depth and fewer than the nodes.
@@ -40,10 +44,11 @@ pub record TellsGame (depth nodes : ℕ) (claim : Claim) (q : Asked) (text : Lis
   pub few : length game < nodes
   pub text_is : text ≡ countered_line game
 
--- Where the claim's target is refutable by rule lines at some depth up to this one, it costs more than the nodes. The text says that these
--- are spent.
+-- Where the claim's target is refutable by rule lines at some depth up to this one, it costs more than the nodes, and equal prices don't
+-- support it. The text says that the nodes are spent.
 pub record TellsSpentThere (depth nodes : ℕ) (claim : Claim) (q : Asked) (text : List ℕ) : Type 0 where
   pub dear : WhereRefutable (target q claim) depth (λ n. nodes < n)
+  pub unpriced : EqualPricesSupport (target q claim) → ⊥
   pub text_is : text ≡ spent_line nodes
 
 -- what is said of a claim about a query

@@ -1,6 +1,6 @@
 -- Inner: no public clause cites this file.
 -- The lines of a head and of a part, read from the first on.
-use Rattle.std.specs.Prelude.{ℕ, Bool, cond, nat_eq, nat_le, List, [], ◌∷◌, drop, codes, Option, Some, None}
+use Rattle.std.specs.Prelude.{ℕ, cond, nat_eq, nat_le, List, [], ◌∷◌, drop, codes, Option, Some, None}
 use Rattle.std.specs.List.{starts_with}
 use Rattle.std.specs.Option.{option_and_then, option_map}
 use Rattle.std.specs.Str.{bytes_eq}

@@ -1,5 +1,5 @@
 -- A query that is expanded, child after child.
-use Rattle.std.proofs.Common.{◌≡◌, ◌≢◌, ℕ, suc, ◌+◌, ◌-◌, ◌<◌, ◌≤◌, max, false, inl, inr, List, [], ◌∷◌, ◌++◌, take, refl, sym, ap, ◌∙◌, subst, arith}
+use Rattle.std.proofs.Common.{◌≡◌, ◌≢◌, ℕ, suc, ◌+◌, ◌*◌, ◌-◌, ◌<◌, ◌≤◌, max, false, inl, inr, List, [], ◌∷◌, ◌++◌, take, refl, sym, ap, ◌∙◌, subst, arith}
 use Rattle.std.proofs.lemmas.List.{append_assoc, append-nil}
 use Rattle.std.proofs.lemmas.List.Elements.{Contains-append_right}
 use Rattle.std.specs.List.{Contains}
@@ -58,6 +58,7 @@ pub record Expands (q : Asked) (below : ℕ) (ancestors : List Asked) (rest : Li
   pub parts : unmoves q ≡ done ++ rest
   pub are : AreChildren c q done below ancestors
   pub plain : first.reasons ≡ RuleLines → first.memo.on ≡ false → c.lines + now.left ≤ first.left
+  pub twice : first.memo.on ≡ false → c.lines + 2 * now.left ≤ 2 * first.left
   pub on : GoesOn first now
   pub lined : first.reasons ≡ RuleLines → AreByRuleLines c.kids
   pub keeps : first.reasons ≡ RuleLines → KeepsRuleLines now.memo
@@ -84,7 +85,8 @@ expands_none q below ancestors rest c run all empty numbers sound keeps =
       parts = refl;
       are = no_children c q below ancestors empty numbers;
       plain = λ by off. omega (arith, numbers.2);
-      on = record { sound = sound; mode = refl; fewer = omega arith; reasons = refl };
+      twice = λ off. omega (arith, numbers.2);
+      on = record { sound = sound; mode = refl; fewer = omega arith; reasons = refl; vain = λ vain. vain };
       lined = λ by. subst AreByRuleLines (sym empty) tt;
       keeps = keeps;
       cost = λ counted n sums. record { later = n; sums = sums; total = omega arith };
@@ -128,8 +130,8 @@ own_number : (q p : Asked) (below : ℕ) (ancestors above : List Asked) (u : Unm
 own_number q p below ancestors above u n here up h =
     subst (λ (b : Asked). IsCost b below above n) (sym here) (subst (λ (l : List Asked). IsCost (predecessor q u) below l n) (sym up) h)
 
-pub expands_more : (q : Asked) (below : ℕ) (ancestors : List Asked) (rest others : List Unmove) (c more : Children) (run now first : Run) (u : Unmove) (r : Refutation) (p : Asked) (above : List Asked) → p ≡ predecessor q u → above ≡ q ∷ ancestors → Expands q below ancestors rest c run first → rest ≡ u ∷ others → Adds c u r more → IsRefutation r p below above → (run.reasons ≡ RuleLines → IsByRuleLines (tree_of r.node)) → (run.reasons ≡ RuleLines → KeepsRuleLines now.memo) → (run.reasons ≡ RuleLines → run.memo.on ≡ false → r.lines + now.left ≤ run.left) → GoesOn run now → (IsRefutable p below above → (n : ℕ) → IsCost p below above n → run.left ≤ now.left + n) → Expands q below ancestors others more now first
-expands_more q below ancestors rest others c more run now first u r p above here up x next a f lined keeps plain on cost =
+pub expands_more : (q : Asked) (below : ℕ) (ancestors : List Asked) (rest others : List Unmove) (c more : Children) (run now first : Run) (u : Unmove) (r : Refutation) (p : Asked) (above : List Asked) → p ≡ predecessor q u → above ≡ q ∷ ancestors → Expands q below ancestors rest c run first → rest ≡ u ∷ others → Adds c u r more → IsRefutation r p below above → (run.reasons ≡ RuleLines → IsByRuleLines (tree_of r.node)) → (run.reasons ≡ RuleLines → KeepsRuleLines now.memo) → (run.reasons ≡ RuleLines → run.memo.on ≡ false → r.lines + now.left ≤ run.left) → (run.memo.on ≡ false → r.lines + 2 * now.left ≤ 2 * run.left) → GoesOn run now → (IsRefutable p below above → (n : ℕ) → IsCost p below above n → run.left ≤ now.left + n) → Expands q below ancestors others more now first
+expands_more q below ancestors rest others c more run now first u r p above here up x next a f lined keeps plain twice on cost =
     let same : first.reasons ≡ RuleLines → run.reasons ≡ RuleLines = λ by. x.on.reasons ∙ by in
     let kid : AreCounted first.reasons q below ancestors → IsRefutable p below above = λ counted. elim counted [
       | inl by ↦ refuted r p below above f (lined (same by))
@@ -140,7 +142,8 @@ expands_more q below ancestors rest others c more run now first u r p above here
       parts = x.parts ∙ ap (λ (l : List Unmove). x.done ++ l) next ∙ sym (append_assoc x.done (u ∷ []) others);
       are = one_more c more q p x.done u r below ancestors above here up x.are f a;
       plain = λ by off. omega (arith, a.lines, x.plain by off, plain (same by) (x.on.mode ∙ off));
-      on = record { sound = on.sound; mode = on.mode ∙ x.on.mode; fewer = omega (arith, on.fewer, x.on.fewer); reasons = on.reasons ∙ x.on.reasons };
+      twice = λ off. omega (arith, a.lines, x.twice off, twice (x.on.mode ∙ off));
+      on = record { sound = on.sound; mode = on.mode ∙ x.on.mode; fewer = omega (arith, on.fewer, x.on.fewer); reasons = on.reasons ∙ x.on.reasons; vain = λ vain. on.vain (x.on.vain vain) };
       lined = λ by. subst AreByRuleLines (sym a.kids) (lined_more c.kids u (tree_of r.node) (x.lined by) (lined (same by)));
       keeps = λ by. keeps (same by);
       cost = λ counted n sums.
@@ -192,6 +195,14 @@ if_large stop.Memory P Q f h = h
 pub children_large : (q : Asked) (below : ℕ) (ancestors : List Asked) (rest : List Unmove) (c : Children) (run now first : Run) (r : Refutation) (s : Unrefuted) → Expands q below ancestors rest c run first → (run.reasons ≡ RuleLines → run.memo.on ≡ false → r.lines + now.left ≤ run.left) → first.left < 500000 → IfTooLarge s (500000 ≤ c.lines + r.lines) → first.reasons ≡ RuleLines → IfTooLarge s (first.memo.on ≡ false → ⊥)
 children_large q below ancestors rest c run now first r s x plain few large by =
     if_large s _ _ (λ (h : 500000 ≤ c.lines + r.lines) (off : first.memo.on ≡ false). omega (arith, x.plain by off, plain (x.on.reasons ∙ by) (x.on.mode ∙ off))) large
+
+pub expands_visits : (q : Asked) (below : ℕ) (ancestors : List Asked) (rest : List Unmove) (c : Children) (run first : Run) (u : Unmove) (s t : Unrefuted) → Expands q below ancestors rest c run first → IsLengthened s u t → IfTooLarge s (run.memo.on ≡ false → 250000 < run.left) → IfTooLarge t (first.memo.on ≡ false → 250000 ≤ first.left)
+expands_visits q below ancestors rest c run first u s t x longer large =
+    stop_large s t u _ _ (λ (h : run.memo.on ≡ false → 250000 < run.left) (off : first.memo.on ≡ false). omega (arith, h (x.on.mode ∙ off), x.on.fewer)) longer large
+
+pub children_visits : (q : Asked) (below : ℕ) (ancestors : List Asked) (rest : List Unmove) (c : Children) (run now first : Run) (r : Refutation) (s : Unrefuted) → Expands q below ancestors rest c run first → (run.memo.on ≡ false → r.lines + 2 * now.left ≤ 2 * run.left) → IfTooLarge s (500000 ≤ c.lines + r.lines) → IfTooLarge s (first.memo.on ≡ false → 250000 ≤ first.left)
+children_visits q below ancestors rest c run now first r s x twice large =
+    if_large s _ _ (λ (h : 500000 ≤ c.lines + r.lines) (off : first.memo.on ≡ false). omega (arith, h, x.twice off, twice (x.on.mode ∙ off))) large
 
 pub expands_all : (q : Asked) (below : ℕ) (ancestors : List Asked) (rest : List Unmove) (c : Children) (run first : Run) (r : Refutation) → Expands q below ancestors rest c run first → rest ≡ [] → (Reaches [] q → ⊥) → tree_of r.node ≡ expand c.kids → r.lean ≡ c.lean → r.height ≡ c.highest + 1 → r.lines ≡ c.lines + 1 → IsRefutation r q (suc below) ancestors
 expands_all q below ancestors rest c run first r x end elsewhere tree lean high counted =

@@ -1,6 +1,7 @@
 pub mod Trees
 pub mod Lines
 pub mod Maps
+pub mod Pricing
 pub mod Settled
 pub mod Costs
 pub mod Expansions

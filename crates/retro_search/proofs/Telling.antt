@@ -1,6 +1,6 @@
 -- What an answer says of a query and of a claim, by what the search came to.
-use Rattle.std.proofs.Common.{◌≡◌, ℕ, ◌<◌, ◌≤◌, List, [], length, refl, sym, ap, subst, arith}
-use Rattle.std.specs.Prelude.{◌↔◌, IfErr, IfOk, IsTrue, None, Result, Ok, Err, reverse, map, true, false}
+use Rattle.std.proofs.Common.{◌≡◌, ℕ, ◌<◌, ◌≤◌, ◌⊎◌, inl, inr, List, [], length, sym, ap, subst, arith}
+use Rattle.std.specs.Prelude.{◌↔◌, IfErr, IfOk, IsTrue, None, Result, Err, reverse, map, true, false}
 use Rattle.std.proofs.lemmas.List.{length-map, length-reverse}
 use Rattle.board_base.specs.declared.moves.Move.{Move}
 use Rattle.board_base.specs.declared.unmoves.Unmove.{Unmove}
@@ -8,9 +8,9 @@ use Rattle.query_base.specs.Asked.{Asked}
 use Rattle.query_base.specs.Reach.{Contradicts, Reaches}
 use Rattle.query_base.specs.Targets.{target}
 use Rattle.query_base.specs.declared.claims.Claim.{Claim}
+use Rattle.balance_rule.specs.EqualPrices.{EqualPricesSupport}
 use Rattle.cert_text.specs.Seen.{tree_of}
 use Rattle.cert_text.specs.SeenCert.{cert_of}
-use Rattle.cert_text.specs.ClaimLines.{promotes_well}
 use Rattle.cert_text.specs.Certificate.{HasText}
 use Rattle.cert_text.specs.Writable.{stays_on_board, IsQuery}
 use Rattle.cert_text.specs.declared.certificates.Cert.{Cert}
@@ -28,15 +28,16 @@ use Rattle.retro_search.specs.Sizes.{nodes_in}
 use Rattle.retro_search.specs.Tidy.{IsFresh}
 use Rattle.retro_search.specs.Told.{IsTold, Tells, TellsOpenLine, certificate}
 use Rattle.retro_search.specs.Unrefuted.{IfOpen, IfSpent}
-use Rattle.retro_search.specs.Unsettled.{IsAgainst, StaysUnsettled, WhereRefutable}
+use Rattle.retro_search.specs.Unsettled.{IsAgainst, IsUnpriced, StaysUnsettled, WhereRefutable}
 use Rattle.retro_search.specs.declared.answers.Found.{Found}
 use Rattle.retro_search.specs.declared.answers.Found.TheVariants as found
 use Rattle.retro_search.specs.declared.refutations.Refutation.{Refutation}
-use Rattle.retro_search.specs.declared.runs.Reasons.TheVariants.{RuleLines}
+use Rattle.retro_search.specs.declared.runs.Reasons.TheVariants.{All, RuleLines}
 use Rattle.retro_search.specs.declared.runs.Run.{Run}
 use Rattle.retro_search.specs.declared.unrefuted.OpenLine.{OpenLine}
 use Rattle.retro_search.specs.declared.unrefuted.Unrefuted.{Unrefuted}
 use Rattle.retro_search.specs.declared.unrefuted.Unrefuted.TheVariants as why
+use Rattle.retro_search.specs.declared.unrefuted.Unrefuted.TheVariants.{Memory}
 use Rattle.retro_search.proofs.Bound.Goods.{if_ok_both, memo_afforded, memo_spent}
 use Rattle.retro_search.proofs.Costs.Deeper.{deeper_refutable}
 use Rattle.retro_search.proofs.Expansions.{if_err}
@@ -177,6 +178,28 @@ pub told_against : (claim : Claim) (q : Asked) (depth nodes : ℕ) (run : Run) (
 told_against claim q depth nodes run f t =
     on_countered claim q nodes t.came f (λ g. IsAgainst g claim q depth) t.tells
     (if_err t.came _ _ (λ s. if_open s _ _ (λ line o g whole array. against line g claim q depth t.contradicted o whole array)) t.comes.unsettled)
+
+pub told_unpriced : (claim : Claim) (q : Asked) (depth nodes : ℕ) (run : Run) (f : Found) → run.reasons ≡ All → nodes ≤ 250000 → IsTold depth nodes run claim q f → IfUndecided f (IsUnpriced (target q claim))
+told_unpriced claim q depth nodes run f by few t =
+    on_undecided claim q nodes t.came f (IsUnpriced (target q claim)) t.tells
+    (if_err t.came _ _ (λ s. if_open s _ _ (λ line o l whole apart. subst (IsUnpriced (target q claim)) (sym whole) o)) (t.comes.unpriced by few))
+
+-- what equal prices support is refuted, where a query may be visited
+priced_err : (why : Unrefuted) (nodes : ℕ) (P : Type 0) → 1 ≤ nodes → (why ≡ Memory → P) → (why ≡ Memory) ⊎ (nodes ≡ 0) → P
+priced_err why nodes P some memory (inl e) = memory e
+priced_err why nodes P some memory (inr none) = absurd (omega arith)
+
+priced_found : (claim : Claim) (q : Asked) (nodes : ℕ) (came : Result Refutation Unrefuted) (f : Found) → 1 ≤ nodes → Tells claim q nodes came f → IfErr came (λ why. (why ≡ Memory) ⊎ (nodes ≡ 0)) → IsProved f
+priced_found claim q nodes came (found.Proved cert) some tells h = tt
+priced_found claim q nodes came (found.Undecided l) some (line, is, told) h =
+    let here : (why.Open line ≡ Memory) ⊎ (nodes ≡ 0) = subst (λ (c : Result Refutation Unrefuted). IfErr c (λ s. (s ≡ Memory) ⊎ (nodes ≡ 0))) is h in priced_err (why.Open line) nodes ⊥ some (λ e. cc) here
+priced_found claim q nodes came (found.Countered g) some (line, is, told) h =
+    let here : (why.Open line ≡ Memory) ⊎ (nodes ≡ 0) = subst (λ (c : Result Refutation Unrefuted). IfErr c (λ s. (s ≡ Memory) ⊎ (nodes ≡ 0))) is h in priced_err (why.Open line) nodes ⊥ some (λ e. cc) here
+priced_found claim q nodes came (found.Spent n) some (is, all) h =
+    let here : (why.Spent ≡ Memory) ⊎ (nodes ≡ 0) = subst (λ (c : Result Refutation Unrefuted). IfErr c (λ s. (s ≡ Memory) ⊎ (nodes ≡ 0))) is h in priced_err why.Spent nodes ⊥ some (λ e. cc) here
+
+pub told_priced : (claim : Claim) (q : Asked) (depth nodes : ℕ) (run : Run) (f : Found) → run.reasons ≡ All → 1 ≤ nodes → EqualPricesSupport (target q claim) → IsTold depth nodes run claim q f → IsProved f
+told_priced claim q depth nodes run f by some e t = priced_found claim q nodes t.came f some t.tells (t.comes.priced by e)
 
 pub told_spent : (claim : Claim) (q : Asked) (depth nodes : ℕ) (run : Run) (f : Found) → IsTold depth nodes run claim q f → IfSpentAt f (λ n. WhereRefutable (target q claim) depth (λ m. nodes < m))
 told_spent claim q depth nodes run f t = on_spent claim q nodes t.came f _ t.tells t.comes.spent

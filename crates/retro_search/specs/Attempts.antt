@@ -1,22 +1,25 @@
 -- Inner: no public clause cites this file.
 -- What a search that begins at a query, below no ancestors, comes to.
-use Rattle.std.specs.Prelude.{ℕ, ◌≡◌, ◌≤◌, ◌<◌, List, [], IfErr, IfOk, Result, length}
+use Rattle.std.specs.Prelude.{ℕ, ◌≡◌, ◌≤◌, ◌<◌, ◌⊎◌, List, [], IfErr, IfOk, Result, length, reverse}
 use Rattle.query_base.specs.Asked.{Asked}
+use Rattle.balance_rule.specs.EqualPrices.{EqualPricesSupport}
 use Rattle.cert_text.specs.Seen.{tree_of}
 use Rattle.retro_search.specs.Costs.{IsCost}
 use Rattle.retro_search.specs.Lone.{AreExpanded, IsLoneSearch, unmoves_in_all}
 use Rattle.retro_search.specs.RuleLines.{IsByRuleLines}
-use Rattle.retro_search.specs.Unsettled.{WhereRefutable}
+use Rattle.retro_search.specs.Unsettled.{IsUnpriced, WhereRefutable}
 use Rattle.retro_search.specs.Unrefuted.{IfOpen, IfSpent, IfTooLarge}
 use Rattle.retro_search.specs.Kept.{IsRefutation}
 use Rattle.retro_search.specs.Searched.{IsOpen, IsUnsettled}
 use Rattle.retro_search.specs.declared.refutations.Refutation.{Refutation}
 use Rattle.retro_search.specs.declared.runs.Reasons.{Reasons}
-use Rattle.retro_search.specs.declared.runs.Reasons.TheVariants.{RuleLines}
+use Rattle.retro_search.specs.declared.runs.Reasons.TheVariants.{All, RuleLines}
 use Rattle.retro_search.specs.declared.unrefuted.Unrefuted.{Unrefuted}
+use Rattle.retro_search.specs.declared.unrefuted.Unrefuted.TheVariants.{Memory}
 
 -- The query is refuted; or a line of fewer unmoves than the nodes stays open, which is the first one where it is searched by rule lines
--- alone; or it costs more than the nodes.
+-- alone; or it costs more than the nodes. By all reasons, a query that equal prices support is refuted, and so many nodes suffice that no
+-- such query stands on an open line.
 pub record ComesTo (came : Result Refutation Unrefuted) (q : Asked) (depth nodes : ℕ) (reasons : Reasons) : Type 0 where
   pub refuted : IfOk came (λ found. IsRefutation found q depth [])
   pub lined : reasons ≡ RuleLines → IfOk came (λ found. IsByRuleLines (tree_of found.node))
@@ -25,6 +28,8 @@ pub record ComesTo (came : Result Refutation Unrefuted) (q : Asked) (depth nodes
   pub deep : IfErr came (λ why. IfOpen why (λ line. length line.back.items < nodes))
   pub spent : IfErr came (λ why. IfSpent why (WhereRefutable q depth (λ n. nodes < n)))
   pub dear : reasons ≡ RuleLines → IfErr came (λ why. IfSpent why ((n : ℕ) → IsCost q depth [] n → nodes < n))
+  pub priced : reasons ≡ All → EqualPricesSupport q → IfErr came (λ why. (why ≡ Memory) ⊎ (nodes ≡ 0))
+  pub unpriced : reasons ≡ All → nodes ≤ 250000 → IfErr came (λ why. IfOpen why (λ line. IsUnpriced q (reverse line.back.items)))
 
 -- where the search of the query is lone, this holds of the queries that it expands
 abbrev pub WhereLone : Asked → ℕ → (List Asked → Type 0) → Type 0

@@ -1,4 +1,4 @@
-ghost use Rattle.std.specs.Prelude.{◌≡◌, IfErr, false};
+ghost use Rattle.std.specs.Prelude.{◌≡◌, ◌≤◌, IfErr, false};
 ghost use Rattle.retro_search.specs.Attempts.{ComesTo, IsPaidSearch};
 ghost use Rattle.retro_search.specs.Runs.{IsReady};
 ghost use Rattle.retro_search.specs.Tidy.{IsFresh};
@@ -21,6 +21,7 @@ fn attempt(
 ) -> Result<Refutation, Unrefuted>
     requires { IsReady run.old }
     ensures plain { run.old.reasons ≡ Reasons.RuleLines → run.old.memo.on ≡ false → IfErr result (λ why. IfTooLarge why ⊥) }
+    ensures few_nodes { run.old.memo.on ≡ false → limits.nodes ≤ 250000 → IfErr result (λ why. IfTooLarge why ⊥) }
     ensures comes { ComesTo result query.now limits.depth limits.nodes run.old.reasons }
     ensures lone { run.old.reasons ≡ Reasons.RuleLines → IsFresh run.old.memo → IsPaidSearch result query.now limits.depth limits.nodes }
     ensures ready { IsReady run.new }
@@ -31,7 +32,29 @@ fn attempt(
     search(alloc, query, limits.depth, &mut ancestors, run)
 }
 
-/// The same, or once more by rule lines alone, and with nothing kept, where the tree grows too large.
+/// The same with no refutation kept, by these reasons; or by rule lines alone, where the tree grows too large even so.
+fn refute_bare(
+    alloc: Global,
+    query: &Query,
+    limits: Limits,
+    reasons: Reasons,
+) -> Result<Refutation, Unrefuted>
+    ensures comes { ComesTo result query.now limits.depth limits.nodes reasons }
+    ensures small { IfErr result (λ why. IfTooLarge why ⊥) }
+{
+    let mut bare = Run::bare(alloc, reasons);
+    match attempt(alloc, query, limits, &mut bare) {
+        Ok(found) => Ok(found),
+        Err(Unrefuted::TooLarge) => {
+            let mut plain = Run::bare(alloc, Reasons::RuleLines);
+            attempt(alloc, query, limits, &mut plain)
+        }
+        Err(why) => Err(why),
+    }
+}
+
+/// Refutes the query within these limits, with each part of the tree written down where it is needed; where the tree grows too large,
+/// without a memo, since then it has no more nodes than were visited.
 pub(crate) fn refute(
     alloc: Global,
     query: &Query,
@@ -47,10 +70,7 @@ pub(crate) fn refute(
 {
     match attempt(alloc, query, limits, run) {
         Ok(found) => Ok(found),
-        Err(Unrefuted::TooLarge) => {
-            let mut plain = Run::plain(alloc);
-            attempt(alloc, query, limits, &mut plain)
-        }
+        Err(Unrefuted::TooLarge) => refute_bare(alloc, query, limits, run.reasons),
         Err(why) => Err(why),
     }
 }

@@ -1,9 +1,11 @@
-ghost use Rattle.std.specs.Prelude.{◌≡◌, IfSome, None};
+ghost use Rattle.std.specs.Prelude.{◌≡◌, IfSome, IsSome, None};
+ghost use Rattle.balance_rule.specs.EqualPrices.{EqualPricesSupport};
 ghost use Rattle.cert_text.specs.Tree.{rule};
 ghost use Rattle.cert_text.specs.declared.reasons.Reason.TheVariants.{Balance};
 ghost use Rattle.cert_text.specs.Seen.{tree_of};
 ghost use Rattle.retro_search.specs.Kept.{StandsAlone};
 ghost use Rattle.retro_search.specs.Runs.{IsSameButVain};
+ghost use Rattle.retro_search.specs.Vain.{AreVain};
 
 use crate::refutations::Refutation;
 use crate::runs::{Reasons, Run};
@@ -32,11 +34,22 @@ fn balanced(set: SquareSet, prices: &Prices) -> Refutation
     }
 }
 
+/// Notes that no prices were found for the query, if there is room.
+fn note(query: &Query, vain: &mut IndexSet<Query>)
+    ensures { (EqualPricesSupport query.now → ⊥) → AreVain vain.old.keys → AreVain vain.new.keys }
+{
+    if vain.len() < MOST_VAIN {
+        let _ = vain.insert(*query);
+    }
+}
+
 /// A refutation of one node by a set and prices that support the query, if some are found. What was looked for in vain is noted, and
 /// not looked for again.
 fn priced(query: &Query, vain: &mut IndexSet<Query>) -> Option<Refutation>
     ensures alone { IfSome result (λ found. StandsAlone (tree_of found.node) query.now 0 2) }
     ensures numbers { IfSome result (λ found. (found.lean ≡ 0) × (found.height ≡ 0) × (found.lines ≡ 2)) }
+    ensures equal { AreVain vain.old.keys → EqualPricesSupport query.now → IsSome result }
+    ensures vain { AreVain vain.old.keys → AreVain vain.new.keys }
 {
     if vain.contains(query) {
         return None;
@@ -44,9 +57,7 @@ fn priced(query: &Query, vain: &mut IndexSet<Query>) -> Option<Refutation>
     if let Some((set, prices)) = find_balance(query) {
         return Some(balanced(set, &prices));
     }
-    if vain.len() < MOST_VAIN {
-        let _ = vain.insert(*query);
-    }
+    note(query, vain);
     None
 }
 
@@ -55,6 +66,7 @@ pub(crate) fn by_balance(query: &Query, run: &mut Run) -> Option<Refutation>
     ensures alone { IfSome result (λ found. StandsAlone (tree_of found.node) query.now 0 2) }
     ensures numbers { IfSome result (λ found. (found.lean ≡ 0) × (found.height ≡ 0) × (found.lines ≡ 2)) }
     ensures lines { run.old.reasons ≡ Reasons.RuleLines → (result ≡ None) × (run.new ≡ run.old) }
+    ensures equal { run.old.reasons ≡ Reasons.All → AreVain run.old.vain.keys → EqualPricesSupport query.now → IsSome result }
     ensures same { IsSameButVain run.old run.new }
 {
     match run.reasons {

@@ -44,15 +44,15 @@ impl Run {
         }
     }
 
-    /// A search by rule lines alone that keeps nothing.
-    pub(crate) fn plain(alloc: Global) -> Run
+    /// A search by these reasons that keeps no refutation.
+    pub(crate) fn bare(alloc: Global, reasons: Reasons) -> Run
         ensures ready { IsReady result }
         ensures off { result.memo.on ≡ false }
-        ensures reasons { result.reasons ≡ Reasons.RuleLines }
+        ensures reasons { result.reasons ≡ reasons }
     {
         Run {
             left: 0,
-            reasons: Reasons::RuleLines,
+            reasons,
             memo: Memo::off(alloc),
             vain: IndexSet::new(alloc),
         }

@@ -32,7 +32,7 @@ succeeds-done law length dossier accepted one game sound San input ending text a
 succeeds-done law length dossier accepted one game sound Spell input ending text answers good = spell-done input ending text answers good
 succeeds-done law length dossier accepted one game sound Unmoves input ending text answers good = let said = said-alone ListsUnmoves (λ q. Unit {0}) input good.0 ending text answers good.1 tt in said.2.0
 succeeds-done law length dossier accepted one game sound (Solve depth nodes) input ending text answers good = refutable-done depth nodes input ending text answers good.0 good.1
-succeeds-done law length dossier accepted one game sound (Settle depth nodes) input ending text answers good = settle-done depth nodes input ending text answers good.0 good.1
+succeeds-done law length dossier accepted one game sound (Settle depth nodes) input ending text answers good = settle-done depth nodes input ending text answers good
 succeeds-done law length dossier accepted one game sound (Verdict depth nodes) input ending text answers good = cheap-done depth nodes input ending text answers good
 succeeds-done law length dossier accepted one game sound (Study depth nodes) input ending text answers good = study-done depth nodes input ending text answers good
 succeeds-done law length dossier accepted one game sound (Tree depth nodes) input ending text answers good = few-done one depth nodes input ending text answers good
@@ -45,7 +45,7 @@ succeeds-done law length dossier accepted one game sound (Sample start games pli
 -- where the nodes suffice, no search is spent
 pub suffices-unspent : OneTextEach → (command : Command) (input : List ℕ) (ending : Status) (text : List ℕ) → AnswersAs command input ending text → Suffices command input → IsUnspent ending
 suffices-unspent one (Solve depth nodes) input ending text answers enough = cheap-unspent depth nodes input ending text answers enough
-suffices-unspent one (Settle depth nodes) input ending text answers enough = subst IsUnspent (sym (settle-done depth nodes input ending text answers enough.0 enough.1)) tt
+suffices-unspent one (Settle depth nodes) input ending text answers enough = subst IsUnspent (sym (settle-done depth nodes input ending text answers enough)) tt
 suffices-unspent one (Verdict depth nodes) input ending text answers enough = subst IsUnspent (sym (cheap-done depth nodes input ending text answers enough)) tt
 suffices-unspent one (Study depth nodes) input ending text answers enough = subst IsUnspent (sym (study-done depth nodes input ending text answers enough)) tt
 suffices-unspent one (Tree depth nodes) input ending text answers enough = subst IsUnspent (sym (few-done one depth nodes input ending text answers enough)) tt

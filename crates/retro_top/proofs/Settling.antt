@@ -1,16 +1,18 @@
 -- Which status `settle` answers, and what it says.
-use Rattle.std.proofs.Common.{◌≡◌, inl, inr, ℕ, List, [], refl, arith}
+use Rattle.std.proofs.Common.{◌≡◌, ◌⊎◌, inl, inr, ℕ, List, [], refl, arith}
 use Rattle.query_base.specs.Asked.{Asked}
 use Rattle.query_base.specs.Reach.{Holds}
 use Rattle.query_base.specs.Targets.{target}
 use Rattle.query_base.specs.declared.claims.Claim.{Claim}
 use Rattle.cert_text.specs.Certificate.{Certificate}
+use Rattle.balance_rule.specs.EqualPrices.{EqualPricesSupport, equal_prices}
+use Rattle.balance_rule.proofs.Sound.{balance-unreached}
 use Rattle.cert_checker.specs.Proving.{ProvesClaim}
+use Rattle.cert_checker.proofs.Contradicted.{contradiction-reaches}
 use Rattle.retro_search.specs.Refutable.{IsRefutable}
-use Rattle.retro_top.specs.Answers.{StatesCheap, StatesProved, StatesRefutable}
+use Rattle.retro_top.specs.Answers.{StatesCheap, StatesPriced, StatesProved, StatesRefutable}
 use Rattle.command_answers.specs.Settles.{AnswersSettle, AnswersSettling}
 use Rattle.command_answers.specs.Solves.{IsCheap}
-use Rattle.command_answers.specs.Statements.{States}
 use Rattle.command_answers.specs.declared.statuses.Status.{Status}
 use Rattle.command_answers.specs.declared.statuses.Status.TheVariants.{Done, Undecided, Spent, Countered}
 use Rattle.retro_top.proofs.Solving.{CounteredBy, Solved, solved-by}
@@ -23,13 +25,35 @@ settling-done depth nodes claim q Countered text answers ref cheap = absurd (ans
 settling-done depth nodes claim q Spent text answers ref cheap = absurd (omega (arith, answers.dear depth cheap.0 (omega arith) ref cheap.1, cheap.2))
 settling-done depth nodes claim q _ text answers ref cheap = absurd answers
 
+-- no game contradicts a claim whose target equal prices support
+settling-priced : (depth nodes : ℕ) (claim : Claim) (q : Asked) (ending : Status) (text : List ℕ) → AnswersSettling depth nodes claim q ending text → EqualPricesSupport (target q claim) → ending ≡ Done
+settling-priced depth nodes claim q Done text answers e = refl
+settling-priced depth nodes claim q Undecided text answers e = absurd (answers.unpriced e)
+settling-priced depth nodes claim q Countered text answers e =
+    absurd (balance-unreached (target q claim) e.set equal_prices e.supports answers.game (contradiction-reaches answers.game claim q answers.against.contradicts))
+settling-priced depth nodes claim q Spent text answers e = absurd (answers.unpriced e)
+settling-priced depth nodes claim q _ text answers e = absurd answers
+
 -- where the target is refutable by rule lines and the nodes suffice, a certificate is found
-pub settle-done : (depth nodes : ℕ) (input : List ℕ) (ending : Status) (text : List ℕ) → AnswersSettle depth nodes input ending text → StatesRefutable depth input → StatesCheap depth nodes input → ending ≡ Done
-settle-done depth nodes input ending text answers good cheap = elim answers [
+settle-refuted : (depth nodes : ℕ) (input : List ℕ) (ending : Status) (text : List ℕ) → AnswersSettle depth nodes input ending text → StatesRefutable depth input → StatesCheap depth nodes input → ending ≡ Done
+settle-refuted depth nodes input ending text answers good cheap = elim answers [
   | inl said ↦ settling-done depth nodes said.0 said.1 ending text said.3
       (stated (λ claim q. IsRefutable (target q claim) depth []) input good.0 said.0 good.1 said.1 good.2 said.2 good.3)
       (stated (IsCheap depth nodes) input cheap.0 said.0 cheap.1 said.1 cheap.2 said.2 cheap.3)
   | inr none ↦ absurd (states-some input good.0 good.1 none.0 good.2 none.1)
+]
+
+-- and where equal prices support it
+settle-priced : (depth nodes : ℕ) (input : List ℕ) (ending : Status) (text : List ℕ) → AnswersSettle depth nodes input ending text → StatesPriced input → ending ≡ Done
+settle-priced depth nodes input ending text answers good = elim answers [
+  | inl said ↦ settling-priced depth nodes said.0 said.1 ending text said.3 (stated (λ claim q. EqualPricesSupport (target q claim)) input good.0 said.0 good.1 said.1 good.2 said.2 good.3)
+  | inr none ↦ absurd (states-some input good.0 good.1 none.0 good.2 none.1)
+]
+
+pub settle-done : (depth nodes : ℕ) (input : List ℕ) (ending : Status) (text : List ℕ) → AnswersSettle depth nodes input ending text → (StatesRefutable depth input × StatesCheap depth nodes input) ⊎ StatesPriced input → ending ≡ Done
+settle-done depth nodes input ending text answers good = elim good [
+  | inl enough ↦ settle-refuted depth nodes input ending text answers enough.0 enough.1
+  | inr priced ↦ settle-priced depth nodes input ending text answers priced
 ]
 
 -- a certificate is found only where one proves the claim

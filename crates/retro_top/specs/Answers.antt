@@ -1,5 +1,5 @@
 -- What the program answers.
-use Rattle.std.specs.Prelude.{ℕ, ◌≡◌, ◌≤◌, Bool, IsTrue, List, [], length, String, Option, None, IfSome}
+use Rattle.std.specs.Prelude.{ℕ, ◌≡◌, ◌≤◌, ◌⊎◌, Bool, IsTrue, List, [], length, String, Option, None, IfSome}
 use Rattle.std.specs.Global.{Global}
 use Rattle.std.specs.Io.KnownBytes.{Appends, Keeps}
 use Rattle.retro_ports.specs.Causes.{Rose}
@@ -17,6 +17,7 @@ use Rattle.game_text.specs.Words.{words, AreTextsOf}
 use Rattle.san_text.specs.FromArray.{Tells}
 use Rattle.cert_checker.specs.Proving.{ProvesClaim}
 use Rattle.proof_prose.specs.Prose.{Explains}
+use Rattle.balance_rule.specs.EqualPrices.{EqualPricesSupport}
 use Rattle.retro_search.specs.Answers.{IsProofOf}
 use Rattle.retro_search.specs.Refutable.{IsRefutable}
 use Rattle.codex_verdict.specs.Rights.{AreRights, claim_of}
@@ -148,6 +149,10 @@ abbrev pub StatesCheap : ℕ → ℕ → List ℕ → Type 0
 StatesCheap depth nodes input =
     (claim : Claim) × (q : Asked) × States input claim q × IsCheap depth nodes claim q
 
+-- the input states a claim whose target equal prices support
+abbrev pub StatesPriced : List ℕ → Type 0
+StatesPriced input = (claim : Claim) × (q : Asked) × States input claim q × EqualPricesSupport (target q claim)
+
 -- the input states a claim that a certificate proves, of at most 500,000 nodes, which goes back no further than the depth
 abbrev pub StatesProved : ℕ → List ℕ → Type 0
 StatesProved depth input = (claim : Claim) × (q : Asked) × (cert : Certificate) × States input claim q × IsProofOf depth cert claim q
@@ -171,10 +176,10 @@ Succeeds Line input = ProvesLine input
 Succeeds (Dossier depth nodes) input = StatesProvable depth input
 Succeeds (Sample start games plies) input = Unit {0}
 
--- with such an input the command succeeds: a search, where the nodes suffice
+-- with such an input the command succeeds: a search, where the nodes suffice; `settle` also where equal prices support the target
 abbrev pub MustSucceed : Command → List ℕ → Type 0
 MustSucceed (Solve depth nodes) input = StatesRefutable depth input × StatesCheap depth nodes input
-MustSucceed (Settle depth nodes) input = StatesRefutable depth input × StatesCheap depth nodes input
+MustSucceed (Settle depth nodes) input = (StatesRefutable depth input × StatesCheap depth nodes input) ⊎ StatesPriced input
 MustSucceed (Dossier depth nodes) input = StatesProvable depth input × StatesCheapLine depth nodes input
 MustSucceed (Verdict depth nodes) input = AsksForCheap depth nodes input
 MustSucceed command input = Succeeds command input
@@ -229,7 +234,7 @@ StatesTrueLine input = (claim : LineClaim) × (q : Asked) × StatesLine input cl
 -- the nodes suffice for what the command searches with this input
 abbrev pub Suffices : Command → List ℕ → Type 0
 Suffices (Solve depth nodes) input = StatesCheap depth nodes input
-Suffices (Settle depth nodes) input = StatesRefutable depth input × StatesCheap depth nodes input
+Suffices (Settle depth nodes) input = (StatesRefutable depth input × StatesCheap depth nodes input) ⊎ StatesPriced input
 Suffices (Verdict depth nodes) input = AsksForCheap depth nodes input
 Suffices (Dossier depth nodes) input = StatesCheapLine depth nodes input
 Suffices (Study depth nodes) input = AsksForOne input

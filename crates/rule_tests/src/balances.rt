@@ -1,7 +1,8 @@
 //! The rule on the balance of captures, on a written board.
 
-use balance_rule::balances;
+use balance_rule::{balances, find_balance};
 use board_base::{Odds, SquareSet};
+use cage_rules::greatest_as_array;
 use capture_prices::Prices;
 use fen_text::read_four_fields;
 
@@ -55,5 +56,33 @@ fn weighs_captures(rt: HostRuntime) {
     for (case, odds, set, on_g8, elsewhere, supported) in rows {
         let balanced = is_balanced(odds, set, on_g8, elsewhere);
         assert_eq!(rt; balanced, Some(supported), "{case}");
+    }
+}
+
+/// Before the same move, if it took a knight.
+const A_KNIGHT: &str = "1KRqb3/p2krpp1/2ppp3/PN6/BrPPP3/1p1P4/2p1P3/Q7 b - -";
+
+/// The array.
+const ARRAY: &str = "rnbqkbnr/pppppppp/8/8/8/8/PPPPPPPP/RNBQKBNR w - -";
+
+/// Whether equal prices support the position with the greatest set that is as in the array, and whether some prices are found. None where
+/// it can't be read.
+fn is_found(position: &str) -> Option<(bool, bool)> {
+    let query = read_four_fields(position.as_bytes())?;
+    let equal = Prices::new(&[24; 16], &[24; 16], &[])?;
+    let supported = balances(&query, greatest_as_array(&query), &equal);
+    Some((supported, find_balance(&query).is_some()))
+}
+
+/// Position, whether equal prices support it, and whether some prices are found.
+#[test]
+fn finds_prices(rt: HostRuntime) {
+    let rows: [(&str, (bool, bool)); 3] = [
+        (TWO_BISHOPS, (true, true)),
+        (A_KNIGHT, (false, true)),
+        (ARRAY, (false, false)),
+    ];
+    for (position, found) in rows {
+        assert_eq!(rt; is_found(position), Some(found), "{position}");
     }
 }

@@ -1,9 +1,6 @@
-//! Tests of runs: failing reads and writes, refused memory, wide and deep inputs, inputs that are cut, odd words, what is said on
-//! standard error, and how the program ends.
+//! Tests of runs: failing reads and writes, refused memory, wide and deep inputs, inputs that are cut, odd words.
 #![tactic(auto)]
 
-#[cfg(test)]
-mod advice;
 #[cfg(test)]
 mod faults;
 #[cfg(test)]
@@ -16,8 +13,6 @@ mod refusals;
 mod refused_memory;
 #[cfg(test)]
 mod rows;
-#[cfg(test)]
-mod serving;
 #[cfg(test)]
 mod wide_certificates;
 #[cfg(test)]

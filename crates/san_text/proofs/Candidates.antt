@@ -1,5 +1,5 @@
 -- What a text fits is the candidate from its square.
-use Rattle.std.proofs.Common.{◌≡◌, ◌<◌, ℕ, ◌==◌, Bool, true, length, refl, sym}
+use Rattle.std.proofs.Common.{◌≡◌, ◌<◌, ℕ, ◌==◌, true, length, refl, sym}
 use Rattle.std.proofs.lemmas.Bool.{and_parts, eqb-true}
 use Rattle.std.specs.Prelude.{Option, None}
 use Rattle.board_base.specs.Board.{at, is_a, is_of, rank}

@@ -1,4 +1,4 @@
-use Rattle.std.proofs.Common.{◌≡◌, ℕ, ◌<◌, ◌∙◌, inl, inr, List, [], reverse, sym, subst}
+use Rattle.std.proofs.Common.{◌≡◌, ℕ, ◌<◌, ◌∙◌, inl, inr, List, [], reverse, sym, subst, arith}
 use Rattle.std.specs.Prelude.{IfErr, IfOk}
 use Rattle.query_base.specs.Asked.{Asked}
 use Rattle.retro_search.specs.Costs.{IsCost}
@@ -40,11 +40,17 @@ returns-clause-comes c =
       dear = λ by.
           subst (λ (l : List Asked). IfErr c.search.result (λ s. IfSpent s ((n : ℕ) → IsCost q depth (reverse l) n → c.args.limits.nodes < n))) none
           (if_err c.search.result _ _ (λ s. if_spent s _ _ (λ cost. cost (inl by))) c.search.ensures.spent);
+      priced = λ by e. c.search.ensures.priced by c.requires.vain e;
+      unpriced = λ by few. c.search.ensures.unpriced by c.requires.vain;
     }
 
 pub returns-clause-plain : goal.returns-clause-plain
 returns-clause-plain c by off =
     if_err c.search.result _ _ (λ s. if_large s _ _ (λ on. on off)) (c.search.ensures.too_large by)
+
+pub returns-clause-few_nodes : goal.returns-clause-few_nodes
+returns-clause-few_nodes c off few =
+    if_err c.search.result _ _ (λ s. if_large s _ _ (λ many. let above = many off in omega (arith, above, few))) c.search.ensures.few_visits
 
 pub returns-clause-lone : goal.returns-clause-lone
 returns-clause-lone c by fresh =
@@ -61,4 +67,5 @@ pub returns-clause-ready : goal.returns-clause-ready
 returns-clause-ready c = record {
   sound = c.search.ensures.on.sound;
   lined = λ by. c.search.ensures.keeps (sym c.search.ensures.on.reasons ∙ by);
+  vain = c.search.ensures.on.vain c.requires.vain;
 }

@@ -28,6 +28,8 @@ use Rattle.retro_search.proofs.Bound.GoodSteps.{good_all, good_more, good_none, 
 use Rattle.retro_search.proofs.Bound.Goods.{good_at, if_ok_both, kept_well, paid_at, paid_at_none, shut_well, visited, well_at}
 use Rattle.retro_search.proofs.Lines.OpenLines.{if_open, leaf_open, stop_open}
 use Rattle.retro_search.proofs.Lines.OpenEnds.{leaf_unsettled}
+use Rattle.retro_search.proofs.Pricing as pricing
+use Rattle.retro_search.proofs.Pricing.{further, leaf_unpriced, over_balance, stop_unpriced}
 use Rattle.retro_search.proofs.searching.+searching.Goals as goal
 
 pub expand-loop-unmove-init : goal.expand-loop-unmove-init
@@ -71,7 +73,7 @@ expand-loop-unmove-preserved t c =
         highest = c.in-Ok-add.ensures.highest;
         lines = c.in-Ok-add.ensures.lines;
         room = c.in-Ok-add.ensures.room;
-      }) c.in-Ok-search.ensures.refuted c.in-Ok-search.ensures.lined c.in-Ok-search.ensures.keeps c.in-Ok-search.ensures.plain c.in-Ok-search.ensures.on c.in-Ok-search.ensures.cost;
+      }) c.in-Ok-search.ensures.refuted c.in-Ok-search.ensures.lined c.in-Ok-search.ensures.keeps c.in-Ok-search.ensures.plain c.in-Ok-search.ensures.twice c.in-Ok-search.ensures.on c.in-Ok-search.ensures.cost;
       well = λ by ps m g. good_more ps m c.args.query.now c.args.below _ c.loop-unmove.unmoves c.next.new.self c.loop-unmove.children c.add.new.self c.loop-unmove.run c.search.new.run c.args.run.now c.in-Some.unmove c.in-Ok-search.found c.pred.result _ c.pred.ensures up (listed_in _ _ _ _ _ c.loop-unmove.invariant.expands.parts c.in-Some.ensures) g (c.loop-unmove.invariant.well by ps m g) c.in-Some.ensures (record {
         kids = c.in-Ok-add.ensures.kids;
         lean = c.in-Ok-add.ensures.lean;
@@ -231,3 +233,35 @@ search-returns-in-Err-clause-small t c by ps n g =
 
 pub expand-returns-clause-lined : goal.expand-returns-clause-lined
 expand-returns-clause-lined t c by = subst IsByRuleLines (sym c.finish.ensures.tree) (c.loop-unmove.invariant.expands.lined by)
+
+pub search-returns-then-at_array-clause-priced : goal.search-returns-then-at_array-clause-priced
+search-returns-then-at_array-clause-priced t c by vain e = absurd (pricing.elsewhere c.args.query.now e (c.is_array-at_array.ensures.0 c.if-at_array.true))
+
+pub search-returns-then-at_array-clause-unpriced : goal.search-returns-then-at_array-clause-unpriced
+search-returns-then-at_array-clause-unpriced t c by vain =
+    leaf_unpriced _ c.args.query.now c.new.ensures.items (λ e. pricing.elsewhere c.args.query.now e (c.is_array-at_array.ensures.0 c.if-at_array.true))
+
+pub search-returns-in-Some-by_balance-clause-on : goal.search-returns-in-Some-by_balance-clause-on
+search-returns-in-Some-by_balance-clause-on t c = over_balance c.args.run.now c.by_balance.new.run c.kept_alone.new.run c.by_balance.ensures.same c.kept_alone.ensures.on.0
+
+pub search-returns-then-keep_alone-clause-on : goal.search-returns-then-keep_alone-clause-on
+search-returns-then-keep_alone-clause-on t c =
+    over_balance c.args.run.now c.by_balance.new.run c.keep_alone.new.run c.by_balance.ensures.same (further c.by_balance.new.run c.expand.new.run c.keep_alone.new.run c.in-Ok.ensures.on c.keep_alone.ensures.on.0)
+
+pub search-returns-else-keep_alone-clause-on : goal.search-returns-else-keep_alone-clause-on
+search-returns-else-keep_alone-clause-on t c =
+    over_balance c.args.run.now c.by_balance.new.run c.keep_alone.new.run c.by_balance.ensures.same (further c.by_balance.new.run c.expand.new.run c.keep_alone.new.run c.in-Ok.ensures.on c.keep_alone.ensures.on.0)
+
+pub search-returns-in-Err-clause-on : goal.search-returns-in-Err-clause-on
+search-returns-in-Err-clause-on t c = over_balance c.args.run.now c.by_balance.new.run c.expand.new.run c.by_balance.ensures.same c.in-Err.ensures.on
+
+pub expand-returns-in-Err-search-clause-unpriced : goal.expand-returns-in-Err-search-clause-unpriced
+expand-returns-in-Err-search-clause-unpriced t c by vain lacks =
+    let on = c.loop-unmove.invariant.expands.on in
+    stop_unpriced c.in-Err-search.stop c.lengthened.result c.args.query.now c.pred.result c.in-Some.unmove c.pred.ensures lacks c.lengthened.ensures (c.in-Err-search.ensures.unpriced (on.reasons ∙ by) (on.vain vain))
+
+pub expand-returns-in-Err-search-clause-on : goal.expand-returns-in-Err-search-clause-on
+expand-returns-in-Err-search-clause-on t c = further c.args.run.now c.loop-unmove.run c.search.new.run c.loop-unmove.invariant.expands.on c.in-Err-search.ensures.on
+
+pub expand-returns-in-Err-add-clause-on : goal.expand-returns-in-Err-add-clause-on
+expand-returns-in-Err-add-clause-on t c = further c.args.run.now c.loop-unmove.run c.search.new.run c.loop-unmove.invariant.expands.on c.in-Ok-search.ensures.on
