@@ -6,6 +6,7 @@ wrong_bodies.py [CRATE ..] [--most N]   those of bench/wrong_bodies/CRATE.txt, o
 A wrong body stands under a line `# name`, as a must-fail edit does: a file, and pairs of an old and a new text. They are tried by `rt ci CRATE ..`
 on a copy of the crates that has no other edits, so what a gate passed on this machine isn't proved again. Those of known.txt are let through, each
 with why. The exit status is 1 where another is let through, where one of known.txt is refused, and where one can't be tried; each is printed.
+A body is refused at a goal of the source, or at a proof in `proofs/` that no longer fits, which says less of the clause; both are counted.
 """
 import argparse
 import pathlib
@@ -18,6 +19,7 @@ import tempfile
 TOP = pathlib.Path(__file__).resolve().parent.parent
 BODIES = TOP / "bench" / "wrong_bodies"
 TOLD = re.compile(r"must-fail (\S+)\.edit: (refused|NOT REFUSED|BAD EDIT|NOT TRIED)")
+AT_GOAL = re.compile(r"must-fail \S+\.edit: refused, as it must be: (?:note: )?src/")
 
 
 def bodies(crate):
@@ -75,7 +77,8 @@ def main():
             if told.get(body) != want:
                 strange += 1
                 print(f"{body}: {told.get(body, 'nothing was said')}")
-    print(f"{len(told)} wrong bodies, {sum(it == 'refused' for it in told.values())} refused, {strange} otherwise than they should be")
+    refused = sum(it == "refused" for it in told.values())
+    print(f"{len(told)} wrong bodies, {refused} refused, {len(AT_GOAL.findall(text))} of them at a goal, {strange} otherwise than they should be")
     if not told:
         print(text, file=sys.stderr)
     sys.exit(1 if strange else 0)

@@ -2,9 +2,15 @@
 //! with which it ends.
 #![tactic(auto)]
 
-ghost use Rattle.std.specs.Prelude.{◌≡◌};
+ghost use Rattle.std.specs.Prelude.{◌≡◌, ◌↔◌};
+ghost use Rattle.std.specs.Io.KnownBytes.{Keeps};
 ghost use Rattle.std.specs.Process.{exit_status};
-ghost use Rattle.command_answers.specs.Statuses.{code_of};
+ghost use Rattle.retro_ports.specs.Causes.{Rose};
+ghost use Rattle.command_answers.specs.Limits.{most_bytes};
+ghost use Rattle.command_answers.specs.Statuses.{IsAnswer, IsSilent, code_of};
+ghost use Rattle.command_answers.specs.declared.statuses.Status.TheVariants.{BadWords, ReadFault, WriteFault};
+ghost use Rattle.retro_top.specs.Answers.{ReadsFor, WritesAnswer};
+ghost use Rattle.retro_top.specs.Commands.{CallSome};
 
 mod advice;
 mod calls;
@@ -24,8 +30,9 @@ use crate::words::{advise_words, is_option};
 pub use advice::{Advice, FenAdvice, LineAdvice, MoveAdvice, TextAdvice, WordAdvice};
 pub use calls::{Call, Number};
 pub use hints::{Hint, advise};
-use retro_ports::{Sink, StdSink, StdSource, write_all};
+use retro_ports::{Sink, Source, StdSink, StdSource, write_all};
 use retro_top::{Status, run};
+use std::alloc::Global;
 use std::env::Env;
 use std::io::{ErrorKind, IsTerminal};
 use std::marker::Model;
@@ -137,7 +144,26 @@ fn say_what_is_due<R: Eprint + AllocGlobal, T: IsTerminal>(rt: &R, words: &[Stri
     }
 }
 
-/// Does what the words ask, as `run` does it.
+/// Does what the words ask, as `run` does it, and ends with its status, beside the hint that is due.
+fn end_of<S: Source, K: Sink>(
+    alloc: Global,
+    words: &[String],
+    source: &mut Watched<S>,
+    sink: &mut Overheard<K>,
+) -> Ended
+    ensures bad_words { (result ≡ BadWords) ↔ (CallSome words.now → ⊥) }
+    ensures read_fault { result ≡ ReadFault → Rose (S.faults source.old.inner) (S.faults source.new.inner) }
+    ensures write_fault { result ≡ WriteFault → Rose (K.faults sink.old.inner) (K.faults sink.new.inner) }
+    ensures silent { IsSilent result → Keeps (K.taken sink.old.inner) (K.taken sink.new.inner) }
+    ensures answer { IsAnswer result → ReadsFor words.now most_bytes (S.left source.old.inner) (S.left source.new.inner)
+        (λ input. WritesAnswer words.now input result (K.taken sink.old.inner) (K.taken sink.new.inner)) }
+{
+    let status = run(alloc, words, source, sink);
+    let hint = advise(alloc, words, source.front(), status, sink.front());
+    Ended { status, hint }
+}
+
+/// Does what the words ask, from standard input to standard output.
 fn answer<R: Input + Print + Eprint + AllocGlobal>(rt: &R, words: &[String]) -> Ended
 where
     R::Reader: IsTerminal,
@@ -146,9 +172,7 @@ where
     say_what_is_due(rt, words, &reader);
     let mut source = Watched::new(StdSource::new(reader));
     let mut sink = Overheard::new(StdSink::new(io::writer(rt)));
-    let status = run(rt.alloc(), words, &mut source, &mut sink);
-    let hint = advise(rt.alloc(), words, source.front(), status, sink.front());
-    Ended { status, hint }
+    end_of(rt.alloc(), words, &mut source, &mut sink)
 }
 
 /// The end of a run that began with no words.

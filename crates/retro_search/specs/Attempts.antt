@@ -18,8 +18,8 @@ use Rattle.retro_search.specs.declared.unrefuted.Unrefuted.{Unrefuted}
 use Rattle.retro_search.specs.declared.unrefuted.Unrefuted.TheVariants.{Memory}
 
 -- The query is refuted; or a line of fewer unmoves than the nodes stays open, which is the first one where it is searched by rule lines
--- alone; or it costs more than the nodes. By all reasons, a query that equal prices support is refuted, and so many nodes suffice that no
--- such query stands on an open line.
+-- alone; or it costs more than the nodes. By all reasons, a query that equal prices support is refuted where any may be visited; and with
+-- at most 250,000 nodes they support no query on an open line.
 pub record ComesTo (came : Result Refutation Unrefuted) (q : Asked) (depth nodes : ℕ) (reasons : Reasons) : Type 0 where
   pub refuted : IfOk came (λ found. IsRefutation found q depth [])
   pub lined : reasons ≡ RuleLines → IfOk came (λ found. IsByRuleLines (tree_of found.node))

@@ -80,7 +80,8 @@ impl Searcher {
     /// and no clause depends on it.
     ///
     /// - `Refuted` comes wherever rule lines refute the query at some depth up to that of the limits at a cost of at most their nodes, by
-    ///   all reasons also where equal prices support it, and often elsewhere. A tree of the height that it gives proves the query, and no game of any length reaches it.
+    ///   all reasons also where equal prices support it, and often elsewhere. A tree of the height that it gives proves the query, and no
+    ///   game of any length reaches it.
     /// - `Open` comes only where rule lines don't refute the query at the depth. By rule lines alone it comes wherever they don't, unless
     ///   `Spent` comes.
     /// - `Spent` comes only where the cost of the query is above the nodes at each depth up to that of the limits at which rule lines
@@ -113,9 +114,10 @@ impl Searcher {
     /// captures. What earlier questions kept serves this one, and no clause depends on it. The query bars no move of its own.
     ///
     /// - `Proved` comes wherever rule lines refute the target at some depth up to that of the limits at a cost of at most their nodes, by
-    ///   all reasons also where equal prices support it, and often elsewhere; by rule lines alone, exactly where they refute it at the depth and `Spent` doesn't come. The certificate is of
-    ///   this claim and this query, proves it, goes back no further than the depth, and has at most 500,000 nodes. It has a text where the
-    ///   claim has one, and no text of more than 64 MiB. No game of any length contradicts the claim.
+    ///   all reasons also where equal prices support it, and often elsewhere; by rule lines alone, exactly where they refute it at the depth
+    ///   and `Spent` doesn't come. The certificate is of this claim and this query, proves it, goes back no further than the depth, and has
+    ///   at most 500,000 nodes. It has a text where the claim has one, and no text of more than 64 MiB. No game of any length contradicts
+    ///   the claim.
     /// - `Undecided` comes with a line of listed unmoves on which no rule line supports a query, and none is covered by one before it. It
     ///   has as many unmoves as the depth, and doesn't end at the array. By all reasons and with at most 250,000 nodes, equal prices
     ///   support no query on it.
