@@ -71,19 +71,17 @@ def timed(words, text):
 
 
 @contextlib.contextmanager
-def built(name, deps):
-    """The program of `name`.program, proved and built by `rt ci` over a copy of the crates, of which what a gate proved is kept."""
+def built(name, deps, words=()):
+    """The program of `name`.program, proved and built over a copy of the crates."""
     with tempfile.TemporaryDirectory() as folder:
         top = pathlib.Path(folder)
-        shutil.copy(HERE.parent / "HANDLES", top)
-        subprocess.run(["git", "init", "-q", folder], check=True)
         for crate in (HERE.parent / "crates").iterdir():
             shutil.copytree(crate, top / "crates" / crate.name, ignore=shutil.ignore_patterns("out", "must-fail"))
         bench = top / "crates" / f"bench_{name}"
         (bench / "src").mkdir(parents=True)
         shutil.copy(HERE / f"{name}.program", bench / "src" / "main.rt")
         (top / "crates.txt").write_text((HERE.parent / "crates.txt").read_text() + f"{bench.name}: {deps}\n")
-        subprocess.run(["rt", "ci", bench.name], cwd=top, check=True, stdout=subprocess.DEVNULL)
+        subprocess.run(["rt", "run", *words], cwd=bench, check=True, stdout=subprocess.DEVNULL)
         yield str(bench / "out" / bench.name)
 
 
@@ -196,7 +194,7 @@ def stream(program):
 
 
 def pawns():
-    with built("pawns", "pawn_assign board_base") as program:
+    with built("pawns", "pawn_assign board_base", ["--", "least", PAWNS[0], "1"]) as program:
         for call in ("least", "bound"):
             limit = LIMITS[call]
             for squares in PAWNS:
@@ -206,7 +204,7 @@ def pawns():
 
 
 def cages():
-    with built("cages", "board_base cage_rules fen_text query_base") as program:
+    with built("cages", "board_base cage_rules fen_text query_base", ["--", CHAINS[0], "0"]) as program:
         for fen in CHAINS:
             none, many = (instructions([program, fen, times]) for times in ("0", "100"))
             print(f"{(many - none) / 100:.0f} instructions: {fen}")
@@ -214,7 +212,7 @@ def cages():
 
 def balance():
     parts = "board_base query_base cage_rules fen_text capture_prices balance_rule"
-    with built("balance", parts) as program:
+    with built("balance", parts, ["--", CHAINS[0], "0", "0"]) as program:
         for fen in [*CHAINS, RETRACTED[3], RETRACTED[4], RETRACTED[7]]:
             none, many, found = (instructions([program, fen, a, b]) for a, b in (("0", "0"), ("20", "0"), ("0", "1")))
             each, limit = (many - none) / 20, LIMITS["balances"]
@@ -222,7 +220,7 @@ def balance():
 
 
 def unmoves():
-    with built("unmoves", "board_base fen_text query_base unmove_gen") as program:
+    with built("unmoves", "board_base fen_text query_base unmove_gen", ["--", RETRACTED[0], "0"]) as program:
         for fen in RETRACTED:
             none, many = (instructions([program, fen, times]) for times in ("0", "100"))
             print(f"{(many - none) / 100:.0f} instructions, {timed([program, fen, '1'], b'')[1].split()[0]} retractions: {fen}")
