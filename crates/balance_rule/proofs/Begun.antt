@@ -1,5 +1,5 @@
 -- Where the men of a side begin.
-use Rattle.std.proofs.Common.{◌≡◌, ℕ, ◌<◌, inl, inr, Bool, true, false, cond, ◌&&◌, ◌||◌, not, List, refl, ap, sym, ◌∙◌, arith}
+use Rattle.std.proofs.Common.{◌≡◌, ℕ, ◌<◌, inl, inr, Bool, true, cond, ◌&&◌, ◌||◌, not, List, refl, ap, sym, ◌∙◌, arith}
 use Rattle.std.proofs.lemmas.Bool.{and_parts, both_ways, cases_Bool, cond-true, lt-ltb, or_cases, not_from_true}
 use Rattle.std.proofs.lemmas.Option.{none-some}
 use Rattle.std.specs.Prelude.{Option, Some, None, nat_le, nat_lt}
@@ -11,6 +11,7 @@ use Rattle.board_base.specs.declared.men.Kind.TheVariants.{Pawn, King}
 use Rattle.board_base.specs.declared.men.Man.{Man}
 use Rattle.board_base.proofs.Without.{at-without}
 use Rattle.general_lemmas.proofs.Ranges.{all_in_range}
+use Rattle.general_lemmas.proofs.Truth.{beq-same}
 use Rattle.cage_rules.specs.Regions.{beginner, is_officer_home}
 use Rattle.cage_rules.proofs.Beginners.{array-there}
 use Rattle.capture_prices.specs.Prices.{PriceList}
@@ -34,12 +35,6 @@ black-fits n low = all_in_range (λ n. fits Black n (at initial_array (seen_by B
 all-fits : (c : Colour) (n : ℕ) → n < 16 → fits c n (at initial_array (seen_by c n)) ≡ true
 all-fits White n low = white-fits n low
 all-fits Black n low = black-fits n low
-
-beq-same : (a b : Bool) → beq a b ≡ true → a ≡ b
-beq-same true true h = refl
-beq-same false false h = refl
-beq-same true false h = sym h
-beq-same false true h = h
 
 fits-begins : (c : Colour) (n : ℕ) (m : Man) → fits c n (Some m) ≡ true → BeginsOn c m.kind n
 unfolding fits

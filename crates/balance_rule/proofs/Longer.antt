@@ -3,29 +3,23 @@ use Rattle.std.proofs.Common.{◌≡◌, ℕ, ◌+◌, ◌*◌, ◌≤◌, Bool,
 use Rattle.std.proofs.lemmas.Bool.{and_parts, cases_Bool}
 use Rattle.std.proofs.lemmas.List.Sums.{sum_by_push, sum_by-cons}
 use Rattle.std.specs.List.{sum_by}
+use Rattle.std.proofs.Math.Bool.{and-true}
+use Rattle.general_lemmas.proofs.Truth.{and-joined}
 use Rattle.board_base.specs.Board.{file}
 use Rattle.board_base.specs.declared.men.Colour.{Colour}
 use Rattle.men_fates.specs.Ways.{captures_on, fee, is_pawn_step, is_straight, is_way, way_end}
-
-and_assoc : (a b d : Bool) → (a && (b && d)) ≡ ((a && b) && d)
-and_assoc true b d = refl
-and_assoc false b d = refl
 
 pub end-longer : (s : ℕ) (way : List ℕ) (t : ℕ) → way_end s (way ++ t ∷ []) ≡ t
 end-longer s [] t = refl
 end-longer s (u ∷ way) t = end-longer u way t
 
-and-true : (b : Bool) → (b && true) ≡ b
-and-true true = refl
-and-true false = refl
-
 pub way-longer : (c : Colour) (set : List Bool) (s : ℕ) (way : List ℕ) (t : ℕ) → is_way c set s (way ++ t ∷ []) ≡ (is_way c set s way && is_pawn_step c set (way_end s way) t)
 way-longer c set s [] t = and-true (is_pawn_step c set s t)
-way-longer c set s (u ∷ way) t = ap (λ (b : Bool). is_pawn_step c set s u && b) (way-longer c set u way t) ∙ and_assoc (is_pawn_step c set s u) (is_way c set u way) (is_pawn_step c set (way_end u way) t)
+way-longer c set s (u ∷ way) t = ap (λ (b : Bool). is_pawn_step c set s u && b) (way-longer c set u way t) ∙ and-joined (is_pawn_step c set s u) (is_way c set u way) (is_pawn_step c set (way_end u way) t)
 
 pub straight-longer : (s : ℕ) (way : List ℕ) (t : ℕ) → is_straight s (way ++ t ∷ []) ≡ (is_straight s way && (file (way_end s way) == file t))
 straight-longer s [] t = and-true (file s == file t)
-straight-longer s (u ∷ way) t = ap (λ (b : Bool). (file s == file u) && b) (straight-longer u way t) ∙ and_assoc (file s == file u) (is_straight u way) (file (way_end u way) == file t)
+straight-longer s (u ∷ way) t = ap (λ (b : Bool). (file s == file u) && b) (straight-longer u way t) ∙ and-joined (file s == file u) (is_straight u way) (file (way_end u way) == file t)
 
 fee-first : (price : ℕ → ℕ) (same : Bool) (u : ℕ) (rest : List ℕ) → sum_by price (cond same rest (u ∷ rest)) ≡ cond same 0 (price u) + sum_by price rest
 fee-first price true u rest = omega arith

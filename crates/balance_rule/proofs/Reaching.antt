@@ -3,6 +3,7 @@ use Rattle.std.proofs.Common.{◌≡◌, ◌≢◌, ℕ, ◌+◌, ◌*◌, ◌<�
 use Rattle.std.proofs.lemmas.Bool.{and_from, and_parts, both_ways, cases_Bool, cases_lt, cond-true, cond-false, eqb-true, eq-eqb, false_from_ne_true, le-ltb, lt-ltb, not-true, not_from_false}
 use Rattle.std.proofs.lemmas.List.Sums.{sum_by-cons}
 use Rattle.std.specs.Prelude.{nat_lt}
+use Rattle.std.proofs.Math.Bool.{and-true, and-false}
 use Rattle.board_base.specs.Board.{file, is_in, rank}
 use Rattle.board_base.specs.declared.men.Colour.{Colour}
 use Rattle.general_lemmas.proofs.Lists.{by_last}
@@ -30,14 +31,6 @@ pub record IsStepAside (c : Colour) (set : List Bool) (h : ℕ) (price : ℕ →
   pub most : n ≤ never
   pub below : (front : List ℕ) → is_way c set h front ≡ true → way_end h front ≡ seen_by c j → IsNextTo j i → n ≤ fee price h front + price (seen_by c i)
   pub found : n < never → (front : List ℕ) × (is_way c set h front ≡ true) × (way_end h front ≡ seen_by c j) × IsNextTo j i × (fee price h front + price (seen_by c i) ≡ n)
-
-and-true : (b : Bool) → (b && true) ≡ b
-and-true true = refl
-and-true false = refl
-
-and-false : (b : Bool) → (b && false) ≡ false
-and-false true = refl
-and-false false = refl
 
 module _ (c : Colour) (set : List Bool) (h : ℕ) (inside : h < 64) where
   came-last : (i : ℕ) (way front : List ℕ) (t : ℕ) → i < 64 → way ≡ front ++ t ∷ [] → is_way c set h way ≡ true → ends_on h (seen_by c i) way ≡ true → Came c set h i way

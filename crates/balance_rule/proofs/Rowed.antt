@@ -6,12 +6,12 @@ use Rattle.std.proofs.lemmas.List.Sums.{length-filter}
 use Rattle.std.specs.Prelude.{None, replicate}
 use Rattle.std.specs.List.{count_by, range_with_len}
 use Rattle.assignment.specs.Tables.{IsTable, cost_at}
-use Rattle.board_base.specs.Board.{Places, array_of, at, initial_array, is_in, is_of}
+use Rattle.board_base.specs.Board.{Places, array_of, at, initial_array, is_in, is_of, men_squares}
 use Rattle.board_base.specs.declared.men.Colour.{Colour}
 use Rattle.board_base.specs.declared.men.Colour.TheVariants.{White, Black}
 use Rattle.board_base.proofs.Without.{at-without}
 use Rattle.general_lemmas.proofs.Counts.{count-cons, count-end, one_if, one_if-more}
-use Rattle.balance_rule.specs.Balance.{cost_table, gone_row, men_on, men_squares, side_cost, stand_row}
+use Rattle.balance_rule.specs.Balance.{cost_table, gone_row, men_on, side_cost, stand_row}
 use Rattle.assignment.specs.Assignments.{least_cost}
 use Rattle.capture_prices.specs.Prices.{PriceList}
 use Rattle.balance_rule.specs.Costs.{never}

@@ -3,7 +3,7 @@ use Rattle.std.proofs.Common.{inl, inr, ◌≡◌, ℕ, ◌+◌, ◌≤◌, Bool
 use Rattle.std.proofs.lemmas.Bool.{and_from, cases_Bool}
 use Rattle.std.specs.Prelude.{IsTrue}
 use Rattle.general_lemmas.proofs.Differing.{contains-has, has-contains, pairs-differ}
-use Rattle.board_base.specs.Board.{Places, array_of, at, is_of, is_the, opponent, same_colour, same_kind}
+use Rattle.board_base.specs.Board.{Places, array_of, at, is_of, is_the, opponent, same_colour, same_kind, men_squares}
 use Rattle.board_base.specs.Game.{board_after}
 use Rattle.board_base.specs.declared.men.Colour.{Colour}
 use Rattle.board_base.specs.declared.men.Colour.TheVariants.{White, Black}
@@ -19,7 +19,7 @@ use Rattle.cage_rules.proofs.Histories.{reaches-leads}
 use Rattle.capture_prices.specs.Prices.{PriceList, are_prices, gate, take}
 use Rattle.men_ledger.proofs.Balance.{earns-later}
 use Rattle.men_ledger.proofs.Closing.{costs-fit}
-use Rattle.balance_rule.specs.Balance.{BalanceAt, BalanceSupports, men_squares, most_cost, side_cost}
+use Rattle.balance_rule.specs.Balance.{BalanceAt, BalanceSupports, most_cost, side_cost}
 use Rattle.balance_rule.proofs.GateSums.{gates-sum}
 use Rattle.balance_rule.proofs.StandingMen.{kind-turned, spent, stands-most, stays}
 use Rattle.men_fates.proofs.Lasting.{king-lasts}

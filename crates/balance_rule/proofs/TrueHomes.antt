@@ -12,7 +12,7 @@ use Rattle.general_lemmas.proofs.Differing.{Differ, Has, contains-has, differ-ap
 use Rattle.general_lemmas.proofs.Lists.{contains-cases, contains-filter, contains-map, contains-none}
 use Rattle.general_lemmas.proofs.Ranges.{contains-range}
 use Rattle.general_lemmas.proofs.SumsAmong.{sum-among, sum-ones}
-use Rattle.board_base.specs.Board.{Places, array_of, at, is_of}
+use Rattle.board_base.specs.Board.{Places, array_of, at, is_of, men_squares, home_of}
 use Rattle.board_base.specs.Game.{IsGame, board_after}
 use Rattle.board_base.specs.declared.men.Colour.{Colour}
 use Rattle.board_base.specs.declared.men.Colour.TheVariants.{White, Black}
@@ -30,7 +30,7 @@ use Rattle.men_fates.specs.Deeds.{is_label}
 use Rattle.men_fates.proofs.MoreDeeds.{label-is, label-told}
 use Rattle.men_fates.proofs.Strikes.{side-of}
 use Rattle.capture_prices.specs.Prices.{PriceList}
-use Rattle.balance_rule.specs.Balance.{cost_table, gone_row, home_of, men_on, men_squares, side_cost, stand_row}
+use Rattle.balance_rule.specs.Balance.{cost_table, gone_row, men_on, side_cost, stand_row}
 use Rattle.balance_rule.specs.Costs.{gone, stands}
 use Rattle.balance_rule.proofs.OnBoard.{labelled-inside}
 

@@ -1,8 +1,8 @@
 -- The balance of captures: over all men what is paid is what is earned. Where each way of giving homes to the men costs more than the
 -- gates make up for, no game leads to the position.
 use Rattle.std.specs.Prelude.{ℕ, ◌<◌, ◌≤◌, ◌+◌, ◌-◌, ◌*◌, Bool, IsTrue, List, ◌++◌, length, map, replicate}
-use Rattle.std.specs.List.{filter, range_with_len}
-use Rattle.board_base.specs.Board.{Places, array_of, at, is_of}
+use Rattle.std.specs.List.{range_with_len}
+use Rattle.board_base.specs.Board.{Places, array_of, at, men_squares, home_of}
 use Rattle.board_base.specs.declared.men.Colour.{Colour}
 use Rattle.board_base.specs.declared.men.Colour.TheVariants.{White, Black}
 use Rattle.query_base.specs.Asked.{Asked}
@@ -11,18 +11,9 @@ use Rattle.static_rules.specs.SetRules.{IsSettled}
 use Rattle.capture_prices.specs.Prices.{PriceList, all_gates, are_prices}
 use Rattle.balance_rule.specs.Costs.{gone, stands}
 
--- the squares of this colour's men, in ascending order
-unfoldable pub men_squares : Colour → Places → List ℕ
-men_squares c board = filter (λ s. is_of c (at board s)) (range_with_len 0 64)
-
 -- how many men this colour has
 abbrev pub men_on : Colour → Places → ℕ
 men_on c board = length (men_squares c board)
-
--- Article 2.3: where the men of a side begin, its sixteen homes in ascending order
-abbrev pub home_of : Colour → ℕ → ℕ
-home_of White j = j
-home_of Black j = 48 + j
 
 -- what it costs that the man on s began on each of the homes of a side, which begins with these men
 unfoldable pub stand_row : PriceList → List Bool → Colour → Places → Places → ℕ → List ℕ

@@ -1,10 +1,10 @@
 ghost use Rattle.std.specs.Prelude.{◌≡◌, ◌-◌, ◌<◌, ◌≤◌, ◌++◌, Bool, List, IfSome, SomeIff, length, map, replicate};
 ghost use Rattle.std.specs.Option.{option_map};
 ghost use Rattle.std.specs.List.{All};
-ghost use Rattle.board_base.specs.Board.{array_of};
+ghost use Rattle.board_base.specs.Board.{array_of, men_squares, home_of};
 ghost use Rattle.assignment.specs.Tables.{IsTable};
 ghost use Rattle.capture_prices.specs.Prices.{PriceList};
-ghost use Rattle.balance_rule.specs.Balance.{cost_table, gone_row, home_of, men_on, men_squares, stand_row};
+ghost use Rattle.balance_rule.specs.Balance.{cost_table, gone_row, men_on, stand_row};
 ghost use Rattle.balance_rule.specs.Costs.{never};
 ghost use Rattle.balance_rule.specs.Grounds.{IsGround};
 ghost use Rattle.balance_rule.specs.LeastWays.{seen_by};

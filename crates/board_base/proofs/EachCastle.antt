@@ -18,7 +18,7 @@ each-castle f h x =
 pub castle-each : (f : Castle → Bool) → ((x : Castle) → f x ≡ true) → list_all f all_castles ≡ true
 castle-each f h = and_from _ _ (h WhiteShort) (and_from _ _ (h WhiteLong) (and_from _ _ (h BlackShort) (and_from _ _ (h BlackLong) refl)))
 
-where_held : (p q : Bool) → (not p || q) ≡ true → p ≡ true → q ≡ true
+pub where_held : (p q : Bool) → (not p || q) ≡ true → p ≡ true → q ≡ true
 where_held p q h has = elim (or_cases _ _ h) [
   | inl lacks ↦ absurd (both_ways _ (not-true _ lacks) has)
   | inr fits ↦ fits

@@ -2,13 +2,13 @@
 use Rattle.std.proofs.Common.{◌≡◌, ℕ, true, refl, ap, sym, ◌∙◌}
 use Rattle.std.proofs.lemmas.Bool.{and_parts, and_from, both_ways, eqb-true, eq-eqb}
 use Rattle.std.specs.Prelude.{Option, Some, None, is_none}
-use Rattle.board_base.specs.Board.{is_the, is_empty, man}
+use Rattle.board_base.specs.Board.{is_the, is_empty, man, same_place}
 use Rattle.board_base.specs.Legal.{is_move, same_promo}
 use Rattle.board_base.specs.declared.men.Man.{Man}
 use Rattle.board_base.specs.declared.men.Colour.{Colour}
 use Rattle.board_base.specs.declared.men.Kind.{Kind}
 use Rattle.board_base.specs.declared.moves.Move.{Move}
-use Rattle.board_base.proofs.KindsOfMen.{colour_is, kind_is, same_kind-self}
+use Rattle.board_base.proofs.KindsOfMen.{colour_is, kind_is, same_kind-self, same_colour-self}
 
 pub none_is : {A : Type 0} (o : Option A) → is_none o ≡ true → o ≡ None
 none_is None h = refl
@@ -17,6 +17,18 @@ none_is (Some x) h = cc
 pub empty_is : (place : Option Man) → is_empty place ≡ true → place ≡ None
 empty_is None h = refl
 empty_is (Some m) h = cc
+
+pub place_is : (x y : Option Man) → same_place x y ≡ true → x ≡ y
+place_is None None h = refl
+place_is None (Some b) h = cc
+place_is (Some a) None h = cc
+place_is (Some a) (Some b) h =
+    let parts = and_parts _ _ h in
+    ap (λ (d : Colour). Some (record a { colour = d })) (colour_is a.colour b.colour parts.0) ∙ ap (λ (j : Kind). Some (record b { kind = j })) (kind_is a.kind b.kind parts.1)
+
+pub place_self : (x : Option Man) → same_place x x ≡ true
+place_self None = refl
+place_self (Some m) = and_from _ _ (same_colour-self m.colour) (same_kind-self m.kind)
 
 pub the_is : (c : Colour) (k : Kind) (place : Option Man) → is_the c k place ≡ true → place ≡ man c k
 the_is c k None h = cc

@@ -218,7 +218,7 @@ toward-back a b n k (inl far) le = elim (cases_lt a b) [
   ]
 ]
 
-distance-sym : (a b : ℕ) → distance a b ≡ distance b a
+pub distance-sym : (a b : ℕ) → distance a b ≡ distance b a
 unfolding distance
 distance-sym a b = omega arith
 

@@ -27,7 +27,7 @@ pub use attacks::{
     attacks_from, files_between, is_ahead, is_clear, is_diagonal, is_line, man_attacks,
     ranks_between,
 };
-pub use boards::Board;
+pub use boards::{Board, is_same_place};
 pub use castles::{Castle, CastleSet};
 pub use checks::{in_check, is_king_attacked};
 pub use laws::{one_text_of_a_move, one_text_of_an_unmove, order_of_moves, order_of_unmoves};

@@ -10,10 +10,10 @@ use Rattle.board_base.specs.declared.men.Colour.{Colour}
 use Rattle.board_base.specs.declared.men.Colour.TheVariants.{White, Black}
 use Rattle.board_base.specs.declared.men.Kind.TheVariants.{Pawn, Knight, Bishop, Rook, Queen, King}
 use Rattle.board_base.proofs.Hits.{away-above, away-below}
+use Rattle.board_base.proofs.Ways.{distance-sym}
 use Rattle.cage_rules.specs.Frozen.{is_behind, is_next}
 use Rattle.cage_rules.specs.Sets.{union}
 use Rattle.cage_rules.specs.Steps.{down, is_across, is_ahead, is_along, is_diagonal_step, is_knight_step, is_line_step, is_step, is_strike, left, near, right, up}
-use Rattle.cage_rules.proofs.Rays.{apart-back}
 use Rattle.cage_rules.proofs.Filling.{is_in-that, length-that, none-in-zero}
 use Rattle.cage_rules.proofs.Near.{Source, near-corner, near-either, near-is, near-more, near-same, on_file, on_rank, placed}
 use Rattle.cage_rules.proofs.SetAlgebra.{is_in-union, length-union}
@@ -267,7 +267,7 @@ pub strike-near : (c : Colour) (set : List Bool) → near (is_ahead c) (near (is
 strike-near c set =
     ahead-form c (near (is_across 1) set)
     ∙ near-corner (rise c) (λ a b. distance a b == 1) set
-    ∙ near-same (placed (rise c) (λ a b. distance a b == 1)) (is_strike c) set (λ s t si ti. ap (λ (x : Bool). x && (files_apart s t == 1)) (rise-form c s t) ∙ ap (λ (n : ℕ). one_ahead c t s && (n == 1)) (apart-back (file s) (file t)))
+    ∙ near-same (placed (rise c) (λ a b. distance a b == 1)) (is_strike c) set (λ s t si ti. ap (λ (x : Bool). x && (files_apart s t == 1)) (rise-form c s t) ∙ ap (λ (n : ℕ). one_ahead c t s && (n == 1)) (distance-sym (file s) (file t)))
 
 -- a pawn takes none of these steps
 pub none-near : (set : List Bool) → squares_of 0 ≡ near (is_step Pawn) set

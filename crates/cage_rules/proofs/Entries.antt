@@ -7,9 +7,9 @@ use Rattle.board_base.specs.declared.men.Colour.{Colour}
 use Rattle.board_base.specs.declared.men.Kind.{Kind}
 use Rattle.board_base.specs.declared.men.Kind.TheVariants.{Pawn, Knight, Bishop, Rook, Queen, King}
 use Rattle.general_lemmas.proofs.Ranges.{all_in_range}
-use Rattle.board_base.proofs.Ways.{distance-low, king_distance-sym}
+use Rattle.board_base.proofs.Ways.{distance-low, king_distance-sym, distance-sym, zero-apart}
 use Rattle.cage_rules.specs.Frozen.{is_next, is_entry}
-use Rattle.cage_rules.proofs.Rays.{RayStep, apart-back, diagonal-end, diagonal-step, distance-zero, line-end, line-step, no-steps}
+use Rattle.cage_rules.proofs.Rays.{RayStep, diagonal-end, diagonal-step, line-end, line-step, no-steps}
 
 -- an entry to t that a man who comes from s leaves, or crosses last, and that is empty then
 pub record WayIn (board : Places) (c : Colour) (k : Kind) (s t : ℕ) : Type 0 where
@@ -58,11 +58,11 @@ unfolding king_distance distance
 next-apart t e next same = let one : max (files_apart t e) (ranks_apart t e) ≡ 1 = eqb-true _ 1 next in omega arith
 
 pub knight-back : (s t : ℕ) → (files_apart s t * ranks_apart s t) ≡ (files_apart t s * ranks_apart t s)
-knight-back s t = ap (λ (n : ℕ). n * ranks_apart s t) (apart-back (file s) (file t)) ∙ ap (λ (n : ℕ). files_apart t s * n) (apart-back (rank s) (rank t))
+knight-back s t = ap (λ (n : ℕ). n * ranks_apart s t) (distance-sym (file s) (file t)) ∙ ap (λ (n : ℕ). files_apart t s * n) (distance-sym (rank s) (rank t))
 
 knight-apart : (s t : ℕ) → (files_apart s t * ranks_apart s t == 2) ≡ true → s ≢ t
 knight-apart s t h same =
-    let none : files_apart s t ≡ 0 = distance-zero _ _ (ap file same) in
+    let none : files_apart s t ≡ 0 = zero-apart _ _ (ap file same) in
     let two : files_apart s t * ranks_apart s t ≡ 2 = eqb-true _ 2 h in
     let zero_times : files_apart s t * ranks_apart s t ≡ 0 * ranks_apart s t = ap (λ (n : ℕ). n * ranks_apart s t) none in
     omega arith

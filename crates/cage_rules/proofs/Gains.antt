@@ -2,12 +2,12 @@
 use Rattle.std.proofs.Common.{◌≡◌, ℕ, ◌<◌, ◌⊎◌, inl, inr, Bool, true, false, ◌&&◌, ◌||◌, not, List, length, ap, ◌∙◌, arith}
 use Rattle.std.proofs.lemmas.Bool.{and_parts, and_from, or_cases, or_left, or_right, or_from, or_parts, not-true, not_from_false, both_ways, false_from_ne_true}
 use Rattle.std.specs.Prelude.{Option, Some, None}
-use Rattle.board_base.specs.Board.{Places, at, is_empty, is_in}
+use Rattle.board_base.specs.Board.{Places, at, is_empty, is_in, is_like}
 use Rattle.board_base.specs.declared.men.Man.{Man}
 use Rattle.play_rules.specs.Reach.{IsWithin}
 use Rattle.query_base.specs.Asked.{Asked}
 use Rattle.cage_rules.specs.Frozen.{IsAsArray, IsFrozen}
-use Rattle.cage_rules.specs.Regions.{beginner, is_dead, is_exposed, is_like, is_officer_home, is_shielded, may_roam, may_strike, region, wall, walls}
+use Rattle.cage_rules.specs.Regions.{beginner, is_dead, is_exposed, is_officer_home, is_shielded, may_roam, may_strike, region, wall, walls}
 use Rattle.cage_rules.specs.Sets.{union}
 use Rattle.cage_rules.proofs.Beginners.{officer-inside}
 use Rattle.cage_rules.proofs.Filling.{in-that, is_in-that}

@@ -4,7 +4,7 @@ use Rattle.std.proofs.lemmas.Bool.{and_parts, and_from, or_from, not-true, not_f
 use Rattle.std.proofs.lemmas.List.{append-nil}
 use Rattle.std.proofs.lemmas.Option.{none-some}
 use Rattle.std.specs.Prelude.{Option, Some, None}
-use Rattle.board_base.specs.Board.{Places, at, is_a, is_empty, is_in, is_of, opponent, same_colour}
+use Rattle.board_base.specs.Board.{Places, at, is_a, is_empty, is_in, is_of, opponent, same_colour, is_like}
 use Rattle.board_base.specs.Attacks.{files_apart, one_ahead}
 use Rattle.board_base.specs.Play.{castling, en_passant_victim, goes_en_passant}
 use Rattle.board_base.specs.Legal.{king_castles, man_moves, pawn_captures, pawn_captures_en_passant, pawn_doubles, pawn_steps}
@@ -22,7 +22,7 @@ use Rattle.play_rules.proofs.Doubles.{castles-no-pawn}
 use Rattle.play_rules.proofs.Kings.{castle-ends, length-after, within}
 use Rattle.query_base.specs.Asked.{Asked}
 use Rattle.cage_rules.specs.Laws.{Caged, IsGone, IsNotPawned, IsSafeFromPawns}
-use Rattle.cage_rules.specs.Regions.{beginner, is_dead, is_exposed, is_like, is_officer_home, is_shielded, is_struck, may_strike, region}
+use Rattle.cage_rules.specs.Regions.{beginner, is_dead, is_exposed, is_officer_home, is_shielded, is_struck, may_strike, region}
 use Rattle.cage_rules.proofs.Histories.{game-begins, kept-in}
 use Rattle.cage_rules.proofs.Regions.{length-region}
 use Rattle.cage_rules.proofs.Roamers.{in-region, officer-of}

@@ -1,16 +1,14 @@
 -- What is left of a set when squares that may have been left are taken out is the greatest frozen set within it.
-use Rattle.std.proofs.Common.{◌≡◌, ℕ, ◌<◌, ◌⊎◌, inl, inr, Bool, true, false, List, length, refl, ap, sym, ◌∙◌, subst, arith}
+use Rattle.std.proofs.Common.{◌≡◌, ℕ, ◌<◌, ◌⊎◌, inl, inr, Bool, true, false, List, length, ap, sym, ◌∙◌, subst, arith}
 use Rattle.std.proofs.lemmas.Bool.{and_parts, and_from, cases_lt, both_ways}
 use Rattle.std.proofs.lemmas.List.{get_or_past}
-use Rattle.std.specs.Prelude.{Option, Some, None, IsTrue, ◌↔◌}
-use Rattle.board_base.specs.Board.{Places, at, array_of, is_empty, is_in}
-use Rattle.board_base.specs.declared.men.Colour.{Colour}
-use Rattle.board_base.specs.declared.men.Kind.{Kind}
+use Rattle.std.specs.Prelude.{Option, None, IsTrue, ◌↔◌}
+use Rattle.board_base.specs.Board.{Places, at, array_of, is_empty, is_in, same_place}
 use Rattle.board_base.specs.declared.men.Man.{Man}
-use Rattle.board_base.proofs.KindsOfMen.{colour_is, kind_is, same_colour-self, same_kind-self}
+use Rattle.board_base.proofs.Equal.{place_is, place_self}
 use Rattle.query_base.specs.Asked.{Asked}
 use Rattle.play_rules.specs.Reach.{IsWithin}
-use Rattle.cage_rules.specs.Frozen.{IsAsArray, IsCaged, IsFrozen, is_held_home, same_place}
+use Rattle.cage_rules.specs.Frozen.{IsAsArray, IsCaged, IsFrozen, is_held_home}
 use Rattle.cage_rules.specs.Steps.{both}
 use Rattle.cage_rules.specs.Tests.{kept, squares_alike, ways_of}
 use Rattle.cage_rules.proofs.Filling.{in-that, is_in-that}
@@ -80,22 +78,8 @@ occupied-inside board s len full = elim (cases_lt s 64) [
   | inr past ↦ absurd (both_ways _ full (ap is_empty (get_or_past board s None (omega arith))))
 ]
 
-pub same-told : (a b : Option Man) → same_place a b ≡ true → a ≡ b
-same-told None None h = refl
-same-told (Some a) (Some b) h =
-    let parts = and_parts _ _ h in
-    let colour : a.colour ≡ b.colour = colour_is a.colour b.colour parts.0 in
-    let kind : a.kind ≡ b.kind = kind_is a.kind b.kind parts.1 in
-    ap (λ (x : Colour). Some (record { colour = x; kind = a.kind })) colour ∙ ap (λ (x : Kind). Some (record { colour = b.colour; kind = x })) kind
-same-told None (Some b) h = absurd (both_ways false refl h)
-same-told (Some a) None h = absurd (both_ways false refl h)
-
-same-self : (a : Option Man) → same_place a a ≡ true
-same-self None = refl
-same-self (Some a) = and_from _ _ (same_colour-self a.colour) (same_kind-self a.kind)
-
 pub same-tells : (a b : Option Man) → a ≡ b → same_place a b ≡ true
-same-tells a b e = subst (λ (p : Option Man). same_place a p ≡ true) e (same-self a)
+same-tells a b e = subst (λ (p : Option Man). same_place a p ≡ true) e (place_self a)
 
 -- each set that is as in the array is within the squares that are
 pub alike-within : (o : List Bool) (board : Places) (set : List Bool) → ((s : ℕ) → is_in set s ≡ true → s < 64) → IsAsArray o board set → IsWithin set (squares_alike board (array_of o))
@@ -105,7 +89,7 @@ alike-within o board set inside alike s member =
 
 pub within-alike : (o : List Bool) (board : Places) (set : List Bool) → IsWithin set (squares_alike board (array_of o)) → IsAsArray o board set
 unfolding squares_alike
-within-alike o board set within s member = same-told _ _ (in-that (λ s. same_place (at board s) (at (array_of o) s)) s (within s member)).1
+within-alike o board set within s member = place_is _ _ (in-that (λ s. same_place (at board s) (at (array_of o) s)) s (within s member)).1
 
 pub alike-answer : (o : List Bool) (b : Bool) (board : Places) (set : List Bool) → IsTrue b ↔ (both set (squares_alike board (array_of o)) ≡ set) → length set ≡ 64 → IsTrue b ↔ IsAsArray o board set
 alike-answer o b board set e size =

@@ -1,4 +1,4 @@
-mod Must
+pub mod Must
 mod Rays
 mod Entries
 mod PawnEntries

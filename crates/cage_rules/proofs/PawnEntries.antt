@@ -13,8 +13,8 @@ use Rattle.play_rules.specs.Laws.{is_end}
 use Rattle.play_rules.proofs.Skipped.{same-file}
 use Rattle.cage_rules.specs.Frozen.{is_behind, is_past_home, is_before_promotion, is_entry}
 use Rattle.cage_rules.proofs.Entries.{WayIn}
-use Rattle.board_base.proofs.Ways.{toward-down, toward-same, toward-up}
-use Rattle.cage_rules.proofs.Rays.{apart-back, rank-of, file-of}
+use Rattle.board_base.proofs.Ways.{toward-down, toward-same, toward-up, distance-sym}
+use Rattle.cage_rules.proofs.Rays.{rank-of, file-of}
 
 -- a pawn's step to the next rank
 pub record Steps (c : Colour) (s t : ℕ) : Type 0 where
@@ -22,7 +22,7 @@ pub record Steps (c : Colour) (s t : ℕ) : Type 0 where
   pub near : files_apart s t < 2
 
 behind-from : (c : Colour) (s t : ℕ) → Steps c s t → is_behind c t s ≡ true
-behind-from c s t step = and_from _ _ step.ahead (lt-ltb _ _ (let e = apart-back (file s) (file t) in let n = step.near in omega (arith, e, n)))
+behind-from c s t step = and_from _ _ step.ahead (lt-ltb _ _ (let e = distance-sym (file s) (file t) in let n = step.near in omega (arith, e, n)))
 
 ahead-apart : (c : Colour) (s t : ℕ) → one_ahead c s t ≡ true → s ≢ t
 ahead-apart White s t h same = let up : rank t ≡ rank s + 1 = eqb-true _ _ h in omega arith

@@ -3,7 +3,7 @@ use Rattle.std.proofs.Common.{◌≡◌, ℕ, ◌+◌, ◌*◌, ◌<◌, ◌≤�
 use Rattle.std.proofs.lemmas.Bool.{or_cases, or_left, or_right, cases_lt, cases_order, eqb-true, eq-eqb}
 use Rattle.board_base.specs.Board.{file, rank}
 use Rattle.board_base.specs.Attacks.{distance, files_apart, ranks_apart, on_one_line, on_one_diagonal, toward, on_the_way, king_distance}
-use Rattle.board_base.proofs.Ways.{toward-down, toward-same, toward-up}
+use Rattle.board_base.proofs.Ways.{toward-down, toward-same, toward-up, zero-apart}
 use Rattle.cage_rules.specs.Frozen.{is_next}
 
 -- the square of a rank and a file has that rank and that file
@@ -12,14 +12,6 @@ rank-of r f small = omega arith
 
 pub file-of : (r f : ℕ) → f < 8 → file (8 * r + f) ≡ f
 file-of r f small = omega arith
-
-pub apart-back : (a b : ℕ) → distance a b ≡ distance b a
-unfolding distance
-apart-back a b = omega arith
-
-pub distance-zero : (a b : ℕ) → a ≡ b → distance a b ≡ 0
-unfolding distance
-distance-zero a b e = omega arith
 
 next-from : (t e : ℕ) → files_apart t e ≤ 1 → ranks_apart t e ≤ 1 → 1 ≤ files_apart t e + ranks_apart t e → is_next t e ≡ true
 unfolding king_distance
@@ -125,7 +117,7 @@ line-step s t i small inside line more =
     elim (or_cases _ _ line) [
       | inl column ↦
           let same : file s ≡ file t = eqb-true _ _ column in
-          let ranks : distance (rank s) (rank t) ≡ n = far-ranks s t n refl (distance-zero _ _ same) in
+          let ranks : distance (rank s) (rank t) ≡ n = far-ranks s t n refl (zero-apart _ _ same) in
           let by_rank : Step (rank s) (rank t) i = step (rank s) (rank t) n i (omega arith) (omega arith) ranks more in
           let rs : r < 8 = by_rank.small in
           let rs' : r' < 8 = by_rank.small_then in
@@ -135,7 +127,7 @@ line-step s t i small inside line more =
           let fs' : f' < 8 = omega arith in
           let ra : ranks_apart (8 * r' + f') (8 * r + f) ≡ 1 = ap (distance (rank (8 * r' + f'))) (rank-of r f fs) ∙ ap (λ (x : ℕ). distance x r) (rank-of r' f' fs') ∙ by_rank.apart in
           let fe : file (8 * r' + f') ≡ file (8 * r + f) = file-of r' f' fs' ∙ ef' ∙ sym ef ∙ sym (file-of r f fs) in
-          let fa : files_apart (8 * r' + f') (8 * r + f) ≡ 0 = distance-zero _ _ fe in
+          let fa : files_apart (8 * r' + f') (8 * r + f) ≡ 0 = zero-apart _ _ fe in
           record {
             inside = omega arith;
             inside_then = omega arith;
@@ -144,7 +136,7 @@ line-step s t i small inside line more =
           }
       | inr row ↦
           let same : rank s ≡ rank t = eqb-true _ _ row in
-          let files : distance (file s) (file t) ≡ n = far-files' s t n refl (distance-zero _ _ same) in
+          let files : distance (file s) (file t) ≡ n = far-files' s t n refl (zero-apart _ _ same) in
           let by_file : Step (file s) (file t) i = step (file s) (file t) n i (omega arith) (omega arith) files more in
           let fs : f < 8 = by_file.small in
           let fs' : f' < 8 = by_file.small_then in
@@ -154,7 +146,7 @@ line-step s t i small inside line more =
           let rs' : r' < 8 = omega arith in
           let fa : files_apart (8 * r' + f') (8 * r + f) ≡ 1 = ap (distance (file (8 * r' + f'))) (file-of r f fs) ∙ ap (λ (x : ℕ). distance x f) (file-of r' f' fs') ∙ by_file.apart in
           let re : rank (8 * r' + f') ≡ rank (8 * r + f) = rank-of r' f' fs' ∙ er' ∙ sym er ∙ sym (rank-of r f fs) in
-          let ra : ranks_apart (8 * r' + f') (8 * r + f) ≡ 0 = distance-zero _ _ re in
+          let ra : ranks_apart (8 * r' + f') (8 * r + f) ≡ 0 = zero-apart _ _ re in
           record {
             inside = omega arith;
             inside_then = omega arith;
@@ -178,8 +170,8 @@ pub line-end : (s t : ℕ) → on_one_line s t ≡ true → on_the_way s t (king
 line-end s t line = elim (or_cases _ _ line) [
   | inl column ↦
       let same : file s ≡ file t = eqb-true _ _ column in
-      there s t (toward-far (rank s) (rank t) (king_distance s t) (far-ranks s t (king_distance s t) refl (distance-zero _ _ same))) (toward-same (file s) (file t) (king_distance s t) same ∙ same)
+      there s t (toward-far (rank s) (rank t) (king_distance s t) (far-ranks s t (king_distance s t) refl (zero-apart _ _ same))) (toward-same (file s) (file t) (king_distance s t) same ∙ same)
   | inr row ↦
       let same : rank s ≡ rank t = eqb-true _ _ row in
-      there s t (toward-same (rank s) (rank t) (king_distance s t) same ∙ same) (toward-far (file s) (file t) (king_distance s t) (far-files' s t (king_distance s t) refl (distance-zero _ _ same)))
+      there s t (toward-same (rank s) (rank t) (king_distance s t) same ∙ same) (toward-far (file s) (file t) (king_distance s t) (far-files' s t (king_distance s t) refl (zero-apart _ _ same)))
 ]

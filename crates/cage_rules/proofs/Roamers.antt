@@ -1,8 +1,7 @@
 -- The man who began on the home of an officer stands in his region.
-use Rattle.std.proofs.Common.{◌≡◌, ℕ, ◌<◌, inl, inr, Bool, true, false, cond, ◌||◌, List, [], ◌∷◌, ◌++◌, length, refl, ap, sym, ◌∙◌, subst, arith}
+use Rattle.std.proofs.Common.{◌≡◌, ℕ, ◌<◌, inl, inr, Bool, true, false, ◌||◌, List, [], ◌∷◌, ◌++◌, length, refl, ap, sym, ◌∙◌, subst, arith}
 use Rattle.std.proofs.lemmas.Bool.{and_from, or_cases, not_from_false, cases_Bool, cases_lt, both_ways}
 use Rattle.std.proofs.lemmas.List.{append_assoc, get_or_past}
-use Rattle.std.proofs.lemmas.List.FromFn.{get_or-map-range_with_len, length-map-range_with_len}
 use Rattle.std.proofs.lemmas.Option.{none-some, same_Some}
 use Rattle.std.specs.Prelude.{Option, Some, None, is_none}
 use Rattle.board_base.specs.Board.{array_of, at, is_a, is_empty, is_in, is_of, same_kind}
@@ -18,9 +17,9 @@ use Rattle.board_base.proofs.KindsOfMen.{another_kind, colour_is, kind_is}
 use Rattle.play_rules.proofs.Legality.{Legality, legality}
 use Rattle.play_rules.proofs.Games.{in_every_game}
 use Rattle.query_base.specs.Asked.{Asked}
-use Rattle.men_account.specs.Labels.{Labels, label_at, first_labels, labels_after, own_label}
-use Rattle.men_account.proofs.Moved.{on_square, moved_from}
-use Rattle.men_account.proofs.Labelled.{labels-each_man, labels-colours, labels-promotions, length-labels}
+use Rattle.men_account.specs.Labels.{Labels, label_at, labels_after}
+use Rattle.men_account.proofs.Moved.{moved_from}
+use Rattle.men_account.proofs.Labelled.{labels-each_man, labels-colours, labels-promotions, length-labels, first-is, on-label}
 use Rattle.cage_rules.specs.Laws.{Caged, StaysInRegion}
 use Rattle.cage_rules.specs.Regions.{beginner, is_officer_home, may_roam, region, walls}
 use Rattle.cage_rules.proofs.Beginners.{array-there, officer-inside}
@@ -79,29 +78,12 @@ began-so o g h s game home there label =
     let kind : m.kind ≡ b.kind = same-kind-from b m first.2.no_pawn (λ other. ap (is_a Pawn) (sym start) ∙ (labels-promotions o g game s h m label now.1 (ap (is_a m.kind) start ∙ other)).1) in
     now.1 ∙ same-man m b colour kind ∙ sym first.1
 
-own-label : (full : Bool) (s h : ℕ) → cond full None (Some s) ≡ Some h → s ≡ h
-own-label true s h e = cc
-own-label false s h e = same_Some _ _ e
-
--- at first each man has his own square
-first-own : (o : List Bool) (s h : ℕ) → label_at (first_labels o) s ≡ Some h → s ≡ h
-unfolding first_labels
-first-own o s h label = elim (cases_lt s 64) [
-  | inl inside ↦ own-label (is_empty (at (array_of o) s)) s h (sym (get_or-map-range_with_len (own_label (array_of o)) 0 64 s s None inside (omega arith)) ∙ label)
-  | inr past ↦ absurd (none-some h (sym (get_or_past (first_labels o) s None (omega (arith, length-map-range_with_len (own_label (array_of o)) 0 64))) ∙ label))
-]
-
 -- a label stands on the board
 label-inside : (labels : Labels) (s h : ℕ) → length labels ≡ 64 → label_at labels s ≡ Some h → s < 64
 label-inside labels s h size label = elim (cases_lt s 64) [
   | inl inside ↦ inside
   | inr past ↦ absurd (none-some h (sym (get_or_past labels s None (omega arith)) ∙ label))
 ]
-
--- where a label came from
-label-from : (labels : Labels) (from : Option ℕ) (h : ℕ) → on_square labels from ≡ Some h → (u : ℕ) × (from ≡ Some u) × (label_at labels u ≡ Some h)
-label-from labels None h e = cc
-label-from labels (Some u) h e = (u, refl, e)
 
 roams : (set : List Bool) (place : Option Man) (man : Man) (u s : ℕ) → place ≡ Some man → kind_attacks (walls set) man.colour man.kind u s ≡ true → is_in set s ≡ false → may_roam set place u s ≡ true
 roams set place man u s e hits out = subst (λ (p : Option Man). may_roam set p u s ≡ true) (sym e) (and_from _ _ hits (not_from_false _ out))
@@ -111,11 +93,11 @@ stays-in-region o g q set h caged home there =
     let inside : h < 64 = officer-inside h home in
     let first = officer-of h home in
     in_every_game o (λ k. (after : List Move) → g ≡ k ++ after → (s : ℕ) → label_at (labels_after o k) s ≡ Some h → is_in (region set h) s ≡ true)
-    (λ after whole s label. ap (is_in (region set h)) (first-own o s h label) ∙ region-home set (beginner h) h inside)
+    (λ after whole s label. ap (is_in (region set h)) (first-is o s h label) ∙ region-home set (beginner h) h inside)
     (λ k m game legal here after whole s label.
     let e : g ≡ k ++ m ∷ after = whole ∙ append_assoc k (m ∷ []) after in
     let l : Legality (board_after o k) (turn_after k) (unmoved o k) (last_move k) m = legality _ _ _ _ _ legal in
-    let from = label-from (labels_after o k) (moved_from m (castling (board_after o k) m) (goes_en_passant (board_after o k) m) s) h (sym (label-more o k m s game l) ∙ label) in
+    let from = on-label (labels_after o k) (moved_from m (castling (board_after o k) m) (goes_en_passant (board_after o k) m) s) h (sym (label-more o k m s game l) ∙ label) in
     let u : ℕ = from.0 in
     let before : is_in (region set h) u ≡ true = here (m ∷ after) e u from.2 in
     let man : at (board_after o k) u ≡ Some first.0 = began-so o k h u game home there from.2 ∙ first.1 in

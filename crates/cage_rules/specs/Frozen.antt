@@ -1,7 +1,7 @@
 -- Frozen sets: men who can't have come to their squares, since each way there leads from or over a square that is never empty.
-use Rattle.std.specs.Prelude.{ℕ, ◌≡◌, ◌*◌, Bool, true, false, ◌&&◌, ◌||◌, ◌==◌, ◌⊎◌, nat_lt, IsTrue, List, Option, Some, None}
+use Rattle.std.specs.Prelude.{ℕ, ◌≡◌, ◌*◌, Bool, false, ◌&&◌, ◌||◌, ◌==◌, ◌⊎◌, nat_lt, IsTrue, List, Option, Some, None}
 use Rattle.std.specs.List.{Contains, filter, list_any, range_with_len}
-use Rattle.board_base.specs.Board.{Places, array_of, at, is_empty, is_in, rank, same_colour, same_kind}
+use Rattle.board_base.specs.Board.{Places, array_of, at, is_empty, is_in, rank}
 use Rattle.board_base.specs.Attacks.{files_apart, ranks_apart, king_distance, on_one_diagonal, on_one_line, one_ahead}
 use Rattle.board_base.specs.Legal.{last_rank}
 use Rattle.board_base.specs.Play.{all_castles, king_home, rook_home}
@@ -63,12 +63,6 @@ is_held_home held s = list_any (λ x. holds held x && ((king_home x == s) || (ro
 pub record IsFrozen (q : Asked) (set : List Bool) : Type 0 where
   pub occupied : (s : ℕ) → IsTrue (is_in set s) → is_empty (at q.board s) ≡ false
   pub caged : (s : ℕ) → IsTrue (is_in set s) → IsTrue (is_held_home q.held s) ⊎ IsCaged q.board set s
-
--- the places hold the same: nobody, or men of one colour and kind
-abbrev pub same_place : Option Man → Option Man → Bool
-same_place None None = true
-same_place (Some a) (Some b) = same_colour a.colour b.colour && same_kind a.kind b.kind
-same_place _ _ = false
 
 -- Article 2.3: each square of the set holds what it holds in the array without the men on the squares of o
 abbrev pub IsAsArray : List Bool → Places → List Bool → Type 0

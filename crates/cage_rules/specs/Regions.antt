@@ -1,7 +1,7 @@
 -- Regions: where a man of the array can have gone while the men of a frozen set stood.
 use Rattle.std.specs.Prelude.{ℕ, ◌≡◌, Bool, false, cond, ◌&&◌, ◌||◌, not, ◌==◌, IsTrue, List, length, map, Option, Some, None}
 use Rattle.std.specs.List.{list_all, list_any, range_with_len}
-use Rattle.board_base.specs.Board.{Places, at, initial_array, is_a, is_in, is_the, man, opponent}
+use Rattle.board_base.specs.Board.{Places, at, initial_array, is_a, is_in, man, opponent, is_like}
 use Rattle.board_base.specs.Attacks.{files_apart, kind_attacks, one_ahead}
 use Rattle.board_base.specs.declared.men.Colour.TheVariants.{White}
 use Rattle.board_base.specs.declared.men.Kind.TheVariants.{Pawn, Knight, Bishop, Rook, Queen}
@@ -57,11 +57,6 @@ pub record IsLeastFrom (set : List Bool) (man : Option Man) (h : ℕ) (found : L
 -- the same of the array's man on h; only the region of h is so
 abbrev pub IsLeastClosed : List Bool → ℕ → List Bool → Type 0
 IsLeastClosed set h found = IsLeastFrom set (beginner h) h found
-
--- a man of the colour and kind of the first stands on the second place
-abbrev pub is_like : Option Man → Option Man → Bool
-is_like None place = false
-is_like (Some m) place = is_the m.colour m.kind place
 
 -- no man of the colour and kind of the array's man on h stands in his region
 unfoldable pub is_dead : Places → List Bool → ℕ → Bool

@@ -1,7 +1,7 @@
 -- Inner: no public clause cites this file.
 -- The sets of squares by which men are sorted, and what a round of the loop leaves of a set.
 use Rattle.std.specs.Prelude.{ℕ, Bool, true, false, cond, ◌&&◌, ◌||◌, not, ◌==◌, List, slice_set, Option, Some, None}
-use Rattle.board_base.specs.Board.{Places, at, is_empty, is_in, rank, same_colour, same_kind}
+use Rattle.board_base.specs.Board.{Places, at, is_empty, is_in, rank, same_colour, same_kind, same_place}
 use Rattle.board_base.specs.Legal.{last_rank}
 use Rattle.board_base.specs.declared.men.Colour.{Colour}
 use Rattle.board_base.specs.declared.men.Colour.TheVariants.{White, Black}
@@ -10,7 +10,7 @@ use Rattle.board_base.specs.declared.men.Kind.TheVariants.{Pawn, Knight, Bishop,
 use Rattle.board_base.specs.declared.men.Man.{Man}
 use Rattle.query_base.specs.Asked.{Asked}
 use Rattle.cage_rules.specs.declared.ways.Ways.{Ways}
-use Rattle.cage_rules.specs.Frozen.{is_behind, is_held_home, is_past_home, same_place}
+use Rattle.cage_rules.specs.Frozen.{is_behind, is_held_home, is_past_home}
 use Rattle.cage_rules.specs.Sets.{squares_that}
 use Rattle.cage_rules.specs.Steps.{is_diagonal_step, is_knight_step, is_line_step, is_near, outside}
 

@@ -1,23 +1,12 @@
 ghost use Rattle.std.specs.Prelude.{◌≡◌, ◌↔◌, IsTrue, List, Bool};
-ghost use Rattle.cage_rules.specs.Frozen.{IsAsArray, IsFrozen, same_place};
+ghost use Rattle.cage_rules.specs.Frozen.{IsAsArray, IsFrozen};
 ghost use Rattle.cage_rules.specs.Tests.{squares_alike};
 ghost use Rattle.play_rules.specs.Reach.{IsWithin};
 
 use crate::frozen::{has_whole_board, settled};
 use crate::sets::{both, is_same, is_whole, with_if};
-use board_base::{Board, Man, Odds, Square, SquareSet, array_of};
+use board_base::{Board, Odds, Square, SquareSet, array_of, is_same_place};
 use query_base::Query;
-
-/// Whether the places hold the same: nobody, or men of one colour and kind.
-pub fn is_same_place(a: Option<Man>, b: Option<Man>) -> bool
-    ensures { result ≡ same_place a b }
-{
-    match (a, b) {
-        (None, None) => true,
-        (Some(a), Some(b)) => a.colour == b.colour && a.kind == b.kind,
-        _ => false,
-    }
-}
 
 /// The squares that hold the same on both boards.
 fn squares_alike(board: &Board, first: &Board) -> SquareSet

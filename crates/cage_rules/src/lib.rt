@@ -12,7 +12,7 @@ mod sets;
 mod steps;
 mod ways;
 
-pub use arrays::{as_array, greatest_as_array, is_same_place};
+pub use arrays::{as_array, greatest_as_array};
 pub use frozen::{greatest_frozen, is_frozen};
 pub use laws::{
     frozen_men_stood, frozen_refutes, larger_sets_gain, officers_stay_in_regions, regions_are_least,

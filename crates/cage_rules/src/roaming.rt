@@ -1,7 +1,7 @@
 ghost use Rattle.std.specs.Prelude.{◌≡◌, ◌&&◌, ◌<◌, IsTrue, Some, not};
-ghost use Rattle.board_base.specs.Board.{at, is_in, man};
+ghost use Rattle.board_base.specs.Board.{at, is_in, man, is_like};
 ghost use Rattle.board_base.specs.Legal.{is_officer};
-ghost use Rattle.cage_rules.specs.Regions.{IsLeastClosed, IsLeastFrom, beginner, is_dead, is_exposed, is_like, is_officer_home, is_shielded, region, region_from};
+ghost use Rattle.cage_rules.specs.Regions.{IsLeastClosed, IsLeastFrom, beginner, is_dead, is_exposed, is_officer_home, is_shielded, region, region_from};
 ghost use Rattle.board_base.specs.declared.men.Kind.TheVariants.{Pawn};
 ghost use Rattle.cage_rules.specs.Sets.{squares_that};
 ghost use Rattle.cage_rules.specs.Steps.{spread};

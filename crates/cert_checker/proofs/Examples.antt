@@ -3,10 +3,11 @@ use Rattle.std.proofs.Common.{◌≡◌, ◌==◌, ℕ, true, false, List, [], �
 use Rattle.std.proofs.lemmas.Bool.{both_ways}
 use Rattle.std.specs.Prelude.{None, slice_set}
 use Rattle.std.specs.List.{Contains}
+use Rattle.fen_text.proofs.FieldLemmas.{no_holds}
 use Rattle.general_lemmas.proofs.Lists.{contains-first, contains-none}
 use Rattle.board_base.specs.Board.{Places, array_of, at, initial_array, is_empty, is_of, man, no_men, no_odds}
 use Rattle.board_base.proofs.Without.{are-no-odds}
-use Rattle.board_base.specs.Rights.{Rights, holds}
+use Rattle.board_base.specs.Rights.{no_rights}
 use Rattle.board_base.specs.Attacks.{attacks, attacks_from, distance, kind_attacks, king_distance, on_the_way, toward}
 use Rattle.board_base.specs.Play.{play}
 use Rattle.board_base.specs.Legal.{in_check, king_castles, legal_on, man_moves, may_go, pawn_captures, pawn_captures_en_passant, pawn_doubles, pawn_steps, promotion_fits}
@@ -14,8 +15,7 @@ use Rattle.board_base.specs.declared.moves.Move.{Move}
 use Rattle.board_base.specs.declared.men.Colour.TheVariants.{White, Black}
 use Rattle.board_base.specs.declared.men.Kind.TheVariants.{Pawn}
 use Rattle.board_base.specs.declared.unmoves.Unmove.{Unmove}
-use Rattle.board_base.specs.declared.castles.Castle.{Castle}
-use Rattle.board_base.specs.declared.castles.Castle.TheVariants.{WhiteShort, WhiteLong, BlackShort, BlackLong}
+use Rattle.board_base.specs.declared.castles.Castle.TheVariants.{WhiteShort}
 use Rattle.play_rules.specs.Kings.{kings}
 use Rattle.play_rules.proofs.Games.{game_more, no_moves}
 use Rattle.query_base.specs.Asked.{Asked}
@@ -31,12 +31,6 @@ use Rattle.unmove_gen.proofs.Taken.{listed_after}
 use Rattle.cert_text.specs.Tree.{Tree, Forest, rule, back, expand, none, more}
 use Rattle.cert_checker.specs.Proving.{Proves}
 use Rattle.board_base.proofs.KindsOfMen.{none-stand}
-
-abbrev no_rights : Rights
-no_rights = record { white_short = false; white_long = false; black_short = false; black_long = false }
-
-none_held : (x : Castle) → holds no_rights x ≡ false
-none_held x = elim x as (λ y. holds no_rights y ≡ false) [ WhiteShort ↦ refl | WhiteLong ↦ refl | BlackShort ↦ refl | BlackLong ↦ refl ]
 
 -- the board with White to move, and nothing demanded
 abbrev asked : Places → Asked
@@ -83,7 +77,7 @@ stray_child u tree proves = let one : unmoves (asked no_men) ≡ u ∷ proves.1.
 -- the game of no moves reaches the array, so no children prove that none does
 array_reached : (kids : Forest) → Proves (expand kids) the_array [] → ⊥
 unfolding array_of initial_array
-array_reached kids proves = proves.0 (reaches_nothing the_array are-no-odds refl refl (λ x h. absurd (both_ways _ (none_held x) h)) refl tt)
+array_reached kids proves = proves.0 (reaches_nothing the_array are-no-odds refl refl (λ x h. absurd (both_ways _ (no_holds x) h)) refl tt)
 
 abbrev e2e4 : Move
 e2e4 = record { from = 12; to = 28; promo = None }
@@ -99,7 +93,7 @@ e4_reaches = record {
   game = game_more no_odds [] e2e4 (no_moves no_odds) refl;
   board = refl;
   turn = refl;
-  held = λ x h. absurd (both_ways _ (none_held x) h);
+  held = λ x h. absurd (both_ways _ (no_holds x) h);
   only = tt;
   barred = tt;
   clock = tt;
@@ -118,7 +112,7 @@ same_above : Proves (back 1) after_e4 (after_e4 ∷ [])
 same_above = record { board = refl; turn = refl; odds = refl; held = λ x h. h; only = tt; barred = tt; clock = tt }
 
 less_above : Proves (back 1) with_right (after_e4 ∷ [])
-less_above = record { board = refl; turn = refl; odds = refl; held = λ x h. absurd (both_ways _ (none_held x) h); only = tt; barred = tt; clock = tt }
+less_above = record { board = refl; turn = refl; odds = refl; held = λ x h. absurd (both_ways _ (no_holds x) h); only = tt; barred = tt; clock = tt }
 
 more_above : Proves (back 1) after_e4 (with_right ∷ []) → ⊥
 more_above proves = let held : false ≡ true = proves.held WhiteShort refl in cc

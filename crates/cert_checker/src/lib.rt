@@ -23,5 +23,6 @@ pub use laws::{
     accepted_bar_no_move, accepted_have_texts, bad_text_goes_first, certificates_prove, one_answer,
     one_answer_remains, one_walk, rest_answers, unlisted_have_texts, walk_proves,
 };
+pub use reasons::reason_supports;
 pub use refusals::{Accepted, Fault, Refused, StreamRefused, Why};
 pub use streams::check_stream;

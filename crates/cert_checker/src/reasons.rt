@@ -7,7 +7,7 @@ use query_base::Query;
 use static_rules::supports;
 
 /// Whether the reason supports the query, so that no game reaches it.
-pub(crate) fn reason_supports(query: &Query, reason: &Reason) -> bool
+pub fn reason_supports(query: &Query, reason: &Reason) -> bool
     ensures { IsTrue result ↔ ReasonSupports query.now reason.now }
 {
     match reason {

@@ -7,7 +7,7 @@ use Rattle.query_base.specs.declared.claims.Claim.TheVariants.{Illegal}
 use Rattle.query_base.specs.declared.rule_lines.RuleLine.TheVariants.{Kings}
 use Rattle.fen_text.specs.Parts.{parted}
 use Rattle.fen_text.specs.Ranks.{is_symbol, places_of, rank}
-use Rattle.fen_text.specs.Fen.{asked, fen, fen_of_four, from_en_passant, from_rights, from_turn, no_rights, placement, ranks, rights}
+use Rattle.fen_text.specs.Fen.{asked, fen, fen_of_four, from_en_passant, from_rights, from_turn, placement, ranks, rights}
 use Rattle.cert_text.specs.Tree.{rule}
 use Rattle.cert_text.specs.declared.reasons.Reason.TheVariants.{Line}
 use Rattle.cert_text.specs.Lines.{ended, said}
@@ -25,6 +25,7 @@ use Rattle.fen_text.specs.Numbers.{number}
 use Rattle.fen_text.specs.OddsLines.{odds_line, odds_of}
 use Rattle.fen_text.specs.Sets.{set_of}
 use Rattle.board_base.specs.Squares.{squares_of}
+use Rattle.board_base.specs.Rights.{no_rights}
 
 -- no game at these odds and with this clock, if any, leads to the board without men, for want of kings
 abbrev no_kings_at : List Bool → Option ℕ → Certificate

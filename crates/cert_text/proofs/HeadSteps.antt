@@ -6,11 +6,12 @@ use Rattle.std.proofs.lemmas.Option.{same_Some}
 use Rattle.board_base.specs.Board.{no_men, no_odds}
 use Rattle.board_base.specs.Squares.{squares_of}
 use Rattle.board_base.specs.declared.men.Colour.TheVariants.{White}
+use Rattle.board_base.specs.Rights.{no_rights}
 use Rattle.general_lemmas.proofs.Lists.{same_first, same_rest}
 use Rattle.query_base.specs.Asked.{Asked}
 use Rattle.query_base.specs.declared.claims.Claim.{Claim}
 use Rattle.query_base.specs.declared.claims.Claim.TheVariants.{Illegal}
-use Rattle.fen_text.specs.Fen.{asked, fen, fen_of_four, from_turn, from_rights, from_en_passant, placement, ranks, rights, no_rights}
+use Rattle.fen_text.specs.Fen.{asked, fen, fen_of_four, from_turn, from_rights, from_en_passant, placement, ranks, rights}
 use Rattle.fen_text.specs.ClockLines.{clock_line}
 use Rattle.fen_text.specs.OddsLines.{odds_line, odds_of}
 use Rattle.fen_text.specs.Parts.{parted}

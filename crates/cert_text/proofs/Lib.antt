@@ -1,5 +1,4 @@
 mod Examples
-pub mod Tests
 pub mod Forests
 pub mod Cuts
 pub mod PartTexts

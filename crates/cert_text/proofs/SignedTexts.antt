@@ -7,7 +7,7 @@ use Rattle.std.proofs.lemmas.Fmt.{digits_decimal}
 use Rattle.std.specs.Fmt.{decimal, signed_decimal}
 use Rattle.std.specs.List.{list_all, starts_with}
 use Rattle.std.specs.Option.{option_and_then}
-use Rattle.fen_text.specs.Fen.{is_digit}
+use Rattle.board_base.specs.Texts.{is_digit}
 use Rattle.fen_text.specs.Parts.{Free}
 use Rattle.fen_text.proofs.NumberLemmas.{digits_free}
 use Rattle.fen_text.specs.Numbers.{number}

@@ -22,7 +22,7 @@ use Rattle.cert_text.proofs.OnBoard.{unmove_on_board}
 use Rattle.fen_text.proofs.Begun.{begun}
 use Rattle.cert_text.proofs.Spelled.{body_back, body_read, number_in}
 use Rattle.fen_text.proofs.MoveFrees.{unmove_free}
-pub use Rattle.cert_text.proofs.Tests.{when}
+pub use Rattle.general_lemmas.proofs.Options.{when}
 
 -- a line with its end taken off
 pub ends : (text : List ℕ) → without_end (ended text) ≡ Some text

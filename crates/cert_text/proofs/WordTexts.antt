@@ -10,6 +10,7 @@ use Rattle.std.proofs.lemmas.Slice.Eq.{bytes_eq-Decides}
 use Rattle.std.specs.Fmt.{signed_decimal}
 use Rattle.std.specs.List.{join_with_byte, list_all, onto_first}
 use Rattle.std.specs.Option.{option_map, option_and_then}
+use Rattle.general_lemmas.proofs.Options.{when}
 use Rattle.board_base.specs.Potentials.{Duals, duals}
 use Rattle.fen_text.specs.Parts.{Free}
 use Rattle.fen_text.proofs.PartLemmas.{free_append}
@@ -17,7 +18,6 @@ use Rattle.fen_text.specs.Numbers.{number}
 use Rattle.cert_text.specs.Arguments.{both_of, columns_of, duals_of, halves, is_slash, potentials_text, rows_of, signed, signed_all, words}
 use Rattle.cert_text.specs.Writable.{are_near, is_near}
 use Rattle.cert_text.proofs.SignedTexts.{signed_back, signed_free, signed_read}
-use Rattle.cert_text.proofs.Tests.{when}
 use Rattle.board_base.proofs.TextLemmas.{mapped_some}
 
 -- words

@@ -7,11 +7,12 @@ use Rattle.board_base.specs.Board.{Places}
 use Rattle.board_base.specs.declared.castles.Castle.{Castle}
 use Rattle.board_base.specs.declared.men.Colour.{Colour}
 use Rattle.board_base.specs.declared.moves.Move.{Move}
+use Rattle.board_base.specs.Play.{all_castles}
 use Rattle.castle_history.specs.Homes.{are_at_home}
 use Rattle.ep_history.specs.Fits.{ep_fits}
 use Rattle.general_lemmas.proofs.Filtered.{passes-filter}
 use Rattle.general_lemmas.proofs.Lists.{contains-filter}
-use Rattle.codex_verdict.specs.Rights.{AreRights, castlings}
+use Rattle.codex_verdict.specs.Rights.{AreRights}
 use Rattle.codex_verdict.specs.Candidates.{captures_from, captures_of}
 use Rattle.codex_verdict.specs.Verdicts.{Promotes}
 use Rattle.codex_verdict.specs.declared.kinds.Right.{Right}
@@ -23,7 +24,7 @@ none-some : {A : Type 0} (o : Option A) → o ≡ None → IsSome o → ⊥
 none-some {A} None none some = let e : false ≡ true = some in cc
 none-some {A} (Some x) none some = cc
 
-pub rights-are : (board : Places) (turn : Colour) (rights first : List Right) (file : ℕ) → 8 ≤ file → first ≡ made (λ x. Castling x) (are_at_home board) castlings
+pub rights-are : (board : Places) (turn : Colour) (rights first : List Right) (file : ℕ) → 8 ≤ file → first ≡ made (λ x. Castling x) (are_at_home board) all_castles
     → rights ++ left_from (λ m. EnPassant m) (ep_fits board turn) (captures_from turn) file 8 ≡ first ++ left_from (λ m. EnPassant m) (ep_fits board turn) (captures_from turn) 0 8
     → AreRights board turn rights
 unfolding captures_of
@@ -43,7 +44,7 @@ rights-are board turn rights first file past is built = record {
 pub rights-plain : (board : Places) (turn : Colour) (rights : List Right) → AreRights board turn rights → All (λ right. Promotes right → ⊥) rights
 rights-plain board turn rights are =
     let Plain : Right → Type 0 = λ right. Promotes right → ⊥ in
-    let castles = filter (are_at_home board) castlings in
+    let castles = filter (are_at_home board) all_castles in
     let first = All-map Plain (λ (x : Castle). Castling x) castles (All-weaker (Contains castles) (λ x. Plain (Castling x)) (λ x there promotes. promotes) castles (All-contains_itself castles)) in
     let plain : (m : Move) → Contains are.captures m → Plain (EnPassant m) = λ m there promotes. none-some m.promo (capture-plain board turn m ((are.all m).0 there)) promotes in
     let last = All-map Plain (λ (m : Move). EnPassant m) are.captures (All-weaker (Contains are.captures) (λ m. Plain (EnPassant m)) plain are.captures (All-contains_itself are.captures)) in

@@ -1,11 +1,10 @@
 -- The rights that a position seems to give.
-use Rattle.std.specs.Prelude.{◌≡◌, List, [], ◌∷◌, ◌++◌, map}
+use Rattle.std.specs.Prelude.{◌≡◌, List, ◌++◌, map}
 use Rattle.std.specs.List.{filter}
 use Rattle.board_base.specs.Board.{Places}
-use Rattle.board_base.specs.declared.castles.Castle.{Castle}
-use Rattle.board_base.specs.declared.castles.Castle.TheVariants.{WhiteShort, WhiteLong, BlackShort, BlackLong}
 use Rattle.board_base.specs.declared.men.Colour.{Colour}
 use Rattle.board_base.specs.declared.moves.Move.{Move}
+use Rattle.board_base.specs.Play.{all_castles}
 use Rattle.castle_history.specs.Homes.{are_at_home}
 use Rattle.ep_history.specs.Fits.{ep_fits}
 use Rattle.play_rules.specs.Listed.{IsAscending, ListsAll}
@@ -19,14 +18,10 @@ abbrev pub claim_of : Right → Claim
 claim_of (Castling x) = Lost x
 claim_of (EnPassant m) = Ep m
 
--- the four castlings in the order K, Q, k, q
-abbrev pub castlings : List Castle
-castlings = WhiteShort ∷ WhiteLong ∷ BlackShort ∷ BlackLong ∷ []
-
 -- First come the castlings whose king and rook stand at home (article 3.8.2), then the captures en passant by the side to move that
 -- the board admits (article 3.7.3), by the order of moves.
 pub record AreRights (board : Places) (turn : Colour) (rights : List Right) : Type 0 where
   pub captures : List Move
-  pub rights_are : rights ≡ map (λ x. Castling x) (filter (are_at_home board) castlings) ++ map (λ m. EnPassant m) captures
+  pub rights_are : rights ≡ map (λ x. Castling x) (filter (are_at_home board) all_castles) ++ map (λ m. EnPassant m) captures
   pub ascending : IsAscending captures
   pub all : ListsAll (ep_fits board turn) captures

@@ -1,8 +1,9 @@
 ghost use Rattle.std.specs.Prelude.{◌≡◌, ◌≤◌, ◌<◌, ◌+◌, ◌++◌, [], ◌∷◌, cond, length, map, nat_lt};
 ghost use Rattle.std.specs.List.{filter};
+ghost use Rattle.board_base.specs.Play.{all_castles};
 ghost use Rattle.castle_history.specs.Homes.{are_at_home};
 ghost use Rattle.ep_history.specs.Fits.{ep_fits};
-ghost use Rattle.codex_verdict.specs.Rights.{AreRights, castlings};
+ghost use Rattle.codex_verdict.specs.Rights.{AreRights};
 ghost use Rattle.codex_verdict.specs.Candidates.{captures_from, captures_of, first_origin, first_target};
 ghost use Rattle.codex_verdict.specs.declared.kinds.Right.TheVariants.{Castling, EnPassant};
 
@@ -25,7 +26,7 @@ fn add_castling(board: &Board, castle: Castle, rights: &mut ArrayVec<Right, 18>)
 
 /// The castlings whose king and rook stand at home.
 fn castlings(board: &Board) -> ArrayVec<Right, 18>
-    ensures all { result.items ≡ map (λ x. Castling x) (filter (are_at_home board.now) castlings) }
+    ensures all { result.items ≡ map (λ x. Castling x) (filter (are_at_home board.now) all_castles) }
     ensures few { length result.items ≤ 4 }
 {
     let mut rights = ArrayVec::new();

@@ -2,11 +2,11 @@
 use Rattle.std.specs.Prelude.{ℕ, ◌≡◌, ◌<◌, ◌≤◌, List, length, codes, Some}
 use Rattle.board_base.specs.declared.men.Colour.{Colour}
 use Rattle.board_base.specs.declared.men.Colour.TheVariants.{White, Black}
+use Rattle.board_base.specs.Board.{men_squares}
 use Rattle.query_base.specs.Asked.{Asked}
 use Rattle.cert_text.specs.Lines.{cut, ended}
 use Rattle.length_bound.specs.LengthText.{AreLengthLines}
 use Rattle.length_bound.specs.Longest.{IsBest, longer_side, side_length}
-use Rattle.length_bound.specs.SideBounds.{men_squares}
 use Rattle.length_bound.specs.declared.texts.LengthText.{LengthText}
 use Rattle.question_text.specs.Positions.{IsLonePosition}
 use Rattle.command_answers.specs.Questions.{AnswersPlain}

@@ -1,7 +1,7 @@
 -- What `solve` answers.
 use Rattle.std.specs.Prelude.{ℕ, ◌≡◌, ◌<◌, ◌≤◌, ◌⊎◌, List, [], ◌∷◌, ◌++◌, codes, length}
 use Rattle.std.specs.List.{flat_map}
-use Rattle.board_base.specs.Texts.{move_text, unmove_text}
+use Rattle.board_base.specs.Texts.{move_text, unmove_words}
 use Rattle.board_base.specs.declared.moves.Move.{Move}
 use Rattle.board_base.specs.declared.unmoves.Unmove.{Unmove}
 use Rattle.query_base.specs.Asked.{Asked}
@@ -20,10 +20,6 @@ use Rattle.question_text.specs.declared.faults.InputFault.{InputFault}
 use Rattle.command_answers.specs.declared.statuses.Status.{Status}
 use Rattle.command_answers.specs.declared.statuses.Status.TheVariants.{BadInput}
 use Rattle.command_answers.specs.declared.statuses.Status.TheVariants as status
-
--- each unmove after a space
-unfoldable pub unmove_words : List Unmove → List ℕ
-unmove_words us = flat_map (λ u. 32 ∷ unmove_text u) us
 
 -- each move after a space
 unfoldable pub move_words : List Move → List ℕ

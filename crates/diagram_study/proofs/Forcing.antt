@@ -9,9 +9,9 @@ use Rattle.board_base.specs.declared.unmoves.Unmove.{Unmove}
 use Rattle.query_base.specs.Asked.{Asked}
 use Rattle.query_base.specs.declared.claims.Claim.TheVariants.{Last}
 use Rattle.unmove_gen.specs.Listed.{unmoves}
-use Rattle.unmove_gen.specs.Predecessor.{predecessor}
+use Rattle.unmove_gen.specs.Predecessor.{predecessor, left_by}
 use Rattle.line_claims.specs.Lines.{has_text}
-use Rattle.line_claims.specs.Listing.{AreListed, left_by}
+use Rattle.line_claims.specs.Listing.{AreListed}
 use Rattle.diagram_study.specs.Findings.{IsFound, is_proved, is_refuted}
 use Rattle.diagram_study.specs.Forced.{AreForced, IsForced, IsOpenPlace, LastFound}
 use Rattle.diagram_study.specs.Retractions.{AreLeft, HasLeft}
@@ -64,7 +64,6 @@ forced_listed_here q most nodes u forced = left_listed q (most - 1) nodes (unmov
 
 -- one step more in front
 listed_more : (q : Asked) (u : Unmove) (us : List Unmove) → Contains (unmoves q) u → AreListed (predecessor q u) us → AreListed q (u ∷ us)
-unfolding left_by
 listed_more q u us here rest = λ before after v e. by_front before after v e
   where
     by_front : (before after : List Unmove) (v : Unmove) → u ∷ us ≡ before ++ v ∷ after → Contains (unmoves (left_by q before)) v

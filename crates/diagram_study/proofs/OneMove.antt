@@ -4,11 +4,13 @@ use Rattle.std.specs.Prelude.{◌&&◌, Some, None, slice_get}
 use Rattle.std.specs.List.{list_all}
 use Rattle.std.proofs.lemmas.List.{take_all}
 use Rattle.std.proofs.lemmas.List.Folds.{list_all-append}
+use Rattle.std.proofs.Math.Bool.{and-false}
+use Rattle.general_lemmas.proofs.Splits.{up_to}
 use Rattle.board_base.specs.Legal.{is_move}
 use Rattle.board_base.specs.declared.moves.Move.{Move}
 use Rattle.board_base.specs.declared.unmoves.Unmove.{Unmove}
 use Rattle.diagram_study.specs.Retractions.{one_move}
-use Rattle.diagram_study.proofs.Steps.{at_place, one_more}
+use Rattle.diagram_study.proofs.Steps.{at_place}
 
 -- the unmove has this move
 abbrev pub has_move : Move → Unmove → Bool
@@ -29,22 +31,18 @@ by_first (u ∷ us) first here =
     let same : u ≡ first = cc in
     subst (λ (w : Unmove). one_move (u ∷ us) ≡ cond (list_all (has_move w.mv) (u ∷ us)) (Some w.mv) None) same refl
 
-and_false : (b : Bool) → (b && false) ≡ false
-and_false true = refl
-and_false false = refl
-
 -- another move is left
 pub some_fails : {A : Type 0} (p : A → Bool) (xs : List A) (i : ℕ) (x : A) → slice_get xs i ≡ Some x → p x ≡ false → list_all p xs ≡ false
 some_fails p [] i x here fails = cc
 some_fails p (y ∷ xs) zero x here fails =
     let same : y ≡ x = cc in
     ap (λ (b : Bool). b && list_all p xs) (ap p same ∙ fails)
-some_fails p (y ∷ xs) (suc i) x here fails = ap (λ (b : Bool). p y && b) (some_fails p xs i x here fails) ∙ and_false (p y)
+some_fails p (y ∷ xs) (suc i) x here fails = ap (λ (b : Bool). p y && b) (some_fails p xs i x here fails) ∙ and-false (p y)
 
 -- so many pass, and one more
 pub passes_more : {A : Type 0} (p : A → Bool) (xs : List A) (i : ℕ) (x : A) → i < length xs → slice_get xs i ≡ Some x → p x ≡ true → list_all p (take i xs) ≡ true → list_all p (take (i + 1) xs) ≡ true
 passes_more p xs i x inside there has so_far =
-    ap (list_all p) (one_more xs i x inside (at_place xs i x there)) ∙ list_all-append p (take i xs) (x ∷ [])
+    ap (list_all p) (up_to xs i x inside (at_place xs i x there)) ∙ list_all-append p (take i xs) (x ∷ [])
     ∙ ap (λ (b : Bool). b && list_all p (x ∷ [])) so_far ∙ ap (λ (b : Bool). b && true) has
 
 pub all_pass : {A : Type 0} (p : A → Bool) (xs : List A) (i : ℕ) → length xs ≤ i → list_all p (take i xs) ≡ true → list_all p xs ≡ true

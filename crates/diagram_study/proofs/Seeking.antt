@@ -3,6 +3,7 @@ use Rattle.std.proofs.Common.{◌≡◌, ℕ, ◌+◌, ◌<◌, List, [], ◌∷
 use Rattle.std.specs.List.{All}
 use Rattle.std.proofs.lemmas.List.{map-append}
 use Rattle.std.proofs.lemmas.List.Elements.{All-push, All-same}
+use Rattle.general_lemmas.proofs.Splits.{up_to}
 use Rattle.query_base.specs.Asked.{Asked}
 use Rattle.query_base.specs.declared.claims.Claim.{Claim}
 use Rattle.codex_verdict.specs.Rights.{claim_of}
@@ -10,11 +11,10 @@ use Rattle.codex_verdict.specs.declared.kinds.Right.{Right}
 use Rattle.diagram_study.specs.Findings.{IsFound}
 use Rattle.diagram_study.specs.Rights.{IsRightFound}
 use Rattle.diagram_study.specs.declared.rights.RightFound.{RightFound}
-use Rattle.diagram_study.proofs.Steps.{one_more}
 
 pub rights_more : (each : List Right) (i : ℕ) (f : RightFound) (old new : List RightFound) → i < length each → f.right ≡ get_or each i f.right → map (λ g. g.right) old ≡ take i each → new ≡ old ++ f ∷ [] → map (λ g. g.right) new ≡ take (i + 1) each
 rights_more each i f old new inside here so_far longer =
-    ap (λ (l : List RightFound). map (λ g. g.right) l) longer ∙ map-append (λ (g : RightFound). g.right) old (f ∷ []) ∙ ap (λ (l : List Right). l ++ f.right ∷ []) so_far ∙ sym (one_more each i f.right inside here)
+    ap (λ (l : List RightFound). map (λ g. g.right) l) longer ∙ map-append (λ (g : RightFound). g.right) old (f ∷ []) ∙ ap (λ (l : List Right). l ++ f.right ∷ []) so_far ∙ sym (up_to each i f.right inside here)
 
 pub each_more : (q : Asked) (most nodes : ℕ) (f : RightFound) (claim : Claim) (old new : List RightFound) → claim ≡ claim_of f.right → IsFound q claim most nodes f.finding → All (IsRightFound q most nodes) old → new ≡ old ++ f ∷ [] → All (IsRightFound q most nodes) new
 each_more q most nodes f claim old new is found so_far longer =

@@ -1,16 +1,13 @@
 -- Lists of which one element more is taken.
 use Rattle.std.proofs.Common.{◌≡◌, ℕ, zero, suc, ◌+◌, ◌<◌, Bool, false, List, [], ◌∷◌, ◌++◌, length, get_or, take, refl, sym, ap, ◌∙◌, arith}
-use Rattle.board_base.specs.Rights.{Rights, holds}
+use Rattle.board_base.specs.Rights.{Rights, holds, no_rights}
 use Rattle.board_base.specs.declared.castles.Castle.{Castle}
 use Rattle.board_base.specs.declared.castles.Castle.TheVariants.{WhiteShort, WhiteLong, BlackShort, BlackLong}
-use Rattle.diagram_study.specs.Rights.{no_castling}
 use Rattle.std.specs.Prelude.{IsSome, Some, slice_get}
 use Rattle.std.specs.List.{flat_map}
-use Rattle.std.proofs.lemmas.List.{flat_map_more, take_more}
+use Rattle.std.proofs.lemmas.List.{flat_map_more}
 use Rattle.std.proofs.lemmas.Option.{get_or_from_slice_get}
-
-pub one_more : {A : Type 0} (xs : List A) (i : ℕ) (x : A) → i < length xs → x ≡ get_or xs i x → take (i + 1) xs ≡ take i xs ++ x ∷ []
-one_more {A} xs i x inside here = take_more xs i x inside ∙ ap (λ (y : A). take i xs ++ y ∷ []) (sym here)
+use Rattle.general_lemmas.proofs.Splits.{up_to}
 
 pub some_within : {A : Type 0} (xs : List A) (i : ℕ) → i < length xs → IsSome (slice_get xs i)
 some_within [] i inside = absurd (omega (arith, inside))
@@ -23,11 +20,11 @@ at_place xs i x there = sym (get_or_from_slice_get xs i x x there)
 -- one piece of a text more
 pub piece_more : {A : Type 0} (f : A → List ℕ) (front : List ℕ) (xs : List A) (i : ℕ) (x : A) (old new : List ℕ) → i < length xs → x ≡ get_or xs i x → old ≡ front ++ flat_map f (take i xs) → new ≡ old ++ f x → new ≡ front ++ flat_map f (take (i + 1) xs)
 piece_more {A} f front xs i x old new inside here so_far more =
-    more ∙ ap (λ (t : List ℕ). t ++ f x) so_far ∙ flat_map_more f front (take i xs) x ∙ ap (λ (l : List A). front ++ flat_map f l) (sym (one_more xs i x inside here))
+    more ∙ ap (λ (t : List ℕ). t ++ f x) so_far ∙ flat_map_more f front (take i xs) x ∙ ap (λ (l : List A). front ++ flat_map f l) (sym (up_to xs i x inside here))
 
 -- a set without any castling
-pub no_rights : (set : Rights) → ((x : Castle) → holds set x ≡ false) → set ≡ no_castling
-no_rights set none =
+pub holds-none : (set : Rights) → ((x : Castle) → holds set x ≡ false) → set ≡ no_rights
+holds-none set none =
     ap (λ (b : Bool). let s : Rights = record { white_short = b; white_long = set.white_long; black_short = set.black_short; black_long = set.black_long } in s) (none WhiteShort)
     ∙ ap (λ (b : Bool). let s : Rights = record { white_short = false; white_long = b; black_short = set.black_short; black_long = set.black_long } in s) (none WhiteLong)
     ∙ ap (λ (b : Bool). let s : Rights = record { white_short = false; white_long = false; black_short = b; black_long = set.black_long } in s) (none BlackShort)

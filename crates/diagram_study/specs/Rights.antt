@@ -1,7 +1,7 @@
 -- What is found of the rights that a position seems to give.
 use Rattle.std.specs.Prelude.{ℕ, ◌≡◌, Bool, false, cond, not, List, map, fold}
 use Rattle.std.specs.List.{All, filter}
-use Rattle.board_base.specs.Rights.{Rights, holds, with_castling}
+use Rattle.board_base.specs.Rights.{Rights, holds, with_castling, no_rights}
 use Rattle.query_base.specs.Asked.{Asked}
 use Rattle.codex_verdict.specs.Rights.{AreRights, claim_of}
 use Rattle.codex_verdict.specs.declared.kinds.Right.{Right}
@@ -30,10 +30,6 @@ pub record AreFound (q : Asked) (most nodes : ℕ) (found : List RightFound) : T
   pub due : AreDue q (map (λ f. f.right) found)
   pub each : All (IsRightFound q most nodes) found
 
--- no castling
-abbrev pub no_castling : Rights
-no_castling = record { white_short = false; white_long = false; black_short = false; black_long = false }
-
 -- the set with the castling of a right that was found open, if it is one
 abbrev pub with_right : Right → Finding → Rights → Rights
 with_right (Castling x) finding set = cond (is_proved finding) set (with_castling set x)
@@ -41,4 +37,4 @@ with_right (EnPassant m) finding set = set
 
 -- the castlings that aren't proved to be lost
 unfoldable pub open_castlings : List RightFound → Rights
-open_castlings found = fold (λ set f. with_right f.right f.finding set) no_castling found
+open_castlings found = fold (λ set f. with_right f.right f.finding set) no_rights found

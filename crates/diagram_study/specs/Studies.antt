@@ -4,17 +4,16 @@ use Rattle.board_base.specs.declared.castles.Castle.TheVariants.{WhiteShort, Whi
 use Rattle.board_base.specs.declared.men.Colour.TheVariants.{White, Black}
 use Rattle.board_base.specs.declared.moves.Move.{Move}
 use Rattle.board_base.specs.declared.unmoves.Unmove.{Unmove}
-use Rattle.board_base.specs.Board.{opponent}
-use Rattle.board_base.specs.Rights.{holds}
+use Rattle.board_base.specs.Board.{opponent, men_squares}
+use Rattle.board_base.specs.Rights.{holds, no_rights}
 use Rattle.query_base.specs.Asked.{Asked}
 use Rattle.query_base.specs.Reach.{Reaches}
 use Rattle.query_base.specs.declared.claims.Claim.TheVariants.{Illegal}
 use Rattle.length_bound.specs.Longest.{IsBest, longer_side, side_length}
-use Rattle.length_bound.specs.SideBounds.{men_squares}
 use Rattle.length_bound.specs.declared.texts.LengthText.{LengthText}
 use Rattle.unmove_gen.specs.Listed.{unmoves}
 use Rattle.diagram_study.specs.Findings.{IsFound, is_proved}
-use Rattle.diagram_study.specs.Rights.{AreFound, no_castling, open_castlings}
+use Rattle.diagram_study.specs.Rights.{AreFound, open_castlings}
 use Rattle.diagram_study.specs.Pairs.{TellsOpenPair, TellsPairs, castle_pairs}
 use Rattle.diagram_study.specs.Retractions.{HasLeft, TellsLast, one_move}
 use Rattle.diagram_study.specs.Forced.{TellsForced}
@@ -85,7 +84,7 @@ makes_demands q =
 
 -- the query without its demands, at the same odds
 abbrev pub without_demands : Asked → Asked
-without_demands q = record q { held = no_castling; only = None; barred = None; clock = None }
+without_demands q = record q { held = no_rights; only = None; barred = None; clock = None }
 
 -- what is told of the position without its demands
 abbrev pub TellsPlain : Asked → ℕ → ℕ → List ℕ → Type 0

@@ -2,7 +2,7 @@
 use Rattle.std.specs.Prelude.{ℕ, cond, nat_le, List, [], ◌∷◌, ◌++◌, codes, length}
 use Rattle.std.specs.List.{flat_map}
 use Rattle.std.specs.Fmt.{decimal}
-use Rattle.board_base.specs.Texts.{unmove_text}
+use Rattle.board_base.specs.Texts.{unmove_words}
 use Rattle.board_base.specs.declared.unmoves.Unmove.{Unmove}
 use Rattle.query_base.specs.declared.claims.Claim.{Claim}
 use Rattle.query_base.specs.declared.claims.Claim.TheVariants.{Illegal, Lost, Ep}
@@ -54,10 +54,6 @@ steps_words (Line steps) = codes "line " ++ steps_text steps
 -- the line that tells what was found of a claim of several steps
 abbrev pub steps_line : Finding → LineClaim → List ℕ
 steps_line finding claim = ended (finding_words finding ++ steps_words claim)
-
--- each unmove after a space
-unfoldable pub unmove_words : List Unmove → List ℕ
-unmove_words us = flat_map (λ u. 32 ∷ unmove_text u) us
 
 -- the unmoves themselves where they are at most 24
 abbrev pub few_words : List Unmove → List ℕ

@@ -1,10 +1,10 @@
 ghost use Rattle.std.specs.Prelude.{◌≡◌, ◌≤◌, ◌++◌, ◌∷◌, IsTrue, OnOk, drop, length};
 ghost use Rattle.std.specs.Fmt.{decimal};
 ghost use Rattle.std.specs.List.{All};
-ghost use Rattle.board_base.specs.Texts.{unmove_text};
+ghost use Rattle.board_base.specs.Texts.{unmove_text, unmove_words};
 ghost use Rattle.cert_text.specs.ClaimLines.{claim_words, promotes_well};
 ghost use Rattle.line_claims.specs.Lines.{HasLine, has_text};
-ghost use Rattle.diagram_study.specs.Texts.{few_words, finding_words, found_line, left_line, length_line, steps_line, steps_words, unmove_words};
+ghost use Rattle.diagram_study.specs.Texts.{few_words, finding_words, found_line, left_line, length_line, steps_line, steps_words};
 
 use crate::findings::Finding;
 use arrayvec::ArrayVec;

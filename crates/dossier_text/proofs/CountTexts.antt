@@ -10,14 +10,15 @@ use Rattle.std.proofs.lemmas.Fmt.{decimal-digits_value, decimal_digit, decimal_n
 use Rattle.std.proofs.lemmas.Option.{cond_some, option_and_then_some}
 use Rattle.std.proofs.lemmas.Slice.Eq.{starts_is}
 use Rattle.std.proofs.lemmas.Str.Parse.{digits_value_short}
-use Rattle.fen_text.specs.Fen.{is_digit, number, value}
+use Rattle.general_lemmas.proofs.Options.{when}
+use Rattle.board_base.specs.Texts.{is_digit}
+use Rattle.fen_text.specs.Fen.{number, value}
 use Rattle.fen_text.specs.Parts.{Free}
 use Rattle.fen_text.proofs.Begun.{begun}
 use Rattle.fen_text.proofs.Decimals.{model}
 use Rattle.fen_text.proofs.NumberLemmas.{digits_free}
 use Rattle.cert_text.specs.Lines.{ended, said}
 use Rattle.cert_text.proofs.SpelledLines.{said_back, said_read}
-use Rattle.cert_text.proofs.Tests.{when}
 use Rattle.dossier_text.specs.Dossiers.{count_line}
 use Rattle.dossier_text.specs.HeadReading.{count_of, size_of, up_to_64_mi}
 

@@ -8,13 +8,13 @@ use Rattle.std.proofs.lemmas.Bool.{cond-false, cond-true}
 use Rattle.std.proofs.lemmas.List.Folds.{concat-append}
 use Rattle.std.proofs.lemmas.Option.{option_and_then_some}
 use Rattle.std.proofs.lemmas.Slice.Eq.{bytes_eq-Decides}
+use Rattle.general_lemmas.proofs.Options.{when}
 use Rattle.query_base.specs.Asked.{Asked}
 use Rattle.cert_text.specs.Certificate.{Lines}
 use Rattle.cert_text.specs.Lines.{cut, said}
 use Rattle.cert_text.specs.QueryReading.{query_first}
 use Rattle.cert_text.proofs.CertTexts.{concat_cut}
 use Rattle.cert_text.proofs.QueryReads.{query_goes, query_read_first}
-use Rattle.cert_text.proofs.Tests.{when}
 use Rattle.cert_text.proofs.TreeTexts.{cut_back}
 use Rattle.line_claims.specs.Lines.{line_claim_of}
 use Rattle.line_claims.specs.declared.claims.LineClaim.{LineClaim}

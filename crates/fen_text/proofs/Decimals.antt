@@ -6,7 +6,8 @@ use Rattle.std.proofs.lemmas.Str.Parse.{IsNumeralModel, numerals_by_fold, digits
 use Rattle.std.proofs.lemmas.Fmt.{digits_decimal, digits_value-decimal, length-decimal-le, decimal_nonempty, decimal_digit, first_decimal, decimal-digits_value}
 use Rattle.std.specs.Fmt.{decimal}
 use Rattle.std.specs.List.{list_all, fold}
-use Rattle.fen_text.specs.Fen.{is_digit, value}
+use Rattle.board_base.specs.Texts.{is_digit}
+use Rattle.fen_text.specs.Fen.{value}
 use Rattle.fen_text.specs.Numbers.{is_plain, is_number, number}
 
 pub model : IsNumeralModel (λ ds. list_all is_digit ds ≡ true) value

@@ -2,7 +2,7 @@
 use Rattle.std.proofs.Common.{◌≡◌, true, false, [], ◌∷◌, map, refl}
 use Rattle.std.specs.Prelude.{Some, None, codes, is_some, slice_set}
 use Rattle.board_base.specs.Board.{Places, man, no_men}
-use Rattle.board_base.specs.Rights.{Rights}
+use Rattle.board_base.specs.Rights.{Rights, no_rights}
 use Rattle.board_base.specs.declared.men.Colour.TheVariants.{White, Black}
 use Rattle.board_base.specs.declared.men.Kind.TheVariants.{King, Pawn, Rook}
 use Rattle.board_base.specs.declared.moves.Move.{Move}
@@ -11,7 +11,7 @@ use Rattle.fen_text.specs.OddsLines.{odds_line, odds_of}
 use Rattle.fen_text.specs.Parts.{parted}
 use Rattle.fen_text.specs.Ranks.{is_symbol, places_of, rank}
 use Rattle.fen_text.specs.Sets.{set_of}
-use Rattle.fen_text.specs.Fen.{asked, fen, from_en_passant, from_numbers, from_rights, from_turn, no_rights, number, placement, ranks, rights}
+use Rattle.fen_text.specs.Fen.{asked, fen, from_en_passant, from_numbers, from_rights, from_turn, number, placement, ranks, rights}
 
 -- kings on e1 and e8, White's rook on h1, and pawns on a2 and d5
 abbrev few_men : Places

@@ -1,14 +1,14 @@
 -- The short fields.
 use Rattle.std.proofs.Common.{◌≡◌, ◌≢◌, ℕ, ◌-◌, ◌<◌, ◌==◌, Bool, true, false, cond, ◌&&◌, ◌||◌, not, List, [], ◌∷◌, ◌++◌, length, get_or, inl, inr, refl, sym, ap, ◌∙◌, subst, subst₂, arith, append-nil, length-append, true≢false, nat_le, Some, None, is_some}
 use Rattle.std.proofs.lemmas.Bool.{and_parts, and_from, and_left, and_right, cases_eq, ne_eqb, cases_Bool, eqb-true, leb-true, eq-eqb, cond-true, cond-false}
-use Rattle.board_base.specs.Rights.{Rights, holds}
+use Rattle.board_base.specs.Rights.{Rights, holds, no_rights}
 use Rattle.board_base.specs.declared.castles.Castle.{Castle}
 use Rattle.board_base.specs.declared.castles.Castle.TheVariants.{WhiteShort, WhiteLong, BlackShort, BlackLong}
 use Rattle.board_base.specs.declared.men.Colour.{Colour}
 use Rattle.board_base.specs.declared.men.Colour.TheVariants.{White, Black}
 use Rattle.fen_text.specs.Parts.{Free}
 use Rattle.fen_text.specs.Faults.{Begins, IsFault}
-use Rattle.fen_text.specs.Fen.{turn, mark, castle_letters, marks, is_nothing, is_dash, no_rights, rights_of, rights, en_passant, en_passant_digit, double_on}
+use Rattle.fen_text.specs.Fen.{turn, mark, castle_letters, marks, is_nothing, is_dash, rights_of, rights, en_passant, en_passant_digit, double_on}
 use Rattle.fen_text.proofs.PartLemmas.{Clean, not_some, some_is, stop, stop_at, stop_end}
 
 -- the side to move
@@ -160,7 +160,7 @@ dash_long (b ∷ d ∷ text) some long dash =
 rights_equal : (a b : Rights) → ((c : Castle) → holds a c ≡ holds b c) → a ≡ b
 rights_equal a b same = λ i. record { white_short = same WhiteShort i; white_long = same WhiteLong i; black_short = same BlackShort i; black_long = same BlackLong i }
 
-no_holds : (c : Castle) → holds no_rights c ≡ false
+pub no_holds : (c : Castle) → holds no_rights c ≡ false
 no_holds WhiteShort = refl
 no_holds WhiteLong = refl
 no_holds BlackShort = refl

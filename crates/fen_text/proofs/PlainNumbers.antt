@@ -2,8 +2,9 @@
 use Rattle.std.proofs.Common.{◌≡◌, ℕ, ◌<◌, ◌≤◌, Bool, true, false, ◌&&◌, cond, Some, None, List, length, refl, ap, sym, ◌∙◌, arith}
 use Rattle.std.proofs.lemmas.Bool.{and_left, and_right, le-leb, lt-leb, cond-false}
 use Rattle.std.specs.List.{list_all}
+use Rattle.board_base.specs.Texts.{is_digit}
 use Rattle.general_lemmas.proofs.Truth.{both_true}
-use Rattle.fen_text.specs.Fen.{is_digit, value, number as digits}
+use Rattle.fen_text.specs.Fen.{value, number as digits}
 use Rattle.fen_text.specs.Numbers.{is_plain, is_number, number}
 
 no_number : (text : List ℕ) → is_number text ≡ false → number text ≡ None

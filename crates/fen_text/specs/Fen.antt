@@ -5,7 +5,7 @@ use Rattle.std.specs.List.{list_all, fold}
 use Rattle.std.specs.Option.{option_map}
 use Rattle.board_base.specs.Board.{Places, no_odds}
 use Rattle.board_base.specs.Play.{double_over}
-use Rattle.board_base.specs.Rights.{Rights}
+use Rattle.board_base.specs.Rights.{Rights, no_rights}
 use Rattle.board_base.specs.declared.men.Colour.{Colour}
 use Rattle.board_base.specs.declared.men.Colour.TheVariants.{White, Black}
 use Rattle.board_base.specs.declared.moves.Move.{Move}
@@ -14,6 +14,7 @@ use Rattle.fen_text.specs.Parts.{parted}
 use Rattle.fen_text.specs.Ranks.{rank}
 use Rattle.board_base.specs.declared.castles.Castle.{Castle}
 use Rattle.board_base.specs.declared.castles.Castle.TheVariants.{WhiteShort, WhiteLong, BlackShort, BlackLong}
+use Rattle.board_base.specs.Texts.{is_digit}
 
 -- so many ranks and one more, the highest first, with a slash between two; the places from the lowest rank up
 unfoldable pub ranks : ℕ → List ℕ → Option Places
@@ -69,10 +70,6 @@ abbrev pub is_dash : List ℕ → Bool
 is_dash [] = false
 is_dash (b ∷ text) = (b == 45) && is_nothing text
 
--- no castling is held
-abbrev pub no_rights : Rights
-no_rights = record { white_short = false; white_long = false; black_short = false; black_long = false }
-
 -- a dash, or one or more of K, Q, k and q, in this order and each at most once
 unfoldable pub rights : List ℕ → Option Rights
 rights text =
@@ -99,10 +96,6 @@ en_passant c [] = None
 en_passant c (b ∷ []) = cond (b == 45) (Some None) None
 en_passant c (f ∷ r ∷ []) = cond (nat_le 97 f && nat_le f 104 && (r == en_passant_digit c)) (Some (Some (double_on c (f - 97)))) None
 en_passant c (f ∷ r ∷ b ∷ text) = None
-
--- a decimal digit
-abbrev pub is_digit : ℕ → Bool
-is_digit b = nat_le 48 b && nat_le b 57
 
 -- the number that the digits stand for
 abbrev pub value : List ℕ → ℕ

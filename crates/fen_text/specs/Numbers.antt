@@ -1,7 +1,8 @@
 -- Numbers of one to six decimal digits with no leading zero.
 use Rattle.std.specs.Prelude.{ℕ, Bool, cond, ◌&&◌, ◌||◌, ◌==◌, not, nat_le, List, length, slice_index, Option, Some, None}
 use Rattle.std.specs.List.{list_all}
-use Rattle.fen_text.specs.Fen.{is_digit, value}
+use Rattle.board_base.specs.Texts.{is_digit}
+use Rattle.fen_text.specs.Fen.{value}
 
 -- the first digit is 0 only where there is no other
 abbrev pub is_plain : List ℕ → Bool

@@ -2,7 +2,7 @@
 use Rattle.std.specs.Prelude.{ℕ, zero, suc, ◌+◌, ◌-◌, ◌*◌, ◌/◌, ◌%◌, Bool, cond, ◌&&◌, ◌||◌, ◌==◌, nat_lt, nat_le, List, [], ◌∷◌, length, Option, Some, None}
 use Rattle.std.specs.List.{list_all}
 use Rattle.board_base.specs.Squares.{number_of, squares_of}
-use Rattle.fen_text.specs.Fen.{is_digit}
+use Rattle.board_base.specs.Texts.{is_digit}
 
 -- a hexadecimal digit, with a letter in lower case
 abbrev pub is_hex : ℕ → Bool

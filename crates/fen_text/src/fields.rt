@@ -1,8 +1,9 @@
 ghost use Rattle.std.specs.Prelude.{◌≡◌, ◌≢◌, ◌-◌, ◌+◌, ◌<◌, ◌≤◌, ◌&&◌, ◌||◌, nat_le, true, false, IfOk, IsTrue, Some};
 ghost use Rattle.board_base.specs.Rights.{holds};
 ghost use Rattle.board_base.specs.declared.castles.Castle.{Castle as AnyCastle};
+ghost use Rattle.board_base.specs.Texts.{is_digit};
 ghost use Rattle.query_base.specs.Asked.{is_of_other_side};
-ghost use Rattle.fen_text.specs.Fen.{turn, mark, rights, rights_of, en_passant, en_passant_digit, crossed_on, double_on, is_digit, number};
+ghost use Rattle.fen_text.specs.Fen.{turn, mark, rights, rights_of, en_passant, en_passant_digit, crossed_on, double_on, number};
 ghost use Rattle.fen_text.specs.Faults.{ReadsPart};
 
 use board_base::{Castle, CastleSet, Colour, Move, Square};

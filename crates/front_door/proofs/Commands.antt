@@ -6,7 +6,8 @@ use Rattle.std.proofs.lemmas.List.Elements.{All-contains, All-from_recursion}
 use Rattle.retro_top.specs.Commands.{words_of}
 use Rattle.retro_top.specs.declared.commands.Command.{Command}
 use Rattle.retro_top.specs.declared.commands.Command.TheVariants.{Check, Explain, Play, San, Spell, Unmoves, Study, Solve, Settle, Verdict, Tree, Length, AtLeast, Line, Dossier, Sample}
-use Rattle.front_door.specs.Calls.{Facts, IsCommand}
+use Rattle.front_door.specs.Calls.{Facts}
+use Rattle.front_door.specs.Hints.{IsCommand}
 use Rattle.front_door.proofs.Table.{table}
 
 -- the names of the table, in order

@@ -5,14 +5,11 @@ use Rattle.std.specs.Fmt.{decimal, format_spec, padded}
 use Rattle.std.specs.List.{AllZip, Contains, flat_map, list_all, starts_with}
 use Rattle.retro_top.specs.Commands.{AreShortWordsOf, IsInRange, Reads, words_of}
 use Rattle.retro_top.specs.declared.commands.Command.{Command}
+use Rattle.front_door.specs.Hints.{IsCommand}
 use Rattle.front_door.specs.OneLine.{is_one_line}
 use Rattle.front_door.specs.Numbers.{MayStand}
 use Rattle.front_door.specs.declared.calls.Call.{Call}
 use Rattle.front_door.specs.declared.calls.Number.{Number}
-
--- the name is the first of the words by which some command is called
-abbrev pub IsCommand : List ℕ → Type 0
-IsCommand name = (command : Command) × (numbers : List (List ℕ)) × (words_of command ≡ name ∷ numbers)
 
 -- the names of the calls, in order
 abbrev pub names_of : List Call → List (List ℕ)

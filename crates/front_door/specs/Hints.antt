@@ -1,16 +1,34 @@
--- When a user gets which advice.
-use Rattle.std.specs.Prelude.{ℕ, ◌≡◌, ◌⊎◌, IsTrue, List, [], ◌∷◌, codes, nat_eq, string_bytes, String}
+-- When a user gets which advice, and what it tells.
+use Rattle.std.specs.Prelude.{ℕ, ◌≡◌, ◌⊎◌, IsTrue, List, [], ◌∷◌, ◌++◌, codes, nat_eq, string_bytes, String}
 use Rattle.std.specs.Global.{Global}
 use Rattle.std.specs.List.{starts_with}
 use Rattle.command_answers.specs.declared.statuses.Status.{Status}
 use Rattle.command_answers.specs.declared.statuses.Status.TheVariants.{BadInput, BadWords, Refused}
+use Rattle.retro_top.specs.Commands.{words_of}
+use Rattle.retro_top.specs.declared.commands.Command.{Command}
 use Rattle.front_door.specs.declared.advice.Advice.{Advice}
 use Rattle.front_door.specs.declared.advice.Advice.TheVariants.{Words, Lines, Fen, Moves, Texts}
+use Rattle.front_door.specs.declared.advice.FenAdvice.{FenAdvice}
+use Rattle.front_door.specs.declared.advice.LineAdvice.{LineAdvice}
+use Rattle.front_door.specs.declared.advice.LineAdvice.TheVariants.{Empty}
+use Rattle.front_door.specs.declared.advice.TextAdvice.{TextAdvice}
+use Rattle.front_door.specs.declared.advice.TextAdvice.TheVariants.{Dossier, DossierToExplain, Length, Claim, ClaimToExplain, CarriageReturns, ReturnsToExplain, PositionToExplain}
+use Rattle.front_door.specs.declared.advice.WordAdvice.{WordAdvice}
+use Rattle.front_door.specs.declared.advice.WordAdvice.TheVariants.{StandsAlone, NoCommand, NearestCommand}
 
 -- the first word is this name
 abbrev pub Begin : List (String Global) → List ℕ → Type 0
 Begin [] name = ⊥
 Begin (word ∷ _) name = string_bytes word ≡ name
+
+-- the name is the first of the words by which some command is called
+abbrev pub IsCommand : List ℕ → Type 0
+IsCommand name = (command : Command) × (numbers : List (List ℕ)) × (words_of command ≡ name ∷ numbers)
+
+-- the first word is the name of a command
+abbrev pub NameCommand : List (String Global) → Type 0
+NameCommand [] = ⊥
+NameCommand (word ∷ _) = IsCommand (string_bytes word)
 
 -- the words ask for a command that reads a game
 abbrev pub AskForGame : List (String Global) → Type 0
@@ -32,13 +50,47 @@ status_of (Fen advice) = BadInput
 status_of (Moves advice) = Refused
 status_of (Texts advice) = Refused
 
--- Of a refused text advice comes only where a word or a ply of a game, or the first line of a certificate, is refused.
-abbrev pub Concerns : Advice → List (String Global) → List ℕ → Type 0
-Concerns (Moves advice) words answer = AskForGame words × (Says answer (codes "refused word ") ⊎ Says answer (codes "refused ply "))
-Concerns (Texts advice) words answer = AskForCertificate words × Says answer (codes "refused line 1 text")
-Concerns advice words answer = Unit {0}
+-- What the advice tells of the words is so.
+abbrev pub TellsWords : WordAdvice → List (String Global) → Type 0
+TellsWords StandsAlone words = Begin words (codes "--help") ⊎ Begin words (codes "--version")
+TellsWords NoCommand words = NameCommand words → ⊥
+TellsWords NearestCommand words = NameCommand words → ⊥
+TellsWords advice words = Unit {0}
 
--- The advice goes with a run with these words, this status, and an answer that begins so.
-pub record GoesWith (advice : Advice) (words : List (String Global)) (status : Status) (answer : List ℕ) : Type 0 where
+-- What the advice tells of the lines of an input is so.
+abbrev pub TellsLines : LineAdvice → List ℕ → Type 0
+TellsLines Empty input = input ≡ []
+TellsLines advice input = Unit {0}
+
+-- the input begins with the first line of a certificate, but with a carriage return before the line feed
+abbrev pub HasReturns : List ℕ → Type 0
+HasReturns input = Says input (codes "retro 1" ++ 13 ∷ 10 ∷ []) ⊎ Says input (codes "retro 2" ++ 13 ∷ 10 ∷ [])
+
+-- The input begins as the text that the advice takes it for; of a position this isn't said.
+abbrev pub TellsText : TextAdvice → List ℕ → Type 0
+TellsText Dossier input = Says input (codes "retro line")
+TellsText DossierToExplain input = Says input (codes "retro line")
+TellsText Length input = Says input (codes "retro length")
+TellsText Claim input = Says input (codes "claim ")
+TellsText ClaimToExplain input = Says input (codes "claim ")
+TellsText CarriageReturns input = HasReturns input
+TellsText ReturnsToExplain input = HasReturns input
+TellsText PositionToExplain input = Unit {0}
+
+-- What the advice tells is so. Of a FEN line advice comes only where the answer names a field of it, of a refused text only where it
+-- refuses a word or a ply of a game, or the first line of a certificate.
+abbrev pub Concerns : Advice → List (String Global) → List ℕ → List ℕ → Type 0
+Concerns (Words advice) words input answer = TellsWords advice words
+Concerns (Lines advice) words input answer = TellsLines advice input
+Concerns (Fen advice) words input answer = Says answer (codes "bad fen field ")
+Concerns (Moves advice) words input answer = AskForGame words × (Says answer (codes "refused word ") ⊎ Says answer (codes "refused ply "))
+Concerns (Texts advice) words input answer = AskForCertificate words × Says answer (codes "refused line 1 text") × TellsText advice input
+
+-- The advice goes with a run with these words, this status, and an input and an answer that begin so.
+pub record GoesWith (advice : Advice) (words : List (String Global)) (input : List ℕ) (status : Status) (answer : List ℕ) : Type 0 where
   pub status_is : status ≡ status_of advice
-  pub concerns : Concerns advice words answer
+  pub concerns : Concerns advice words input answer
+
+-- the advice is one on a FEN line
+abbrev pub IsOfFen : Advice → Type 0
+IsOfFen advice = (of_fen : FenAdvice) × (advice ≡ Fen of_fen)

@@ -1,10 +1,17 @@
 -- Inner: no public clause cites this file.
 -- Hints on the words of the command line.
-use Rattle.std.specs.Prelude.{◌≡◌}
+use Rattle.std.specs.Prelude.{◌≡◌, ◌⊎◌, IfSome, List, String}
+use Rattle.std.specs.Global.{Global}
+use Rattle.front_door.specs.Hints.{Begin, TellsWords}
 use Rattle.front_door.specs.declared.advice.Advice.TheVariants.{Words}
 use Rattle.front_door.specs.declared.advice.WordAdvice.{WordAdvice}
+use Rattle.front_door.specs.declared.advice.WordAdvice.TheVariants.{NearestCommand}
 use Rattle.front_door.specs.declared.hints.Hint.{Hint}
 
--- the hint is one on words
-abbrev pub IsOfWords : Hint → Type 0
-IsOfWords hint = (advice : WordAdvice) × (hint.advice ≡ Words advice)
+-- the hint is one on words, and what it tells of these is so
+abbrev pub IsOfWords : Hint → List (String Global) → Type 0
+IsOfWords hint words = (advice : WordAdvice) × (hint.advice ≡ Words advice) × TellsWords advice words
+
+-- the call that the hint shows, if any, is that of the first word, or the nearest
+abbrev pub ShowsCall : Hint → List (String Global) → Type 0
+ShowsCall hint words = IfSome hint.call (λ call. (hint.advice ≡ Words NearestCommand) ⊎ Begin words call.name.now)

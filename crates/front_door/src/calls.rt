@@ -2,7 +2,8 @@
 
 ghost use Rattle.std.specs.Prelude.{ℕ, ◌≡◌, ◌≤◌, ◌↔◌, IfOk, IfSome, IsSome, map, string_bytes};
 ghost use Rattle.std.specs.List.{Contains, list_all};
-ghost use Rattle.front_door.specs.Calls.{Describes, HasRows, IsCommand, IsUsage, facts, is_one_row, names_of, row_of};
+ghost use Rattle.front_door.specs.Calls.{Describes, HasRows, IsUsage, facts, is_one_row, names_of, row_of};
+ghost use Rattle.front_door.specs.Hints.{Begin, IsCommand, NameCommand};
 ghost use Rattle.front_door.specs.Numbers.{MayStand};
 
 use std::alloc::{AllocError, Global};
@@ -211,6 +212,17 @@ pub fn call_of(name: &[u8]) -> Option<Call>
     ensures known { IsSome result ↔ IsCommand name.now }
 {
     find(&CALLS, name)
+}
+
+/// The call of the command that the first word names.
+pub(crate) fn first_call(words: &[String]) -> Option<Call>
+    ensures named { IfSome result (λ call. Begin words.now call.name.now) }
+    ensures known { IsSome result ↔ NameCommand words.now }
+{
+    match words {
+        [] => None,
+        [word, ..] => call_of(word.as_bytes()),
+    }
 }
 
 /// What stands behind the calls in the usage.

@@ -1,10 +1,15 @@
 //! What was given to `check` or `explain` that is no certificate.
 
+ghost use Rattle.std.specs.Prelude.{IfSome, IsTrue};
+ghost use Rattle.front_door.specs.Hints.{HasReturns, TellsText};
+
 use crate::advice::TextAdvice;
 use question_text::read_lone_question;
 
 /// The lines are those of a certificate, but each ends with a carriage return too.
-fn has_returns(input: &[u8]) -> bool {
+fn has_returns(input: &[u8]) -> bool
+    ensures { IsTrue result → HasReturns input.now }
+{
     input.starts_with(b"retro 1\r\n") || input.starts_with(b"retro 2\r\n")
 }
 
@@ -15,7 +20,9 @@ fn is_position(input: &[u8]) -> bool {
 }
 
 /// What the input is that `check` refused at its first line; None where it isn't known.
-fn advise_check(input: &[u8]) -> Option<TextAdvice> {
+fn advise_check(input: &[u8]) -> Option<TextAdvice>
+    ensures { IfSome result (λ advice. TellsText advice input.now) }
+{
     if input.starts_with(b"retro line") {
         Some(TextAdvice::Dossier)
     } else if input.starts_with(b"retro length") {
@@ -30,7 +37,9 @@ fn advise_check(input: &[u8]) -> Option<TextAdvice> {
 }
 
 /// What the input is that `explain` refused at its first line; None where it isn't known.
-fn advise_explain(input: &[u8]) -> Option<TextAdvice> {
+fn advise_explain(input: &[u8]) -> Option<TextAdvice>
+    ensures { IfSome result (λ advice. TellsText advice input.now) }
+{
     if input.starts_with(b"retro line") {
         Some(TextAdvice::DossierToExplain)
     } else if input.starts_with(b"retro length") {
@@ -47,7 +56,9 @@ fn advise_explain(input: &[u8]) -> Option<TextAdvice> {
 }
 
 /// What the input is that the command of this name refused at its first line; None where it isn't known.
-pub(crate) fn advise_text(name: &[u8], input: &[u8]) -> Option<TextAdvice> {
+pub(crate) fn advise_text(name: &[u8], input: &[u8]) -> Option<TextAdvice>
+    ensures { IfSome result (λ advice. TellsText advice input.now) }
+{
     if matches!(name, b"explain") {
         advise_explain(input)
     } else {

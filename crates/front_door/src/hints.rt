@@ -1,12 +1,15 @@
 //! Which advice a user gets, by the words, the front of the input, the status, and the front of what was written.
 
-ghost use Rattle.std.specs.Prelude.{ℕ, ◌≡◌, ◌↔◌, ◌⊎◌, IfSome, IsSome, IsTrue, List, String, codes};
+ghost use Rattle.std.specs.Prelude.{◌≡◌, ◌↔◌, ◌⊎◌, IfSome, IsSome, IsTrue, List, Some, None, String, codes};
 ghost use Rattle.std.specs.Global.{Global as AGlobal};
 ghost use Rattle.command_answers.specs.declared.statuses.Status.TheVariants.{BadInput, BadWords, Refused};
-ghost use Rattle.front_door.specs.Hints.{AskForCertificate, AskForGame, Begin, Concerns, GoesWith, Says, status_of};
+ghost use Rattle.front_door.specs.Hints.{AskForCertificate, AskForGame, Begin, Concerns, GoesWith, IsOfFen, NameCommand, Says, status_of};
+ghost use Rattle.front_door.specs.declared.advice.Advice.TheVariants.{Lines, Words};
+ghost use Rattle.front_door.specs.declared.advice.LineAdvice.TheVariants.{Empty};
+ghost use Rattle.front_door.specs.declared.advice.WordAdvice.TheVariants.{NearestCommand};
 
 use crate::advice::{Advice, LineAdvice, MoveAdvice, WordAdvice};
-use crate::calls::{Call, call_of};
+use crate::calls::{Call, first_call};
 use crate::certificates::advise_text;
 use crate::fens::advise_fen;
 use crate::games::{advise_ply, advise_word};
@@ -26,13 +29,15 @@ pub struct Hint {
 
 impl Hint {
     pub(crate) fn plain(advice: Advice) -> Hint
-        ensures { result.advice ≡ advice }
+        ensures advice { result.advice ≡ advice }
+        ensures call { result.call ≡ None }
     {
         Hint { advice, call: None }
     }
 
     pub(crate) fn of_call(advice: Advice, call: Call) -> Hint
-        ensures { result.advice ≡ advice }
+        ensures advice { result.advice ≡ advice }
+        ensures call { result.call ≡ Some call }
     {
         Hint {
             advice,
@@ -42,7 +47,7 @@ impl Hint {
 }
 
 /// The first word is this name.
-fn begin(words: &[String], name: &[u8]) -> bool
+pub(crate) fn begin(words: &[String], name: &[u8]) -> bool
     ensures { IsTrue result ↔ Begin words.now name.now }
 {
     match words {
@@ -76,7 +81,8 @@ fn name_of(words: &[String]) -> &[u8] {
 /// What is wrong with an input that isn't of the command's form, by the line that says where.
 fn advise_input(name: &[u8], input: &[u8], answer: &[u8]) -> Advice
     ensures status { status_of result ≡ BadInput }
-    ensures whatever { (words : List (String AGlobal)) (text : List ℕ) → Concerns result words text }
+    ensures told { (words : List (String AGlobal)) → Concerns result words input.now answer.now }
+    ensures fen { Says answer.now (codes "bad fen field ") → IsOfFen result }
 {
     match refusal_of(answer) {
         Some(Refusal::Fen { field, at }) => {
@@ -112,7 +118,7 @@ fn refuses_first_line(answer: &[u8]) -> bool
 
 /// What is wrong with an input that is refused; None where it is of the command's form, or isn't known.
 fn advise_refused(words: &[String], input: &[u8], answer: &[u8]) -> Option<Advice>
-    ensures { IfSome result (λ advice. GoesWith advice words.now Refused answer.now) }
+    ensures { IfSome result (λ advice. GoesWith advice words.now input.now Refused answer.now) }
 {
     if ask_for_certificate(words) && refuses_first_line(answer) {
         match advise_text(name_of(words), input) {
@@ -131,10 +137,12 @@ fn advise_refused(words: &[String], input: &[u8], answer: &[u8]) -> Option<Advic
 
 /// The advice with the call of the command, where the input is empty.
 fn with_call(words: &[String], advice: Advice) -> Hint
-    ensures { result.advice ≡ advice }
+    ensures advice { result.advice ≡ advice }
+    ensures called { IfSome result.call (λ call. Begin words.now call.name.now) }
+    ensures shown { advice ≡ Lines Empty → IsSome result.call ↔ NameCommand words.now }
 {
     let call = match advice {
-        Advice::Lines(LineAdvice::Empty) => call_of(name_of(words)),
+        Advice::Lines(LineAdvice::Empty) => first_call(words),
         _ => None,
     };
     Hint { advice, call }
@@ -149,9 +157,17 @@ pub fn advise(
     status: Status,
     answer: &[u8],
 ) -> Option<Hint>
-    ensures fits { IfSome result (λ hint. GoesWith hint.advice words.now status answer.now) }
+    // What a hint tells goes with the run, and is so.
+    ensures fits { IfSome result (λ hint. GoesWith hint.advice words.now input.now status answer.now) }
+
+    // One comes at all bad words and all bad input, and is one on the FEN line exactly where the answer names a field of this.
     ensures bad_words { status ≡ BadWords → IsSome result }
     ensures bad_input { status ≡ BadInput → IsSome result }
+    ensures fen { status ≡ BadInput → Says answer.now (codes "bad fen field ") → IfSome result (λ hint. IsOfFen hint.advice) }
+
+    // The call that it shows is that of the first word, or the nearest to this; an empty input is told with it.
+    ensures called { IfSome result (λ hint. IfSome hint.call (λ call. (hint.advice ≡ Words NearestCommand) ⊎ Begin words.now call.name.now)) }
+    ensures shown { IfSome result (λ hint. hint.advice ≡ Lines Empty → IsSome hint.call ↔ NameCommand words.now) }
 {
     match status {
         Status::BadWords => match advise_words(alloc, words) {

@@ -2,15 +2,17 @@
 //! with which it ends.
 #![tactic(auto)]
 
-ghost use Rattle.std.specs.Prelude.{◌≡◌, ◌↔◌};
+ghost use Rattle.std.specs.Prelude.{◌≡◌, ◌≢◌, ◌≤◌, ◌↔◌, ◌+◌};
 ghost use Rattle.std.specs.Io.KnownBytes.{Keeps};
 ghost use Rattle.std.specs.Process.{exit_status};
 ghost use Rattle.retro_ports.specs.Causes.{Rose};
+ghost use Rattle.retro_ports.specs.Ends.{ReadSome};
 ghost use Rattle.command_answers.specs.Limits.{most_bytes};
 ghost use Rattle.command_answers.specs.Statuses.{IsAnswer, IsSilent, code_of};
-ghost use Rattle.command_answers.specs.declared.statuses.Status.TheVariants.{BadWords, ReadFault, WriteFault};
-ghost use Rattle.retro_top.specs.Answers.{ReadsFor, WritesAnswer};
-ghost use Rattle.retro_top.specs.Commands.{CallSome};
+ghost use Rattle.command_answers.specs.declared.statuses.Status.TheVariants.{BadWords, Memory, ReadFault, TooLong, WriteFault};
+ghost use Rattle.retro_top.specs.Answers.{ReadsFor, WritesAnswer, WritesPart};
+ghost use Rattle.retro_top.specs.Commands.{Call as Calls, CallReader, CallSome, TakesMemory};
+ghost use Rattle.retro_top.specs.declared.commands.Command.{Command};
 
 mod advice;
 mod calls;
@@ -151,12 +153,28 @@ fn end_of<S: Source, K: Sink>(
     source: &mut Watched<S>,
     sink: &mut Overheard<K>,
 ) -> Ended
+    // Words that call no command are told exactly where they do, and nothing is read then.
     ensures bad_words { (result ≡ BadWords) ↔ (CallSome words.now → ⊥) }
-    ensures read_fault { result ≡ ReadFault → Rose (S.faults source.old.inner) (S.faults source.new.inner) }
+    ensures unread { (CallReader words.now → ⊥) → Keeps (S.left source.old.inner) (S.left source.new.inner) × (S.faults source.new.inner ≡ S.faults source.old.inner) }
+
+    // A fault is told exactly where one came.
+    ensures read_fault { result ≡ ReadFault → CallReader words.now × Rose (S.faults source.old.inner) (S.faults source.new.inner) }
     ensures write_fault { result ≡ WriteFault → Rose (K.faults sink.old.inner) (K.faults sink.new.inner) }
+    ensures read_kept { result ≢ ReadFault → S.faults source.new.inner ≡ S.faults source.old.inner }
+    ensures write_kept { result ≢ WriteFault → K.faults sink.new.inner ≡ K.faults sink.old.inner }
+
+    // Too long an input is told only where more was read than the limit, and want of memory only where no more was, and never of
+    // a command that takes none.
+    ensures too_long { result ≡ TooLong → CallReader words.now × ReadSome (S.left source.old.inner) (S.left source.new.inner) (λ n. n ≡ most_bytes + 1) }
+    ensures wanting { result ≡ Memory → ReadSome (S.left source.old.inner) (S.left source.new.inner) (λ n. n ≤ most_bytes) }
+    ensures remembers { (command : Command) → Calls words.now command → (TakesMemory command → ⊥) → result ≢ Memory }
+
+    // The status and the text that was written answer what was read, and without an answer nothing is written, or a part of one.
     ensures silent { IsSilent result → Keeps (K.taken sink.old.inner) (K.taken sink.new.inner) }
     ensures answer { IsAnswer result → ReadsFor words.now most_bytes (S.left source.old.inner) (S.left source.new.inner)
         (λ input. WritesAnswer words.now input result (K.taken sink.old.inner) (K.taken sink.new.inner)) }
+    ensures cut_short { result ≡ WriteFault → ReadsFor words.now most_bytes (S.left source.old.inner) (S.left source.new.inner)
+        (λ input. WritesPart words.now input (K.taken sink.old.inner) (K.taken sink.new.inner)) }
 {
     let status = run(alloc, words, source, sink);
     let hint = advise(alloc, words, source.front(), status, sink.front());

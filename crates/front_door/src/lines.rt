@@ -1,11 +1,16 @@
 //! What is wrong with the lines of an input.
 
+ghost use Rattle.std.specs.Prelude.{◌≡◌, ◌≢◌, ◌↔◌, []};
+ghost use Rattle.front_door.specs.declared.advice.LineAdvice.TheVariants.{Empty};
+
 use crate::advice::LineAdvice;
 use crate::inputs::{asks_for_claim, fen_number, line_at};
 use fen_text::{read_clock, read_odds};
 
 /// What is wrong with a line that is due as the claim of `solve` or `settle`.
-fn advise_claim(line: &[u8]) -> LineAdvice {
+fn advise_claim(line: &[u8]) -> LineAdvice
+    ensures { result ≢ Empty }
+{
     if line.starts_with(b"claim line") || line.starts_with(b"claim notboth") {
         LineAdvice::ClaimOfSteps
     } else if line.starts_with(b"claim last") || line.starts_with(b"claim ep") {
@@ -18,7 +23,9 @@ fn advise_claim(line: &[u8]) -> LineAdvice {
 }
 
 /// What is wrong with a line that is due as the claim of `dossier`.
-fn advise_steps(line: &[u8]) -> LineAdvice {
+fn advise_steps(line: &[u8]) -> LineAdvice
+    ensures { result ≢ Empty }
+{
     let of_one: [&[u8]; 4] = [b"claim illegal", b"claim last", b"claim lost", b"claim ep"];
     if of_one.iter().any(|words| line.starts_with(words)) {
         LineAdvice::ClaimOfOne
@@ -28,7 +35,9 @@ fn advise_steps(line: &[u8]) -> LineAdvice {
 }
 
 /// What is wrong with a line that stands before the FEN.
-fn advise_demand(line: &[u8]) -> LineAdvice {
+fn advise_demand(line: &[u8]) -> LineAdvice
+    ensures { result ≢ Empty }
+{
     if line.starts_with(b"odds ") {
         LineAdvice::Odds
     } else if read_clock(line).is_some() {
@@ -39,7 +48,9 @@ fn advise_demand(line: &[u8]) -> LineAdvice {
 }
 
 /// What is wrong with the line of this number of the command's input.
-pub(crate) fn advise_line(name: &[u8], input: &[u8], number: u32) -> LineAdvice {
+pub(crate) fn advise_line(name: &[u8], input: &[u8], number: u32) -> LineAdvice
+    ensures { (result ≡ Empty) ↔ (input.now ≡ []) }
+{
     if input.is_empty() {
         return LineAdvice::Empty;
     }

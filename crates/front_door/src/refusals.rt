@@ -1,8 +1,8 @@
 //! What a line says that refuses an input.
 
-ghost use Rattle.std.specs.Prelude.{IfSome, IsSome};
+ghost use Rattle.std.specs.Prelude.{◌↔◌, IfSome, IsSome, codes};
 ghost use Rattle.front_door.specs.Hints.{Says};
-ghost use Rattle.front_door.specs.Refusals.{front_of};
+ghost use Rattle.front_door.specs.Refusals.{IsOfFen, front_of};
 
 /// What was refused, by the line that says so.
 #[derive(Clone, Copy, PartialEq, Eq, Debug)]
@@ -35,7 +35,7 @@ fn split_number(text: &[u8]) -> (u32, &[u8]) {
 
 /// What follows the text in the line, if it begins with it.
 fn behind<'a>(line: &'a [u8], text: &[u8]) -> Option<&'a [u8]>
-    ensures { IsSome result → Says line.now text.now }
+    ensures { IsSome result ↔ Says line.now text.now }
 {
     if line.starts_with(text) {
         Some(&line[text.len()..])
@@ -46,11 +46,15 @@ fn behind<'a>(line: &'a [u8], text: &[u8]) -> Option<&'a [u8]>
 
 /// What the line refuses; None where it is no such line.
 pub(crate) fn refusal_of(line: &[u8]) -> Option<Refusal>
-    ensures { IfSome result (λ refusal. Says line.now (front_of refusal)) }
+    ensures front { IfSome result (λ refusal. Says line.now (front_of refusal)) }
+    ensures fen { Says line.now (codes "bad fen field ") → IsOfFen result }
 {
     if let Some(rest) = behind(line, b"bad fen field ") {
         let (field, rest) = split_number(rest);
-        let at = split_number(behind(rest, b" byte ")?).0 as usize;
+        let at = match behind(rest, b" byte ") {
+            Some(rest) => split_number(rest).0 as usize,
+            None => 0,
+        };
         return Some(Refusal::Fen { field, at });
     }
     if let Some(rest) = behind(line, b"bad line ") {

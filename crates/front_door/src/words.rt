@@ -1,11 +1,15 @@
 //! What is wrong with words that call no command.
 
-ghost use Rattle.std.specs.Prelude.{IfSome};
-ghost use Rattle.front_door.specs.WordHints.{IsOfWords};
+ghost use Rattle.std.specs.Prelude.{◌≡◌, IfSome, List, Some, None, String};
+ghost use Rattle.std.specs.Global.{Global as AGlobal};
+ghost use Rattle.front_door.specs.Hints.{NameCommand, TellsWords};
+ghost use Rattle.front_door.specs.WordHints.{IsOfWords, ShowsCall};
+ghost use Rattle.front_door.specs.declared.advice.Advice.TheVariants.{Words};
+ghost use Rattle.front_door.specs.declared.advice.WordAdvice.TheVariants.{NearestCommand};
 
 use crate::advice::{Advice, WordAdvice};
-use crate::calls::{CALLS, Call, Number, call_of};
-use crate::hints::Hint;
+use crate::calls::{CALLS, Call, Number, first_call};
+use crate::hints::{Hint, begin};
 use std::alloc::{AllocError, Global};
 use strsim::osa_distance;
 
@@ -16,13 +20,15 @@ const MOST_NAME: usize = 16;
 const MOST_STEPS: usize = 2;
 
 fn plain(advice: WordAdvice) -> Hint
-    ensures { IsOfWords result }
+    ensures advice { result.advice ≡ Words advice }
+    ensures call { result.call ≡ None }
 {
     Hint::plain(Advice::Words(advice))
 }
 
 fn about(advice: WordAdvice, call: Call) -> Hint
-    ensures { IsOfWords result }
+    ensures advice { result.advice ≡ Words advice }
+    ensures call { result.call ≡ Some call }
 {
     Hint::of_call(Advice::Words(advice), call)
 }
@@ -66,20 +72,21 @@ fn nearest(alloc: Global, word: &str) -> Result<Option<Call>, AllocError> {
     Ok(found)
 }
 
-/// What is said of a first word that is no command's name.
-fn advise_name(alloc: Global, word: &str) -> Hint
-    ensures { IsOfWords result }
+/// What is said of words whose first is no command's name.
+fn advise_name(alloc: Global, words: &[String], first: &str) -> Hint
+    ensures told { (NameCommand words.now → ⊥) → IsOfWords result words.now }
+    ensures called { IfSome result.call (λ call. result.advice ≡ Words NearestCommand) }
 {
-    if is_option(word) {
+    if begin(words, b"--help") || begin(words, b"--version") {
         return plain(WordAdvice::StandsAlone);
     }
-    if is_plea(word) {
+    if is_plea(first) {
         return plain(WordAdvice::Usage);
     }
-    if is_input(word) {
+    if is_input(first) {
         return plain(WordAdvice::ComesByInput);
     }
-    match nearest(alloc, word) {
+    match nearest(alloc, first) {
         Ok(Some(call)) => about(WordAdvice::NearestCommand, call),
         _ => plain(WordAdvice::NoCommand),
     }
@@ -97,7 +104,9 @@ fn is_number(word: &str, least: u64, most: u64) -> bool {
     }
 }
 
-fn advice_on(number: Number) -> WordAdvice {
+fn advice_on(number: Number) -> WordAdvice
+    ensures { (words : List (String AGlobal)) → TellsWords result words }
+{
     match number {
         Number::Depth => WordAdvice::Depth,
         Number::Nodes => WordAdvice::Nodes,
@@ -120,7 +129,8 @@ fn first_bad(numbers: &[Number], words: &[String]) -> Option<Number> {
 
 /// What is said of the words behind a command's name; None where nothing is wrong with them.
 fn advise_rest(call: Call, rest: &[String]) -> Option<Hint>
-    ensures { IfSome result (λ hint. IsOfWords hint) }
+    ensures told { IfSome result (λ hint. (words : List (String AGlobal)) → IsOfWords hint words) }
+    ensures called { IfSome result (λ hint. hint.call ≡ Some call) }
 {
     if rest.iter().any(|word| is_input(word.as_str())) {
         return Some(about(WordAdvice::ComesByInput, call));
@@ -139,13 +149,14 @@ fn advise_rest(call: Call, rest: &[String]) -> Option<Hint>
 
 /// What is wrong with the words; None where they call a command.
 pub(crate) fn advise_words(alloc: Global, words: &[String]) -> Option<Hint>
-    ensures { IfSome result (λ hint. IsOfWords hint) }
+    ensures told { IfSome result (λ hint. IsOfWords hint words.now) }
+    ensures called { IfSome result (λ hint. ShowsCall hint words.now) }
 {
-    let [name, rest @ ..] = words else {
+    let [first, rest @ ..] = words else {
         return Some(plain(WordAdvice::Usage));
     };
-    match call_of(name.as_bytes()) {
+    match first_call(words) {
         Some(call) => advise_rest(call, rest),
-        None => Some(advise_name(alloc, name.as_str())),
+        None => Some(advise_name(alloc, words, first.as_str())),
     }
 }

@@ -1,4 +1,5 @@
 pub mod Truth
+pub mod Options
 pub mod Lists
 pub mod Ranges
 pub mod Splits

@@ -8,7 +8,7 @@ use Rattle.std.proofs.lemmas.List.{length-map}
 use Rattle.std.proofs.lemmas.List.Elements.{All-map, Contains-get_or}
 use Rattle.std.proofs.lemmas.List.FromFn.{get_or-map-range_with_len}
 use Rattle.std.proofs.lemmas.List.Sums.{sum_by-cons}
-use Rattle.board_base.specs.Board.{Places, array_of, at, is_of, same_colour}
+use Rattle.board_base.specs.Board.{Places, array_of, at, is_of, same_colour, men_squares, home_of}
 use Rattle.board_base.specs.Play.{side}
 use Rattle.board_base.specs.Rights.{Rights, holds}
 use Rattle.board_base.specs.Game.{IsGame, board_after, turn_after, unmoved}
@@ -30,7 +30,7 @@ use Rattle.men_account.proofs.PawnLaws.{man-of}
 use Rattle.men_account.proofs.SideHomes.{home-black, home-white}
 use Rattle.query_base.specs.Asked.{Asked}
 use Rattle.query_base.specs.Reach.{Reaches}
-use Rattle.length_bound.specs.SideBounds.{moves_of, man_cost, side_cost, men_squares, home_of, place_cost, move_costs, IsSideBound, at_least_0, holds_some, moves_shown, length_with}
+use Rattle.length_bound.specs.SideBounds.{moves_of, man_cost, side_cost, place_cost, move_costs, IsSideBound, at_least_0, holds_some, moves_shown, length_with}
 use Rattle.length_bound.proofs.OneMove.{cost-of}
 use Rattle.length_bound.proofs.InGames.{Spent, not_castled, has_castled, spent}
 

@@ -6,9 +6,10 @@ use Rattle.board_base.specs.Board.{no_men, no_odds}
 use Rattle.board_base.specs.Potentials.{Duals, duals}
 use Rattle.board_base.specs.declared.men.Colour.{Colour}
 use Rattle.board_base.specs.declared.men.Colour.TheVariants.{White}
+use Rattle.board_base.specs.Rights.{no_rights}
 use Rattle.query_base.specs.Asked.{Asked}
 use Rattle.fen_text.specs.OddsLines.{odds_line}
-use Rattle.fen_text.specs.Fen.{fen, fen_of_four, from_turn, from_rights, from_en_passant, placement, ranks, rights, no_rights}
+use Rattle.fen_text.specs.Fen.{fen, fen_of_four, from_turn, from_rights, from_en_passant, placement, ranks, rights}
 use Rattle.fen_text.specs.Parts.{parted}
 use Rattle.fen_text.specs.Ranks.{rank, places_of, is_symbol}
 use Rattle.fen_text.specs.Numbers.{number}

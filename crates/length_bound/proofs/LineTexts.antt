@@ -7,6 +7,7 @@ use Rattle.std.specs.Option.{option_and_then}
 use Rattle.std.proofs.lemmas.Fmt.{digits_decimal}
 use Rattle.std.proofs.lemmas.Option.{cond_some, option_and_then_some}
 use Rattle.std.proofs.lemmas.Bool.{cases_Bool, cond-true, cond-false, le-leb, leb-true}
+use Rattle.general_lemmas.proofs.Options.{when}
 use Rattle.board_base.specs.Potentials.{Duals}
 use Rattle.board_base.specs.declared.men.Colour.{Colour}
 use Rattle.board_base.specs.declared.men.Colour.TheVariants.{White, Black}
@@ -18,7 +19,6 @@ use Rattle.fen_text.specs.Numbers.{number}
 use Rattle.cert_text.specs.Arguments.{duals_of}
 use Rattle.cert_text.specs.Writable.{are_near}
 use Rattle.fen_text.proofs.Decimals.{model, number_back, number_read}
-use Rattle.cert_text.proofs.Tests.{when}
 use Rattle.cert_text.proofs.WordTexts.{duals_back, duals_free, duals_read}
 use Rattle.length_bound.specs.LengthReading.{moves_text}
 use Rattle.length_bound.specs.LengthText.{at_least_of, of_side, shown_by, up_to_9999}

@@ -6,9 +6,10 @@ use Rattle.std.proofs.lemmas.Bool.{cases_lt, cond-true, cond-false, le-leb, lt-l
 use Rattle.std.proofs.lemmas.Option.{same_Some}
 use Rattle.board_base.specs.declared.men.Colour.{Colour}
 use Rattle.board_base.specs.declared.men.Colour.TheVariants.{White, Black}
+use Rattle.board_base.specs.Board.{men_squares}
 use Rattle.assignment.specs.Assignments.{least_cost, total}
 use Rattle.query_base.specs.Asked.{Asked}
-use Rattle.length_bound.specs.SideBounds.{at_least_0, holds_some, length_with, men_squares, move_costs, moves_shown}
+use Rattle.length_bound.specs.SideBounds.{at_least_0, holds_some, length_with, move_costs, moves_shown}
 use Rattle.length_bound.specs.Longest.{IsBest, longer_side, side_length}
 use Rattle.length_bound.specs.LengthAnswers.{IsShown}
 use Rattle.length_bound.specs.LongerTexts.{IsBestOf, longer_text}

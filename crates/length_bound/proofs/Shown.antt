@@ -6,7 +6,7 @@ use Rattle.std.proofs.lemmas.Bool.{cases_lt}
 use Rattle.std.proofs.lemmas.Int.{ints}
 use Rattle.std.proofs.lemmas.List.{length-map}
 use Rattle.std.proofs.lemmas.List.Elements.{All-head, All-tail}
-use Rattle.board_base.specs.Board.{Places, at}
+use Rattle.board_base.specs.Board.{Places, at, men_squares}
 use Rattle.board_base.specs.Potentials.{IsWithinLimit}
 use Rattle.board_base.specs.declared.men.Colour.{Colour}
 use Rattle.board_base.specs.declared.moves.Move.{Move}
@@ -14,7 +14,7 @@ use Rattle.assignment.specs.Assignments.{IsBounded, total}
 use Rattle.assignment.proofs.Duality.{total-below}
 use Rattle.query_base.specs.Asked.{Asked}
 use Rattle.query_base.specs.Reach.{Reaches}
-use Rattle.length_bound.specs.SideBounds.{man_row, men_squares, move_costs, IsSideBound, moves_shown, length_with}
+use Rattle.length_bound.specs.SideBounds.{man_row, move_costs, IsSideBound, moves_shown, length_with}
 use Rattle.length_bound.proofs.Bound.{reach-least}
 
 pub rows : (o : List Bool) (c : Colour) (board : Places) → length (move_costs o c board) ≡ length (men_squares c board)

@@ -2,9 +2,10 @@
 use Rattle.std.specs.Prelude.{ℕ, ◌≡◌, ◌-◌, cond, nat_le, nat_lt, length, Option, Some, None, pos, ◌+ℤ◌}
 use Rattle.board_base.specs.declared.men.Colour.{Colour}
 use Rattle.board_base.specs.declared.men.Colour.TheVariants.{White, Black}
+use Rattle.board_base.specs.Board.{men_squares}
 use Rattle.assignment.specs.Assignments.{least_cost, total}
 use Rattle.query_base.specs.Asked.{Asked}
-use Rattle.length_bound.specs.SideBounds.{IsSideBound, holds_some, length_with, men_squares, move_costs}
+use Rattle.length_bound.specs.SideBounds.{IsSideBound, holds_some, length_with, move_costs}
 use Rattle.length_bound.specs.declared.texts.LengthText.{LengthText}
 
 -- the length that potentials with the greatest sum show, that of the least cost; None where the side has more than sixteen men

@@ -1,7 +1,7 @@
 -- Lower bounds on the moves of a side, and on the length of a game.
 use Rattle.std.specs.Prelude.{ℕ, ◌≤◌, ◌+◌, ◌-◌, ◌*◌, ◌/◌, max, Bool, cond, ◌||◌, List, map, length, Option, Some, None, ℤ, pos, negsuc, ◌+ℤ◌}
-use Rattle.std.specs.List.{filter, sum_by, range_with_len}
-use Rattle.board_base.specs.Board.{Places, at, is_of, same_colour}
+use Rattle.std.specs.List.{sum_by, range_with_len}
+use Rattle.board_base.specs.Board.{Places, at, same_colour, men_squares, home_of}
 use Rattle.board_base.specs.Rights.{Rights, holds}
 use Rattle.board_base.specs.declared.men.Colour.{Colour}
 use Rattle.board_base.specs.declared.men.Colour.TheVariants.{White, Black}
@@ -25,15 +25,6 @@ man_cost o c (Some man) (Some l) s = cond (same_colour c man.colour) (move_cost 
 -- what the men of a side needed in all, each from his label
 unfoldable pub side_cost : List Bool → Colour → Places → Labels → ℕ
 side_cost o c board labels = sum_by (λ s. man_cost o c (at board s) (label_at labels s) s) (range_with_len 0 64)
-
--- the squares of this side's men, in ascending order
-unfoldable pub men_squares : Colour → Places → List ℕ
-men_squares c board = filter (λ s. is_of c (at board s)) (range_with_len 0 64)
-
--- Article 2.3: where the men of a side begin, its sixteen homes in ascending order
-abbrev pub home_of : Colour → ℕ → ℕ
-home_of White j = j
-home_of Black j = 48 + j
 
 -- what the man on this place of s needed from h
 abbrev pub place_cost : List Bool → Option Man → ℕ → ℕ → ℕ

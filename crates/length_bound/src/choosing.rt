@@ -1,9 +1,9 @@
 ghost use Rattle.std.specs.Prelude.{◌≡◌, ◌<◌, ◌≤◌, ◌↔◌, cond, nat_lt, IfSome, IsNone, MatchOption, None, Some, length};
 ghost use Rattle.std.specs.Option.{option_map};
 ghost use Rattle.board_base.specs.declared.men.Colour.TheVariants.{White, Black};
+ghost use Rattle.board_base.specs.Board.{men_squares};
 ghost use Rattle.length_bound.specs.Longest.{IsBest, longer_side, side_length};
 ghost use Rattle.length_bound.specs.LongerTexts.{IsBestOf, longer_text};
-ghost use Rattle.length_bound.specs.SideBounds.{men_squares};
 
 use crate::lengths::{best, length_of};
 use crate::texts::LengthText;

@@ -1,8 +1,9 @@
 ghost use Rattle.std.specs.Prelude.{◌≡◌, ◌+◌, ◌-◌, ◌<◌, ◌≤◌, ◌↔◌, ◌+ℤ◌, ◌≤ℤ◌, pos, cond, List, length, SomeIff, IfSome, IsNone};
 ghost use Rattle.board_base.specs.declared.moves.Move.{Move};
+ghost use Rattle.board_base.specs.Board.{men_squares};
 ghost use Rattle.assignment.specs.Assignments.{least_cost, total};
 ghost use Rattle.query_base.specs.Reach.{Reaches};
-ghost use Rattle.length_bound.specs.SideBounds.{IsSideBound, at_least_0, holds_some, length_with, men_squares, move_costs, moves_shown};
+ghost use Rattle.length_bound.specs.SideBounds.{IsSideBound, at_least_0, holds_some, length_with, move_costs, moves_shown};
 
 use crate::man_potentials::ManPotentials;
 use crate::rows::costs;

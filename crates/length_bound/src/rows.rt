@@ -1,8 +1,9 @@
 ghost use Rattle.std.specs.Prelude.{◌≡◌, ◌+◌, ◌<◌, ◌≤◌, IfSome, SomeIff, length, map};
 ghost use Rattle.std.specs.List.{All, range_with_len};
 ghost use Rattle.std.specs.Option.{option_map};
+ghost use Rattle.board_base.specs.Board.{men_squares, home_of};
 ghost use Rattle.assignment.specs.Tables.{IsTable};
-ghost use Rattle.length_bound.specs.SideBounds.{home_of, man_row, men_squares, move_costs, place_cost};
+ghost use Rattle.length_bound.specs.SideBounds.{man_row, move_costs, place_cost};
 
 use crate::costs::move_cost;
 use arrayvec::ArrayVec;

@@ -9,6 +9,7 @@ use Rattle.std.specs.List.{All, AllPairs, Contains, filter}
 use Rattle.std.specs.Ordering.{nat_cmp, ordering_then}
 use Rattle.std.specs.declared.cmp.Ordering.{Ordering}
 use Rattle.std.specs.declared.cmp.Ordering.TheVariants.{Equal, Greater, Less}
+use Rattle.std.proofs.Math.Bool.{and-false}
 use Rattle.board_base.specs.Legal.{is_move, same_promo}
 use Rattle.board_base.specs.Texts.{can_capture, capture_place, place_of, unmove_order}
 use Rattle.board_base.specs.declared.men.Kind.{Kind}
@@ -147,14 +148,10 @@ one_less {A} p r (y ∷ ys) x implied among passes fails = elim (contains-cases 
       omega (arith, next_long (p y) y (filter p ys), next_long (r y) y (filter r ys))
 ]
 
-nothing : (b : Bool) → (b && false) ≡ false
-nothing true = refl
-nothing false = refl
-
 no_other : (u : Unmove) → is_other u u ≡ false
 no_other u =
     ap (λ (b : Bool). is_move (Some u.mv) u.mv && not b) (and_from (same_promo u.captured u.captured) (beq u.ep u.ep) (promo_self u.captured) (truths_self u.ep))
-    ∙ nothing (is_move (Some u.mv) u.mv)
+    ∙ and-false (is_move (Some u.mv) u.mv)
 
 siblings_few : (q : Asked) (u : Unmove) → Contains (unmoves q) u → length (siblings q u) ≤ 6
 unfolding siblings

@@ -9,6 +9,7 @@ use Rattle.std.proofs.lemmas.Option.{cond_some, same_Some}
 use Rattle.std.specs.Prelude.{IfSome, codes}
 use Rattle.std.specs.List.{All, list_all, starts_with}
 use Rattle.std.specs.Option.{option_map}
+use Rattle.general_lemmas.proofs.Splits.{up_to}
 use Rattle.board_base.specs.Texts.{◌>>=◌, unmove_from, unmove_text}
 use Rattle.board_base.specs.declared.castles.Castle.{Castle}
 use Rattle.board_base.specs.declared.castles.Castle.TheVariants.{WhiteShort, WhiteLong, BlackShort, BlackLong}
@@ -21,7 +22,6 @@ use Rattle.line_claims.specs.declared.claims.LineClaim.{LineClaim}
 use Rattle.line_claims.specs.declared.claims.LineClaim.TheVariants.{NotBoth, Line}
 use Rattle.line_claims.specs.Lines.{HasLine, both_claimed, castling_lettered, castles_lettered, castles_of, has_text, in_order, line_claim_of, line_claim_text, steps_of, steps_text}
 use Rattle.line_claims.specs.Readable.{IsReadable}
-use Rattle.line_claims.proofs.Listings.{taken}
 use Rattle.fen_text.specs.Fen.{castle_letter}
 use Rattle.fen_text.proofs.MoveFrees.{unmove_free}
 
@@ -176,7 +176,7 @@ fits_at us i u inside is all = elim (cases_Bool (has_text u)) [
 pub written_more : (us : List Unmove) (i : ℕ) (u : Unmove) (start out new : List ℕ) → i < length us → 1 ≤ i → u ≡ get_or us i u → out ≡ start ++ steps_text (take i us) → new ≡ out ++ 32 ∷ unmove_text u → new ≡ start ++ steps_text (take (i + 1) us)
 written_more us i u start out new inside some is before grown =
     let long : length (take i us) ≡ i = length-take-le i us (omega arith) in
-    let more : steps_text (take (i + 1) us) ≡ steps_text (take i us) ++ 32 ∷ unmove_text u = ap steps_text (taken us i u inside is) ∙ some_more (take i us) u (omega arith) in
+    let more : steps_text (take (i + 1) us) ≡ steps_text (take i us) ++ 32 ∷ unmove_text u = ap steps_text (up_to us i u inside is) ∙ some_more (take i us) u (omega arith) in
     grown ∙ ap (λ (l : List ℕ). l ++ 32 ∷ unmove_text u) before ∙ append_assoc start (steps_text (take i us)) (32 ∷ unmove_text u) ∙ ap (λ (l : List ℕ). start ++ l) (sym more)
 
 pub readable_more : (us : List Unmove) (i : ℕ) (u : Unmove) → i < length us → u ≡ get_or us i u → All IsReadable (take i us) → IsReadable u → All IsReadable (take (i + 1) us)

@@ -1,22 +1,21 @@
 -- Steps that are listed, one after another.
 use Rattle.std.proofs.Common.{◌≡◌, ℕ, ◌+◌, ◌<◌, ◌≤◌, List, [], ◌∷◌, ◌++◌, length, take, drop, get_or, inl, inr, refl, sym, ap, ◌∙◌, subst, subst₂, arith, append_assoc, take-append-drop}
-use Rattle.std.proofs.lemmas.List.{drop_more, length-take-le, take_more}
+use Rattle.std.proofs.lemmas.List.{drop_more, length-take-le}
 use Rattle.std.proofs.lemmas.List.Sums.{fold_push}
 use Rattle.std.specs.List.{Contains}
 use Rattle.board_base.specs.declared.unmoves.Unmove.{Unmove}
 use Rattle.general_lemmas.proofs.Lists.{by_last}
+use Rattle.general_lemmas.proofs.Splits.{up_to}
 use Rattle.query_base.specs.Asked.{Asked}
 use Rattle.unmove_gen.specs.Listed.{unmoves}
-use Rattle.unmove_gen.specs.Predecessor.{predecessor}
-use Rattle.line_claims.specs.Listing.{AreListed, IsFirstUnlisted, left_by}
+use Rattle.unmove_gen.specs.Predecessor.{predecessor, left_by}
+use Rattle.line_claims.specs.Listing.{AreListed, IsFirstUnlisted}
 use Rattle.line_claims.proofs.LastItems.{same_end, same_front}
 
 pub left-none : (q : Asked) → q ≡ left_by q []
-unfolding left_by
 left-none q = refl
 
 left-push : (q : Asked) (us : List Unmove) (u : Unmove) → left_by q (us ++ u ∷ []) ≡ predecessor (left_by q us) u
-unfolding left_by
 left-push q us u = fold_push predecessor q us u
 
 pub listed-none : (q : Asked) → AreListed q []
@@ -39,17 +38,13 @@ listed-push q us u all here = λ before after v e. elim (by_last after) [
       all before last.0 v (same_front us (before ++ v ∷ last.0) u last.1 whole)
 ]
 
--- the step at a place of the list
-pub taken : (us : List Unmove) (i : ℕ) (u : Unmove) → i < length us → u ≡ get_or us i u → take (i + 1) us ≡ take i us ++ u ∷ []
-taken us i u inside is = take_more us i u inside ∙ ap (λ (w : Unmove). take i us ++ w ∷ []) (sym is)
-
 pub left-more : (q p r : Asked) (us : List Unmove) (i : ℕ) (u : Unmove) → i < length us → u ≡ get_or us i u → p ≡ left_by q (take i us) → r ≡ predecessor p u → r ≡ left_by q (take (i + 1) us)
 left-more q p r us i u inside is before gone =
-    gone ∙ ap (λ (a : Asked). predecessor a u) before ∙ sym (left-push q (take i us) u) ∙ ap (left_by q) (sym (taken us i u inside is))
+    gone ∙ ap (λ (a : Asked). predecessor a u) before ∙ sym (left-push q (take i us) u) ∙ ap (left_by q) (sym (up_to us i u inside is))
 
 pub listed-more : (q p : Asked) (us : List Unmove) (i : ℕ) (u : Unmove) → i < length us → u ≡ get_or us i u → p ≡ left_by q (take i us) → Contains (unmoves p) u → AreListed q (take i us) → AreListed q (take (i + 1) us)
 listed-more q p us i u inside is before here all =
-    subst (AreListed q) (sym (taken us i u inside is)) (listed-push q (take i us) u all (subst (λ (a : Asked). Contains (unmoves a) u) before here))
+    subst (AreListed q) (sym (up_to us i u inside is)) (listed-push q (take i us) u all (subst (λ (a : Asked). Contains (unmoves a) u) before here))
 
 pub first-unlisted : (q p : Asked) (us : List Unmove) (i : ℕ) (u : Unmove) (number : ℕ) → i < length us → u ≡ get_or us i u → p ≡ left_by q (take i us) → number ≡ i + 1 → (Contains (unmoves p) u → ⊥) → AreListed q (take i us) → IsFirstUnlisted q us number
 first-unlisted q p us i u number inside is before place missing all = record {
@@ -64,9 +59,7 @@ first-unlisted q p us i u number inside is before place missing all = record {
 
 -- the first of the steps, and those after it
 pub listed-first : (q : Asked) (us rest : List Unmove) (u : Unmove) → AreListed q us → us ≡ u ∷ rest → Contains (unmoves q) u
-unfolding left_by
 listed-first q us rest u all e = all [] rest u e
 
 pub listed-rest : (q p : Asked) (us rest : List Unmove) (u : Unmove) → AreListed q us → us ≡ u ∷ rest → p ≡ predecessor q u → AreListed p rest
-unfolding left_by
 listed-rest q p us rest u all e gone = subst (λ (a : Asked). AreListed a rest) (sym gone) (λ before after v there. all (u ∷ before) after v (e ∙ ap (λ (l : List Unmove). u ∷ l) there))

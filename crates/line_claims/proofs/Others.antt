@@ -3,18 +3,13 @@ use Rattle.std.proofs.Common.{◌≡◌, Bool, true, false, ◌&&◌, not, ◌�
 use Rattle.std.proofs.lemmas.Bool.{and_parts, and_from, cases_Bool}
 use Rattle.std.specs.Prelude.{Option, Some}
 use Rattle.std.specs.Bool.{beq}
+use Rattle.general_lemmas.proofs.Truth.{beq-same}
 use Rattle.board_base.specs.Legal.{is_move, same_promo}
 use Rattle.board_base.specs.declared.men.Kind.{Kind}
 use Rattle.board_base.specs.declared.moves.Move.{Move}
 use Rattle.board_base.specs.declared.unmoves.Unmove.{Unmove}
 use Rattle.board_base.proofs.Equal.{move_self, promo_is}
 use Rattle.line_claims.specs.Due.{is_other}
-
-pub truths_equal : (a b : Bool) → beq a b ≡ true → a ≡ b
-truths_equal true true h = refl
-truths_equal false false h = refl
-truths_equal true false h = cc
-truths_equal false true h = cc
 
 pub truths_self : (a : Bool) → beq a a ≡ true
 truths_self true = refl
@@ -29,6 +24,6 @@ pub same_or_other : (u v : Unmove) → v.mv ≡ u.mv → (v ≡ u) ⊎ (is_other
 same_or_other u v m = elim (cases_Bool (same_promo u.captured v.captured && beq u.ep v.ep)) [
   | inl same ↦
       let parts = and_parts _ _ same in
-      inl (unmoves_equal v u m (sym (promo_is _ _ parts.0)) (sym (truths_equal _ _ parts.1)))
+      inl (unmoves_equal v u m (sym (promo_is _ _ parts.0)) (sym (beq-same _ _ parts.1)))
   | inr differs ↦ inr (and_from _ _ (ap (is_move (Some u.mv)) m ∙ move_self u.mv) (ap not differs))
 ]

@@ -1,16 +1,12 @@
 -- Where the parts due are defined: each step is in the list of retractions of what the steps before it leave.
 use Rattle.std.specs.Prelude.{ℕ, ◌≡◌, ◌+◌, List, ◌∷◌, ◌++◌, length}
-use Rattle.std.specs.List.{Contains, fold}
+use Rattle.std.specs.List.{Contains}
 use Rattle.board_base.specs.declared.unmoves.Unmove.{Unmove}
 use Rattle.query_base.specs.Asked.{Asked}
 use Rattle.unmove_gen.specs.Listed.{unmoves}
-use Rattle.unmove_gen.specs.Predecessor.{predecessor}
+use Rattle.unmove_gen.specs.Predecessor.{left_by}
 use Rattle.line_claims.specs.declared.claims.LineClaim.{LineClaim}
 use Rattle.line_claims.specs.declared.claims.LineClaim.TheVariants.{NotBoth, Line}
-
--- what the steps leave of the query when they are taken back in order
-unfoldable pub left_by : Asked → List Unmove → Asked
-left_by q steps = fold predecessor q steps
 
 -- each step is an unmove of what the steps before it leave
 abbrev pub AreListed : Asked → List Unmove → Type 0

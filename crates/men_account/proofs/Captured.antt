@@ -43,7 +43,7 @@ differ-only None = tt
 differ-only (Some u) = (λ h. h, tt)
 
 -- what is told of a member of a list that is there only under a test
-has-cond : (b : Bool) (xs : List ℕ) (y : ℕ) → Has (cond b xs []) y → (b ≡ true) × Has xs y
+pub has-cond : (b : Bool) (xs : List ℕ) (y : ℕ) → Has (cond b xs []) y → (b ≡ true) × Has xs y
 has-cond true xs y h = (refl, h)
 has-cond false xs y h = elim h [ ]
 
@@ -88,7 +88,7 @@ other-side : (c : Colour) → c ≡ opponent c → ⊥
 other-side White e = cc
 other-side Black e = cc
 
-opponent-differs : (c : Colour) (place : Option Man) → is_of c place ≡ true → is_of (opponent c) place ≡ true → ⊥
+pub opponent-differs : (c : Colour) (place : Option Man) → is_of c place ≡ true → is_of (opponent c) place ≡ true → ⊥
 opponent-differs c place a b = other-side c (same-side c (opponent c) place a b)
 
 leads-from : (board : Places) (c : Colour) (rights : Castle → Bool) (last : Option Move) (m : Move) (s : ℕ) (castle : Option Castle) (past : Bool) → castling board m ≡ castle → goes_en_passant board m ≡ past → Legality board c rights last m → is_a Pawn (at board m.from) ≡ true → is_of (opponent c) (at board (taken_on board m)) ≡ true → moved_from m castle past s ≡ Some (taken_on board m) → Origin m castle (taken_on board m) s → ⊥

@@ -3,7 +3,7 @@ use Rattle.std.proofs.Common.{◌≡◌, ℕ, ◌+◌, ◌<◌, ◌≤◌, Bool,
 use Rattle.std.proofs.lemmas.Bool.{and_parts, and_from, both_ways, not-true, not_from_false, false_from_ne_true}
 use Rattle.std.proofs.lemmas.List.{append-nil}
 use Rattle.std.specs.Prelude.{Option, Some, None, ℤ, pos, ◌+ℤ◌, ◌≤ℤ◌}
-use Rattle.board_base.specs.Board.{Places, array_of, at, is_of, is_a, opponent, same_colour}
+use Rattle.board_base.specs.Board.{Places, array_of, at, is_of, is_a, opponent, same_colour, is_like}
 use Rattle.board_base.specs.Legal.{is_officer}
 use Rattle.board_base.specs.Game.{IsGame, board_after}
 use Rattle.board_base.specs.declared.men.Colour.{Colour}
@@ -19,7 +19,7 @@ use Rattle.men_account.specs.Account.{men, is_any, counts_of, excess_of, allowan
 use Rattle.men_account.specs.Labels.{label_at, labels_after}
 use Rattle.men_account.specs.Captures.{taken_on, captured_by_pawns, IsTakenIn}
 use Rattle.men_account.specs.Homes.{is_officer_of, AreGoneOtherwise, men_of}
-use Rattle.men_account.specs.HomeRegions.{StandInRegions, is_alike, is_deserted, IsOutOfReach, StayInRegions, is_lost}
+use Rattle.men_account.specs.HomeRegions.{StandInRegions, is_deserted, IsOutOfReach, StayInRegions, is_lost}
 use Rattle.men_account.proofs.Labelled.{labels-each_man}
 use Rattle.men_account.proofs.Captured.{man-there}
 use Rattle.men_account.proofs.PawnLaws.{himself}
@@ -32,11 +32,11 @@ pub officer-no-pawn : (c : Colour) (place : Option Man) → is_officer_of c plac
 officer-no-pawn c None officer = refl
 officer-no-pawn c (Some m) officer = no_officer Pawn m.kind refl (and_parts (same_colour c m.colour) (is_officer m.kind) officer).1
 
-alike-self : (place : Option Man) (m : Man) → place ≡ Some m → is_alike place place ≡ true
+alike-self : (place : Option Man) (m : Man) → place ≡ Some m → is_like place place ≡ true
 alike-self None m e = cc
 alike-self (Some other) m e = and_from _ _ (same_colour-self other.colour) (same_kind-self other.kind)
 
-alike-none : (place : Option Man) → is_alike place None ≡ false
+alike-none : (place : Option Man) → is_like place None ≡ false
 alike-none None = refl
 alike-none (Some m) = refl
 
@@ -47,9 +47,9 @@ not-deserted o g c region game stand s h label officer deserted =
     let board : Places = board_after o g in
     let man = man-there board (labels_after o g) s h (labels-each_man o g game) label in
     let same : at (array_of o) h ≡ at board s = himself o g game s h man.0 label man.1 (officer-no-pawn c (at (array_of o) h) officer) ∙ sym man.1 in
-    let alike : is_alike (at (array_of o) h) (at board s) ≡ true = subst (λ (p : Option Man). is_alike (at (array_of o) h) p ≡ true) same (alike-self (at (array_of o) h) man.0 (same ∙ man.1)) in
-    let inside : s < 64 = rw (← length-after o g game) (within (is_alike (at (array_of o) h)) board s (alike-none (at (array_of o) h)) alike) in
-    let tested = all_in_range (λ t. not (region h t && is_alike (at (array_of o) h) (at board t))) 0 64 s deserted (omega arith) (omega arith) in
+    let alike : is_like (at (array_of o) h) (at board s) ≡ true = subst (λ (p : Option Man). is_like (at (array_of o) h) p ≡ true) same (alike-self (at (array_of o) h) man.0 (same ∙ man.1)) in
+    let inside : s < 64 = rw (← length-after o g game) (within (is_like (at (array_of o) h)) board s (alike-none (at (array_of o) h)) alike) in
+    let tested = all_in_range (λ t. not (region h t && is_like (at (array_of o) h) (at board t))) 0 64 s deserted (omega arith) (omega arith) in
     both_ways _ (not-true _ tested) (and_from _ _ (stand s h label officer) alike)
 
 -- the pawns and the officers above those whose homes aren't deserted

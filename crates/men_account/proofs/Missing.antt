@@ -18,6 +18,7 @@ use Rattle.men_account.specs.Homes.{men_of, AreGoneOtherwise}
 use Rattle.general_lemmas.proofs.Differing.{Has, Differ, LeadsApart, has-either, has-contains, has-led, has-range, differ-append, differ-led, differ-range}
 use Rattle.general_lemmas.proofs.SumsAmong.{value_at, sum-led, sum-among, sum-ones}
 use Rattle.general_lemmas.proofs.Counts.{one_if, one_if-most}
+use Rattle.general_lemmas.proofs.Options.{when}
 use Rattle.men_account.proofs.Labelled.{labels-apart, labels-colours, labels-each_man}
 use Rattle.men_account.proofs.Captured.{captured-differ, captured-enemies, captured-gone}
 use Rattle.men_account.proofs.FilesLeft.{array-inside}
@@ -34,12 +35,8 @@ label_of board labels e s = cond (is_of e (at board s)) (label_at labels s) None
 abbrev home_with : Places → Colour → (ℕ → Bool) → ℕ → Option ℕ
 home_with first e dead h = cond (is_of e (at first h) && dead h) (Some h) None
 
-cond-some : (b : Bool) (o : Option ℕ) (u : ℕ) → cond b o None ≡ Some u → (b ≡ true) × (o ≡ Some u)
-cond-some true o u e = (refl, e)
-cond-some false o u e = cc
-
 label-apart : (board : Places) (labels : Labels) (e : Colour) → AreApart labels → LeadsApart (label_of board labels e)
-label-apart board labels e apart s t u a b = apart s t u (cond-some (is_of e (at board s)) (label_at labels s) u a).1 (cond-some (is_of e (at board t)) (label_at labels t) u b).1
+label-apart board labels e apart s t u a b = apart s t u (when (is_of e (at board s)) (label_at labels s) u a).1 (when (is_of e (at board t)) (label_at labels t) u b).1
 
 home-apart : (first : Places) (e : Colour) (dead : ℕ → Bool) → LeadsApart (home_with first e dead)
 home-apart first e dead s t u a b = (cond_some _ s u a).1 ∙ sym (cond_some _ t u b).1
@@ -90,7 +87,7 @@ missing-most first board labels e dead taken each apart colours inside differ en
     let others : List ℕ = filter_map (home_with first e dead) squares in
     let living-is : (z : ℕ) → Has living z → (s : ℕ) × (is_of e (at board s) ≡ true) × (label_at labels s ≡ Some z) = λ z h.
     let found = has-led (label_of board labels e) squares z h in
-    let parts = cond-some (is_of e (at board found.0)) (label_at labels found.0) z found.2 in (found.0, parts.0, parts.1) in
+    let parts = when (is_of e (at board found.0)) (label_at labels found.0) z found.2 in (found.0, parts.0, parts.1) in
     let others-are : (z : ℕ) → Has others z → (is_of e (at first z) ≡ true) × (dead z ≡ true) = λ z h.
     let found = has-led (home_with first e dead) squares z h in
     let parts = cond_some (is_of e (at first found.0) && dead found.0) found.0 z found.2 in

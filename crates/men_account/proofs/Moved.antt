@@ -4,6 +4,7 @@ use Rattle.std.proofs.lemmas.Bool.{eqb-true, eqb-false}
 use Rattle.std.proofs.lemmas.List.{length-set, get_or-set_same, get_or-set_other}
 use Rattle.std.proofs.lemmas.Option.{same_Some}
 use Rattle.std.specs.Prelude.{Option, Some, None}
+use Rattle.general_lemmas.proofs.Options.{unless}
 use Rattle.board_base.specs.Play.{carried, moved, rook_home, crossed, en_passant_victim}
 use Rattle.board_base.specs.Texts.{◌>>=◌}
 use Rattle.board_base.specs.declared.moves.Move.{Move}
@@ -115,10 +116,6 @@ some-then : (from to : ℕ) (a : Option ℕ) (u : ℕ) → (a >>= carried_from f
 some-then from to None u x = cc
 some-then from to (Some s) u x = (s, refl)
 
-kept-cond : (b : Bool) (o : Option ℕ) (u : ℕ) → cond b None o ≡ Some u → o ≡ Some u
-kept-cond true o u e = cc
-kept-cond false o u e = e
-
 -- no two squares have what stood on one square
 pub moved_from-apart : (m : Move) (castle : Option Castle) (en_passant : Bool) (s t u : ℕ) → moved_from m castle en_passant s ≡ Some u → moved_from m castle en_passant t ≡ Some u → s ≡ t
 moved_from-apart m (Some x) en_passant s t u a b =
@@ -126,4 +123,4 @@ moved_from-apart m (Some x) en_passant s t u a b =
     let same = then-apart m.from m.to (carried_from (rook_home x) (crossed x) s) (carried_from (rook_home x) (crossed x) t) u a b in
     carried_from-apart (rook_home x) (crossed x) s t first.0 first.1 (sym same ∙ first.1)
 moved_from-apart m None en_passant s t u a b =
-    carried_from-apart m.from m.to s t u (kept-cond (en_passant && (s == en_passant_victim m)) _ u a) (kept-cond (en_passant && (t == en_passant_victim m)) _ u b)
+    carried_from-apart m.from m.to s t u (unless (en_passant && (s == en_passant_victim m)) _ u a).1 (unless (en_passant && (t == en_passant_victim m)) _ u b).1

@@ -3,6 +3,7 @@ use Rattle.std.proofs.Common.{◌≡◌, ◌≢◌, ℕ, ◌<◌, ◌==◌, Bool
 use Rattle.std.proofs.lemmas.Bool.{and_parts, eqb-true, eqb-false, ne_eqb}
 use Rattle.std.proofs.lemmas.Option.{same_Some}
 use Rattle.std.specs.Prelude.{Option, Some, None}
+use Rattle.general_lemmas.proofs.Options.{unless}
 use Rattle.board_base.specs.Board.{Places, array_of, at, is_of, is_a, is_the}
 use Rattle.board_base.specs.Texts.{◌>>=◌}
 use Rattle.board_base.specs.Play.{play, promoted, castling, goes_en_passant, en_passant_victim, king_home, king_target, rook_home, crossed}
@@ -46,19 +47,15 @@ castle-origin m x u s true on_home e1 e2 from to h =
 castle-origin m x u s false true e1 e2 from to h = cc
 castle-origin m x u s false false e1 e2 from to h = carried-origin m (Some x) u s (s == m.to) (s == m.from) refl refl h
 
-kept-cond : (b : Bool) (o : Option ℕ) (u : ℕ) → cond b None o ≡ Some u → (b ≡ false) × (o ≡ Some u)
-kept-cond true o u e = cc
-kept-cond false o u e = (refl, e)
-
 pub origin : (board : Places) (m : Move) (castle : Option Castle) (en_passant : Bool) (s u : ℕ) → castling board m ≡ castle → moved_from m castle en_passant s ≡ Some u → Origin m castle u s
 origin board m (Some x) en_passant s u is h =
     let ends = castle-ends board m x is in
     castle-origin m x u s (s == crossed x) (s == rook_home x) refl refl ends.from ends.to h
-origin board m None en_passant s u is h = carried-origin m None u s (s == m.to) (s == m.from) refl refl (kept-cond _ _ u h).1
+origin board m None en_passant s u is h = carried-origin m None u s (s == m.to) (s == m.from) refl refl (unless _ _ u h).1
 
 -- nothing that stands on the square of a pawn taken en passant stood anywhere before
 pub origin-not-victim : (m : Move) (s u : ℕ) → moved_from m None true s ≡ Some u → s ≢ en_passant_victim m
-origin-not-victim m s u h = eqb-false s (en_passant_victim m) (kept-cond _ _ u h).0
+origin-not-victim m s u h = eqb-false s (en_passant_victim m) (unless _ _ u h).0
 
 -- what this man becomes
 abbrev pub promoted_man : Option Kind → Man → Man

@@ -34,7 +34,7 @@ pub man-of : (p : Option Man → Bool) (place : Option Man) → p None ≡ false
 man-of p None none h = absurd (both_ways _ none h)
 man-of p (Some man) none h = (man, refl)
 
-same-label : (c : Colour) (k l : ℕ) → rank k ≡ pawn_rank c → rank l ≡ pawn_rank c → file k ≡ file l → k ≡ l
+pub same-label : (c : Colour) (k l : ℕ) → rank k ≡ pawn_rank c → rank l ≡ pawn_rank c → file k ≡ file l → k ≡ l
 same-label White k l a b e = omega arith
 same-label Black k l a b e = omega arith
 

@@ -1,12 +1,11 @@
 -- Regions in which the men who began on homes of officers stay, whatever they may be.
-use Rattle.std.specs.Prelude.{ℕ, ◌≡◌, Bool, false, ◌&&◌, not, IsTrue, List, ◌++◌, ◌∷◌, Option, Some, None}
+use Rattle.std.specs.Prelude.{ℕ, ◌≡◌, Bool, ◌&&◌, not, IsTrue, List, ◌++◌, ◌∷◌, Some}
 use Rattle.std.specs.List.{list_all, range_with_len}
-use Rattle.board_base.specs.Board.{Places, array_of, at, is_the}
+use Rattle.board_base.specs.Board.{Places, array_of, at, is_the, is_like}
 use Rattle.board_base.specs.Attacks.{files_apart, one_ahead}
 use Rattle.board_base.specs.Game.{board_after}
 use Rattle.board_base.specs.declared.men.Colour.{Colour}
 use Rattle.board_base.specs.declared.men.Kind.TheVariants.{Pawn}
-use Rattle.board_base.specs.declared.men.Man.{Man}
 use Rattle.board_base.specs.declared.moves.Move.{Move}
 use Rattle.men_account.specs.Labels.{Labels, label_at, labels_after}
 use Rattle.men_account.specs.Homes.{is_officer_of}
@@ -15,14 +14,9 @@ use Rattle.men_account.specs.Homes.{is_officer_of}
 abbrev pub StandInRegions : Places → Colour → (ℕ → ℕ → Bool) → Labels → Type 0
 StandInRegions first c region labels = (s h : ℕ) → label_at labels s ≡ Some h → IsTrue (is_officer_of c (at first h)) → IsTrue (region h s)
 
--- on the second place stands a man of the colour and kind of the man on the first
-abbrev pub is_alike : Option Man → Option Man → Bool
-is_alike None place = false
-is_alike (Some m) place = is_the m.colour m.kind place
-
 -- no man of the colour and kind of the man who began on h stands in its region
 unfoldable pub is_deserted : Places → Places → (ℕ → ℕ → Bool) → ℕ → Bool
-is_deserted first board region h = list_all (λ t. not (region h t && is_alike (at first h) (at board t))) (range_with_len 0 64)
+is_deserted first board region h = list_all (λ t. not (region h t && is_like (at first h) (at board t))) (range_with_len 0 64)
 
 -- Article 3.7: no move of the game takes a pawn of this side one rank ahead and one file aside into the region of h
 abbrev pub IsOutOfReach : List Bool → List Move → Colour → (ℕ → ℕ → Bool) → ℕ → Type 0

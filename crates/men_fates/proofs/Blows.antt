@@ -10,7 +10,6 @@ use Rattle.board_base.specs.Attacks.{files_apart, one_ahead}
 use Rattle.board_base.specs.Play.{castling}
 use Rattle.board_base.specs.Game.{IsGame, board_after, turn_after, unmoved, last_move}
 use Rattle.board_base.specs.declared.men.Colour.{Colour}
-use Rattle.board_base.specs.declared.men.Colour.TheVariants.{White, Black}
 use Rattle.board_base.specs.declared.men.Kind.TheVariants.{Pawn}
 use Rattle.board_base.specs.declared.moves.Move.{Move}
 use Rattle.play_rules.specs.Laws.{is_end}
@@ -24,7 +23,7 @@ use Rattle.general_lemmas.proofs.Ranges.{any-found}
 use Rattle.query_base.specs.Asked.{Asked}
 use Rattle.men_account.specs.Labels.{Labels, label_at, labels_after}
 use Rattle.men_account.specs.Captures.{captured_by_pawns, taken_on}
-use Rattle.men_account.proofs.Captured.{captured-enemies, captured-gone, man-there, same-side}
+use Rattle.men_account.proofs.Captured.{captured-enemies, captured-gone, man-there, opponent-differs}
 use Rattle.men_account.proofs.FilesLeft.{pawn-home}
 use Rattle.men_account.proofs.Labelled.{labels-each_man}
 use Rattle.cage_rules.specs.Laws.{Caged}
@@ -69,10 +68,6 @@ old-or-new o g m c x h = elim (Contains-append_cases (strikes o g c) (strike_by 
   | inr new ↦ inr (blow (board_after o g) (labels_after o g) c m x new)
 ]
 
-other-side : (c : Colour) → c ≡ opponent c → ⊥
-other-side White e = cc
-other-side Black e = cc
-
 -- nobody on the board has the label of a man whom a pawn took
 pub fallen-gone : (o : List Bool) (g : List Move) (c : Colour) (x : Strike) → IsGame o g → Contains (strikes o g c) x → (s : ℕ) → label_at (labels_after o g) s ≡ Some x.of → ⊥
 fallen-gone o g c x game h s label =
@@ -86,7 +81,7 @@ fallen-rests o g m c x game h = way-rests o g m x.of (other-rests x.of (board_af
 pub falling-rests : (o : List Bool) (g : List Move) (m : Move) (c : Colour) (x : Strike) → IsGame o g → is_of c (at (array_of o) x.of) ≡ true → Blow (board_after o g) (labels_after o g) (opponent c) m x → way_of o (g ++ m ∷ []) x.of ≡ way_of o g x.of
 falling-rests o g m c x game his b =
     way-rests o g m x.of (other-rests x.of (board_after o g) (labels_after o g) m (λ label.
-    other-side c (same-side c (opponent c) (at (board_after o g) m.from) (side-of o g c m.from x.of game his label) (and_parts (is_of (opponent c) (at (board_after o g) m.from)) (is_a Pawn (at (board_after o g) m.from)) b.pawn).0)))
+    opponent-differs c (at (board_after o g) m.from) (side-of o g c m.from x.of game his label) (and_parts (is_of (opponent c) (at (board_after o g) m.from)) (is_a Pawn (at (board_after o g) m.from)) b.pawn).0))
 
 -- a pawn who takes a man goes aslant
 full-place : (labels : Labels) (board : Places) (s l : ℕ) → is_none (label_at labels s) ≡ is_empty (at board s) → label_at labels s ≡ Some l → is_empty (at board s) ≡ true → ⊥

@@ -10,6 +10,7 @@ use Rattle.board_base.specs.declared.men.Colour.{Colour}
 use Rattle.board_base.specs.declared.men.Kind.TheVariants.{Pawn}
 use Rattle.board_base.specs.declared.moves.Move.{Move}
 use Rattle.board_base.proofs.KindsOfMen.{full-of, same_colour-self}
+use Rattle.board_base.proofs.Equal.{none_is}
 use Rattle.play_rules.proofs.Legality.{Legality, legality}
 use Rattle.play_rules.proofs.Games.{in_every_game}
 use Rattle.men_account.specs.Labels.{Labels, label_at, labels_after}
@@ -28,10 +29,6 @@ pub label-some : (label : Option ℕ) → is_none label ≡ false → (l : ℕ) 
 label-some None h = absurd (both_ways true h refl)
 label-some (Some l) h = (l, refl)
 
-label-none : (label : Option ℕ) → is_none label ≡ true → label ≡ None
-label-none None h = refl
-label-none (Some l) h = absurd (both_ways false refl h)
-
 -- the man who began on h has the colour of who stood there
 pub side-of : (o : List Bool) (g : List Move) (c : Colour) (s h : ℕ) → IsGame o g → is_of c (at (array_of o) h) ≡ true → label_at (labels_after o g) s ≡ Some h → is_of c (at (board_after o g) s) ≡ true
 side-of o g c s h game first label =
@@ -49,7 +46,7 @@ goes-captures o g m c h game legal pawn label =
     let each : is_none (label_at labels (taken_on board m)) ≡ is_empty (at board (taken_on board m)) = labels-each_man o g game (taken_on board m) in
     elim (trodden-captures board (turn_after g) m legal.on_board way) [
       | inl none ↦
-          none.0 ∙ sym (ap (struck_by h) plain ∙ struck-empty h m.to (label_at labels m.from) (label_at labels (taken_on board m)) (label-none (label_at labels (taken_on board m)) (each ∙ none.1)))
+          none.0 ∙ sym (ap (struck_by h) plain ∙ struck-empty h m.to (label_at labels m.from) (label_at labels (taken_on board m)) (none_is (label_at labels (taken_on board m)) (each ∙ none.1)))
       | inr one ↦
           let victim = label-some (label_at labels (taken_on board m)) (each ∙ full-of (opponent (turn_after g)) (at board (taken_on board m)) one.1) in
           one.0 ∙ sym (ap (struck_by h) plain ∙ struck-one h victim.0 m.to (label_at labels m.from) (label_at labels (taken_on board m)) label victim.1)

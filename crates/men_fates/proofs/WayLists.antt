@@ -1,6 +1,7 @@
 -- Ways of two parts, one after the other.
 use Rattle.std.proofs.Common.{◌≡◌, ℕ, ◌==◌, Bool, true, false, cond, ◌&&◌, List, [], ◌∷◌, ◌++◌, refl, ap, sym, ◌∙◌}
 use Rattle.std.proofs.lemmas.Bool.{and_parts, and_from, cond-false, cond-true, true_from_ne_false}
+use Rattle.general_lemmas.proofs.Truth.{and-joined}
 use Rattle.board_base.specs.Board.{file}
 use Rattle.board_base.specs.declared.men.Colour.{Colour}
 use Rattle.men_fates.specs.Ways.{is_pawn_step, is_way, way_end, captures_on, is_straight}
@@ -8,10 +9,6 @@ use Rattle.men_fates.specs.Ways.{is_pawn_step, is_way, way_end, captures_on, is_
 pub end-append : (s : ℕ) (a b : List ℕ) → way_end s (a ++ b) ≡ way_end (way_end s a) b
 end-append s [] b = refl
 end-append s (t ∷ a) b = end-append t a b
-
-and-joined : (x y z : Bool) → (x && (y && z)) ≡ ((x && y) && z)
-and-joined true y z = refl
-and-joined false y z = refl
 
 pub way-append : (c : Colour) (set : List Bool) (s : ℕ) (a b : List ℕ) → is_way c set s (a ++ b) ≡ (is_way c set s a && is_way c set (way_end s a) b)
 way-append c set s [] b = refl

@@ -17,7 +17,7 @@ use Rattle.play_rules.proofs.Kings.{length-after, within}
 use Rattle.men_account.specs.Labels.{Labels, label_at, labels_after, relabelled}
 use Rattle.men_account.proofs.Moved.{moved_from, label-moved}
 use Rattle.men_account.proofs.Labelled.{labels_after-more, length-labels, labels-each_man, on-label}
-use Rattle.men_account.proofs.Captured.{man-there, same-side}
+use Rattle.men_account.proofs.Captured.{man-there, opponent-differs}
 use Rattle.men_account.proofs.FilesLeft.{array-pawn}
 use Rattle.men_account.proofs.PawnWays.{Forward}
 use Rattle.men_fates.specs.Deeds.{squares_trodden, way_by, way_of}
@@ -115,14 +115,10 @@ moves-behind o c h k g m opposed back game legal keeps straight before pawn labe
     subst (λ (e : ℕ). Forward c e (way_end k (way_of o g k))) (sym (end-goes o g m h pawn label end))
     (passes-nobody board c m (way_end k (way_of o g k)) legal.on_board tread added line full (subst (λ (e : ℕ). Forward c e (way_end k (way_of o g k))) end before))
 
-own-opponent : (c : Colour) → c ≡ opponent c → ⊥
-own-opponent White e = cc
-own-opponent Black e = cc
-
 -- the two homes differ
 homes-differ : (o : List Bool) (c : Colour) (h k : ℕ) → Opposed o c h k → h ≡ k → ⊥
 homes-differ o c h k opposed same =
-    own-opponent c (same-side c (opponent c) (at (array_of o) h) (and_parts _ _ opposed.home).0 (subst (λ (l : ℕ). is_of (opponent c) (at (array_of o) l) ≡ true) (sym same) (and_parts _ _ opposed.other).0))
+    opponent-differs c (at (array_of o) h) (and_parts _ _ opposed.home).0 (subst (λ (l : ℕ). is_of (opponent c) (at (array_of o) l) ≡ true) (sym same) (and_parts _ _ opposed.other).0)
 
 -- the one is behind the other
 abbrev pub Behind : List Bool → Colour → ℕ → ℕ → List Move → Type 0

@@ -4,8 +4,7 @@ use Rattle.std.proofs.lemmas.Bool.{and_parts, eqb-true, or_cases}
 use Rattle.std.proofs.lemmas.List.Sums.{sum_by-append}
 use Rattle.std.specs.Prelude.{Some}
 use Rattle.std.specs.List.{AllPairs, Contains, flat_map, range_with_len, sum_by}
-use Rattle.board_base.specs.Board.{array_of, at, is_the, file, rank}
-use Rattle.board_base.specs.Legal.{pawn_rank}
+use Rattle.board_base.specs.Board.{array_of, at, is_the, file}
 use Rattle.board_base.specs.Game.{IsGame}
 use Rattle.board_base.specs.declared.men.Colour.{Colour}
 use Rattle.board_base.specs.declared.men.Colour.TheVariants.{White, Black}
@@ -16,6 +15,8 @@ use Rattle.general_lemmas.proofs.Ranges.{any-one}
 use Rattle.general_lemmas.proofs.SumsAmong.{sum-among}
 use Rattle.men_account.specs.Labels.{Labels, label_at, labels_after}
 use Rattle.men_account.proofs.FilesLeft.{array-inside, array-pawn}
+use Rattle.men_account.proofs.Captured.{has-cond}
+use Rattle.men_account.proofs.PawnLaws.{same-label}
 use Rattle.men_fates.specs.Deeds.{is_label, way_of}
 use Rattle.men_fates.proofs.MoreDeeds.{label-told}
 use Rattle.men_ledger.specs.Files.{gates_passed, is_there, keeps_file, trodden}
@@ -50,10 +51,6 @@ kept o g c h all =
       },
     )
 
-has-cond : (b : Bool) (xs : List ℕ) (z : ℕ) → Has (cond b xs []) z → (b ≡ true) × Has xs z
-has-cond true xs z there = (refl, there)
-has-cond false xs z there = elim there [ ]
-
 trod : (o : List Bool) (g : List Move) (c : Colour) (h z : ℕ) → Has (trodden o g c h) z → Trod o g c h z
 trod o g c h z there =
     let parts = has-cond (keeps_file o g c h) (h ∷ way_of o g h) z there in
@@ -72,12 +69,8 @@ never-both o g h k z game white black =
     let high = each-beyond Black [] k (way_of o g k) z (ways o Black k (own-side o Black k black.home) g game) black.square in
     omega arith
 
-same-home : (c : Colour) (h k : ℕ) → rank h ≡ pawn_rank c → rank k ≡ pawn_rank c → file h ≡ file k → h ≡ k
-same-home White h k a b same = omega arith
-same-home Black h k a b same = omega arith
-
 one-home : (o : List Bool) (g : List Move) (c : Colour) (h k z : ℕ) → Trod o g c h z → Trod o g c k z → h ≡ k
-one-home o g c h k z one other = same-home c h k (array-pawn o c h one.home) (array-pawn o c k other.home) (sym (trod-line o g c h z one) ∙ trod-line o g c k z other)
+one-home o g c h k z one other = same-label c h k (array-pawn o c h one.home) (array-pawn o c k other.home) (sym (trod-line o g c h z one) ∙ trod-line o g c k z other)
 
 both-trod : (o : List Bool) (g : List Move) (c d : Colour) (h k z : ℕ) → IsGame o g → Trod o g c h z → Trod o g d k z → h ≡ k
 both-trod o g White White h k z game one other = one-home o g White h k z one other

@@ -100,7 +100,7 @@ unfolding kind_attacks
 king-steps board None s t k h = cc
 king-steps board (Some m) s t k h = subst (λ (j : Kind). kind_attacks board m.colour j s t ≡ true) (sym (kind_is King m.kind k)) h
 
-find-passes : {A : Type 0} (p : A → Bool) (xs : List A) (y : A) → find p xs ≡ Some y → p y ≡ true
+pub find-passes : {A : Type 0} (p : A → Bool) (xs : List A) (y : A) → find p xs ≡ Some y → p y ≡ true
 find-passes {A} p [] y e = cc
 find-passes {A} p (x ∷ xs) y e = elim (cases_Bool (p x)) [
   | inl pass ↦ let here : x ≡ y = same_Some _ _ (sym (cond-true (p x) (Some x) (find p xs) pass) ∙ e) in subst (λ (z : A). p z ≡ true) here pass

@@ -7,7 +7,7 @@ use board_base::{Castle, CastleSet, Odds};
 use castle_history::home;
 
 /// Whether the king or the rook of the castling is left out.
-fn lacks_home(odds: Odds, castle: Castle) -> bool
+pub fn lacks_home(odds: Odds, castle: Castle) -> bool
     ensures { result ≡ lacks_home odds castle }
 {
     let (king, rook) = home(castle);

@@ -3,9 +3,10 @@ use Rattle.std.proofs.Common.{◌≡◌, ℕ, ◌<◌, ◌≤◌, Bool, true, fa
 use Rattle.std.specs.Prelude.{IsTrue}
 use Rattle.std.proofs.lemmas.Bool.{and_parts, both_ways, cases_lt}
 use Rattle.std.proofs.lemmas.List.{get_or_past}
-use Rattle.board_base.specs.Board.{Places, array_of, at, is_in}
-use Rattle.cage_rules.specs.Frozen.{IsAsArray, same_place}
-use Rattle.cage_rules.proofs.Greatest.{same-told, same-tells}
+use Rattle.board_base.specs.Board.{Places, array_of, at, is_in, same_place}
+use Rattle.board_base.proofs.Equal.{place_is}
+use Rattle.cage_rules.specs.Frozen.{IsAsArray}
+use Rattle.cage_rules.proofs.Greatest.{same-tells}
 use Rattle.proof_prose.specs.Firsts.{is_changed}
 
 clash : (b : Bool) → b ≡ true → not b ≡ true → ⊥
@@ -33,4 +34,4 @@ within set s n whole all member = elim (cases_lt s 64) [
 pub none-changed : (o : List Bool) (board : Places) (set : List Bool) (n : ℕ) → length set ≡ 64 → 64 ≤ n → ((s : ℕ) → s < n → is_changed o board set s ≡ false) → IsAsArray o board set
 none-changed o board set n whole all none s member =
     let lt : s < n = within set s n whole all member in
-    same-told _ _ (unchanged (is_in set s) _ (none s lt) member)
+    place_is _ _ (unchanged (is_in set s) _ (none s lt) member)

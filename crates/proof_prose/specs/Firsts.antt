@@ -1,13 +1,12 @@
 -- The squares and the castling that are named: the first of their kind.
 use Rattle.std.specs.Prelude.{ℕ, ◌≡◌, ◌<◌, Bool, false, ◌&&◌, ◌||◌, not, IsTrue, List}
 use Rattle.board_base.specs.Attacks.{attacks}
-use Rattle.board_base.specs.Board.{Places, array_of, at, is_a, is_in, is_the, opponent}
+use Rattle.board_base.specs.Board.{Places, array_of, at, is_a, is_in, is_the, opponent, same_place}
 use Rattle.board_base.specs.declared.men.Colour.{Colour}
 use Rattle.board_base.specs.declared.men.Kind.TheVariants.{King, Pawn}
 use Rattle.board_base.specs.Game.{lacks_home}
 use Rattle.board_base.specs.Rights.{holds}
 use Rattle.board_base.specs.declared.castles.Castle.{Castle}
-use Rattle.cage_rules.specs.Frozen.{same_place}
 use Rattle.castle_history.specs.Homes.{are_at_home}
 use Rattle.play_rules.specs.Laws.{is_end}
 use Rattle.query_base.specs.Asked.{Asked}

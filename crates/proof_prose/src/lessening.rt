@@ -1,26 +1,16 @@
 //! Least sets: what is told of men who never moved is told of no more of them than the reason needs.
 
-ghost use Rattle.std.specs.Prelude.{◌≡◌, ◌↔◌, IsTrue, None, cond, length, slice_set};
+ghost use Rattle.std.specs.Prelude.{◌≡◌, None, cond, length, slice_set};
 ghost use Rattle.board_base.specs.Board.{is_in};
 ghost use Rattle.cert_checker.specs.Reasons.{ReasonSupports};
 ghost use Rattle.static_rules.specs.Left.{left_with};
 ghost use Rattle.proof_prose.specs.Lessened.{IsGreatestWithin, IsLeast, IsLeft, IsLessened, line_set, line_with, set_of, with_set};
 
-use balance_rule::balances;
 use board_base::{Board, Man, Square, SquareSet};
 use cage_rules::greatest_frozen;
+use cert_checker::reason_supports;
 use cert_text::Reason;
 use query_base::{Query, RuleLine};
-use static_rules::supports;
-
-fn reason_supports(query: &Query, reason: &Reason) -> bool
-    ensures { IsTrue result ↔ ReasonSupports query.now reason.now }
-{
-    match reason {
-        Reason::Line(rule) => supports(query, rule),
-        Reason::Balance(set, prices) => balances(query, *set, prices),
-    }
-}
 
 /// The set of a rule line that has one.
 fn line_set(rule: &RuleLine) -> Option<SquareSet>

@@ -2,22 +2,14 @@
 
 ghost use Rattle.std.specs.Prelude.{◌≡◌, IsSome};
 ghost use Rattle.std.specs.List.{find};
-ghost use Rattle.board_base.specs.Game.{lacks_home};
 ghost use Rattle.board_base.specs.Play.{all_castles};
 ghost use Rattle.static_rules.specs.Supports.{HasRightsHomes};
 ghost use Rattle.proof_prose.specs.Firsts.{is_astray};
 
-use board_base::{Castle, Odds};
-use castle_history::{are_at_home, home};
+use board_base::Castle;
+use castle_history::are_at_home;
+use play_rules::lacks_home;
 use query_base::Query;
-
-/// Whether the king or the rook of the castling is left out.
-pub(crate) fn lacks_home(odds: Odds, castle: Castle) -> bool
-    ensures { result ≡ lacks_home odds castle }
-{
-    let (king, rook) = home(castle);
-    odds.set().has(king) || odds.set().has(rook)
-}
 
 /// Whether the right is held, and its king or its rook was left out or isn't at home.
 fn is_astray(query: &Query, castle: Castle) -> bool

@@ -13,12 +13,12 @@ ghost use Rattle.prose_words.specs.Words.{side_word, squares_words};
 use crate::heads::push_unmoved;
 use crate::pawns::pawn_squares;
 use crate::pricing::push_priced;
-use crate::rights::lacks_home;
 use crate::sentences::Sentence;
 use balance_rule::begun_with;
 use board_base::{Castle, Colour, Odds, Square, SquareSet, array_of, is_of};
 use cage_rules::{is_dead, is_officer_home, is_shielded};
 use pawn_assign::{Costs, costs};
+use play_rules::lacks_home;
 use prose_words::{
     push_man, push_number, push_square, push_square_if, push_squares, say, side_word,
 };

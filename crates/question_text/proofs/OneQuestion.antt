@@ -1,7 +1,7 @@
 -- What an input's lines ask is one query, or none.
 use Rattle.std.proofs.Common.{◌≡◌, inl, inr, ℕ, Bool, List, [], refl, sym, ap, ◌∙◌, subst}
-use Rattle.std.proofs.lemmas.Option.{same_Some}
-use Rattle.std.specs.Prelude.{Option, Some, None}
+use Rattle.std.proofs.lemmas.Option.{same_Some, none-some}
+use Rattle.std.specs.Prelude.{Option, None}
 use Rattle.board_base.specs.Board.{no_odds}
 use Rattle.query_base.specs.Asked.{Asked}
 use Rattle.fen_text.specs.Parts.{parted}
@@ -32,20 +32,17 @@ no-line : fen (first_line []) ≡ None
 unfolding first_line fen parted placement ranks rank
 no-line = refl
 
-never : {A : Type 0} (x : A) → None ≡ Some x → ⊥
-never x e = cc
-
 bad-line : (input : List ℕ) (q : Asked) (n : ℕ) → Asks input q → HasBadLine input n → ⊥
-bad-line input q n asks (inl bad) = never q.odds (sym bad.0 ∙ asks.odds)
-bad-line input q n asks (inr (inl bad)) = never q.clock (sym bad.2 ∙ asks.clock)
-bad-line input q n asks (inr (inr (inl none))) = never _ (sym no-line ∙ ap (λ (l : List ℕ). fen (first_line l)) (sym none.3) ∙ asks.position)
+bad-line input q n asks (inl bad) = none-some q.odds (sym bad.0 ∙ asks.odds)
+bad-line input q n asks (inr (inl bad)) = none-some q.clock (sym bad.2 ∙ asks.clock)
+bad-line input q n asks (inr (inr (inl none))) = none-some _ (sym no-line ∙ ap (λ (l : List ℕ). fen (first_line l)) (sym none.3) ∙ asks.position)
 bad-line input q n asks (inr (inr (inr other))) =
     let clock : q.clock ≡ other.0.clock = same_Some _ _ (sym asks.clock ∙ other.2.clock_is) in
     let numbers : asks.numbers ≡ other.1 = ap (λ (x : Position). x.1) (same_Some _ _ (sym asks.position ∙ other.3)) in
     other.4 (subst (λ (k : Option ℕ). Agree k other.1) clock (subst (Agree q.clock) numbers asks.agree))
 
 bad-fen : (input : List ℕ) (q : Asked) → Asks input q → fen (first_line (from_fen input)) ≡ None → ⊥
-bad-fen input q asks none = never _ (sym none ∙ asks.position)
+bad-fen input q asks none = none-some _ (sym none ∙ asks.position)
 
 pub asks-some : (input : List ℕ) (q : Asked) (why : InputFault) → Asks input q → IsNoQuestion input why → ⊥
 asks-some input q (BadLine n) asks none = bad-line input q n asks none
@@ -63,7 +60,7 @@ position-one input q r a b =
     same-demands q r (same_Some _ _ (sym a.odds ∙ b.odds)) (a.clock ∙ sym b.clock) (ap (λ (x : Position). x.0) (same_Some _ _ (sym a.position ∙ b.position)))
 
 pub position-some : (input : List ℕ) (q : Asked) (why : InputFault) → IsLonePosition input q → IsNoLonePosition input why → ⊥
-position-some input q (BadLine n) alone (inl bad) = never q.odds (sym bad.0 ∙ alone.begins.odds)
-position-some input q (BadLine n) alone (inr (inl none)) = never _ (sym no-line ∙ ap (λ (l : List ℕ). fen (first_line l)) (sym none.2) ∙ alone.begins.position)
+position-some input q (BadLine n) alone (inl bad) = none-some q.odds (sym bad.0 ∙ alone.begins.odds)
+position-some input q (BadLine n) alone (inr (inl none)) = none-some _ (sym no-line ∙ ap (λ (l : List ℕ). fen (first_line l)) (sym none.2) ∙ alone.begins.position)
 position-some input q (BadLine n) alone (inr (inr more)) = more.2 alone.no_more
-position-some input q (BadFen fault) alone none = never _ (sym none.is_fault.place.unknown ∙ alone.begins.position)
+position-some input q (BadFen fault) alone none = none-some _ (sym none.is_fault.place.unknown ∙ alone.begins.position)

@@ -1,26 +1,17 @@
 -- What the first bar of a scope says, and where there is one.
-use Rattle.std.proofs.Common.{◌≡◌, ℕ, ◌-◌, ◌≤◌, Bool, true, false, ◌||◌, not, ◌⊎◌, inl, inr, List, [], ◌∷◌, Option, Some, None, refl, sym, ap, ◌∙◌, subst, arith}
+use Rattle.std.proofs.Common.{◌≡◌, ℕ, ◌-◌, ◌≤◌, Bool, true, ◌⊎◌, inl, inr, List, [], ◌∷◌, Option, Some, None, refl, sym, ap, ◌∙◌, arith}
 use Rattle.std.proofs.lemmas.Bool.{and_from, and_parts, both_ways, cases_Bool, cond-false, cond-true, or_left, or_right}
 use Rattle.general_lemmas.proofs.Lists.{contains-cases, contains-first, contains-later, contains-none}
 use Rattle.std.specs.List.{Contains, find, list_all, list_any, range_with_len}
+use Rattle.play_rules.proofs.Kings.{find-passes}
 use Rattle.board_base.specs.declared.unmoves.Unmove.{Unmove}
+use Rattle.board_base.proofs.EachCastle.{where_held}
 use Rattle.query_base.specs.Asked.{Asked}
 use Rattle.retraction_bars.specs.Bars.{bars}
 use Rattle.retraction_bars.specs.Grounds.{bars_all, first_bar, spares}
 use Rattle.retraction_bars.specs.Numbers.{bar_at}
 use Rattle.retraction_bars.specs.Scopes.{high_of, is_within, low_of}
 use Rattle.retraction_bars.specs.declared.scopes.Scope.{Scope}
-
--- what is found passes
-pub found_passes : (p : ℕ → Bool) (xs : List ℕ) (n : ℕ) → find p xs ≡ Some n → p n ≡ true
-found_passes p [] n h = cc
-found_passes p (x ∷ xs) n h = elim (cases_Bool (p x)) [
-  | inl first ↦
-      let e : Some x ≡ Some n = sym (cond-true (p x) (Some x) (find p xs) first) ∙ h in
-      let same : x ≡ n = cc in
-      subst (λ (k : ℕ). p k ≡ true) same first
-  | inr other ↦ found_passes p xs n (sym (cond-false (p x) (Some x) (find p xs) other) ∙ h)
-]
 
 -- nothing passes where nothing is found
 none_pass : (p : ℕ → Bool) (xs : List ℕ) (n : ℕ) → find p xs ≡ None → Contains xs n → p n ≡ true → ⊥
@@ -55,17 +46,13 @@ pub given_or_none : (o : Option ℕ) → ((n : ℕ) × (o ≡ Some n)) ⊎ (o �
 given_or_none None = inr refl
 given_or_none (Some n) = inl (n, refl)
 
-spared : (b c : Bool) → (not b || c) ≡ true → b ≡ true → c ≡ true
-spared true c h e = h
-spared false c h e = absurd (both_ways false refl e)
-
 -- the bar that is found bars each way of the scope
 pub ground_holds : (q : Asked) (ways : List Unmove) (s : Scope) (n : ℕ) (u : Unmove) → first_bar q ways s ≡ Some n → Contains ways u → is_within s u ≡ true → bars (bar_at n) q u ≡ true
 unfolding first_bar
 ground_holds q ways s n u h there within = elim (cases_Bool (list_any (is_within s) ways)) [
   | inl some ↦
       let e = sym (cond-true _ (find (bars_all q ways s) (range_with_len (low_of s.manner) (high_of s.manner - low_of s.manner))) None some) ∙ h in
-      spared (is_within s u) _ (each_passes (spares q s (bar_at n)) ways u (found_passes (bars_all q ways s) _ n e) there) within
+      where_held (is_within s u) _ (each_passes (spares q s (bar_at n)) ways u (find-passes (bars_all q ways s) _ n e) there) within
   | inr none ↦
       let e : None ≡ Some n = sym (cond-false _ (find (bars_all q ways s) (range_with_len (low_of s.manner) (high_of s.manner - low_of s.manner))) None none) ∙ h in
       cc

@@ -2,10 +2,11 @@
 use Rattle.std.proofs.Common.{◌≡◌, ℕ, ◌+◌, ◌-◌, Bool, true, false, Option, Some, None, refl, subst, arith}
 use Rattle.general_lemmas.proofs.Ranges.{contains-range}
 use Rattle.std.specs.List.{Contains, filter, range_with_len}
+use Rattle.play_rules.proofs.Kings.{find-passes}
 use Rattle.board_base.specs.declared.unmoves.Unmove.{Unmove}
 use Rattle.query_base.specs.Asked.{Asked}
 use Rattle.unmove_gen.specs.Listed.{candidates, mover, unmoves_to}
-use Rattle.retraction_bars.proofs.FirstBars.{each_passes, found_passes}
+use Rattle.retraction_bars.proofs.FirstBars.{each_passes}
 use Rattle.retraction_bars.proofs.Places.{among, placed}
 use Rattle.retraction_bars.specs.Bars.{gives_check}
 use Rattle.retraction_bars.specs.Pairs.{bars_twice, checker_from, is_twice, is_twice_at, pair_from, pair_if, pair_of, pair_with}
@@ -15,7 +16,7 @@ use Rattle.retraction_bars.specs.declared.pairs.Pair.{Pair}
 
 checks : (q : Asked) (low s : ℕ) → checker_from q low ≡ Some s → gives_check q.board (mover q) s ≡ true
 unfolding checker_from
-checks q low s h = found_passes (gives_check q.board (mover q)) (range_with_len low (64 - low)) s h
+checks q low s h = find-passes (gives_check q.board (mover q)) (range_with_len low (64 - low)) s h
 
 twice : (q : Asked) (a b : ℕ) (u : Unmove) → is_twice q a b ≡ true → Contains candidates u → is_way q u ≡ true → bars_twice q a b u ≡ true
 unfolding is_twice

@@ -1,16 +1,16 @@
 ghost use Rattle.std.specs.Prelude.{◌≡◌, ◌&&◌, not};
 ghost use Rattle.board_base.specs.Game.{touches};
 ghost use Rattle.board_base.specs.Rights.{holds};
-ghost use Rattle.unmove_gen.specs.Listed.{answered, has_left, obeys_only};
+ghost use Rattle.unmove_gen.specs.Listed.{answered, has_left};
 ghost use Rattle.retraction_bars.specs.Bars.{bars, is_late};
 
 use crate::checks::gives_check;
 use crate::ways::answered;
-use board_base::{Castle, Colour, Kind, Move, Square, Unmove, is_a, is_move};
+use board_base::{Castle, Colour, Move, Square, Unmove, is_move};
 use castle_history::touches;
 use men_account::account_ok;
 use query_base::Query;
-use unmove_gen::{is_listed, obeys_clock, take_back};
+use unmove_gen::{is_listed, obeys_clock, obeys_only, take_back};
 
 /// Why a retraction is none: the first of the tests of a last move that it fails, in the terms of the board.
 #[derive(Clone, Copy, PartialEq, Eq, Debug)]
@@ -35,12 +35,6 @@ pub enum Bar {
     Passed,
     /// It isn't listed.
     Otherwise,
-}
-
-fn obeys_only(query: &Query, m: &Move) -> bool
-    ensures { result ≡ obeys_only query.now.only query.now.board m.now }
-{
-    query.only.is_none() || (is_move(&query.only, m) && is_a(Kind::Pawn, query.board.at(m.to)))
 }
 
 fn touches_held(query: &Query, m: &Move, castle: Castle) -> bool

@@ -4,17 +4,7 @@ ghost use Rattle.board_base.specs.Board.{at, is_the, opponent};
 ghost use Rattle.board_base.specs.declared.men.Kind.TheVariants.{King};
 ghost use Rattle.retraction_bars.specs.Bars.{attacks_a_king, gives_check};
 
-use board_base::{Board, Colour, Kind, Square, is_of, is_the, man_attacks};
-
-#[tactic(auto, unfolding(board_base::specs::Attacks::attacks_from))]
-fn attacks_from(board: &Board, from: Square, to: Square) -> bool
-    ensures { result ≡ attacks_from board.now from to }
-{
-    match board.at(from) {
-        Some(man) => man_attacks(board, man, from, to),
-        None => false,
-    }
-}
+use board_base::{Board, Colour, Kind, Square, attacks_from, is_of, is_the};
 
 /// The king of the other side stands on a square that the man attacks.
 fn attacks_king(board: &Board, colour: Colour, s: Square, king: Square) -> bool

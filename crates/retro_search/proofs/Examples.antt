@@ -2,7 +2,7 @@
 use Rattle.std.proofs.Common.{◌≡◌, ℕ, zero, suc, inl, inr, Bool, true, false, List, [], ◌∷◌, refl, sym, subst, arith}
 use Rattle.std.specs.Prelude.{None}
 use Rattle.board_base.specs.Board.{array_of, no_men, no_odds}
-use Rattle.board_base.specs.Rights.{Rights}
+use Rattle.board_base.specs.Rights.{no_rights}
 use Rattle.board_base.specs.declared.men.Colour.TheVariants.{White}
 use Rattle.board_base.specs.declared.moves.Move.{Move}
 use Rattle.board_base.specs.declared.unmoves.Unmove.{Unmove}
@@ -32,9 +32,6 @@ use Rattle.retro_search.specs.Unsettled.{IsAgainst, IsOpenLine, WhereRefutable}
 use Rattle.retro_search.specs.Outcomes.{HasProof}
 use Rattle.retro_search.specs.LineCounts.{lines_in}
 use Rattle.cert_checker.proofs.Sound.{sound}
-
-abbrev no_rights : Rights
-no_rights = record { white_short = false; white_long = false; black_short = false; black_long = false }
 
 -- a board without men
 abbrev nothing : Asked

@@ -1,12 +1,12 @@
 -- The line of unmoves at which a refutation fails first.
-use Rattle.std.specs.Prelude.{ℕ, zero, suc, ◌≡◌, List, [], ◌∷◌, ◌++◌, fold, map, reverse}
+use Rattle.std.specs.Prelude.{ℕ, zero, suc, ◌≡◌, List, [], ◌∷◌, ◌++◌, map, reverse}
 use Rattle.std.specs.List.{Contains}
 use Rattle.board_base.specs.declared.moves.Move.{Move}
 use Rattle.board_base.specs.declared.unmoves.Unmove.{Unmove}
 use Rattle.query_base.specs.Asked.{Asked}
 use Rattle.query_base.specs.Reach.{Reaches}
 use Rattle.unmove_gen.specs.Listed.{unmoves}
-use Rattle.unmove_gen.specs.Predecessor.{predecessor}
+use Rattle.unmove_gen.specs.Predecessor.{predecessor, left_by}
 use Rattle.retro_search.specs.Refutable.{IsRefutable}
 
 -- this unmove is the first of which P doesn't hold
@@ -22,13 +22,9 @@ IsFirstOpen q (suc depth) ancestors [] = Reaches [] q
 IsFirstOpen q (suc depth) ancestors (u ∷ line) =
     (Reaches [] q → ⊥) × IsFirstNot (λ v. IsRefutable (predecessor q v) depth (q ∷ ancestors)) (unmoves q) u × IsFirstOpen (predecessor q u) depth (q ∷ ancestors) line
 
--- the query before these unmoves, the last move of a game first
-abbrev pub before_all : Asked → List Unmove → Asked
-before_all q line = fold predecessor q line
-
 -- the game of no moves reaches the query before these unmoves
 abbrev pub EndsAtArray : Asked → List Unmove → Type 0
-EndsAtArray q line = Reaches [] (before_all q line)
+EndsAtArray q line = Reaches [] (left_by q line)
 
 -- the moves of a line, as a game makes them
 abbrev pub forwards : List Unmove → List Move

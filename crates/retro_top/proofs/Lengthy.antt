@@ -3,6 +3,7 @@ use Rattle.std.proofs.Common.{◌≡◌, ◌≤◌, ℕ, List, length, refl, sym
 use Rattle.board_base.specs.declared.men.Colour.{Colour}
 use Rattle.board_base.specs.declared.men.Colour.TheVariants.{White, Black}
 use Rattle.board_base.specs.declared.moves.Move.{Move}
+use Rattle.board_base.specs.Board.{men_squares}
 use Rattle.query_base.specs.Asked.{Asked}
 use Rattle.query_base.specs.Reach.{Reaches}
 use Rattle.cert_text.specs.Certificate.{Lines}
@@ -11,7 +12,6 @@ use Rattle.length_bound.specs.LengthAnswers.{IsShown, LengthAnswer, at_least, ba
 use Rattle.length_bound.specs.LengthAnswers as bounds
 use Rattle.length_bound.specs.LengthText.{AreLengthLines}
 use Rattle.length_bound.specs.Longest.{IsBest}
-use Rattle.length_bound.specs.SideBounds.{men_squares}
 use Rattle.length_bound.specs.declared.texts.LengthText.{LengthText}
 use Rattle.length_bound.proofs.Longer.{some_men}
 use Rattle.question_text.specs.Positions.{IsLonePosition, IsNoLonePosition}

@@ -1,6 +1,6 @@
 -- The text of what is said of a move is read as that.
-use Rattle.std.proofs.Common.{◌≡◌, ◌<◌, ◌+◌, ◌-◌, ◌/◌, ◌%◌, ◌==◌, ℕ, Bool, true, false, cond, ◌&&◌, List, [], ◌∷◌, ◌++◌, refl, ap, ◌∙◌, arith, option_map}
-use Rattle.std.proofs.lemmas.Bool.{and_from, le-leb, cond-true, cond-false, false_from_ne_true, leb-true, eqb-true}
+use Rattle.std.proofs.Common.{◌≡◌, ◌<◌, ◌+◌, ◌-◌, ◌/◌, ◌%◌, ◌==◌, ℕ, Bool, true, false, cond, List, [], ◌∷◌, ◌++◌, refl, ap, ◌∙◌, arith, option_map}
+use Rattle.std.proofs.lemmas.Bool.{and_from, le-leb, cond-true, cond-false, false_from_ne_true, leb-true, eqb-true, and_right, and_left}
 use Rattle.std.specs.Prelude.{Option, Some, None, nat_le, is_some}
 use Rattle.board_base.specs.Texts.{◌>>=◌, square_at, square_text}
 use Rattle.board_base.specs.declared.men.Kind.{Kind}
@@ -41,24 +41,16 @@ rank_back r low =
     cond-true _ (Some (49 + r - 49)) None (and_from _ _ (le-leb 49 (49 + r) (omega arith)) (le-leb (49 + r) 56 (omega arith)))
     ∙ ap (λ (n : ℕ). Some n) (let e : 49 + r - 49 ≡ r = omega arith in e)
 
-and_no : (b c : Bool) → c ≡ false → (b && c) ≡ false
-and_no true c e = e
-and_no false c e = refl
-
-no_and : (b c : Bool) → b ≡ false → (b && c) ≡ false
-no_and true c e = cc
-no_and false c e = refl
-
 -- a file's letter is no rank's digit, and a rank's digit no file's letter
 file_no_rank : (f : ℕ) → rank_of (97 + f) ≡ None
-file_no_rank f = cond-false _ _ None (and_no _ _ (high (97 + f) 56 (omega arith)))
+file_no_rank f = cond-false _ _ None (and_right _ _ (high (97 + f) 56 (omega arith)))
 
 rank_no_file : (r : ℕ) → r < 8 → file_of (49 + r) ≡ None
-rank_no_file r low = cond-false _ _ None (no_and _ _ (high 97 (49 + r) (omega arith)))
+rank_no_file r low = cond-false _ _ None (and_left _ _ (high 97 (49 + r) (omega arith)))
 
 -- two letters are no square
 two_letters : (a f : ℕ) → square_at a (97 + f) ≡ None
-two_letters a f = cond-false _ _ None (and_no _ _ (high (97 + f) 56 (omega arith)))
+two_letters a f = cond-false _ _ None (and_right _ _ (high (97 + f) 56 (omega arith)))
 
 target_back : (a b t : ℕ) (mark : List ℕ) → is_end mark ≡ true → square_at a b ≡ Some t → target_of (a ∷ b ∷ mark) ≡ Some t
 target_back a b t mark ends e = cond-true _ _ None ends ∙ e

@@ -5,7 +5,7 @@ use Rattle.std.specs.Prelude.{Option, Some, None, is_none}
 use Rattle.board_base.specs.Board.{Places, at, is_a, is_of, same_colour, file, rank}
 use Rattle.board_base.specs.Play.{castling, king_home, king_target, side}
 use Rattle.board_base.specs.Rights.{holds}
-use Rattle.board_base.specs.Legal.{same_promo, may_castle}
+use Rattle.board_base.specs.Legal.{may_castle}
 use Rattle.board_base.specs.declared.men.Man.{Man}
 use Rattle.board_base.specs.declared.men.Colour.{Colour}
 use Rattle.board_base.specs.declared.men.Colour.TheVariants.{White, Black}
@@ -14,7 +14,7 @@ use Rattle.board_base.specs.declared.men.Kind.TheVariants.{Pawn, Knight, Bishop,
 use Rattle.board_base.specs.declared.moves.Move.{Move}
 use Rattle.board_base.specs.declared.castles.Castle.{Castle}
 use Rattle.board_base.specs.declared.castles.Castle.TheVariants.{WhiteShort, WhiteLong, BlackShort, BlackLong}
-use Rattle.board_base.proofs.Equal.{promo_is}
+use Rattle.board_base.proofs.Equal.{promo_is, promo_self}
 use Rattle.board_base.proofs.KindsOfMen.{same_kind-self}
 use Rattle.play_rules.specs.States.{Position, legal_at}
 use Rattle.play_rules.specs.Listed.{move_of}
@@ -48,10 +48,6 @@ pub kind_there : (c : Colour) (place : Option Man) → is_of c place ≡ true �
 kind_there c None h = cc
 kind_there c (Some m) h = same_kind-self m.kind
 
-same_promo-self : (o : Option Kind) → same_promo o o ≡ true
-same_promo-self None = refl
-same_promo-self (Some k) = same_kind-self k
-
 same_truth-self : (b : Bool) → same_truth b b ≡ true
 same_truth-self true = refl
 same_truth-self false = refl
@@ -69,7 +65,7 @@ named_agrees p m (Some x) e legal =
 named_agrees p m None e legal =
     let l = legality p.board p.turn _ _ m legal in
     let origin = origin_allows p (kind_at p.board m.from) m in
-    and_from _ _ (and_from _ _ (and_from _ _ (and_from _ _ (and_from _ _ (and_from _ _ (ap is_none e) (kind_there p.turn (at p.board m.from) l.mover)) (eq-eqb _ _ refl)) (same_promo-self m.promo)) origin.0) origin.1) (same_truth-self (captures p.board m))
+    and_from _ _ (and_from _ _ (and_from _ _ (and_from _ _ (and_from _ _ (and_from _ _ (ap is_none e) (kind_there p.turn (at p.board m.from) l.mover)) (eq-eqb _ _ refl)) (promo_self m.promo)) origin.0) origin.1) (same_truth-self (captures p.board m))
 
 pub named_fits : (p : Position) (m : Move) → legal_at p m ≡ true → fits (named p m) p m ≡ true
 unfolding fits named

@@ -3,6 +3,7 @@ use Rattle.std.proofs.Common.{◌≡◌, ◌<◌, ◌+◌, ◌/◌, ◌%◌, ◌
 use Rattle.std.proofs.lemmas.Bool.{and_parts, eqb-true, leb-true}
 use Rattle.std.proofs.lemmas.Option.{cond_some}
 use Rattle.std.specs.Prelude.{Option, Some, None, is_some}
+use Rattle.general_lemmas.proofs.Options.{when, unless}
 use Rattle.board_base.specs.Texts.{◌>>=◌, square_at, square_text}
 use Rattle.board_base.specs.declared.men.Kind.{Kind}
 use Rattle.board_base.specs.declared.men.Kind.TheVariants.{Pawn, Knight, Bishop, Rook, Queen, King}
@@ -14,14 +15,6 @@ use Rattle.san_text.specs.declared.grammar.San.{San}
 use Rattle.san_text.specs.declared.grammar.San.TheVariants.{Short, Long, Goes}
 use Rattle.san_text.proofs.Backs.{IsPiece, joined, pawn_joined, said_piece, said_pawn, said_short, said_long}
 use Rattle.board_base.proofs.TextLemmas.{bound_some, mapped_some}
-
-where_true : {A : Type 0} (b : Bool) (o : Option A) (y : A) → cond b o None ≡ Some y → (b ≡ true) × (o ≡ Some y)
-where_true {A} true o y e = (refl, e)
-where_true {A} false o y e = cc
-
-where_false : {A : Type 0} (b : Bool) (o : Option A) (y : A) → cond b None o ≡ Some y → o ≡ Some y
-where_false {A} true o y e = cc
-where_false {A} false o y e = e
 
 either : {A : Type 0} (b : Bool) (o p : Option A) (y : A) → cond b o p ≡ Some y → ((b ≡ true) × (o ≡ Some y)) ⊎ (p ≡ Some y)
 either {A} true o p y e = inl (refl, e)
@@ -91,7 +84,7 @@ target_form : (text : List ℕ) (t : ℕ) → target_of text ≡ Some t → (t <
 target_form [] t e = cc
 target_form (a ∷ []) t e = cc
 target_form (a ∷ b ∷ rest) t e =
-    let both = where_true (is_end rest) (square_at a b) t e in
+    let both = when (is_end rest) (square_at a b) t e in
     let square = square_form a b t both.1 in
     (square.0, record { sign = rest; ends = both.0; is = ap (λ (l : List ℕ). l ++ rest) square.1 })
 
@@ -104,7 +97,7 @@ piece_says k text said piece e =
     let x = takes_head (after_rank (after_file text)) in
     let to = read.0 in
     let target = target_form (after_takes (after_rank (after_file text))) to read.1 in
-    let file = file_split text f (λ n h. where_false (is_some (target_of text)) (first file_of text) n h) in
+    let file = file_split text f (λ n h. (unless (is_some (target_of text)) (first file_of text) n h).1) in
     let rank = rank_split (after_file text) r (λ n h. h) in
     let takes = takes_split (after_rank (after_file text)) in
     let sign = target.1.sign in
@@ -141,7 +134,7 @@ promoted_form b k e = elim (either (b == 78) _ _ k e) [
     | inr e3 ↦ elim (either (b == 82) _ _ k e3) [
       | inl is ↦ (letter_is b 82 Rook k tt refl is.0 is.1, subst (λ (j : Kind). CanBecome (Some j)) (same Rook k is.1) tt)
       | inr e4 ↦
-          let is = where_true (b == 81) (Some Queen) k e4 in
+          let is = when (b == 81) (Some Queen) k e4 in
           (letter_is b 81 Queen k tt refl is.0 is.1, subst (λ (j : Kind). CanBecome (Some j)) (same Queen k is.1) tt)
     ]
   ]
@@ -156,10 +149,10 @@ letter_form b k e = elim (either (b == 75) _ _ k e) [
 promotion_form : (text : List ℕ) (promo : Option Kind) → promotion_of text ≡ Some promo → CanBecome promo × Ends text (promotion_text promo)
 promotion_form [] promo e = subst (λ (o : Option Kind). CanBecome o × Ends [] (promotion_text o)) (same None promo e) (tt, record { sign = []; ends = refl; is = refl })
 promotion_form (c ∷ []) promo e =
-    let both = where_true (is_end (c ∷ [])) (Some None) promo e in
+    let both = when (is_end (c ∷ [])) (Some None) promo e in
     subst (λ (o : Option Kind). CanBecome o × Ends (c ∷ []) (promotion_text o)) (same None promo both.1) (tt, record { sign = c ∷ []; ends = both.0; is = refl })
 promotion_form (a ∷ b ∷ rest) promo e =
-    let both = where_true ((a == 61) && is_end rest) (option_map (λ k. Some k) (promoted_of b)) promo e in
+    let both = when ((a == 61) && is_end rest) (option_map (λ k. Some k) (promoted_of b)) promo e in
     let parts = and_parts (a == 61) (is_end rest) both.0 in
     let named = mapped_some (λ k. Some k) (promoted_of b) promo both.1 in
     let letter = promoted_form b named.0 named.1 in
@@ -228,7 +221,7 @@ castling_says : (b : ℕ) (rest : List ℕ) (said : San) → b ≡ 79 → castli
 castling_says b [] said is e = cc
 castling_says b (a ∷ []) said is e = cc
 castling_says b (a ∷ c ∷ rest) said is e =
-    let both = where_true ((a == 45) && (c == 79)) (castling_end rest) said e in
+    let both = when ((a == 45) && (c == 79)) (castling_end rest) said e in
     let parts = and_parts (a == 45) (c == 79) both.0 in
     let front : b ∷ a ∷ c ∷ [] ≡ said_text Short =
     ap (λ (n : ℕ). n ∷ a ∷ c ∷ []) is ∙ ap (λ (n : ℕ). 79 ∷ n ∷ c ∷ []) (eqb-true a 45 parts.0) ∙ ap (λ (n : ℕ). 79 ∷ 45 ∷ n ∷ []) (eqb-true c 79 parts.1) in
@@ -236,9 +229,9 @@ castling_says b (a ∷ c ∷ rest) said is e =
   where
     ending : (b a c : ℕ) (rest : List ℕ) (said : San) → b ∷ a ∷ c ∷ [] ≡ said_text Short → castling_end rest ≡ Some said → IsForm said × SaysSo (b ∷ a ∷ c ∷ rest) said
     ending b a c [] said front e = short_says b a c [] said front refl e
-    ending b a c (d ∷ []) said front e = let both = where_true (is_end (d ∷ [])) (Some Short) said e in short_says b a c (d ∷ []) said front both.0 both.1
+    ending b a c (d ∷ []) said front e = let both = when (is_end (d ∷ [])) (Some Short) said e in short_says b a c (d ∷ []) said front both.0 both.1
     ending b a c (d ∷ f ∷ rest) said front e =
-        let both = where_true ((d == 45) && (f == 79) && is_end rest) (Some Long) said e in
+        let both = when ((d == 45) && (f == 79) && is_end rest) (Some Long) said e in
         let parts = and_parts ((d == 45) && (f == 79)) (is_end rest) both.0 in
         let more = and_parts (d == 45) (f == 79) parts.0 in
         let whole : b ∷ a ∷ c ∷ d ∷ f ∷ rest ≡ said_text Long ++ rest =

@@ -9,7 +9,7 @@ use Rattle.std.proofs.lemmas.Str.Parse.{IsNumeralModel, numerals_by_fold}
 use Rattle.std.specs.Fmt.{decimal}
 use Rattle.std.specs.List.{fold, list_all, flat_map}
 use Rattle.std.specs.Prelude.{Option, Some, None, nat_le}
-use Rattle.board_base.specs.Texts.{◌>>=◌, square_at, square_text}
+use Rattle.board_base.specs.Texts.{◌>>=◌, square_at, square_text, is_digit}
 use Rattle.board_base.specs.Play.{play, castling}
 use Rattle.board_base.specs.declared.men.Colour.{Colour}
 use Rattle.board_base.specs.declared.men.Colour.TheVariants.{White, Black}
@@ -24,7 +24,7 @@ use Rattle.san_text.specs.Grammar.{file_of, pawn_end, pawn_of, san_of}
 use Rattle.san_text.specs.Pieces.{added, added_all}
 use Rattle.san_text.specs.Spelling.{capital, file_text, rank_text, takes_text, promotion_text, end_text, origin_text, said_text, mark_text, mark_of, next, named, spelling}
 use Rattle.san_text.specs.SpelledGames.{AreLegal, game_spelling, numbered, spelled_words, state_after}
-use Rattle.san_text.specs.Words.{Say, is_digit, word_of, rest_of, after_digits, after_dots, said_of, moves_said, without_result, is_result}
+use Rattle.san_text.specs.Words.{Say, word_of, rest_of, after_digits, after_dots, said_of, moves_said, without_result, is_result}
 use Rattle.san_text.specs.declared.grammar.Going.{Going}
 use Rattle.san_text.specs.declared.grammar.San.{San}
 use Rattle.san_text.specs.declared.grammar.San.TheVariants.{Short, Long, Goes}

@@ -1,16 +1,12 @@
 -- The words of a game in algebraic notation, and what they say of moves.
-use Rattle.std.specs.Prelude.{ℕ, ◌≡◌, ◌+◌, Bool, false, cond, ◌&&◌, ◌||◌, ◌==◌, nat_le, List, [], ◌∷◌, ◌++◌, length, map, Option, Some, None}
+use Rattle.std.specs.Prelude.{ℕ, ◌≡◌, ◌+◌, Bool, false, cond, ◌&&◌, ◌||◌, ◌==◌, List, [], ◌∷◌, ◌++◌, length, map, Option, Some, None}
 use Rattle.std.specs.List.{flat_map}
 use Rattle.std.specs.Option.{option_map}
-use Rattle.board_base.specs.Texts.{◌>>=◌}
+use Rattle.board_base.specs.Texts.{◌>>=◌, is_digit}
 use Rattle.san_text.specs.Grammar.{san_of}
 use Rattle.san_text.specs.declared.grammar.San.{San}
 use Rattle.san_text.specs.declared.words.Word.{Word}
 use Rattle.san_text.specs.declared.words.Word.TheVariants.{Number, Move}
-
--- the byte of a digit 0 to 9
-abbrev pub is_digit : ℕ → Bool
-is_digit b = nat_le 48 b && nat_le b 57
 
 -- the game's result, 1-0, 0-1, 1/2-1/2 or *
 abbrev pub is_result : List ℕ → Bool

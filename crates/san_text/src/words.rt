@@ -1,5 +1,6 @@
 ghost use Rattle.std.specs.Prelude.{◌≡◌, Some, None, MatchOption};
-ghost use Rattle.san_text.specs.Words.{is_digit, is_result, after_digits, after_dots, rest_of, said_of, word_of};
+ghost use Rattle.board_base.specs.Texts.{is_digit};
+ghost use Rattle.san_text.specs.Words.{is_result, after_digits, after_dots, rest_of, said_of, word_of};
 
 use crate::grammar::{San, read_grammar};
 

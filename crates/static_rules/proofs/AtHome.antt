@@ -6,7 +6,7 @@ use Rattle.std.proofs.lemmas.Bool.{and_from, and_parts, both_ways, cases_Bool, f
 use Rattle.std.proofs.lemmas.Int.{ints}
 use Rattle.std.proofs.lemmas.List.Sums.{sum_by-cons}
 use Rattle.board_base.specs.Attacks.{distance}
-use Rattle.board_base.specs.Board.{Places, array_of, at, file, initial_array, is_a, is_empty, is_in, is_of, is_the, opponent, rank}
+use Rattle.board_base.specs.Board.{Places, array_of, at, file, initial_array, is_a, is_empty, is_in, is_of, is_the, opponent, rank, is_like}
 use Rattle.board_base.specs.Legal.{is_officer}
 use Rattle.board_base.specs.declared.men.Colour.{Colour}
 use Rattle.board_base.specs.declared.men.Kind.{Kind}
@@ -20,10 +20,10 @@ use Rattle.men_account.specs.declared.tallies.Allowance.{Allowance}
 use Rattle.men_account.specs.declared.tallies.Counts.{Counts}
 use Rattle.query_base.specs.Asked.{Asked}
 use Rattle.cage_rules.specs.Refuted.{HasTooMany, is_spent}
-use Rattle.cage_rules.specs.Regions.{beginner, is_dead, is_exposed, is_like, is_officer_home, is_shielded, is_struck, may_strike, region}
+use Rattle.cage_rules.specs.Regions.{beginner, is_dead, is_exposed, is_officer_home, is_shielded, is_struck, may_strike, region}
 use Rattle.board_base.proofs.Without.{at-without}
+use Rattle.board_base.proofs.Equal.{place_is}
 use Rattle.cage_rules.proofs.Beginners.{officer-inside}
-use Rattle.cage_rules.proofs.Greatest.{same-told}
 use Rattle.cage_rules.proofs.Regions.{region-home}
 use Rattle.general_lemmas.proofs.Ranges.{any-found}
 use Rattle.cage_rules.proofs.Tested.{at_board}
@@ -56,7 +56,7 @@ unfolding array_of beginner
 begins-there o h full = at-without o initial_array h ∙ kept-full (is_in o h) (at initial_array h) (sym (ap is_empty (at-without o initial_array h)) ∙ full)
 
 stayed-there : (o : List Bool) (board : Places) (h : ℕ) → is_empty (at (array_of o) h) ≡ false → has_stayed (array_of o) board h ≡ true → at board h ≡ beginner h
-stayed-there o board h full stayed = same-told _ _ stayed ∙ begins-there o h full
+stayed-there o board h full stayed = place_is _ _ stayed ∙ begins-there o h full
 
 -- a home is alive on which its man stands
 alive-at-home : (o : List Bool) (board : Places) (set : List Bool) (h : ℕ) → is_officer_home h ≡ true → is_empty (at (array_of o) h) ≡ false → has_stayed (array_of o) board h ≡ true → is_dead board set h ≡ false

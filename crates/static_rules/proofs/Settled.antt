@@ -4,7 +4,7 @@ use Rattle.std.specs.Prelude.{IsTrue, ℤ, pos, ◌+ℤ◌, ◌-ℤ◌, ◌<ℤ�
 use Rattle.std.proofs.lemmas.Bool.{not-true, not_from_false}
 use Rattle.std.proofs.lemmas.Bool.Decides.{Decides-eqb}
 use Rattle.std.proofs.lemmas.Int.{ints}
-use Rattle.board_base.specs.Board.{Places, array_of, at, is_empty, is_in, opponent}
+use Rattle.board_base.specs.Board.{Places, array_of, at, is_empty, is_in, opponent, same_place}
 use Rattle.board_base.specs.Game.{lacks_home}
 use Rattle.board_base.specs.Legal.{in_check}
 use Rattle.board_base.specs.Potentials.{ArePotentials, Duals}
@@ -23,7 +23,7 @@ use Rattle.men_account.specs.Homes.{men_of}
 use Rattle.query_base.specs.Asked.{Asked}
 use Rattle.query_base.specs.declared.rule_lines.RuleLine.{RuleLine}
 use Rattle.query_base.specs.declared.rule_lines.RuleLine.TheVariants.{Kings, Ranks, Check, Rights, Count, Frozen, Caps, Promo}
-use Rattle.cage_rules.specs.Frozen.{IsAsArray, IsFrozen, same_place}
+use Rattle.cage_rules.specs.Frozen.{IsAsArray, IsFrozen}
 use Rattle.cage_rules.specs.Refuted.{HasTooMany, is_spent}
 use Rattle.cage_rules.specs.Sets.{squares_that}
 use Rattle.cage_rules.specs.Tests.{squares_alike}

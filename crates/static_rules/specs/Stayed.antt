@@ -2,12 +2,11 @@
 -- Men who stand where they began on a first board, and homes whose men can have been lost out of the reach of pawns.
 use Rattle.std.specs.Prelude.{ℕ, ◌≡◌, ◌+◌, ◌-◌, Bool, cond, ◌&&◌, ◌||◌, ◌==◌, not, List}
 use Rattle.std.specs.List.{list_any, range_with_len}
-use Rattle.board_base.specs.Board.{Places, at, file, is_in, is_of, rank}
+use Rattle.board_base.specs.Board.{Places, at, file, is_in, is_of, rank, same_place}
 use Rattle.board_base.specs.declared.men.Colour.{Colour}
 use Rattle.board_base.specs.declared.men.Kind.TheVariants.{Pawn}
 use Rattle.men_account.specs.Account.{counts_of, is_any, men}
 use Rattle.men_account.specs.declared.tallies.Allowance.{Allowance}
-use Rattle.cage_rules.specs.Frozen.{same_place}
 use Rattle.cage_rules.specs.Regions.{is_officer_home}
 use Rattle.static_rules.specs.Left.{left_with}
 

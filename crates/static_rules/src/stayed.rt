@@ -6,8 +6,8 @@ ghost use Rattle.static_rules.specs.SetRules.{IsAbove};
 ghost use Rattle.static_rules.specs.Stayed.{IsStayedAllowance, front, has_stayed, is_guarded, may_be_spent, may_spend};
 
 use crate::living_homes::{begun_with, with_pawns};
-use board_base::{Board, Colour, Man, Odds, Square, SquareSet, array_of, is_of};
-use cage_rules::{is_officer_home, is_same_place};
+use board_base::{Board, Colour, Man, Odds, Square, SquareSet, array_of, is_of, is_same_place};
+use cage_rules::is_officer_home;
 use men_account::{Allowance, allowance, counts, excess, men_of};
 use pawn_assign::{costs, least};
 use query_base::Query;

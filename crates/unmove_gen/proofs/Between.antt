@@ -10,7 +10,7 @@ use Rattle.board_base.specs.declared.men.Man.{Man}
 use Rattle.board_base.specs.declared.men.Colour.{Colour}
 use Rattle.board_base.specs.declared.men.Kind.{Kind}
 use Rattle.board_base.specs.declared.men.Kind.TheVariants.{Pawn, Knight, Bishop, Rook, Queen, King}
-use Rattle.board_base.proofs.Ways.{toward-down, toward-same, toward-up}
+use Rattle.board_base.proofs.Ways.{toward-down, toward-same, toward-up, zero-apart}
 use Rattle.play_rules.proofs.Attacked.{none_in_range}
 use Rattle.unmove_gen.proofs.Opened.{any-none}
 
@@ -57,10 +57,6 @@ pub record IsOnWay (s t w : ℕ) : Type 0 where
   pub not_last : w ≢ t
   pub line : on_a_line w t ≡ true
 
-distance-none : (a b : ℕ) → a ≡ b → distance a b ≡ 0
-unfolding distance
-distance-none a b e = omega arith
-
 on-way : (s t k : ℕ) → s < 64 → t < 64 → on_a_line s t ≡ true → 1 ≤ k → k < king_distance s t → IsOnWay s t (on_the_way s t k)
 unfolding on_the_way king_distance
 on-way s t k small low line one few =
@@ -70,7 +66,7 @@ on-way s t k small low line one few =
       | inl straight ↦ elim (or_cases (file s == file t) (rank s == rank t) straight) [
         | inl files ↦
             let same : file s ≡ file t = eqb-true _ _ files in
-            let none : files_apart s t ≡ 0 = distance-none (file s) (file t) same in
+            let none : files_apart s t ≡ 0 = zero-apart (file s) (file t) same in
             let w = between (rank s) (rank t) k (omega arith) (omega arith) one (omega arith) in
             let e : f ≡ file s = toward-same (file s) (file t) k same in
             record {
@@ -80,7 +76,7 @@ on-way s t k small low line one few =
             }
         | inr ranks ↦
             let same : rank s ≡ rank t = eqb-true _ _ ranks in
-            let none : ranks_apart s t ≡ 0 = distance-none (rank s) (rank t) same in
+            let none : ranks_apart s t ≡ 0 = zero-apart (rank s) (rank t) same in
             let w = between (file s) (file t) k (omega arith) (omega arith) one (omega arith) in
             let e : r ≡ rank s = toward-same (rank s) (rank t) k same in
             let below = w.below in

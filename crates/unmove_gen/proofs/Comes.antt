@@ -3,6 +3,7 @@ use Rattle.std.proofs.Common.{◌≡◌, ◌≢◌, ℕ, ◌<◌, ◌==◌, Bool
 use Rattle.std.proofs.lemmas.Bool.{and_from, and_parts, and_right, both_ways, cases_eq, eqb-true, false_from_ne_true, lt-ltb, not_from_false, or_left, or_right}
 use Rattle.std.proofs.lemmas.List.{get_or-set_same, get_or-set_other}
 use Rattle.std.specs.Prelude.{Option, Some, None}
+use Rattle.std.proofs.Math.Bool.{and-true}
 use Rattle.board_base.specs.Board.{Places, at, file, is_a, is_empty, is_of, man, opponent, rank}
 use Rattle.board_base.specs.Attacks.{attacks_from, files_apart, is_open, kind_attacks, king_distance, on_one_diagonal, one_ahead, ranks_apart}
 use Rattle.board_base.specs.Legal.{last_rank, pawn_rank}
@@ -19,7 +20,7 @@ use Rattle.unmove_gen.specs.Plain.{IsPlain, goes_plainly, goes_to_empty, put_bac
 use Rattle.unmove_gen.specs.Ways.{may_go_alone}
 use Rattle.unmove_gen.proofs.Between.{and-under, kind-between, open-between}
 use Rattle.unmove_gen.proofs.Opened.{goes-as, goes_as, place_attacks}
-use Rattle.unmove_gen.proofs.PlainFitting.{and-true, is-mine}
+use Rattle.unmove_gen.proofs.PlainFitting.{is-mine}
 use Rattle.unmove_gen.proofs.PutBack.{at-origin, at-other, at-target}
 
 -- a man of this colour and kind, without promotion: by whether he attacks the target, it is empty, the way is clear, and a foe stands there

@@ -2,7 +2,7 @@
 use Rattle.std.proofs.Common.{◌≡◌, ℕ, true, false, [], ◌∷◌, map, refl}
 use Rattle.std.specs.Prelude.{Some, None, slice_set}
 use Rattle.board_base.specs.Board.{Places, array_of, initial_array, man, no_men, no_odds}
-use Rattle.board_base.specs.Rights.{Rights}
+use Rattle.board_base.specs.Rights.{no_rights}
 use Rattle.board_base.specs.Attacks.{attacks, attacks_from, distance, kind_attacks, king_distance, on_the_way, toward}
 use Rattle.board_base.specs.Play.{play}
 use Rattle.board_base.specs.Legal.{in_check, king_castles, legal_on, man_moves, may_go, pawn_captures, pawn_captures_en_passant, pawn_doubles, pawn_steps, promotion_fits}
@@ -25,9 +25,6 @@ move from to = record { from = from; to = to; promo = None }
 -- a move that captured nothing
 abbrev quiet : ℕ → ℕ → Unmove
 quiet from to = taking (move from to) None
-
-abbrev no_rights : Rights
-no_rights = record { white_short = false; white_long = false; black_short = false; black_long = false }
 
 -- the board and the side to move without odds, with nothing demanded
 abbrev asked : Places → Colour → Asked

@@ -2,6 +2,7 @@
 use Rattle.std.proofs.Common.{◌≡◌, ℕ, zero, suc, ◌+◌, ◌<◌, ◌==◌, Bool, false, ◌&&◌, length, inl, inr, refl, ap, sym, ◌∙◌, arith}
 use Rattle.std.proofs.lemmas.Bool.{cases_eq, eq-eqb, ne_eqb}
 use Rattle.std.specs.List.{count_by, range_with_len}
+use Rattle.std.proofs.Math.Bool.{and-true}
 use Rattle.general_lemmas.proofs.Counts.{count-end, one_if}
 use Rattle.board_base.specs.Board.{Places, at, is_the, opponent}
 use Rattle.board_base.specs.declared.men.Colour.{Colour}
@@ -9,7 +10,6 @@ use Rattle.board_base.specs.declared.men.Colour.TheVariants.{White, Black}
 use Rattle.board_base.specs.declared.men.Kind.TheVariants.{King}
 use Rattle.men_account.specs.Account.{is_any, men}
 use Rattle.play_rules.specs.Kings.{HasOneKingEach, kings}
-use Rattle.unmove_gen.proofs.PlainFitting.{and-true}
 use Rattle.unmove_gen.proofs.SaneGames.{men-kings}
 
 count-none : (p : ℕ → Bool) (n : ℕ) → ((s : ℕ) → s < n → p s ≡ false) → count_by p (range_with_len 0 n) ≡ 0

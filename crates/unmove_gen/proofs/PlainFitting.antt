@@ -28,6 +28,7 @@ use Rattle.unmove_gen.proofs.Marking.{marked-passes, wrongly-marked}
 use Rattle.unmove_gen.proofs.Opened.{attacks-but, attacks-less, goes-same}
 use Rattle.board_base.proofs.Hits.{hit-attacks}
 use Rattle.std.proofs.lemmas.List.{get_or-set_same, get_or-set_other}
+use Rattle.std.proofs.Math.Bool.{and-true}
 use Rattle.unmove_gen.proofs.Parts.{fitted, legality_of}
 use Rattle.play_rules.proofs.Left.{placed}
 use Rattle.unmove_gen.proofs.Back.{came}
@@ -159,10 +160,6 @@ fits-none q m none = false_from_ne_true _ (λ h. both_ways _ (sym (wrongly-marke
 
 pub same-seven : (a b d e f g h a' b' d' e' f' g' h' : Bool) → a ≡ a' → b ≡ b' → d ≡ d' → e ≡ e' → f ≡ f' → g ≡ g' → h ≡ h' → let l : List Bool = a ∷ b ∷ d ∷ e ∷ f ∷ g ∷ h ∷ [] in l ≡ a' ∷ b' ∷ d' ∷ e' ∷ f' ∷ g' ∷ h' ∷ []
 same-seven a b d e f g h a' b' d' e' f' g' h' ea eb ed ee ef eg eh = cc
-
-pub and-true : (b : Bool) → (b && true) ≡ b
-and-true true = refl
-and-true false = refl
 
 officer-taken : (q : Asked) (f : QueryFacts) (m : Move) (k : Kind) (takes : Bool) → AreFacts q f → IsPlain q.board (mover q) m → obeys q m ≡ true → same_kind King k ≡ false → same_kind Pawn k ≡ false → takes ≡ goes_soundly (put_back q.board m (man q.turn Pawn)) q f.king m → (takes && has_room f.allowed f.men k m.to) ≡ is_retraction q (taking m (Some k))
 officer-taken q f m k takes n p asked other officer e =

@@ -1,9 +1,10 @@
 -- Each board of a game is sane.
-use Rattle.std.proofs.Common.{◌≡◌, ℕ, suc, ◌+◌, ◌<◌, Bool, true, false, cond, ◌&&◌, List, [], ◌∷◌, length, get_or, refl, ap, sym, ◌∙◌, arith}
+use Rattle.std.proofs.Common.{◌≡◌, ℕ, suc, ◌+◌, ◌<◌, Bool, true, cond, ◌&&◌, List, [], ◌∷◌, length, get_or, refl, ap, sym, ◌∙◌, arith}
 use Rattle.std.proofs.lemmas.Bool.{and_from, not_from_false, eq-eqb}
 use Rattle.std.proofs.lemmas.List.Sums.{sum_by-cons}
 use Rattle.std.specs.Prelude.{Option, None}
 use Rattle.std.specs.List.{count_by, range_with_len}
+use Rattle.std.proofs.Math.Bool.{and-true}
 use Rattle.board_base.specs.Board.{AreOdds, Places, at, is_the}
 use Rattle.board_base.specs.Game.{IsGame, board_after, turn_after}
 use Rattle.board_base.specs.declared.men.Man.{Man}
@@ -30,10 +31,6 @@ count-places p f (x ∷ xs) k same =
     let here : one_if (f k) ≡ one_if (p x) = ap one_if head in
     let next : (i : ℕ) → i < length xs → f (k + 1 + i) ≡ p (get_or xs i None) = λ i inside. let e : k + 1 + i ≡ k + suc i = omega arith in ap f e ∙ same (suc i) (omega arith) in
     omega (arith, here, count-places p f xs (k + 1) next, sum_by-cons (λ s. cond (f s) 1 0) k (range_with_len (k + 1) (length xs)), sum_by-cons (λ y. cond (p y) 1 0) x xs)
-
-and-true : (b : Bool) → (b && true) ≡ b
-and-true true = refl
-and-true false = refl
 
 -- the kings that are counted by their squares
 pub men-kings : (c : Colour) (board : Places) → length board ≡ 64 → men c King is_any board ≡ kings c board

@@ -1,5 +1,5 @@
 -- The tables of ways have the squares from which a man may come on an empty board.
-use Rattle.std.proofs.Common.{◌≡◌, ℕ, ◌<◌, ◌==◌, Bool, true, false, List, get_or, refl, arith}
+use Rattle.std.proofs.Common.{◌≡◌, ℕ, ◌<◌, ◌==◌, Bool, true, List, get_or, refl, arith}
 use Rattle.std.specs.Int.{bit_at}
 use Rattle.std.specs.Bool.{beq}
 use Rattle.std.specs.List.{list_all, range_with_len}
@@ -9,6 +9,7 @@ use Rattle.board_base.specs.declared.men.Colour.TheVariants.{White, Black}
 use Rattle.board_base.specs.declared.men.Kind.{Kind}
 use Rattle.board_base.specs.declared.men.Kind.TheVariants.{Pawn, Knight, Bishop, Rook, King}
 use Rattle.general_lemmas.proofs.Ranges.{all_in_range}
+use Rattle.general_lemmas.proofs.Truth.{beq-same}
 use Rattle.play_rules.specs.Ways.{may_step}
 use Rattle.unmove_gen.specs.Ways.{may_go_alone}
 use Rattle.unmove_gen.specs.declared.way_tables.TheConstants.{WHITE_PAWNS, BLACK_PAWNS, KNIGHTS, KINGS, BISHOPS, ROOKS}
@@ -17,15 +18,9 @@ use Rattle.unmove_gen.specs.declared.way_tables.TheConstants.{WHITE_PAWNS, BLACK
 abbrev is_right : List ℕ → Colour → Kind → Bool
 is_right table c k = list_all (λ t. list_all (λ s. beq (bit_at (get_or table t 0) s == 1) (may_go_alone c k s t)) (range_with_len 0 64)) (range_with_len 0 64)
 
-same : (a b : Bool) → beq a b ≡ true → a ≡ b
-same true true h = refl
-same true false h = cc
-same false true h = cc
-same false false h = refl
-
 right-at : (table : List ℕ) (c : Colour) (k : Kind) → is_right table c k ≡ true → (s t : ℕ) → s < 64 → t < 64 → (bit_at (get_or table t 0) s == 1) ≡ may_go_alone c k s t
 right-at table c k right s t from to =
-    same _ _ (all_in_range (λ r. beq (bit_at (get_or table t 0) r == 1) (may_go_alone c k r t)) 0 64 s (all_in_range (λ n. list_all (λ r. beq (bit_at (get_or table n 0) r == 1) (may_go_alone c k r n)) (range_with_len 0 64)) 0 64 t right (omega arith) (omega arith)) (omega arith) (omega arith))
+    beq-same _ _ (all_in_range (λ r. beq (bit_at (get_or table t 0) r == 1) (may_go_alone c k r t)) 0 64 s (all_in_range (λ n. list_all (λ r. beq (bit_at (get_or table n 0) r == 1) (may_go_alone c k r n)) (range_with_len 0 64)) 0 64 t right (omega arith) (omega arith)) (omega arith) (omega arith))
 
 white_pawns : is_right WHITE_PAWNS White Pawn ≡ true
 unfolding may_go_alone may_step distance

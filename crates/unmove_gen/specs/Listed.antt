@@ -2,7 +2,7 @@
 use Rattle.std.specs.Prelude.{ℕ, zero, suc, Bool, true, false, cond, ◌&&◌, ◌||◌, not, is_some, List, [], ◌∷◌, Option, Some, None}
 use Rattle.std.specs.List.{filter, flat_map, list_all, range_with_len}
 use Rattle.std.specs.Bool.{beq}
-use Rattle.board_base.specs.Board.{Places, at, is_empty, is_of, is_a, opponent, same_kind, same_colour}
+use Rattle.board_base.specs.Board.{Places, at, is_empty, is_of, is_a, opponent, same_kind, same_place}
 use Rattle.board_base.specs.Play.{play, all_castles, double_of}
 use Rattle.board_base.specs.Legal.{legal_on, pawn_captures_en_passant, is_move}
 use Rattle.board_base.specs.Game.{touches}
@@ -11,7 +11,6 @@ use Rattle.query_base.specs.Asked.{Asked}
 use Rattle.play_rules.specs.Listed.{moves_between}
 use Rattle.unmove_gen.specs.TakenBack.{taken_back}
 use Rattle.unmove_gen.specs.Sane.{is_sane}
-use Rattle.board_base.specs.declared.men.Man.{Man}
 use Rattle.board_base.specs.declared.men.Colour.{Colour}
 use Rattle.board_base.specs.declared.men.Kind.{Kind}
 use Rattle.board_base.specs.declared.men.Kind.TheVariants.{Pawn, Knight, Bishop, Rook, Queen}
@@ -43,12 +42,6 @@ unmoves_to to = flat_map (unmoves_between to) (range_with_len 0 64)
 -- all unmoves that there may be, by target, then origin, then promotion, then captured man
 unfoldable pub candidates : List Unmove
 candidates = flat_map unmoves_to (range_with_len 0 64)
-
--- the places hold the same men, or are both empty
-abbrev pub same_place : Option Man → Option Man → Bool
-same_place None None = true
-same_place (Some a) (Some b) = same_colour a.colour b.colour && same_kind a.kind b.kind
-same_place _ _ = false
 
 -- the boards have the same men on the same squares
 unfoldable pub same_places : Places → Places → Bool

@@ -1,5 +1,5 @@
 -- What is asked of a game before its last move.
-use Rattle.std.specs.Prelude.{ℕ, zero, suc, Bool, cond, List, Option, Some, None}
+use Rattle.std.specs.Prelude.{ℕ, zero, suc, Bool, cond, fold, List, Option, Some, None}
 use Rattle.board_base.specs.Board.{at}
 use Rattle.board_base.specs.Legal.{pawn_captures_en_passant}
 use Rattle.board_base.specs.Game.{board_after, turn_after, last_move}
@@ -37,6 +37,10 @@ predecessor q u = record {
   barred = None;
   clock = clock_before q.clock;
 }
+
+-- what is asked before these unmoves, the last move of a game first
+abbrev pub left_by : Asked → List Unmove → Asked
+left_by q steps = fold predecessor q steps
 
 -- Article 3.7: after this game at the odds o the move is a capture en passant
 abbrev pub is_en_passant_after : List Bool → List Move → Move → Bool

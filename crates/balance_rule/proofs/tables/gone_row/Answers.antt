@@ -1,7 +1,7 @@
 use Rattle.std.proofs.Common.{ℕ, arith}
 use Rattle.std.proofs.lemmas.List.FromFn.{fill_by_all}
-use Rattle.board_base.specs.Board.{array_of, at}
-use Rattle.balance_rule.specs.Balance.{home_of, gone_row}
+use Rattle.board_base.specs.Board.{array_of, at, home_of}
+use Rattle.balance_rule.specs.Balance.{gone_row}
 use Rattle.balance_rule.specs.Costs.{gone}
 use Rattle.balance_rule.proofs.tables.gone_row.Goals as goal
 

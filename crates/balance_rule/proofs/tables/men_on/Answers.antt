@@ -1,10 +1,9 @@
 use Rattle.std.proofs.Common.{◌≡◌, ◌+◌, ℕ, Bool, ap, sym, ◌∙◌, arith}
 use Rattle.std.specs.List.{count_by, range_with_len}
 use Rattle.std.proofs.lemmas.List.Sums.{length-filter}
-use Rattle.board_base.specs.Board.{at, is_of}
+use Rattle.board_base.specs.Board.{at, is_of, men_squares}
 use Rattle.general_lemmas.proofs.Counts.{one_if}
 use Rattle.balance_rule.proofs.Rowed.{count-more}
-use Rattle.balance_rule.specs.Balance.{men_squares}
 use Rattle.balance_rule.proofs.tables.men_on.Goals as goal
 use Rattle.balance_rule.proofs.tables.men_on.Goals.{then-is_of, else-is_of}
 

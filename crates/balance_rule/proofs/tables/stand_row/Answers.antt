@@ -1,9 +1,9 @@
 use Rattle.std.proofs.Common.{ℕ, ap, arith, ◌∙◌}
 use Rattle.std.specs.Prelude.{Option}
 use Rattle.std.proofs.lemmas.List.FromFn.{fill_by_all}
-use Rattle.board_base.specs.Board.{array_of, at}
+use Rattle.board_base.specs.Board.{array_of, at, home_of}
 use Rattle.board_base.specs.declared.men.Man.{Man}
-use Rattle.balance_rule.specs.Balance.{home_of, stand_row}
+use Rattle.balance_rule.specs.Balance.{stand_row}
 use Rattle.balance_rule.specs.Costs.{stands}
 use Rattle.balance_rule.proofs.tables.stand_row.Goals as goal
 

@@ -1,7 +1,6 @@
 use Rattle.std.proofs.Common.{◌≡◌, ◌<◌, ◌≤◌, ℕ, Bool, List, length, slice_index}
-use Rattle.board_base.specs.Board.{array_of, at}
+use Rattle.board_base.specs.Board.{array_of, at, home_of}
 use Rattle.capture_prices.specs.Prices.{PriceList}
-use Rattle.balance_rule.specs.Balance.{home_of}
 use Rattle.balance_rule.specs.Costs.{never, stands}
 use Rattle.balance_rule.specs.Grounds.{IsGround}
 use Rattle.balance_rule.proofs.tables.stand_row.Given as goal

@@ -1,11 +1,11 @@
 use Rattle.std.proofs.Common.{◌≡◌, ◌<◌, ◌++◌, ◌∷◌, [], ℕ, List, length, length-append, ap, sym, subst, arith, rules, ◌+◌, ◌∙◌}
 use Rattle.std.specs.Prelude.{Option}
-use Rattle.board_base.specs.Board.{array_of, at, is_of}
+use Rattle.board_base.specs.Board.{array_of, at, is_of, men_squares}
 use Rattle.board_base.specs.declared.men.Man.{Man}
 use Rattle.assignment.specs.Tables.{IsTable}
 use Rattle.balance_rule.specs.Costs.{never}
 use Rattle.general_lemmas.proofs.Rows.{AreMade-all, AreMade-none, AreMade-skips, AreMade-takes, AreMade-too-many}
-use Rattle.balance_rule.specs.Balance.{men_squares, stand_row}
+use Rattle.balance_rule.specs.Balance.{stand_row}
 use Rattle.balance_rule.proofs.Rowed.{table-none}
 use Rattle.assignment.proofs.Tables.{IsTable-more}
 use Rattle.balance_rule.proofs.tables.stand_rows.Goals as goal

@@ -1,6 +1,5 @@
 use Rattle.std.proofs.Common.{◌≡◌, ◌+◌, ℕ, Bool, true, false, List, cond, set, subst, arith}
-use Rattle.board_base.specs.Board.{at}
-use Rattle.cage_rules.specs.Frozen.{same_place}
+use Rattle.board_base.specs.Board.{at, same_place}
 use Rattle.cage_rules.specs.Tests.{squares_alike}
 use Rattle.cage_rules.proofs.Filling.{Filled, empty-start, filled-that}
 use Rattle.cage_rules.proofs.Sorting.{filled-if}

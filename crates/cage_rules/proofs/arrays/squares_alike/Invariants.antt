@@ -1,6 +1,5 @@
 use Rattle.std.proofs.Common.{ℕ, false}
-use Rattle.board_base.specs.Board.{at}
-use Rattle.cage_rules.specs.Frozen.{same_place}
+use Rattle.board_base.specs.Board.{at, same_place}
 use Rattle.cage_rules.proofs.Filling.{Filled}
 use Rattle.cage_rules.proofs.arrays.squares_alike.Given as goal
 

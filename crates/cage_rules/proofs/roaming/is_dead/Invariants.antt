@@ -1,7 +1,7 @@
 use Rattle.std.proofs.Common.{◌≡◌, ◌-◌, ◌&&◌, not}
 use Rattle.std.specs.List.{list_all, range_with_len}
-use Rattle.board_base.specs.Board.{at, is_in}
-use Rattle.cage_rules.specs.Regions.{beginner, is_dead, is_like, region}
+use Rattle.board_base.specs.Board.{at, is_in, is_like}
+use Rattle.cage_rules.specs.Regions.{beginner, is_dead, region}
 use Rattle.cage_rules.proofs.roaming.is_dead.Given as goal
 
 abbrev pub invariant-loop-i : goal.invariant-loop-i

@@ -1,8 +1,8 @@
 use Rattle.std.proofs.Common.{◌≡◌, ◌++◌, length, subst, arith}
+use Rattle.board_base.specs.Play.{all_castles}
 use Rattle.ep_history.specs.Fits.{ep_fits}
 use Rattle.castle_history.specs.Homes.{are_at_home}
 use Rattle.query_base.specs.Asked.{Asked}
-use Rattle.codex_verdict.specs.Rights.{castlings}
 use Rattle.codex_verdict.specs.Candidates.{captures_from}
 use Rattle.codex_verdict.specs.declared.kinds.Right.TheVariants.{Castling, EnPassant}
 use Rattle.codex_verdict.proofs.Gathered.{made, left-step}
@@ -25,5 +25,5 @@ loop-file-preserved c = record {
 
 pub returns : goal.returns
 returns c = rights-are c.args.query.now.board c.args.query.now.turn c.loop-file.rights.items c.castlings-rights.result.items c.loop-file.file (omega arith)
-    (subst (λ (q : Asked). c.castlings-rights.result.items ≡ made (λ x. Castling x) (are_at_home q.board) castlings) c.query.view_is c.castlings-rights.ensures.all)
+    (subst (λ (q : Asked). c.castlings-rights.result.items ≡ made (λ x. Castling x) (are_at_home q.board) all_castles) c.query.view_is c.castlings-rights.ensures.all)
     c.loop-file.invariant.built

@@ -1,8 +1,7 @@
 use Rattle.std.proofs.Common.{◌∷◌, ◌∙◌, sym, arith}
 use Rattle.std.specs.Prelude.{codes}
-use Rattle.board_base.specs.Texts.{unmove_text}
+use Rattle.board_base.specs.Texts.{unmove_text, unmove_words}
 use Rattle.board_base.specs.declared.unmoves.Unmove.{Unmove}
-use Rattle.command_answers.specs.Solves.{unmove_words}
 use Rattle.command_answers.specs.Told.{IsSpelled}
 use Rattle.diagram_study.proofs.Steps.{some_within}
 use Rattle.command_answers.proofs.Pieces.{all_at, piece_more}

@@ -1,9 +1,8 @@
 use Rattle.std.proofs.Common.{List, ◌++◌, ◌∷◌, sym, ap, ◌∙◌, arith}
 use Rattle.std.specs.List.{flat_map}
 use Rattle.std.proofs.lemmas.List.{take_all}
-use Rattle.board_base.specs.Texts.{unmove_text}
+use Rattle.board_base.specs.Texts.{unmove_text, unmove_words}
 use Rattle.board_base.specs.declared.unmoves.Unmove.{Unmove}
-use Rattle.diagram_study.specs.Texts.{unmove_words}
 use Rattle.diagram_study.proofs.Steps.{at_place, piece_more}
 use Rattle.diagram_study.proofs.texts.push_unmoves.Goals as goal
 

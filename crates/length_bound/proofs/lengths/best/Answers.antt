@@ -1,6 +1,6 @@
 use Rattle.std.proofs.Common.{rules, ◌≤◌, true, length, refl, arith}
 use Rattle.std.proofs.lemmas.Bool.{both_ways}
-use Rattle.length_bound.specs.SideBounds.{men_squares}
+use Rattle.board_base.specs.Board.{men_squares}
 use Rattle.length_bound.proofs.Shown.{not-few}
 use Rattle.length_bound.proofs.lengths.best.Goals as goal
 

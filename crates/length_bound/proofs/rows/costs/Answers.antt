@@ -1,11 +1,11 @@
 use Rattle.std.proofs.Common.{◌≡◌, ℕ, ◌<◌, List, [], ◌∷◌, ◌++◌, length, sym, ap, ◌∙◌, arith, rules}
 use Rattle.std.specs.Prelude.{Option}
 use Rattle.std.proofs.lemmas.Bool.{eqb-false}
-use Rattle.board_base.specs.Board.{at, is_of}
+use Rattle.board_base.specs.Board.{at, is_of, men_squares}
 use Rattle.board_base.specs.declared.men.Man.{Man}
 use Rattle.assignment.proofs.Tables.{IsTable-more}
 use Rattle.general_lemmas.proofs.Rows.{AreMade-none, AreMade-takes, AreMade-skips, AreMade-too-many, AreMade-all}
-use Rattle.length_bound.specs.SideBounds.{man_row, men_squares, move_costs}
+use Rattle.length_bound.specs.SideBounds.{man_row, move_costs}
 use Rattle.length_bound.proofs.rows.costs.Goals as goal
 use Rattle.length_bound.proofs.rows.costs.Goals.{then-is_of+else-is_full, else-is_of}
 

@@ -1,7 +1,8 @@
 use Rattle.std.proofs.Common.{ℕ, arith}
 use Rattle.std.proofs.lemmas.Grind.{get_or_default_zero}
 use Rattle.std.proofs.lemmas.List.FromFn.{fill_by_all}
-use Rattle.length_bound.specs.SideBounds.{home_of, place_cost}
+use Rattle.board_base.specs.Board.{home_of}
+use Rattle.length_bound.specs.SideBounds.{place_cost}
 use Rattle.length_bound.proofs.rows.man_row.Goals as goal
 
 pub returns-clause-value : goal.returns-clause-value

@@ -1,5 +1,6 @@
 use Rattle.std.proofs.Common.{◌≡◌, ◌≤◌, ℕ, ◌<◌, length, slice_index}
-use Rattle.length_bound.specs.SideBounds.{home_of, place_cost}
+use Rattle.board_base.specs.Board.{home_of}
+use Rattle.length_bound.specs.SideBounds.{place_cost}
 use Rattle.length_bound.proofs.rows.man_row.Given as goal
 
 abbrev pub invariant-loop-j : goal.invariant-loop-j

@@ -1,5 +1,6 @@
 use Rattle.std.proofs.Common.{◌≡◌, ◌+◌, take}
-use Rattle.line_claims.specs.Listing.{AreListed, left_by}
+use Rattle.unmove_gen.specs.Predecessor.{left_by}
+use Rattle.line_claims.specs.Listing.{AreListed}
 use Rattle.line_claims.proofs.unlisted.first_unlisted.Given as goal
 
 abbrev pub invariant-loop-step : goal.invariant-loop-step

@@ -1,5 +1,5 @@
 use Rattle.std.proofs.Common.{◌≡◌, Bool, true, false, ◌&&◌, ◌||◌, not, refl, sym, ap, ◌∙◌, nat_le}
-use Rattle.std.proofs.lemmas.Bool.{and_parts, and_right, not-true}
+use Rattle.std.proofs.lemmas.Bool.{and_parts, and_right, not-true, or_parts}
 use Rattle.std.specs.Prelude.{None}
 use Rattle.board_base.specs.Attacks.{attacks}
 use Rattle.board_base.specs.Board.{man}
@@ -16,10 +16,6 @@ strikes_freely-takes-requires c = λ h.
     let king = c.args.facts.now.king in
     free-full q.turn q.board c.args.m.now Pawn king c.requires.plain
     (not-true _ (and_parts (c.comes_quietly-quiet.result || c.comes_taking-taking.result) (not (attacks (put_back q.board c.args.m.now None) king (mover q))) (sym c.comes_freely-free.ensures ∙ h)).1)
-
-both-none : (a b : Bool) → (a || b) ≡ false → (a ≡ false) × (b ≡ false)
-both-none true b h = cc
-both-none false b h = (refl, h)
 
 pub returns : goal.returns
 returns c =
@@ -38,7 +34,7 @@ returns c =
 
 pub returns-then-not-quiet-taking : goal.returns-then-not-quiet-taking
 returns-then-not-quiet-taking c =
-    let none = both-none c.comes_quietly-quiet.result c.comes_taking-taking.result c.if-not-quiet-taking.true in
+    let none = or_parts c.comes_quietly-quiet.result c.comes_taking-taking.result c.if-not-quiet-taking.true in
     c.only_en_passant.ensures ∙ (none-come c.args.query.now c.args.facts.now c.args.m.now c.requires.facts c.requires.plain (sym c.comes_quietly-quiet.ensures ∙ none.0) (sym c.comes_taking-taking.ensures ∙ none.1))
 
 pub returns-then-not-obeys : goal.returns-then-not-obeys
