@@ -13,7 +13,7 @@ front_of (Ply number) = codes "refused ply "
 front_of FirstLine = codes "refused line 1 text"
 
 -- a field of the FEN line was refused
-abbrev pub IsOfFen : Option Refusal → Type 0
-IsOfFen None = ⊥
-IsOfFen (Some (Fen field at)) = Unit {0}
-IsOfFen (Some refusal) = ⊥
+abbrev pub RefusesField : Option Refusal → Type 0
+RefusesField None = ⊥
+RefusesField (Some (Fen field at)) = Unit {0}
+RefusesField (Some refusal) = ⊥

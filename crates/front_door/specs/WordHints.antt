@@ -12,6 +12,6 @@ use Rattle.front_door.specs.declared.hints.Hint.{Hint}
 abbrev pub IsOfWords : Hint → List (String Global) → Type 0
 IsOfWords hint words = (advice : WordAdvice) × (hint.advice ≡ Words advice) × TellsWords advice words
 
--- the call that the hint shows, if any, is that of the first word, or the nearest
+-- the call that the hint shows, if any, is that of the first word, or one that it tells as the nearest
 abbrev pub ShowsCall : Hint → List (String Global) → Type 0
 ShowsCall hint words = IfSome hint.call (λ call. (hint.advice ≡ Words NearestCommand) ⊎ Begin words call.name.now)

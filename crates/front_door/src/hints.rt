@@ -165,7 +165,7 @@ pub fn advise(
     ensures bad_input { status ≡ BadInput → IsSome result }
     ensures fen { status ≡ BadInput → Says answer.now (codes "bad fen field ") → IfSome result (λ hint. IsOfFen hint.advice) }
 
-    // The call that it shows is that of the first word, or the nearest to this; an empty input is told with it.
+    // The call that it shows is that of the first word, or one that it tells as the nearest; an empty input is told with it.
     ensures called { IfSome result (λ hint. IfSome hint.call (λ call. (hint.advice ≡ Words NearestCommand) ⊎ Begin words.now call.name.now)) }
     ensures shown { IfSome result (λ hint. hint.advice ≡ Lines Empty → IsSome hint.call ↔ NameCommand words.now) }
 {

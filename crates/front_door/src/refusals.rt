@@ -2,7 +2,7 @@
 
 ghost use Rattle.std.specs.Prelude.{◌↔◌, IfSome, IsSome, codes};
 ghost use Rattle.front_door.specs.Hints.{Says};
-ghost use Rattle.front_door.specs.Refusals.{IsOfFen, front_of};
+ghost use Rattle.front_door.specs.Refusals.{RefusesField, front_of};
 
 /// What was refused, by the line that says so.
 #[derive(Clone, Copy, PartialEq, Eq, Debug)]
@@ -47,7 +47,7 @@ fn behind<'a>(line: &'a [u8], text: &[u8]) -> Option<&'a [u8]>
 /// What the line refuses; None where it is no such line.
 pub(crate) fn refusal_of(line: &[u8]) -> Option<Refusal>
     ensures front { IfSome result (λ refusal. Says line.now (front_of refusal)) }
-    ensures fen { Says line.now (codes "bad fen field ") → IsOfFen result }
+    ensures fen { Says line.now (codes "bad fen field ") → RefusesField result }
 {
     if let Some(rest) = behind(line, b"bad fen field ") {
         let (field, rest) = split_number(rest);
