@@ -21,3 +21,4 @@ pub mod LostMen
 pub mod TrueHomes
 pub mod Sound
 mod Examples
+pub mod HomesCosts

@@ -134,7 +134,7 @@ twice : (b : Bool) → b ≡ not (not b)
 twice true = refl
 twice false = refl
 
-on-square : (c : Colour) (board : Places) (s : ℕ) → Has (men_squares c board) s → (is_of c (at board s) ≡ true) × (s < 64)
+pub on-square : (c : Colour) (board : Places) (s : ℕ) → Has (men_squares c board) s → (is_of c (at board s) ≡ true) × (s < 64)
 unfolding men_squares
 on-square c board s there =
     let kept = has-filter (λ t. is_of c (at board t)) (range_with_len 0 64) s there in

@@ -4,3 +4,4 @@ pub mod EqualPrices
 pub mod LeastWays
 pub mod Tariffs
 pub mod Grounds
+pub mod EqualGrounds

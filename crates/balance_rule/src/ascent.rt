@@ -1,14 +1,14 @@
-ghost use Rattle.std.specs.Prelude.{IfSome, IsSome, Some, ◌≡◌, ◌<◌};
-ghost use Rattle.balance_rule.specs.Balance.{BalanceSupports};
-ghost use Rattle.balance_rule.specs.EqualPrices.{EqualPricesSupport, equal_prices};
+ghost use Rattle.std.specs.Prelude.{◌≤◌};
 
-use crate::balance::{balances, is_whole, most_cost};
-use crate::grounds::{Ground, ground_of, set_prices};
+use crate::balance::most_cost;
+use crate::equal_grounds::{EqualGrounds, equal_prices};
+use crate::grounds::{Ground, set_prices};
+use crate::places::free_on;
 use crate::tables::{begun_with, cost_table};
-use crate::tallies::{Tally, tally_of};
+use crate::tallies::{Deeds, Tally, deeds_of};
+use crate::weighing::Weighing;
 use assignment::solve_large;
-use board_base::{Colour, SquareSet};
-use cage_rules::greatest_as_array;
+use board_base::Colour;
 use capture_prices::{Gate, Prices};
 use query_base::Query;
 
@@ -21,45 +21,38 @@ const MOST: i32 = 96;
 /// How often prices are tried.
 const ROUNDS: u32 = 150;
 
-/// How often they are tried again without a gain of an eighth of the shortfall.
-const PATIENCE: u32 = 23;
-
-/// Which shortfall is too large, after so many rounds, for the prices to be worth another try.
-const FAR: u32 = 400;
-
-/// After how many rounds that counts.
-const TRIAL: u32 = 12;
-
-/// Prices that are sought, and gates by the squares of the board.
+/// Prices that are sought, by their places.
 #[derive(Clone, Copy)]
 struct Ascent {
-    white: [u8; 16],
-    black: [u8; 16],
-    gates: [u8; 64],
+    prices: [u8; 96],
 }
 
-/// What prices came to: how much the men cost, and what they did at that cost.
+/// What prices came to: how much the men cost, how often each price is paid and earned at that cost, and their homes.
 #[derive(Drop)]
 struct Outcome {
     cost: u32,
     white: Tally,
     black: Tally,
+    white_homes: [u8; 16],
+    black_homes: [u8; 16],
 }
 
-/// By how many captures of these a price is paid more often than it is earned.
-fn slopes(captures: &[i32; 16], taken: &[i32; 16]) -> [i32; 16] {
-    let mut all = [0; 16];
-    for k in 0..16 {
-        all[k] = captures[k].wrapping_sub(taken[k]);
-    }
-    all
+/// What a search came to: the homes of the men at the least cost at equal prices, first of those on the board and then of those who are
+/// gone, and prices that may do.
+#[derive(Clone, Copy)]
+pub(crate) struct Sought {
+    pub(crate) white: [u8; 16],
+    pub(crate) black: [u8; 16],
+    pub(crate) prices: Option<Prices>,
 }
 
-/// By how many pawns beyond the one that may each square is trodden.
-fn gate_slopes(white: &[i32; 64], black: &[i32; 64]) -> [i32; 64] {
-    let mut all = [0; 64];
-    for i in 0..64 {
-        all[i] = white[i].wrapping_add(black[63 - i]).wrapping_sub(1);
+/// By how much each price is paid more often than it is earned and is free.
+fn slopes(white: &Tally, black: &Tally) -> [i32; 96] {
+    let mut all = [0; 96];
+    for k in 0..96 {
+        all[k] = i32::from(white.times[k])
+            .wrapping_add(i32::from(black.times[k]))
+            .wrapping_sub(free_on(k));
     }
     all
 }
@@ -109,14 +102,46 @@ fn step_for(shortfall: u32, squares: i32) -> i32 {
     }
 }
 
+/// How many of these prices aren't 0.
+fn count_paid(prices: &[u8]) -> usize {
+    prices.iter().filter(|x| **x > 0).count()
+}
+
+/// Sets the least of these prices that aren't 0 to 0.
+fn drop_least(prices: &mut [u8]) {
+    let mut least = 255;
+    for price in prices.iter() {
+        if *price > 0 && *price < least {
+            least = *price;
+        }
+    }
+    for price in prices.iter_mut() {
+        if *price == least {
+            *price = 0;
+            return;
+        }
+    }
+}
+
+/// The sixteen prices from a place on.
+fn sixteen_from(prices: &[u8; 96], start: usize) -> [u8; 16]
+    requires { start ≤ 16 }
+{
+    let mut all = [0; 16];
+    for k in 0..16 {
+        all[k] = prices[start + k];
+    }
+    all
+}
+
 impl Ascent {
     /// Each capture pays one unit, and there are no gates.
     fn new() -> Ascent {
-        Ascent {
-            white: [24; 16],
-            black: [24; 16],
-            gates: [0; 64],
+        let mut prices = [0; 96];
+        for k in 0..32 {
+            prices[k] = 24;
         }
+        Ascent { prices }
     }
 
     /// These prices; None where there are too many gates.
@@ -124,7 +149,7 @@ impl Ascent {
         let mut gates = [Gate { square: 0, toll: 0 }; 16];
         let mut count = 0;
         for i in 0..64u8 {
-            let toll = self.gates[i as usize];
+            let toll = self.prices[32 + i as usize];
             if toll > 0 {
                 if count == 16 {
                     return None;
@@ -133,118 +158,136 @@ impl Ascent {
                 count += 1;
             }
         }
-        Prices::new(&self.white, &self.black, &gates[..count])
+        Prices::new(
+            &sixteen_from(&self.prices, 0),
+            &sixteen_from(&self.prices, 16),
+            &gates[..count],
+        )
     }
 
-    /// Moves the prices to where the men cost more, if only by what they did at these; false where no price moves.
-    fn climb(&mut self, outcome: &Outcome, shortfall: u32) -> bool {
-        let white = slopes(&outcome.white.captures, &outcome.black.taken);
-        let black = slopes(&outcome.black.captures, &outcome.white.taken);
-        let gates = gate_slopes(&outcome.white.trodden, &outcome.black.trodden);
-        let squares = square_sum(&self.white, &white)
-            .wrapping_add(square_sum(&self.black, &black))
-            .wrapping_add(square_sum(&self.gates, &gates));
-        let step = step_for(shortfall, squares);
-        move_all(&mut self.white, &white, step);
-        move_all(&mut self.black, &black, step);
-        move_all(&mut self.gates, &gates, step);
-        squares > 0
+    /// Moves the prices to where the men cost more, if only by what they did at these. At most sixteen gates stay, the greatest.
+    fn climb(&mut self, outcome: &Outcome, shortfall: u32) {
+        let slopes = slopes(&outcome.white, &outcome.black);
+        let step = step_for(shortfall, square_sum(&self.prices, &slopes));
+        move_all(&mut self.prices, &slopes, step);
+        let gates = &mut self.prices[32..];
+        for _ in 16..count_paid(gates) {
+            drop_least(gates);
+        }
     }
+}
+
+/// What the men of a side cost and did at the least cost, and their homes.
+#[derive(Drop)]
+struct SideOutcome {
+    cost: u32,
+    deeds: Deeds,
+    homes: [u8; 16],
+}
+
+/// The first sixteen of these numbers, with zeros behind.
+fn sixteen_of(numbers: &[u8]) -> [u8; 16] {
+    let mut all = [0; 16];
+    for (x, number) in all.iter_mut().zip(numbers) {
+        *x = *number;
+    }
+    all
 }
 
 /// What the men of one side cost and did at these prices; None where it has more than it began with.
-fn side_outcome(ground: &Ground, query: &Query, prices: &Prices) -> Option<(u32, Tally)> {
+fn side_outcome(ground: &Ground, query: &Query) -> Option<SideOutcome> {
     let rows = cost_table(ground, &query.board, begun_with(ground.side, query.odds))?;
     let solution = solve_large(rows.as_slice());
-    Some((
-        solution.cost,
-        tally_of(ground, &query.board, prices, solution.columns.as_slice()),
-    ))
-}
-
-/// What the men of both sides cost and did at these prices.
-fn outcome_of(
-    white: &mut Ground,
-    black: &mut Ground,
-    query: &Query,
-    prices: &Prices,
-) -> Option<Outcome> {
-    set_prices(white, prices);
-    set_prices(black, prices);
-    let (white_cost, white) = side_outcome(white, query, prices)?;
-    let (black_cost, black) = side_outcome(black, query, prices)?;
-    Some(Outcome {
-        cost: white_cost.saturating_add(black_cost),
-        white,
-        black,
+    let deeds = deeds_of(ground, &query.board, solution.columns.as_slice());
+    let homes = sixteen_of(solution.columns.as_slice());
+    Some(SideOutcome {
+        cost: solution.cost,
+        deeds,
+        homes,
     })
 }
 
-/// Prices at which the men cost more than their true homes can, if the ascent finds some.
-fn ascend(query: &Query, set: SquareSet) -> Option<Prices> {
+/// What the men of both sides cost and did at these prices, where so much is owed on the places of captures.
+fn outcome_of(
+    white: &Ground,
+    black: &Ground,
+    query: &Query,
+    prices: &Prices,
+    owed: &[i32; 32],
+) -> Option<Outcome> {
+    let white = side_outcome(white, query)?;
+    let black = side_outcome(black, query)?;
+    let mut white_deeds = white.deeds;
+    let mut black_deeds = black.deeds;
+    white_deeds.count_fallen(
+        Colour::White,
+        prices,
+        &black_deeds.needs(Colour::Black, owed),
+    );
+    black_deeds.count_fallen(
+        Colour::Black,
+        prices,
+        &white_deeds.needs(Colour::White, owed),
+    );
+    let white_homes = white.homes;
+    let black_homes = black.homes;
+    Some(Outcome {
+        cost: white.cost.saturating_add(black.cost),
+        white: white_deeds.tally,
+        black: black_deeds.tally,
+        white_homes,
+        black_homes,
+    })
+}
+
+/// Prices at which the men cost more than their true homes can, if the ascent from an outcome at equal prices finds some. It ends where
+/// the tallies on its way show that there are none.
+fn ascend(query: &Query, kept: &EqualGrounds, first: &Outcome) -> Option<Prices> {
     let mut ascent = Ascent::new();
-    let first = ascent.prices()?;
-    let mut white = ground_of(query, set, &first, Colour::White);
-    let mut black = ground_of(query, set, &first, Colour::Black);
-    let mut best = u32::MAX;
-    let mut since = 0;
-    for round in 0..ROUNDS {
+    let mut white = kept.white.side;
+    let mut black = kept.black.side;
+    let mut weighing = Weighing::new();
+    weighing.add(&first.white, &first.black);
+    if weighing.weigh() {
+        return None;
+    }
+    ascent.climb(
+        first,
+        most_cost(query.odds, &equal_prices()).saturating_sub(first.cost),
+    );
+    for _ in 1..ROUNDS {
         let prices = ascent.prices()?;
-        let outcome = outcome_of(&mut white, &mut black, query, &prices)?;
+        set_prices(&mut white, &prices);
+        set_prices(&mut black, &prices);
+        let outcome = outcome_of(&white, &black, query, &prices, &weighing.needs())?;
         let most = most_cost(query.odds, &prices);
         if most < outcome.cost {
             return Some(prices);
         }
-        let shortfall = most - outcome.cost;
-        if shortfall < best - best / 8 {
-            best = shortfall;
-            since = round;
-        }
-        if since.saturating_add(PATIENCE) < round || (round > TRIAL && best > FAR) {
+        weighing.add(&outcome.white, &outcome.black);
+        if weighing.weigh() {
             return None;
         }
-        if !ascent.climb(&outcome, shortfall) {
-            return None;
-        }
+        ascent.climb(&outcome, most - outcome.cost);
     }
     None
 }
 
-/// Each capture costs one unit, and there are no gates.
-fn equal_prices() -> Prices
-    ensures { result ≡ equal_prices }
-{
-    Prices::known(&[24; 16], &[24; 16], &[])
-}
-
-/// Prices that support the query with this set, if they are found. Equal prices without gates are tried first. The search begins with
-/// these, and moves each price along its slope: what would be paid for it at the least cost, less what would be earned.
-fn find_prices(query: &Query, set: SquareSet) -> Option<Prices>
-    ensures supports { IfSome result (λ prices. BalanceSupports query.now set prices) }
-    ensures equal { BalanceSupports query.now set equal_prices → IsSome result }
-{
+/// Seeks prices at which the men cost more than their true homes can, beginning with equal prices; None where a side has more men than
+/// it began with.
+pub(crate) fn seek(query: &Query, kept: &EqualGrounds) -> Option<Sought> {
     let equal = equal_prices();
-    if balances(query, set, &equal) {
-        return Some(equal);
-    }
-    let prices = ascend(query, set)?;
-    if balances(query, set, &prices) {
-        Some(prices)
+    let first = outcome_of(&kept.white.side, &kept.black.side, query, &equal, &[0; 32])?;
+    let prices = if most_cost(query.odds, &equal) < first.cost {
+        Some(equal)
     } else {
-        None
-    }
-}
-
-/// A set and prices that support the query, if they are found. They are where equal prices support it; elsewhere none need be, even
-/// where there are some. The set is the greatest one that is as in the array.
-pub fn find_balance(query: &Query) -> Option<(SquareSet, Prices)>
-    ensures supports { IfSome result (λ found. BalanceSupports query.now found.0 found.1) }
-    ensures equal { EqualPricesSupport query.now → IsSome result }
-{
-    let set = greatest_as_array(query);
-    is_whole(set);
-    match find_prices(query, set) {
-        Some(prices) => Some((set, prices)),
-        None => None,
-    }
+        ascend(query, kept, &first)
+    };
+    let white = first.white_homes;
+    let black = first.black_homes;
+    Some(Sought {
+        white,
+        black,
+        prices,
+    })
 }

@@ -15,7 +15,7 @@ use capture_prices::Prices;
 use query_base::Query;
 
 /// What is known of a side before its men are looked at. Files are counted as the side sees the board.
-#[derive(Drop)]
+#[derive(Clone, Copy)]
 pub(crate) struct Ground {
     pub(crate) side: Colour,
     pub(crate) frozen: SquareSet,

@@ -40,7 +40,7 @@ fn stand_row(ground: &Ground, board: &Board, s: Square) -> [u16; 16]
 }
 
 /// What it costs that the man of each of the side's homes is gone.
-fn gone_row(ground: &Ground) -> [u16; 16]
+pub(crate) fn gone_row(ground: &Ground) -> [u16; 16]
     ensures small { All (λ cost. cost ≤ never) result }
     ensures value { (o : List Bool) (p : PriceList) → IsGround o p ground.now → result ≡ gone_row p ground.now.frozen ground.now.side (array_of o) }
 {

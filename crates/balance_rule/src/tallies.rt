@@ -1,41 +1,71 @@
-ghost use Rattle.std.specs.Prelude.{◌<◌, ◌≤◌, length};
+ghost use Rattle.std.specs.Prelude.{◌<◌, ◌≤◌};
 ghost use Rattle.std.specs.List.{All};
 
-use crate::earnings::{best_class, both};
+use crate::earnings::{both, neediest_class};
 use crate::fates::loss_at;
 use crate::grounds::Ground;
+use crate::places::{place_of, place_of_gate};
 use crate::reaches::{NEVER, Reach, capped_sum, fee_at, toll_at};
 use crate::tables::number_of_home;
 use crate::tariffs::class_of;
 use crate::views::{number_of, seen_by};
-use board_base::{Board, Kind, Man, Square, SquareSet};
+use crate::weighing::WHOLE;
+use board_base::{Board, Colour, Kind, Man, Square, SquareSet};
 use capture_prices::Prices;
 
-/// What the men of a side did who are given these homes at the least cost: by classes, the captures by its pawns and its men who were
-/// taken by pawns; and by squares, as the side sees them, its pawns who never captured and trod them.
-#[derive(Clone, Copy)]
+/// How often each price is paid, less how often it is earned: by the places of prices, the captures by pawns, the men who were taken by
+/// pawns, and the pawns who never captured and trod a square.
+#[derive(Clone, Copy, PartialEq, Eq)]
 pub(crate) struct Tally {
-    pub(crate) captures: [i32; 16],
-    pub(crate) taken: [i32; 16],
-    pub(crate) trodden: [i32; 64],
+    pub(crate) times: [i8; 96],
 }
 
-/// Counts one more.
-fn count_one(numbers: &mut [i32], k: usize)
-    requires { k < length numbers.old }
-{
-    numbers[k] = numbers[k].wrapping_add(1);
+impl Default for Tally {
+    fn default() -> Tally {
+        Tally { times: [0; 96] }
+    }
+}
+
+/// What the men of a side did who are given these homes at the least cost. Where those who are gone were taken is counted when it is
+/// known where the enemy captured.
+#[derive(Clone, Copy)]
+pub(crate) struct Deeds {
+    pub(crate) tally: Tally,
+    /// By the numbers of the homes, the squares on which the man who is gone was taken, one of them.
+    fallen: [SquareSet; 16],
+}
+
+impl Tally {
+    /// Counts a capture by a pawn of a side on a square.
+    fn count_capture(&mut self, side: Colour, s: Square) {
+        let k = place_of(side, class_of(s) as usize);
+        self.times[k] = self.times[k].wrapping_add(1);
+    }
+
+    /// Counts that a man was taken by a pawn of a side on a square of this class.
+    fn count_taken(&mut self, enemy: Colour, class: usize)
+        requires { class < 16 }
+    {
+        let k = place_of(enemy, class);
+        self.times[k] = self.times[k].wrapping_sub(1);
+    }
+
+    /// Counts that a pawn trod a square who never captured.
+    fn count_trodden(&mut self, s: Square) {
+        let k = place_of_gate(s);
+        self.times[k] = self.times[k].wrapping_add(1);
+    }
 }
 
 /// Counts the squares from this number up to another, file ahead.
-fn count_straight(tally: &mut Tally, home: u8, end: u8)
+fn count_straight(ground: &Ground, tally: &mut Tally, home: u8, end: u8)
     requires home { home < 16 }
     requires end { end < 64 }
 {
     for rank in 0..7 {
         let i = home + 8 * rank;
         if i <= end && i < 64 {
-            count_one(&mut tally.trodden, i as usize);
+            tally.count_trodden(seen_by(ground.side, i));
         }
     }
 }
@@ -66,10 +96,7 @@ fn count_captures(ground: &Ground, reach: &Reach, tally: &mut Tally, end: u8)
         if reach.aside[i as usize - 8] == reach.aside[i as usize] {
             i -= 8;
         } else {
-            count_one(
-                &mut tally.captures,
-                class_of(seen_by(ground.side, i)) as usize,
-            );
+            tally.count_capture(ground.side, seen_by(ground.side, i));
             i = captured_from(ground, reach, i);
             if reach.straight[i as usize] < NEVER {
                 return;
@@ -85,7 +112,7 @@ fn count_toll(ground: &Ground, tally: &mut Tally, f: u8, end: u8)
 {
     let reach = &ground.reaches[f as usize];
     if reach.straight[end as usize] <= reach.aside[end as usize] {
-        count_straight(tally, 8 + f, end);
+        count_straight(ground, tally, 8 + f, end);
     } else {
         count_captures(ground, reach, tally, end);
     }
@@ -132,13 +159,6 @@ fn count_standing(ground: &Ground, tally: &mut Tally, n: u8, man: Man, s: Square
     }
 }
 
-/// Counts that a man was taken on one of these squares, where he earns the most.
-fn count_taken(ground: &Ground, enemy: &[u8; 16], tally: &mut Tally, within: SquareSet) {
-    if let Some(class) = best_class(enemy, both(within, ground.exposed)) {
-        count_one(&mut tally.taken, class);
-    }
-}
-
 /// Where the pawn of a file went who is gone.
 fn best_loss(ground: &Ground, f: u8) -> u8
     requires { f < 8 }
@@ -156,49 +176,67 @@ fn best_loss(ground: &Ground, f: u8) -> u8
     best
 }
 
-/// Counts what the pawn of a file did who is gone.
-fn count_lost(ground: &Ground, enemy: &[u8; 16], tally: &mut Tally, f: u8)
+/// Counts what the pawn of a file did who is gone, and tells the squares on which he was taken.
+fn count_lost(ground: &Ground, tally: &mut Tally, f: u8) -> SquareSet
     requires { f < 8 }
 {
     let end = best_loss(ground, f);
     let reach = &ground.reaches[f as usize];
     if end >= 56 {
         count_toll(ground, tally, f, end);
-        count_taken(ground, enemy, tally, ground.promoted[end as usize - 56]);
-    } else {
-        if reach.straight[end as usize] == NEVER {
-            count_captures(ground, reach, tally, end);
-        }
-        count_taken(
-            ground,
-            enemy,
-            tally,
-            SquareSet::from_bits(0).with(seen_by(ground.side, end)),
-        );
+        return ground.promoted[end as usize - 56];
     }
+    if reach.straight[end as usize] == NEVER {
+        count_captures(ground, reach, tally, end);
+    }
+    SquareSet::from_bits(0).with(seen_by(ground.side, end))
 }
 
-/// Counts what the man did who began on this number and is gone.
-fn count_gone(ground: &Ground, enemy: &[u8; 16], tally: &mut Tally, n: u8)
-    requires { n < 16 }
-{
-    if n >= 8 {
-        count_lost(ground, enemy, tally, n - 8);
-    } else {
-        count_taken(ground, enemy, tally, ground.regions[n as usize]);
+impl Deeds {
+    /// Counts what the man did who began on this number and is gone.
+    fn count_gone(&mut self, ground: &Ground, n: u8)
+        requires { n < 16 }
+    {
+        let within = if n >= 8 {
+            count_lost(ground, &mut self.tally, n - 8)
+        } else {
+            ground.regions[n as usize]
+        };
+        self.fallen[n as usize] = both(within, ground.exposed);
+    }
+
+    /// Counts on which classes the men of this side were taken, where the enemy paid his prices so often and so much is owed there
+    /// besides. Each earns the most that he can, pawns come first, and of equal classes that is taken where the need is greatest.
+    pub(crate) fn count_fallen(&mut self, side: Colour, prices: &Prices, needs: &[i32; 16]) {
+        let enemy = side.other();
+        let mut left = *needs;
+        for n in (0..16).rev() {
+            if let Some(class) = neediest_class(prices.takes(enemy), &left, self.fallen[n]) {
+                self.tally.count_taken(enemy, class);
+                left[class] = left[class].wrapping_sub(WHOLE);
+            }
+        }
+    }
+
+    /// What is needed on the classes where this side's pawns captured, and so much is owed on all places of captures.
+    pub(crate) fn needs(&self, side: Colour, owed: &[i32; 32]) -> [i32; 16] {
+        let mut all = [0; 16];
+        for class in 0..16 {
+            let k = place_of(side, class);
+            all[class] = owed[k].wrapping_add(WHOLE.wrapping_mul(i32::from(self.tally.times[k])));
+        }
+        all
     }
 }
 
 /// What the men of a side did who are given these homes: first those on the board, then those who are gone.
-pub(crate) fn tally_of(ground: &Ground, board: &Board, prices: &Prices, homes: &[u8]) -> Tally
+pub(crate) fn deeds_of(ground: &Ground, board: &Board, homes: &[u8]) -> Deeds
     requires { All (λ j. j < 16) homes.now }
 {
-    let mut tally = Tally {
-        captures: [0; 16],
-        taken: [0; 16],
-        trodden: [0; 64],
+    let mut deeds = Deeds {
+        tally: Tally { times: [0; 96] },
+        fallen: [SquareSet::from_bits(0); 16],
     };
-    let enemy = prices.takes(ground.side.other());
     let mut row = 0;
     for i in 0..64 {
         let s = Square::known(i);
@@ -206,7 +244,7 @@ pub(crate) fn tally_of(ground: &Ground, board: &Board, prices: &Prices, homes: &
             if man.colour == ground.side && row < homes.len() {
                 count_standing(
                     ground,
-                    &mut tally,
+                    &mut deeds.tally,
                     number_of_home(ground.side, homes[row]),
                     man,
                     s,
@@ -216,7 +254,7 @@ pub(crate) fn tally_of(ground: &Ground, board: &Board, prices: &Prices, homes: &
         }
     }
     for j in &homes[row..] {
-        count_gone(ground, enemy, &mut tally, number_of_home(ground.side, *j));
+        deeds.count_gone(ground, number_of_home(ground.side, *j));
     }
-    tally
+    deeds
 }

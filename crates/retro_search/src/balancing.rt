@@ -9,7 +9,7 @@ ghost use Rattle.retro_search.specs.Vain.{AreVain};
 
 use crate::refutations::Refutation;
 use crate::runs::{Reasons, Run};
-use balance_rule::find_balance;
+use balance_rule::{PriceDesk, find_balance};
 use board_base::SquareSet;
 use capture_prices::Prices;
 use cert_text::{Body, Node, Reason};
@@ -45,7 +45,7 @@ fn note(query: &Query, vain: &mut IndexSet<Query>)
 
 /// A refutation of one node by a set and prices that support the query, if some are found. What was looked for in vain is noted, and
 /// not looked for again.
-fn priced(query: &Query, vain: &mut IndexSet<Query>) -> Option<Refutation>
+fn priced(query: &Query, vain: &mut IndexSet<Query>, desk: &mut PriceDesk) -> Option<Refutation>
     ensures alone { IfSome result (λ found. StandsAlone (tree_of found.node) query.now 0 2) }
     ensures numbers { IfSome result (λ found. (found.lean ≡ 0) × (found.height ≡ 0) × (found.lines ≡ 2)) }
     ensures equal { AreVain vain.old.keys → EqualPricesSupport query.now → IsSome result }
@@ -54,7 +54,7 @@ fn priced(query: &Query, vain: &mut IndexSet<Query>) -> Option<Refutation>
     if vain.contains(query) {
         return None;
     }
-    if let Some((set, prices)) = find_balance(query) {
+    if let Some((set, prices)) = find_balance(query, desk) {
         return Some(balanced(set, &prices));
     }
     note(query, vain);
@@ -71,6 +71,6 @@ pub(crate) fn by_balance(query: &Query, run: &mut Run) -> Option<Refutation>
 {
     match run.reasons {
         Reasons::RuleLines => None,
-        Reasons::All => priced(query, &mut run.vain),
+        Reasons::All => priced(query, &mut run.vain, &mut run.desk),
     }
 }

@@ -3,6 +3,7 @@ ghost use Rattle.retro_search.specs.Runs.{IsReady};
 ghost use Rattle.retro_search.specs.Tidy.{IsFresh};
 
 use crate::memos::Memo;
+use balance_rule::PriceDesk;
 use indexmap::IndexSet;
 use query_base::Query;
 use std::alloc::Global;
@@ -27,6 +28,8 @@ pub struct Run {
     pub memo: Memo,
     /// Queries for which no prices were found.
     pub vain: IndexSet<Query>,
+    /// What is kept while prices are sought.
+    pub desk: PriceDesk,
 }
 
 impl Run {
@@ -41,6 +44,7 @@ impl Run {
             reasons,
             memo: Memo::new(alloc),
             vain: IndexSet::new(alloc),
+            desk: PriceDesk::new(alloc),
         }
     }
 
@@ -55,6 +59,7 @@ impl Run {
             reasons,
             memo: Memo::off(alloc),
             vain: IndexSet::new(alloc),
+            desk: PriceDesk::new(alloc),
         }
     }
 }

@@ -4,7 +4,7 @@ use Rattle.query_base.specs.Asked.{Asked}
 use Rattle.cage_rules.proofs.SetAlgebra.{same-set}
 use Rattle.balance_rule.specs.Balance.{BalanceSupports}
 use Rattle.balance_rule.specs.EqualPrices.{equal_prices}
-use Rattle.balance_rule.proofs.ascent.find_balance.Goals as goal
+use Rattle.balance_rule.proofs.desk.find_balance.Goals as goal
 
 pub returns-in-None-clause-equal : goal.returns-in-None-clause-equal
 returns-in-None-clause-equal c e =
