@@ -1,27 +1,24 @@
-//! The balance of captures: prices for captures by pawns, and gates on files, show that no game leads to a position. Only the desk of a
-//! search for prices takes memory.
+//! The balance of captures: prices for captures by pawns, and gates on files, show that no game leads to a position. It takes no memory.
 //!
 //! Articles are those of the FIDE Laws of Chess, in force from 1 January 2023.
 #![tactic(auto)]
 
-mod ascent;
 mod balance;
-mod desk;
 mod earnings;
-mod equal_grounds;
 mod fates;
 mod grounds;
-mod keys;
 mod laws;
-mod places;
 mod reaches;
 mod tables;
-mod tallies;
 mod tariffs;
 mod views;
-mod weighing;
 
-pub use balance::{balances, most_cost, side_cost};
-pub use desk::{PriceDesk, find_balance};
+pub use balance::{balances, is_whole, most_cost, side_cost};
+pub use earnings::{both, squares_of_class};
+pub use fates::{loss_at, stands};
+pub use grounds::{Ground, ground_of, set_prices};
 pub use laws::balance_closes;
-pub use tables::begun_with;
+pub use reaches::{NEVER, Reach, capped_sum, fee_at, toll_at};
+pub use tables::{begun_with, cost_table, gone_row, number_of_home};
+pub use tariffs::{Tariff, class_of};
+pub use views::{number_of, seen_by};

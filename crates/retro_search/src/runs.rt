@@ -3,8 +3,8 @@ ghost use Rattle.retro_search.specs.Runs.{IsReady};
 ghost use Rattle.retro_search.specs.Tidy.{IsFresh};
 
 use crate::memos::Memo;
-use balance_rule::PriceDesk;
 use indexmap::IndexSet;
+use price_search::PriceDesk;
 use query_base::Query;
 use std::alloc::Global;
 

@@ -1,5 +1,5 @@
 ghost use Rattle.std.specs.Prelude.{ℕ, List, ◌≡◌, ◌+◌, ◌*◌, ◌<◌, ◌≤◌, ◌⊎◌, [], IfErr, IfOk, IsTrue, OnOk, false, length, reverse, suc};
-ghost use Rattle.balance_rule.specs.EqualPrices.{EqualPricesSupport};
+ghost use Rattle.price_search.specs.FlatPrices.{FlatPricesSupport};
 ghost use Rattle.query_base.specs.Reach.{Reaches};
 ghost use Rattle.cert_text.specs.Seen.{tree_of};
 ghost use Rattle.retro_search.specs.Refutable.{IsRefutable, IsShut};
@@ -102,7 +102,7 @@ pub(crate) fn search(
     ensures too_large { run.old.reasons ≡ Reasons.RuleLines → IfErr result (λ stop. IfTooLarge stop (run.old.memo.on ≡ false → ⊥)) }
     ensures twice { IfOk result (λ found. run.old.memo.on ≡ false → found.lines + 2 * run.new.left ≤ 2 * run.old.left) }
     ensures few_visits { IfErr result (λ stop. IfTooLarge stop (run.old.memo.on ≡ false → 250000 < run.old.left)) }
-    ensures priced { run.old.reasons ≡ Reasons.All → AreVain run.old.vain.keys → EqualPricesSupport query.now → IfErr result (λ stop. (stop ≡ Unrefuted.Memory) ⊎ (run.old.left ≡ 0)) }
+    ensures priced { run.old.reasons ≡ Reasons.All → AreVain run.old.vain.keys → FlatPricesSupport query.now → IfErr result (λ stop. (stop ≡ Unrefuted.Memory) ⊎ (run.old.left ≡ 0)) }
     ensures unpriced { run.old.reasons ≡ Reasons.All → AreVain run.old.vain.keys → IfErr result (λ stop. IfOpen stop (λ line. IsUnpriced query.now (reverse line.back.items))) }
     ensures cost { OnOk result (IsRefutable query.now depth (reverse ancestors.old.items) → (n : ℕ) → IsCost query.now depth (reverse ancestors.old.items) n → run.old.left ≤ run.new.left + n) }
     ensures spent { IfErr result (λ stop. IfSpent stop (IsCounted run.old.reasons query.now depth (reverse ancestors.old.items) → (n : ℕ) → IsCost query.now depth (reverse ancestors.old.items) n → run.old.left < n)) }
@@ -175,7 +175,7 @@ fn expand(
     ensures too_large { run.old.reasons ≡ Reasons.RuleLines → IfErr result (λ stop. IfTooLarge stop (run.old.memo.on ≡ false → ⊥)) }
     ensures twice { IfOk result (λ found. run.old.memo.on ≡ false → found.lines + 2 * run.new.left ≤ 2 * run.old.left + 1) }
     ensures few_visits { IfErr result (λ stop. IfTooLarge stop (run.old.memo.on ≡ false → 250000 ≤ run.old.left)) }
-    ensures unpriced { run.old.reasons ≡ Reasons.All → AreVain run.old.vain.keys → (EqualPricesSupport query.now → ⊥) → IfErr result (λ stop. IfOpen stop (λ line. IsUnpriced query.now (reverse line.back.items))) }
+    ensures unpriced { run.old.reasons ≡ Reasons.All → AreVain run.old.vain.keys → (FlatPricesSupport query.now → ⊥) → IfErr result (λ stop. IfOpen stop (λ line. IsUnpriced query.now (reverse line.back.items))) }
     ensures cost { OnOk result (WhereEachRefutable query.now below (reverse ancestors.old.items) (λ n. run.old.left ≤ run.new.left + n)) }
     ensures spent { IfErr result (λ stop. IfSpent stop (AreCounted run.old.reasons query.now below (reverse ancestors.old.items) → (n : ℕ) → IsCostBelow query.now below (reverse ancestors.old.items) n → run.old.left < n)) }
     ensures deep { IfErr result (λ stop. IfOpen stop (λ line. length line.back.items ≤ run.old.left)) }

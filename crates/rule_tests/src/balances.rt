@@ -1,10 +1,11 @@
 //! The rule on the balance of captures, on a written board.
 
-use balance_rule::{PriceDesk, balances, find_balance};
+use balance_rule::balances;
 use board_base::{Odds, SquareSet};
 use cage_rules::greatest_as_array;
 use capture_prices::Prices;
 use fen_text::read_four_fields;
+use price_search::{PriceDesk, find_balance};
 use std::alloc::Global;
 
 /// The pawns of e2, a7, f7 and g7, who have never moved.
