@@ -265,8 +265,8 @@ fn outcome_of(
 /// What flat prices came to.
 fn flat_outcome(kept: &FlatGround, query: &Query, payers: Payers) -> Option<Outcome> {
     outcome_of(
-        &kept.white.ground,
-        &kept.black.ground,
+        &kept.white.side,
+        &kept.black.side,
         query,
         &flat_prices(payers),
         &[0; 32],
@@ -293,8 +293,8 @@ impl FlatOutcomes {
 /// its way, and those at flat prices, show that there are none.
 fn ascend(query: &Query, kept: &FlatGrounds, flat: &FlatOutcomes, most: u32) -> Option<Prices> {
     let mut ascent = Ascent::new();
-    let mut white = kept.both.white.ground;
-    let mut black = kept.both.black.ground;
+    let mut white = kept.both.white.side;
+    let mut black = kept.both.black.side;
     let mut weighing = Weighing::new();
     weighing.add(&flat.white_alone.white, &flat.white_alone.black);
     weighing.add(&flat.black_alone.white, &flat.black_alone.black);

@@ -72,8 +72,8 @@ fn sought(
     set: SquareSet,
 ) -> Option<Sought> {
     let men = PlacedMen {
-        white: placed_men(&kept.both.white.ground, &query.board)?,
-        black: placed_men(&kept.both.black.ground, &query.board)?,
+        white: placed_men(&kept.both.white.side, &query.board)?,
+        black: placed_men(&kept.both.black.side, &query.board)?,
     };
     let key = Key {
         set,

@@ -20,10 +20,10 @@ use query_base::Query;
 pub(crate) struct FlatSide {
     payers: Payers,
     odds: Odds,
-    pub(crate) ground: Ground,
+    pub(crate) side: Ground,
     /// What it costs that the man of each of the side's homes is gone.
     lost: [u16; 16],
-    ghost known: { ∥ IsFlatGround payers odds ground lost ∥₁ },
+    ghost known: { ∥ IsFlatGround payers odds side lost ∥₁ },
 }
 
 /// The same of both sides.
@@ -50,12 +50,12 @@ pub(crate) struct Homes {
 
 /// What is known of a side of the query.
 fn flat_side(query: &Query, set: SquareSet, payers: Payers, side: Colour) -> FlatSide {
-    let ground = ground_of(query, set, &flat_prices(payers), side);
-    let lost = gone_row(&ground);
+    let side = ground_of(query, set, &flat_prices(payers), side);
+    let lost = gone_row(&side);
     FlatSide {
         payers,
         odds: query.odds,
-        ground,
+        side,
         lost,
     }
 }
@@ -71,9 +71,9 @@ fn flat_ground(query: &Query, set: SquareSet, payers: Payers) -> FlatGround {
 impl FlatSide {
     /// Whether this is of the side, at these prices and beside this set in games at these odds.
     fn fits(&self, side: Colour, payers: Payers, set: SquareSet, odds: Odds) -> bool
-        ensures { IsTrue result → (self.now.ground.side ≡ side) × (self.now.payers ≡ payers) × (self.now.ground.frozen ≡ set) × (self.now.odds ≡ odds) }
+        ensures { IsTrue result → (self.now.side.side ≡ side) × (self.now.payers ≡ payers) × (self.now.side.frozen ≡ set) × (self.now.odds ≡ odds) }
     {
-        if self.ground.side != side || self.payers != payers || self.ground.frozen != set {
+        if self.side.side != side || self.payers != payers || self.side.frozen != set {
             return false;
         }
         self.odds.is_same(odds)
@@ -92,7 +92,7 @@ impl FlatGrounds {
 
     /// Whether this is of positions with this set and these odds.
     pub(crate) fn fits(&self, set: SquareSet, odds: Odds) -> bool {
-        self.both.white.ground.frozen == set && self.both.white.odds == odds
+        self.both.white.side.frozen == set && self.both.white.odds == odds
     }
 }
 
@@ -128,13 +128,13 @@ fn are_homes(homes: &[u8]) -> bool
 /// What it costs that the man in a place of the table began on this home: first come those on these squares.
 fn cell(kept: &FlatSide, board: &Board, men: &[u8], i: usize, home: u8) -> u16
     requires home { home < 16 }
-    requires men { men.now ≡ men_squares kept.now.ground.side board.now }
-    ensures { IsFlatGround kept.now.payers kept.now.odds kept.now.ground kept.now.lost → i < men_on kept.now.ground.side (array_of kept.now.odds) → result ≡ cost_at (cost_table (flat_prices kept.now.payers) kept.now.ground.frozen kept.now.ground.side (array_of kept.now.odds) board.now) i home }
+    requires men { men.now ≡ men_squares kept.now.side.side board.now }
+    ensures { IsFlatGround kept.now.payers kept.now.odds kept.now.side kept.now.lost → i < men_on kept.now.side.side (array_of kept.now.odds) → result ≡ cost_at (cost_table (flat_prices kept.now.payers) kept.now.side.frozen kept.now.side.side (array_of kept.now.odds) board.now) i home }
 {
     if i < men.len() {
         let s = Square::known(men[i]);
-        let home = number_of_home(kept.ground.side, home);
-        stands(&kept.ground, home, board.at(s), s)
+        let home = number_of_home(kept.side.side, home);
+        stands(&kept.side, home, board.at(s), s)
     } else {
         kept.lost[home as usize]
     }
@@ -143,14 +143,14 @@ fn cell(kept: &FlatSide, board: &Board, men: &[u8], i: usize, home: u8) -> u16
 /// What the men of a side cost with these homes, one for each man on the board and then one for each who is gone; None where these are
 /// no homes of theirs.
 fn cost_with(kept: &FlatSide, board: &Board, homes: &[u8; 16]) -> Option<u32>
-    ensures { IfSome result (λ cost. (men_on kept.now.ground.side board.now ≤ men_on kept.now.ground.side (array_of kept.now.odds)) × (side_cost kept.now.odds board.now (flat_prices kept.now.payers) kept.now.ground.frozen kept.now.ground.side ≤ cost)) }
+    ensures { IfSome result (λ cost. (men_on kept.now.side.side board.now ≤ men_on kept.now.side.side (array_of kept.now.odds)) × (side_cost kept.now.odds board.now (flat_prices kept.now.payers) kept.now.side.frozen kept.now.side.side ≤ cost)) }
 {
-    let begun = begun_with(kept.ground.side, kept.odds);
+    let begun = begun_with(kept.side.side, kept.odds);
     let homes = &homes[..begun as usize];
     if !are_homes(homes) {
         return None;
     }
-    let men = squares_of_men(board, kept.ground.side, begun)?;
+    let men = squares_of_men(board, kept.side.side, begun)?;
     let mut cost = 0;
     for i in 0..homes.len() {
         cost += u32::from(cell(kept, board, men.as_slice(), i, homes[i]));

@@ -9,5 +9,5 @@ use Rattle.price_search.proofs.flat_grounds.cost_with.Given as goal
 abbrev pub invariant-loop-i : goal.invariant-loop-i
 invariant-loop-i l = record {
   small : l.cost ≤ 65535 * l.i;
-  value : IsFlatGround l.kept.payers l.kept.odds l.kept.ground l.kept.lost → l.cost + assignment_cost (drop l.i (cost_table (flat_prices l.kept.payers) l.kept.ground.frozen l.kept.ground.side (array_of l.kept.odds) l.board)) (drop l.i l.homes) ≡ assignment_cost (cost_table (flat_prices l.kept.payers) l.kept.ground.frozen l.kept.ground.side (array_of l.kept.odds) l.board) l.homes;
+  value : IsFlatGround l.kept.payers l.kept.odds l.kept.side l.kept.lost → l.cost + assignment_cost (drop l.i (cost_table (flat_prices l.kept.payers) l.kept.side.frozen l.kept.side.side (array_of l.kept.odds) l.board)) (drop l.i l.homes) ≡ assignment_cost (cost_table (flat_prices l.kept.payers) l.kept.side.frozen l.kept.side.side (array_of l.kept.odds) l.board) l.homes;
 }

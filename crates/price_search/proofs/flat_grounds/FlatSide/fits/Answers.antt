@@ -8,7 +8,7 @@ use Rattle.price_search.proofs.flat_grounds.FlatSide.fits.Goals as goal
 
 pub returns : goal.returns
 returns c =
-    let colours : same_colour c.args.self.now.ground.side c.args.side ≡ true = search rules in
+    let colours : same_colour c.args.self.now.side.side c.args.side ≡ true = search rules in
     let same : c.args.self.now.payers ≡ c.args.payers = search rules in
-    let sets : pointwise beq c.args.self.now.ground.frozen c.args.set ≡ true = search rules in
-    λ yes. (colour_is c.args.self.now.ground.side c.args.side colours, same, (sets_decide c.args.self.now.ground.frozen c.args.set).0 sets, c.is_same.ensures.0 yes)
+    let sets : pointwise beq c.args.self.now.side.frozen c.args.set ≡ true = search rules in
+    λ yes. (colour_is c.args.self.now.side.side c.args.side colours, same, (sets_decide c.args.self.now.side.frozen c.args.set).0 sets, c.is_same.ensures.0 yes)
