@@ -23,6 +23,7 @@ use Rattle.retro_search.specs.Lone.{IsAfforded, IsDear, unmoves_in_all}
 use Rattle.retro_search.specs.Outcomes.{HasProof}
 use Rattle.retro_search.specs.RuleLines.{IsByRuleLines}
 use Rattle.retro_search.specs.Costs.{IsCost}
+use Rattle.retro_search.specs.SearchSizes.{IsLargeSearch}
 use Rattle.retro_search.specs.Searched.{IsUnsettled}
 use Rattle.retro_search.specs.Sizes.{nodes_in}
 use Rattle.retro_search.specs.Tidy.{IsFresh}
@@ -203,6 +204,9 @@ told_priced claim q depth nodes run f by some e t = priced_found claim q nodes t
 
 pub told_spent : (claim : Claim) (q : Asked) (depth nodes : ℕ) (run : Run) (f : Found) → IsTold depth nodes run claim q f → IfSpentAt f (λ n. WhereRefutable (target q claim) depth (λ m. nodes < m))
 told_spent claim q depth nodes run f t = on_spent claim q nodes t.came f _ t.tells t.comes.spent
+
+pub told_large : (claim : Claim) (q : Asked) (depth nodes : ℕ) (run : Run) (f : Found) → IsTold depth nodes run claim q f → IfSpentAt f (λ n. IsLargeSearch (target q claim) depth nodes)
+told_large claim q depth nodes run f t = on_spent claim q nodes t.came f _ t.tells t.comes.outsized
 
 pub told_never_weaker : (claim : Claim) (q : Asked) (depth nodes : ℕ) (run : Run) (f : Found) → IsTold depth nodes run claim q f → WhereRefutable (target q claim) depth (λ n. n ≤ nodes → IsProved f)
 told_never_weaker claim q depth nodes run f t = on_never_weaker claim q (target q claim) depth nodes t.came f t.tells t.comes.unsettled t.comes.spent

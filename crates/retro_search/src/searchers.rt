@@ -6,6 +6,7 @@ ghost use Rattle.retro_search.specs.Answers.{IfCountered, IfProved, IfSpentAt, I
 ghost use Rattle.retro_search.specs.Attempts.{ComesTo};
 ghost use Rattle.retro_search.specs.Outcomes.{HasProof, IfRefuted, IsRefuted};
 ghost use Rattle.retro_search.specs.Refutable.{IsRefutable};
+ghost use Rattle.retro_search.specs.SearchSizes.{IsLargeSearch};
 ghost use Rattle.retro_search.specs.Unrefuted.{IfTooLarge};
 ghost use Rattle.retro_search.specs.Unsettled.{IsAgainst, IsUnpriced, StaysUnsettled, WhereRefutable};
 
@@ -84,8 +85,8 @@ impl Searcher {
     ///   game of any length reaches it.
     /// - `Open` comes only where rule lines don't refute the query at the depth. By rule lines alone it comes wherever they don't, unless
     ///   `Spent` comes.
-    /// - `Spent` comes only where the cost of the query is above the nodes at each depth up to that of the limits at which rule lines
-    ///   refute it.
+    /// - `Spent` comes only where the whole search of the query to the depth is larger than the nodes; and its cost is above them at each
+    ///   depth up to that of the limits at which rule lines refute it.
     ///
     /// Want of memory is a free answer: `Memory` may take the place of each of these, and the next question may be asked all the same.
     pub fn refute(&mut self, query: &Query, limits: Limits) -> Result<Outcome, Memory>
@@ -93,6 +94,7 @@ impl Searcher {
         ensures low { self.old ≡ Reasons.RuleLines → IfOk result (λ outcome. IfRefuted outcome (λ height. IsRefutable query.now height [])) }
         ensures open { IfOk result (λ outcome. outcome ≡ Outcome.Open → IsRefutable query.now limits.depth [] → ⊥) }
         ensures spent { IfOk result (λ outcome. outcome ≡ Outcome.Spent → WhereRefutable query.now limits.depth (λ n. limits.nodes < n)) }
+        ensures large { IfOk result (λ outcome. outcome ≡ Outcome.Spent → IsLargeSearch query.now limits.depth limits.nodes) }
         ensures never_weaker { IfOk result (λ outcome. WhereRefutable query.now limits.depth (λ n. n ≤ limits.nodes → IsRefuted outcome)) }
         ensures priced { self.old ≡ Reasons.All → 1 ≤ limits.nodes → FlatPricesSupport query.now → IfOk result IsRefuted }
         ensures exactly { self.old ≡ Reasons.RuleLines → IfOk result (λ outcome. (outcome ≡ Outcome.Spent → ⊥) → (IsRefuted outcome ↔ IsRefutable query.now limits.depth [])) }
@@ -122,8 +124,9 @@ impl Searcher {
     ///   has as many unmoves as the depth, and doesn't end at the array. By all reasons and with at most 250,000 nodes, flat prices
     ///   support no query on it.
     /// - `Countered` comes with a game that contradicts the claim, and has no more moves than the depth.
-    /// - `Spent` comes only where the cost of the target is above the nodes at each depth up to that of the limits at which rule lines
-    ///   refute it. It says how many queries were visited, which are all that were allowed.
+    /// - `Spent` comes only where the whole search of the target to the depth is larger than the nodes; and its cost is above them at each
+    ///   depth up to that of the limits at which rule lines refute it. It says how many queries were visited, which are all that were
+    ///   allowed.
     ///
     /// Want of memory is a free answer: `Memory` may take the place of each of these.
     pub fn settle(&mut self, query: &Query, claim: &Claim, limits: Limits) -> Result<Found, Memory>
@@ -133,6 +136,7 @@ impl Searcher {
         ensures undecided { IfOk result (λ found. IfUndecided found (λ line. StaysUnsettled line (target query.now claim.now) limits.depth)) }
         ensures countered { IfOk result (λ found. IfCountered found (λ game. IsAgainst game claim.now query.now limits.depth)) }
         ensures spent { IfOk result (λ found. IfSpentAt found (λ visited. WhereRefutable (target query.now claim.now) limits.depth (λ n. limits.nodes < n))) }
+        ensures large { IfOk result (λ found. IfSpentAt found (λ visited. IsLargeSearch (target query.now claim.now) limits.depth limits.nodes)) }
         ensures never_weaker { IfOk result (λ found. WhereRefutable (target query.now claim.now) limits.depth (λ n. n ≤ limits.nodes → IsProved found)) }
         ensures priced { self.old ≡ Reasons.All → 1 ≤ limits.nodes → FlatPricesSupport (target query.now claim.now) → IfOk result IsProved }
         ensures unpriced { self.old ≡ Reasons.All → limits.nodes ≤ 250000 → IfOk result (λ found. IfUndecided found (IsUnpriced (target query.now claim.now))) }

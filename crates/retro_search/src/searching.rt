@@ -4,7 +4,8 @@ ghost use Rattle.query_base.specs.Reach.{Reaches};
 ghost use Rattle.cert_text.specs.Seen.{tree_of};
 ghost use Rattle.retro_search.specs.Refutable.{IsRefutable, IsShut};
 ghost use Rattle.retro_search.specs.Costs.{IsCost};
-ghost use Rattle.retro_search.specs.Searched.{AreCounted, IsCostBelow, IsCounted, IsOpen, IsUnsettled, WhereEachRefutable};
+ghost use Rattle.retro_search.specs.SearchSizes.{IsSearchSize};
+ghost use Rattle.retro_search.specs.Searched.{AreCounted, IsCostBelow, IsCounted, IsOpen, IsSizeBelow, IsUnsettled, WhereEachRefutable};
 ghost use Rattle.retro_search.specs.Unrefuted.{IfOpen, IfSpent, IfTooLarge};
 ghost use Rattle.retro_search.specs.Unsettled.{IsUnpriced};
 ghost use Rattle.retro_search.specs.Vain.{AreVain};
@@ -106,6 +107,8 @@ pub(crate) fn search(
     ensures unpriced { run.old.reasons ≡ Reasons.All → AreVain run.old.vain.keys → IfErr result (λ stop. IfOpen stop (λ line. IsUnpriced query.now (reverse line.back.items))) }
     ensures cost { OnOk result (IsRefutable query.now depth (reverse ancestors.old.items) → (n : ℕ) → IsCost query.now depth (reverse ancestors.old.items) n → run.old.left ≤ run.new.left + n) }
     ensures spent { IfErr result (λ stop. IfSpent stop (IsCounted run.old.reasons query.now depth (reverse ancestors.old.items) → (n : ℕ) → IsCost query.now depth (reverse ancestors.old.items) n → run.old.left < n)) }
+    ensures size { OnOk result ((n : ℕ) → IsSearchSize query.now depth (reverse ancestors.old.items) n → run.old.left ≤ run.new.left + n) }
+    ensures outsized { IfErr result (λ stop. IfSpent stop ((n : ℕ) → IsSearchSize query.now depth (reverse ancestors.old.items) n → run.old.left < n)) }
     ensures deep { IfErr result (λ stop. IfOpen stop (λ line. length line.back.items < run.old.left)) }
     ensures on { GoesOn run.old run.new }
     ensures lined { run.old.reasons ≡ Reasons.RuleLines → IfOk result (λ found. IsByRuleLines (tree_of found.node)) }
@@ -178,6 +181,8 @@ fn expand(
     ensures unpriced { run.old.reasons ≡ Reasons.All → AreVain run.old.vain.keys → (FlatPricesSupport query.now → ⊥) → IfErr result (λ stop. IfOpen stop (λ line. IsUnpriced query.now (reverse line.back.items))) }
     ensures cost { OnOk result (WhereEachRefutable query.now below (reverse ancestors.old.items) (λ n. run.old.left ≤ run.new.left + n)) }
     ensures spent { IfErr result (λ stop. IfSpent stop (AreCounted run.old.reasons query.now below (reverse ancestors.old.items) → (n : ℕ) → IsCostBelow query.now below (reverse ancestors.old.items) n → run.old.left < n)) }
+    ensures size { OnOk result ((n : ℕ) → IsSizeBelow query.now below (reverse ancestors.old.items) n → run.old.left ≤ run.new.left + n) }
+    ensures outsized { IfErr result (λ stop. IfSpent stop ((n : ℕ) → IsSizeBelow query.now below (reverse ancestors.old.items) n → run.old.left < n)) }
     ensures deep { IfErr result (λ stop. IfOpen stop (λ line. length line.back.items ≤ run.old.left)) }
     ensures on { GoesOn run.old run.new }
     ensures lined { run.old.reasons ≡ Reasons.RuleLines → IfOk result (λ found. IsByRuleLines (tree_of found.node)) }

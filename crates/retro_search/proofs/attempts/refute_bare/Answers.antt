@@ -24,6 +24,7 @@ for_any came q depth nodes own any by none many w = record {
   first = λ _. w.first by;
   deep = w.deep;
   spent = w.spent;
+  outsized = w.outsized;
   dear = λ _. w.dear by;
   priced = λ all e. err_always came (λ why. (why ≡ Memory) ⊎ (nodes ≡ 0)) (λ why. inr (none all e));
   unpriced = λ all few. absurd (many few);
