@@ -17,7 +17,7 @@ AVOIDED = {
     "memory is wanting": "out of memory",
     "memory isn't wanting": "there is enough memory",
     "only where": "only if",
-    "of which it is told": "that it reports",
+    "exactly there": "if and only if",
 }
 
 
@@ -72,8 +72,9 @@ class Pages(unittest.TestCase):
 
     def test_words_are_plain(self):
         for page in pages():
+            text = re.sub(r'"[^"\n]*"', "", prose(page))
             for word, plain in AVOIDED.items():
-                self.assertNotIn(word, prose(page), f"{page.name}: write {plain!r}")
+                self.assertFalse(word in text, f"{page.name}: write {plain!r} for {word!r}")
 
     def test_quoted_definitions_stand_in_the_code(self):
         crates = TOP / "crates"
