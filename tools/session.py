@@ -17,7 +17,7 @@ import sys
 import tempfile
 
 TOP = pathlib.Path(__file__).resolve().parent.parent
-LEFT_OUT = ("rt ", "(cd ", "apt-get ", "install ", "export ", "python3 tools/collection.py /usr/")
+LEFT_OUT = ("rt ", "cd ", "apt-get ", "install ", "export ", "python3 tools/collection.py /usr/")
 
 
 def pages():
