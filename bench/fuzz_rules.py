@@ -1,4 +1,4 @@
-"""Decides by itself, for fuzz.py, whether the reason `balance` supports the query of a root. docs/CERTIFICATE.md has the rule."""
+"""Decides by itself, for fuzz.py, whether the reason `balance` supports the query of a root. docs/FORMATS.md has the rule."""
 import functools
 from dataclasses import dataclass
 

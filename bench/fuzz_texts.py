@@ -1,4 +1,4 @@
-"""Reads the nodes of a certificate by itself, for fuzz.py. docs/CERTIFICATE.md has the grammar."""
+"""Reads the nodes of a certificate by itself, for fuzz.py. docs/FORMATS.md has the grammar."""
 import re
 
 MOVE = r"[a-h][1-8][a-h][1-8]"

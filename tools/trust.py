@@ -1,14 +1,15 @@
 #!/usr/bin/env python3
-"""Check that docs/TRUST.md lists each definition that a clause of `run` reaches, with what its comment says, and nothing else.
+"""Check that docs/ lists each definition that a clause of `run` reaches, with what its comment says, and nothing else.
 
 Usage: tools/trust.py [--repo DIR] [--write]
   --write   write the list anew
 
-The list begins behind the line MARK below; what stands before it is written by hand. A definition is reached where a clause of `run`
+docs/TRUST.md has the definitions of the headline, the first of HEADLINES below, and docs/TRUST-LIST.md those of all other clauses. In
+both the list begins behind the line MARK, and what stands before it is written by hand. A definition is reached if a clause of `run`
 cites it, directly or through other definitions, as tools/believed.py finds it. The clauses stand in the order of HEADLINES, then in
 that of `run`, each with the number of the definitions that it reaches, and with those that no clause before it reaches. The cases of
-a data type stand in the entry of the type. There is a line for each definition that has no comment, or whose entry is missing, old or
-too many, and exit status 1.
+a data type stand in the entry of the type. There is a line for each definition that has no comment, and for each entry that is
+missing, old or too many, and then the exit status is 1.
 """
 import argparse
 import pathlib
@@ -20,6 +21,7 @@ from believed import block, cited, crates, imported, load, reached
 
 HEADLINES = ["accepted", "accepted_line", "proved", "settled", "proved_line", "countered", "unsettled", "decided", "measured", "bounded", "refused"]
 MARK = "<!-- The rest is written by tools/trust.py --write. -->"
+PAGE, LIST = "TRUST.md", "TRUST-LIST.md"
 
 
 def cited_by_run(folder, definitions):
@@ -80,17 +82,25 @@ def told(specs, believed):
 
 
 def by_clause(folders, specs, definitions, scopes):
-    """The whole list, and what is wrong with the comments."""
-    lines, wrong, before = [], [], set()
+    """The list of each page, and what is wrong with the comments."""
+    pages, wrong, before = {PAGE: [], LIST: []}, [], set()
     for name, start in cited_by_run(folders["retro_top"], definitions).items():
         believed = told(specs, reached(start, definitions, scopes))
         fresh = believed - before
         before |= believed
         count = f"{len(believed)} definition{'' if len(believed) == 1 else 's'}" + ("" if len(fresh) == len(believed) else f", {len(fresh)} of them not above")
-        lines += ["", f"## `{name}`: {count}"]
         more, faults = listing(folders, specs, fresh)
-        lines, wrong = lines + more, wrong + faults
-    return lines, wrong
+        pages[PAGE if name == HEADLINES[0] else LIST] += ["", f"## `{name}`: {count}", *more]
+        wrong += faults
+    return pages, wrong
+
+
+def compared(page, lines, old):
+    """What a page lacks of these lines, and what it has besides."""
+    before, after = set(old.split("\n")), set(lines)
+    wrong = [f"docs/{page} lacks: {line}" for line in lines if line not in before]
+    wrong += [f"docs/{page} has: {line}" for line in old.split("\n") if line not in after]
+    return wrong or [f"docs/{page} has its entries in another order"]
 
 
 def main():
@@ -102,20 +112,19 @@ def main():
     order = re.findall(r"(?m)^(\w+):", (args.repo / "crates.txt").read_text())
     folders = dict(sorted(crates(args.repo).items(), key=lambda item: order.index(item[0])))
     specs, definitions, scopes = load(folders)
-    lines, wrong = by_clause(folders, specs, definitions, scopes)
-    path = args.repo / "docs" / "TRUST.md"
-    front, mark, old = path.read_text().partition(MARK)
-    new = "\n".join(lines) + "\n"
-    if args.write:
-        path.write_text(front + MARK + "\n" + new)
-    elif not mark or old.lstrip("\n") != new.lstrip("\n"):
-        before, after = set(old.split("\n")), set(new.split("\n"))
-        wrong += [f"docs/TRUST.md lacks: {line}" for line in lines if line not in before]
-        wrong += [f"docs/TRUST.md has: {line}" for line in old.split("\n") if line not in after and line != MARK]
-        wrong += [] if wrong else ["docs/TRUST.md has its entries in another order"]
+    pages, wrong = by_clause(folders, specs, definitions, scopes)
+    for page, lines in pages.items():
+        path = args.repo / "docs" / page
+        front, mark, old = path.read_text().partition(MARK)
+        new = "\n".join(lines) + "\n"
+        if args.write:
+            path.write_text(front + MARK + "\n" + new)
+        elif not mark or old.lstrip("\n") != new.lstrip("\n"):
+            wrong += compared(page, lines, old)
     for fault in wrong:
         print(fault)
-    print(f"{sum(line.startswith('- ') for line in lines)} entries; {len(wrong)} faults")
+    entries = sum(line.startswith("- ") for lines in pages.values() for line in lines)
+    print(f"{entries} entries; {len(wrong)} faults")
     return 1 if wrong else 0
 
 
