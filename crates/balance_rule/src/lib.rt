@@ -23,5 +23,5 @@ mod weighing;
 
 pub use balance::{balances, most_cost, side_cost};
 pub use desk::{PriceDesk, find_balance};
-pub use laws::balance_closes;
+pub use laws::{balance_closes, costs_bound_walls};
 pub use tables::begun_with;

@@ -1,0 +1,5 @@
+pub mod Zones
+pub mod Limits
+pub mod Account
+pub mod Frozen
+pub mod Closes
