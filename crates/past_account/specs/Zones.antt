@@ -1,26 +1,31 @@
 -- Zones: where the pawn of a figure can have stood; and regions of officers who didn't go over all squares of a zone.
-use Rattle.std.specs.Prelude.{ℕ, ◌≡◌, ◌-◌, ◌<◌, ◌==◌, Bool, false, ◌&&◌, ◌||◌, not, IsTrue, List, Option, Some, None}
+use Rattle.std.specs.Prelude.{ℕ, ◌≡◌, ◌-◌, ◌<◌, ◌==◌, Bool, false, ◌&&◌, ◌||◌, not, nat_lt, IsTrue, List, Option, Some, None}
 use Rattle.std.specs.List.{Contains, list_all, list_any, range_with_len}
 use Rattle.board_base.specs.Board.{file, is_in, same_kind}
 use Rattle.board_base.specs.Attacks.{king_distance, on_the_way}
 use Rattle.board_base.specs.declared.men.Kind.{Kind}
 use Rattle.board_base.specs.declared.men.Kind.TheVariants.{Pawn, Knight}
 use Rattle.board_base.specs.declared.men.Man.{Man}
+use Rattle.play_rules.specs.Laws.{is_end}
 use Rattle.play_rules.specs.Reach.{IsWithin}
 use Rattle.cage_rules.specs.Regions.{may_roam}
 use Rattle.cage_rules.specs.Sets.{each_set, squares_that}
 use Rattle.men_fates.specs.Ways.{is_pawn_step}
 use Rattle.past_sketches.specs.Figures.{Figure, Sketch, figure_at}
 
+-- Article 3.7: no pawn stands on rank 1 or 8, and on the set only its own men do
+abbrev pub may_hold : List Bool → ℕ → Bool
+may_hold set z = nat_lt z 64 && not (is_end z || is_in set z)
+
 -- Article 3.7: outside the set the figure's pawn goes from z to t, straight on where he is marked
 abbrev pub goes_on : List Bool → Figure → ℕ → ℕ → Bool
-goes_on set f z t = is_pawn_step f.colour set z t && (not f.marked || (file z == file t))
+goes_on set f z t = may_hold set z && is_pawn_step f.colour set z t && (not f.marked || (file z == file t))
 
 -- The figure is a pawn, and the zone has his squares, and each from which he goes on to one of its squares.
 pub record IsZone (set : List Bool) (f : Figure) (zone : List Bool) : Type 0 where
   pub pawn : IsTrue (list_all (λ k. same_kind Pawn k) f.kinds)
   pub squares : IsWithin f.squares zone
-  pub closed : (z t : ℕ) → z < 64 → IsTrue (is_in zone t) → IsTrue (goes_on set f z t) → IsTrue (is_in zone z)
+  pub closed : (z t : ℕ) → IsTrue (is_in zone t) → IsTrue (goes_on set f z t) → IsTrue (is_in zone z)
 
 -- each of them is the zone of a figure
 abbrev pub AreZones : List Bool → Sketch → List (List Bool) → Type 0

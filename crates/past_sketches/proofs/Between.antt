@@ -1,7 +1,5 @@
 -- A man who went over empty squares went past all squares that are in no set, but his target.
 use Rattle.std.proofs.Common.{◌≡◌, ◌≢◌, ℕ, ◌+◌, ◌-◌, ◌*◌, ◌<◌, ◌≤◌, ◌==◌, inl, inr, Bool, true, false, ◌&&◌, ◌||◌, not, List, sym, arith, ◌∙◌, ap, refl}
-use Rattle.past_sketches.specs.Closed.{is_crossed, is_line, leaves_way}
-use Rattle.past_sketches.specs.Figures.{Figure}
 use Rattle.std.specs.List.{list_all, list_any, range_with_len}
 use Rattle.std.proofs.lemmas.Bool.{and_parts, and_from, or_cases, or_left, or_right, cases_lt, eqb-true, both_ways, cases_Bool, cases_eq, false_from_ne_true, ne_eqb, not_from_false}
 use Rattle.general_lemmas.proofs.Ranges.{all-each, all_in_range, any-found, any-one}
@@ -13,19 +11,6 @@ use Rattle.board_base.specs.declared.men.Kind.TheVariants.{Pawn, Knight, Bishop,
 use Rattle.board_base.proofs.Ways.{toward-down, toward-same, toward-up}
 use Rattle.cage_rules.specs.Regions.{walls}
 use Rattle.cage_rules.proofs.Walls.{no-wall}
-
-toward-none : (a b : ℕ) → toward a b 0 ≡ a
-toward-none a b = elim (cases_lt a b) [
-  | inl up ↦ let w = toward-up a b 0 up in omega (arith, w)
-  | inr not_up ↦ elim (cases_lt b a) [
-    | inl down ↦ let w = toward-down a b 0 down in omega (arith, w)
-    | inr not_down ↦ toward-same a b 0 (omega arith)
-  ]
-]
-
-no-steps : (s t : ℕ) → on_the_way s t 0 ≡ s
-unfolding on_the_way
-no-steps s t = let r = toward-none (rank s) (rank t) in let f = toward-none (file s) (file t) in omega (arith, r, f)
 
 -- on a line or a diagonal, files that differ are as far apart as the squares
 far-files : (s t : ℕ) → (on_one_line s t || on_one_diagonal s t) ≡ true → (file s ≡ file t → ⊥) → files_apart s t ≡ king_distance s t
@@ -116,33 +101,3 @@ goes-past board set c Rook s t free h =
 goes-past board set c Queen s t free h =
     let parts = and_parts (not (s == t) && (on_one_line s t || on_one_diagonal s t)) _ h in
     and_from _ _ parts.0 (open-past board set s t (and_parts (not (s == t)) _ parts.0).1 free parts.1)
-
-none-between : (board : Places) (e s w : ℕ) → w ≢ e → is_empty (at board w) ≡ false → is_open board e s ≡ true → list_any (λ n. on_the_way e s n == w) (range_with_len 1 (king_distance e s - 1)) ≡ false
-none-between board e s w a full clear = false_from_ne_true _ (λ found.
-    let on = any-one (λ n. on_the_way e s n == w) 1 (king_distance e s - 1) found in
-    elim (cases_eq on.number 0) [
-      | inl first ↦ a (sym (eqb-true (on_the_way e s on.number) w on.passes) ∙ ap (on_the_way e s) first ∙ no-steps e s)
-      | inr later ↦
-          let below = on.below in
-          let vacant : is_empty (at board (on_the_way e s on.number)) ≡ true = all_in_range (λ i. is_empty (at board (on_the_way e s i))) 1 (king_distance e s - 1) on.number clear (omega (arith, later)) (omega (arith, below)) in
-          both_ways _ full (ap (λ (q : ℕ). is_empty (at board q)) (sym (eqb-true (on_the_way e s on.number) w on.passes)) ∙ vacant)
-    ])
-
-no-line : (board : Places) (c : Colour) (k : Kind) (e s w : ℕ) → w ≢ e → is_empty (at board w) ≡ false → kind_attacks board c k e s ≡ true → (is_line k && list_any (λ n. on_the_way e s n == w) (range_with_len 1 (king_distance e s - 1))) ≡ false
-unfolding kind_attacks
-no-line board c Pawn e s w a full h = refl
-no-line board c Knight e s w a full h = refl
-no-line board c King e s w a full h = refl
-no-line board c Bishop e s w a full h = none-between board e s w a full (and_parts _ (is_open board e s) h).1
-no-line board c Rook e s w a full h = none-between board e s w a full (and_parts _ (is_open board e s) h).1
-no-line board c Queen e s w a full h = none-between board e s w a full (and_parts _ (is_open board e s) h).1
-
--- a square where somebody stands is not crossed
-pub not-crossed : (board : Places) (c : Colour) (k : Kind) (e s w : ℕ) → w ≢ e → w ≢ s → is_empty (at board w) ≡ false → kind_attacks board c k e s ≡ true → is_crossed k e s w ≡ false
-not-crossed board c k e s w a b full h = rw (ne_eqb _ _ a, ne_eqb _ _ b) (no-line board c k e s w a full h)
-
-pub way-by : (g : Figure) (k : Kind) (e s w : ℕ) → w < 64 → is_in g.squares w ≡ true → (list_all (same_kind Pawn) g.kinds ≡ true → is_crossed k e s w ≡ false) → leaves_way k e s g ≡ true
-way-by g k e s w small member off = elim (cases_Bool (list_all (same_kind Pawn) g.kinds)) [
-  | inr other ↦ or_left _ _ (not_from_false _ other)
-  | inl pawn ↦ or_right (not (list_all (same_kind Pawn) g.kinds)) _ (any-found (λ q. is_in g.squares q && not (is_crossed k e s q)) 0 64 w (omega arith) (omega arith) (and_from _ _ member (not_from_false _ (off pawn))))
-]

@@ -35,7 +35,7 @@ use Rattle.past_sketches.proofs.Between.{goes-past}
 use Rattle.past_sketches.proofs.Touching.{king-attacks, king-by, touched-attacked, touched-next}
 use Rattle.past_sketches.proofs.Homes.{crossed-away}
 use Rattle.past_sketches.proofs.Moments.{Moment, fixed-man, legal}
-use Rattle.past_sketches.proofs.Quiet.{from-free, king-apart, king-untouched, loose-target, mover-colour, next-back, there-before, unguarded, way-left}
+use Rattle.past_sketches.proofs.Quiet.{from-free, king-apart, king-untouched, loose-target, mover-colour, next-back, there-before, unguarded}
 
 rook-leaves : (x : Castle) → whence x (rook_home x) ≡ None
 unfolding whence
@@ -70,16 +70,6 @@ king-no-promo : (board : Places) (c : Colour) (m : Move) → is_a King (at board
 unfolding promotion_fits
 king-no-promo board c m king fits = no-promo m.promo (is_a Pawn (at board m.from)) _ (another_kind Pawn King (at board m.from) king) fits
 
-target-end : (x : Castle) → is_end (king_target x) ≡ true
-target-end WhiteShort = refl
-target-end WhiteLong = refl
-target-end BlackShort = refl
-target-end BlackLong = refl
-
-full-pawn-place : (place : Option Man) → is_a Pawn place ≡ true → is_empty place ≡ false
-full-pawn-place None h = cc
-full-pawn-place (Some man) h = refl
-
 -- what is known of a castling
 record Castles (board : Places) (c : Colour) (x : Castle) : Type 0 where
   king : is_the c King (at board (king_home x)) ≡ true
@@ -104,28 +94,6 @@ module _ (o : List Bool) (p : List Move) (m : Move) (held : Rights) (exact : Lis
   same-castle : (y : Castle) → castling (board_after o p) m ≡ Some y → x ≡ y
   same-castle y e = same_Some _ _ (sym castled ∙ e)
 
-  -- no pawn stands on the squares of the castling
-  no-pawn-target : is_a Pawn (at (board_after o (p ++ m ∷ [])) m.to) ≡ false
-  no-pawn-target = no_pawn_on_ends o (p ++ m ∷ []) it.game m.to (subst (λ (s : ℕ). is_end s ≡ true) ends.to (target-end x))
-
-  off-squares : (e s : ℕ) → (e ≡ king_home x) ⊎ ((e ≡ crossed x) ⊎ (e ≡ rook_home x)) → (s ≡ crossed x) ⊎ (s ≡ m.to) → (w : ℕ) → is_a Pawn (at (board_after o p) w) ≡ true → w ≢ m.to → w ≢ m.from → (w ≢ e) × (w ≢ s)
-  off-squares e s at_e at_s w pawn not_to not_from = (from-off at_e, to-off at_s)
-    where
-      not-crossed-square : w ≢ crossed x
-      not-crossed-square same = both_ways _ (full-pawn-place (at (board_after o p) w) pawn) (ap (λ (t : ℕ). is_empty (at (board_after o p) t)) same ∙ crossed-empty (board_after o p) x known.clear)
-
-      not-rook : w ≢ rook_home x
-      not-rook same = both_ways _ (another_kind Pawn Rook (at (board_after o p) (rook_home x)) (and_parts (is_of (turn_after p) (at (board_after o p) (rook_home x))) _ known.rook).1) (ap (λ (t : ℕ). is_a Pawn (at (board_after o p) t)) (sym same) ∙ pawn)
-
-      from-off : (e ≡ king_home x) ⊎ ((e ≡ crossed x) ⊎ (e ≡ rook_home x)) → w ≢ e
-      from-off (inl home) same = not_from (same ∙ home ∙ ends.from)
-      from-off (inr (inl over)) same = not-crossed-square (same ∙ over)
-      from-off (inr (inr rook)) same = not-rook (same ∙ rook)
-
-      to-off : (s ≡ crossed x) ⊎ (s ≡ m.to) → w ≢ s
-      to-off (inl over) same = not-crossed-square (same ∙ over)
-      to-off (inr target) same = not_to (same ∙ target)
-
   home-free : is_in (fixed_squares T) (king_home x) ≡ false
   home-free = subst (λ (s : ℕ). is_in (fixed_squares T) s ≡ false) (sym ends.from) (from-free o p m held exact T it)
 
@@ -142,7 +110,6 @@ module _ (o : List Bool) (p : List Move) (m : Move) (held : Rights) (exact : Lis
       it.closed i f Rook (king_home x) (crossed x) found (subst (λ (k : Kind). may_be f k ≡ true) (sym (kind_is Rook man.kind rook)) now.kind) now.square
       (and_from _ _ (and_from _ _ (loose-crossed (king_home x) (king_home-within x) home-free) (rook-near (walls (fixed_squares T)) f.colour x))
       (subst (λ (d : Colour). is_unguarded T d Rook (king_home x) ≡ true) (rook-own man there ∙ now.colour) (king-apart o p m held exact T it (king_home x) Rook (king_home-within x) known.king refl))) refl
-      (way-left o p m held exact T it f.colour Rook (king_home x) (crossed x) no-pawn-target (rook-near (board_after o p) f.colour x) (off-squares (king_home x) (crossed x) (inl refl) (inl refl)))
 
   fixed-crossed : (i : ℕ) (f : Figure) (l u q : ℕ) (man : Man) → q ≡ crossed x → figure_at T i ≡ Some f → is_fixed_on q f ≡ true → IsManOf o (p ++ m ∷ []) f l q man → Came (board_after o p) (labels_after o p) m u q l man → ⊥
   fixed-crossed i f l u q man e found fixed now (stayed same a b label there) =
@@ -182,7 +149,6 @@ module _ (o : List Bool) (p : List Move) (m : Move) (held : Rights) (exact : Lis
       it.closed i f King (crossed x) m.to found may now.square
       (king-way f.colour (crossed x) m.to (own ∙ now.colour) (loose-target o p m held exact T it (crossed x) (crossed-within x) crossed-free)
       (subst (λ (s : ℕ). kind_attacks (walls (fixed_squares T)) f.colour King (crossed x) s ≡ true) ends.to (king-on (walls (fixed_squares T)) f.colour x)) (king-untouched o p m held exact T it m.to lawful.on_board after) crossed-apart) refl
-      (way-left o p m held exact T it f.colour King (crossed x) m.to no-pawn-target (subst (λ (s : ℕ). kind_attacks (board_after o p) f.colour King (crossed x) s ≡ true) ends.to (king-on (board_after o p) f.colour x)) (off-squares (crossed x) m.to (inr (inl refl)) (inr refl)))
 
   pub king-from : (i : ℕ) (f : Figure) (l : ℕ) (man : Man) → figure_at T i ≡ Some f → IsManOf o (p ++ m ∷ []) f l m.to man → turn_after p ≡ man.colour → same_kind King man.kind ≡ true → is_in f.squares m.from ≡ true
   king-from i f l man found now own king =
@@ -190,8 +156,7 @@ module _ (o : List Bool) (p : List Move) (m : Move) (held : Rights) (exact : Lis
       let at_home = king-apart o p m held exact T it (king_home x) King (king_home-within x) known.king refl in
       subst (λ (s : ℕ). is_in f.squares s ≡ true) ends.from
       (it.closed i f King (king_home x) (crossed x) found may (king-crossed i f l man found now own king)
-      (king-way f.colour (king_home x) (crossed x) (own ∙ now.colour) (loose-crossed (king_home x) (king_home-within x) home-free) (king-near (walls (fixed_squares T)) f.colour x) crossed-untouched at_home) refl
-      (way-left o p m held exact T it f.colour King (king_home x) (crossed x) no-pawn-target (king-near (board_after o p) f.colour x) (off-squares (king_home x) (crossed x) (inl refl) (inl refl))))
+      (king-way f.colour (king_home x) (crossed x) (own ∙ now.colour) (loose-crossed (king_home x) (king_home-within x) home-free) (king-near (walls (fixed_squares T)) f.colour x) crossed-untouched at_home) refl)
 
   fixed-target : (i : ℕ) (f : Figure) (l u q : ℕ) (man : Man) → q ≡ m.to → figure_at T i ≡ Some f → is_fixed_on q f ≡ true → IsManOf o (p ++ m ∷ []) f l q man → Came (board_after o p) (labels_after o p) m u q l man → ⊥
   fixed-target i f l u q man e found fixed now (stayed same a b label there) = a e
@@ -242,5 +207,4 @@ module _ (o : List Bool) (p : List Move) (m : Move) (held : Rights) (exact : Lis
             it.closed i f Rook (rook_home x) (crossed x) found (subst (λ (k : Kind). may_be f k ≡ true) (sym kind) now.kind) now.square
             (and_from _ _ (and_from _ _ (loose-crossed (rook_home x) small rook_home-free) (subst (λ (d : Colour). kind_attacks (walls (fixed_squares T)) d Rook (rook_home x) (crossed x) ≡ true) now.colour (subst (λ (k : Kind). kind_attacks (walls (fixed_squares T)) man.colour k (rook_home x) (crossed x) ≡ true) (sym kind) past)))
             (subst (λ (d : Colour). is_unguarded T d Rook (rook_home x) ≡ true) (rook-own man there ∙ now.colour) (subst (λ (k : Kind). is_unguarded T (turn_after p) k (rook_home x) ≡ true) (sym kind) (unguarded o p m held exact T it (rook_home x) man there (rook-own man there))))) refl
-            (way-left o p m held exact T it man.colour Rook (rook_home x) (crossed x) no-pawn-target (subst (λ (k : Kind). kind_attacks (board_after o p) man.colour k (rook_home x) (crossed x) ≡ true) (sym kind) hits) (off-squares (rook_home x) (crossed x) (inr (inr refl)) (inl refl)))
       ]

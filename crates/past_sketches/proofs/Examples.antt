@@ -23,7 +23,7 @@ use Rattle.board_base.specs.declared.men.Kind.TheVariants.{Pawn, Knight, Bishop,
 use Rattle.cage_rules.specs.Regions.{walls}
 use Rattle.cage_rules.specs.Sets.{squares_that}
 use Rattle.past_sketches.specs.Figures.{Figure, Sketch, fixed_squares, only_on, figure_at, may_be}
-use Rattle.past_sketches.specs.Closed.{guarded_squares, has_way, is_quiet_way, touched_squares, touches, IsClosed, is_loose}
+use Rattle.past_sketches.specs.Closed.{guarded_squares, is_quiet_way, touched_squares, touches, IsClosed, is_loose}
 use Rattle.past_sketches.specs.Steps.{Step, is_step, taken_back, arrives, made_by, may_have_gone, may_have_made}
 
 fixed : Colour → Kind → ℕ → Figure
@@ -45,11 +45,6 @@ corner-shut = (refl, refl)
 corner-open : is_quiet_way no_rights (fixed White Bishop 0 ∷ roaming White Pawn ∷ []) White Bishop 18 0 ≡ true
 unfolding fixed roaming fixed_squares squares_that kind_attacks distance king_distance on_the_way toward walls guarded_squares
 corner-open = refl
-
--- unless all its squares lie on the way
-corner-left : has_way (fixed White Bishop 0 ∷ record (fixed White Pawn 9) { squares = squares_that (λ s. s == 9) } ∷ []) Bishop 18 0 ≡ false
-unfolding fixed squares_that king_distance distance on_the_way toward
-corner-left = refl
 
 -- a pawn on its own rank has no quiet way there, and one beyond it has one from behind
 pawn-ways : (is_quiet_way no_rights corner White Pawn 1 9 ≡ false) × (is_quiet_way no_rights corner White Pawn 17 25 ≡ true)
@@ -134,23 +129,23 @@ loose-inside T c Queen e s h = inside-of T e s (and_parts _ _ (and_parts _ _ h).
 
 cornered-closed : IsClosed no_rights [] cornered
 unfolding cornered fixed roaming
-cornered-closed zero f k e s found may member way room free =
+cornered-closed zero f k e s found may member way room =
     let his : fixed White Bishop 0 ≡ f = same_Some _ _ found in
     let kind : Bishop ≡ k = one-kind Bishop k (subst (λ (g : Figure). may_be g k ≡ true) (sym his) may) in
     let here : s ≡ 0 = on-only 0 s (subst (λ (g : Figure). is_in g.squares s ≡ true) (sym his) member) in
     let colour : f.colour ≡ White = ap (λ (g : Figure). g.colour) (sym his) in
     absurd (no-way cornered White Bishop e 0 (loose-inside cornered f.colour k e s way) shut-in (subst (λ (d : Colour). is_quiet_way no_rights cornered d Bishop e 0 ≡ true) colour (subst (λ (j : Kind). is_quiet_way no_rights cornered f.colour j e 0 ≡ true) (sym kind) (subst (λ (t : ℕ). is_quiet_way no_rights cornered f.colour k e t ≡ true) here way))))
-cornered-closed (suc zero) f k e s found may member way room free =
+cornered-closed (suc zero) f k e s found may member way room =
     let his : fixed White Pawn 9 ≡ f = same_Some _ _ found in
     let kind : Pawn ≡ k = one-kind Pawn k (subst (λ (g : Figure). may_be g k ≡ true) (sym his) may) in
     let here : s ≡ 9 = on-only 9 s (subst (λ (g : Figure). is_in g.squares s ≡ true) (sym his) member) in
     let colour : f.colour ≡ White = ap (λ (g : Figure). g.colour) (sym his) in
     absurd (no-way cornered White Pawn e 9 (loose-inside cornered f.colour k e s way) stays-home (subst (λ (d : Colour). is_quiet_way no_rights cornered d Pawn e 9 ≡ true) colour (subst (λ (j : Kind). is_quiet_way no_rights cornered f.colour j e 9 ≡ true) (sym kind) (subst (λ (t : ℕ). is_quiet_way no_rights cornered f.colour k e t ≡ true) here way))))
-cornered-closed (suc (suc zero)) f k e s found may member way room free =
+cornered-closed (suc (suc zero)) f k e s found may member way room =
     subst (λ (g : Figure). is_in g.squares e ≡ true) (same_Some _ _ found) (all_in_range (λ d. is_in (replicate 64 true) d) 0 64 e everywhere (omega arith) (let small = loose-inside cornered f.colour k e s way in omega (arith, small)))
-cornered-closed (suc (suc (suc zero))) f k e s found may member way room free =
+cornered-closed (suc (suc (suc zero))) f k e s found may member way room =
     subst (λ (g : Figure). is_in g.squares e ≡ true) (same_Some _ _ found) (all_in_range (λ d. is_in (replicate 64 true) d) 0 64 e everywhere (omega arith) (let small = loose-inside cornered f.colour k e s way in omega (arith, small)))
-cornered-closed (suc (suc (suc (suc i)))) f k e s found may member way room free = cc
+cornered-closed (suc (suc (suc (suc i)))) f k e s found may member way room = cc
 
 cornered-away : may_be_array no_odds cornered ≡ false
 unfolding cornered fixed roaming may_be_array squares_that array_of initial_array

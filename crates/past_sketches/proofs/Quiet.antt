@@ -34,9 +34,9 @@ use Rattle.cage_rules.proofs.Stays.{Untouched}
 use Rattle.men_fates.proofs.Treads.{Tread, capture, crosses-ahead, double, single, tread}
 use Rattle.past_sketches.specs.Figures.{Figure, Sketch, figure_at, fixed_squares, may_be}
 use Rattle.past_sketches.specs.Fits.{IsManOf, IsPawnOn}
-use Rattle.past_sketches.specs.Closed.{has_room, is_loose, is_quiet_way, is_unguarded, leaves_room, pawn_goes, touched_squares, has_way, leaves_way}
+use Rattle.past_sketches.specs.Closed.{has_room, is_loose, is_quiet_way, is_unguarded, leaves_room, pawn_goes, touched_squares}
 use Rattle.past_sketches.proofs.Sketches.{each-figure, each-kind, fixed-there}
-use Rattle.past_sketches.proofs.Between.{goes-past, not-crossed, way-by}
+use Rattle.past_sketches.proofs.Between.{goes-past}
 use Rattle.past_sketches.proofs.Touching.{AreThere, ManThere, king-attacks, king-by, king-in-check, near-hit, touched-attacked, touched-next}
 use Rattle.past_sketches.proofs.Order.{Sides, other-rank, room-by, step-sides, then-sides}
 use Rattle.past_sketches.proofs.Homes.{pawn-past, target-away, two-steps}
@@ -160,23 +160,6 @@ module _ (o : List Bool) (p : List Move) (m : Move) (held : Rights) (exact : Lis
   quiet-officer c Queen e s piece loose hits guard king = and_from _ _ (and_from _ _ loose hits) guard
   quiet-officer c King e s piece loose hits guard king = and_from _ _ (and_from _ _ (and_from _ _ loose hits) (not_from_false _ (king refl))) guard
 
-  -- a pawn stays where he is while another man moves
-  pawn-rests : is_a Pawn (at (board_after o (p ++ m ∷ [])) m.to) ≡ false → (l s u : ℕ) (man : Man) → at (board_after o (p ++ m ∷ [])) s ≡ Some man → same_kind Pawn man.kind ≡ true → Came (board_after o p) (labels_after o p) m u s l man → (s ≢ m.to) × (s ≢ m.from) × (at (board_after o p) s ≡ Some man)
-  pawn-rests other l s u man now pawn (stayed same a b label there) = (a, b, there)
-  pawn-rests other l s u man now pawn (moved_here was from to label there is) = absurd (both_ways _ other (ap (λ (t : ℕ). is_a Pawn (at (board_after o (p ++ m ∷ [])) t)) (sym to) ∙ ap (is_a Pawn) now ∙ pawn))
-  pawn-rests other l s u man now pawn (with_the_king x castled from to label there) =
-      absurd (both_ways _ (another_kind Pawn Rook (at (board_after o p) (rook_home x)) (rook-there (board_after o p) (turn_after p) (unmoved o p) (last_move p) m x castled (legal o p m held exact T it))) (ap (is_a Pawn) there ∙ pawn))
-
-  -- all pawns leave the way to an officer or a king who goes over squares that were empty, and doesn't pass where he stood or went
-  pub way-left : (c : Colour) (k : Kind) (e s : ℕ) → is_a Pawn (at (board_after o (p ++ m ∷ [])) m.to) ≡ false → kind_attacks (board_after o p) c k e s ≡ true → ((w : ℕ) → is_a Pawn (at (board_after o p) w) ≡ true → w ≢ m.to → w ≢ m.from → (w ≢ e) × (w ≢ s)) → has_way T k e s ≡ true
-  way-left c k e s other hits off = or_right (same_kind Pawn k) _ (each-figure T (leaves_way k e s) (λ n g found.
-      let who = man-of o p m held exact T it n g found in
-      way-by g k e s who.0 (inside o p m held exact T it g (it.fits.label n) who.0 who.1) who.1.now.square (λ pawns.
-      let kind = each-kind g.kinds (same_kind Pawn) who.1.man.kind pawns who.1.now.kind in
-      let was = pawn-rests other (it.fits.label n) who.0 who.1.back.square who.1.man who.1.now.there kind who.1.back.came in
-      let apart = off who.0 (ap (is_a Pawn) was.2 ∙ kind) was.0 was.1 in
-      not-crossed (board_after o p) c k e s who.0 apart.0 apart.1 (ap is_empty was.2) hits)))
-
   -- a move by an officer or a king that is no castling
   pub officer-from : castling (board_after o p) m ≡ None → (i : ℕ) (f : Figure) (l : ℕ) (man : Man) → figure_at T i ≡ Some f → IsManOf o (p ++ m ∷ []) f l m.to man → at (board_after o p) m.from ≡ Some man → same_kind Pawn man.kind ≡ false → is_in f.squares m.from ≡ true
   officer-from none i f l man found now there piece =
@@ -192,7 +175,6 @@ module _ (o : List Bool) (p : List Move) (m : Move) (held : Rights) (exact : Lis
       let after : is_the (turn_after p) King (at (board_after o (p ++ m ∷ [])) m.to) ≡ true = ap (is_the (turn_after p) King) now.there ∙ and_from _ _ his king in
       subst (λ (d : Colour). is_in (touched_squares T (opponent d)) m.to ≡ false) own (king-untouched m.to lawful.on_board after)) in
       it.closed i f man.kind m.from m.to found now.kind now.square (subst (λ (d : Colour). is_quiet_way held T d man.kind m.from m.to ≡ true) now.colour way) (or_left _ _ (not_from_false _ piece))
-      (way-left man.colour man.kind m.from m.to (ap (is_a Pawn) now.there ∙ piece) hits (λ w pawn not_to not_from. (not_from, not_to)))
 
   -- a pawn's way
   quiet-pawn : (f : Figure) (man : Man) (e s : ℕ) → turn_after p ≡ man.colour → man.colour ≡ f.colour → is_loose held T e s ≡ true → is_past_home (turn_after p) s ≡ true → pawn_goes T (turn_after p) e s ≡ true → is_unguarded T (turn_after p) Pawn e ≡ true → is_quiet_way held T f.colour Pawn e s ≡ true
@@ -283,7 +265,7 @@ module _ (o : List Bool) (p : List Move) (m : Move) (held : Rights) (exact : Lis
       goes : Tread (board_after o p) (turn_after p) m → is_in f.squares m.from ≡ true
       goes (single one ahead_is file_is free) =
           it.closed i f Pawn m.from m.to found is_pawn now.square
-          (quiet-pawn f man m.from m.to own now.colour (loose-target m.from small from-free) (pawn-past (turn_after p) m.from m.to small (legal o p m held exact T it).on_board ahead_is starts ends) (and_from _ _ (eq-eqb _ _ file_is) (or_left _ _ ahead_is)) guard) room refl
+          (quiet-pawn f man m.from m.to own now.colour (loose-target m.from small from-free) (pawn-past (turn_after p) m.from m.to small (legal o p m held exact T it).on_board ahead_is starts ends) (and_from _ _ (eq-eqb _ _ file_is) (or_left _ _ ahead_is)) guard) room
       goes (capture one ahead_is aside enemy) = absurd (files-differ m.from m.to aside same)
       goes (double two home file_is crossed_free free) =
           let x : ℕ = on_the_way m.from m.to 1 in
@@ -291,4 +273,4 @@ module _ (o : List Bool) (p : List Move) (m : Move) (held : Rights) (exact : Lis
           let t = two-steps (turn_after p) m.from x m.to on home file_is two (crosses-ahead (turn_after p) m.from m.to on home file_is two) in
           it.closed i f Pawn m.from m.to found is_pawn now.square
           (quiet-pawn f man m.from m.to own now.colour (loose-target m.from small from-free) (pawn-past (turn_after p) x m.to t.within on t.second t.inner_crossed ends)
-          (and_from _ _ (eq-eqb _ _ file_is) (or_right (one_ahead (turn_after p) m.from m.to) _ (and_from _ _ (and_from _ _ (eq-eqb _ _ home) (eq-eqb _ _ two)) (not_from_false _ (empty-free none x t.apart crossed_free))))) guard) room refl
+          (and_from _ _ (eq-eqb _ _ file_is) (or_right (one_ahead (turn_after p) m.from m.to) _ (and_from _ _ (and_from _ _ (eq-eqb _ _ home) (eq-eqb _ _ two)) (not_from_false _ (empty-free none x t.apart crossed_free))))) guard) room

@@ -80,22 +80,6 @@ leaves_room f e g = stands_beside e (nat_lt g.place f.place) (nat_lt f.place g.p
 abbrev pub has_room : List Bool → Sketch → Figure → Kind → ℕ → Bool
 has_room exact T f k e = not (same_kind Pawn k) || (not (is_in exact (file e)) && list_all (leaves_room f e) T)
 
--- a man who goes along lines
-abbrev pub is_line : Kind → Bool
-is_line k = same_kind Bishop k || same_kind Rook k || same_kind Queen k
-
--- q is an end of the way from e to s, or lies between on the line of such a man
-abbrev pub is_crossed : Kind → ℕ → ℕ → ℕ → Bool
-is_crossed k e s q = (q == e) || (q == s) || (is_line k && list_any (λ n. on_the_way e s n == q) (range_with_len 1 (king_distance e s - 1)))
-
--- if the figure is a pawn, he may stand off the way
-abbrev pub leaves_way : Kind → ℕ → ℕ → Figure → Bool
-leaves_way k e s g = not (list_all (same_kind Pawn) g.kinds) || list_any (λ q. is_in g.squares q && not (is_crossed k e s q)) (range_with_len 0 64)
-
--- each pawn leaves the way to an officer or a king. Of officers that isn't asked, since in a castling two men go at once.
-abbrev pub has_way : Sketch → Kind → ℕ → ℕ → Bool
-has_way T k e s = same_kind Pawn k || list_all (leaves_way k e s) T
-
 -- where a figure may stand, he may stand before each quiet way there; on the exact files pawns have none
 abbrev pub IsClosed : Rights → List Bool → Sketch → Type 0
-IsClosed held exact T = (i : ℕ) (f : Figure) (k : Kind) (e s : ℕ) → figure_at T i ≡ Some f → IsTrue (may_be f k) → IsTrue (is_in f.squares s) → IsTrue (is_quiet_way held T f.colour k e s) → IsTrue (has_room exact T f k e) → IsTrue (has_way T k e s) → IsTrue (is_in f.squares e)
+IsClosed held exact T = (i : ℕ) (f : Figure) (k : Kind) (e s : ℕ) → figure_at T i ≡ Some f → IsTrue (may_be f k) → IsTrue (is_in f.squares s) → IsTrue (is_quiet_way held T f.colour k e s) → IsTrue (has_room exact T f k e) → IsTrue (is_in f.squares e)
