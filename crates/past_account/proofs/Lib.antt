@@ -11,4 +11,5 @@ pub mod Sides
 pub mod Closing
 pub mod Marking
 pub mod Closed
+pub mod Refutes
 mod Examples

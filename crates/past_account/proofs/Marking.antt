@@ -2,7 +2,6 @@
 use Rattle.std.proofs.Common.{◌≡◌, ℕ, ◌==◌, inl, inr, Bool, true, false, cond, not, List, refl, ap, sym, ◌∙◌, subst}
 use Rattle.std.proofs.lemmas.Bool.{cases_Bool, eqb-true}
 use Rattle.std.proofs.lemmas.Option.{same_Some}
-use Rattle.std.specs.Prelude.{Some}
 use Rattle.board_base.specs.Board.{at}
 use Rattle.board_base.specs.Game.{board_after}
 use Rattle.board_base.specs.declared.men.Man.{Man}
@@ -10,8 +9,8 @@ use Rattle.board_base.specs.declared.moves.Move.{Move}
 use Rattle.men_account.proofs.Labelled.{labels-apart}
 use Rattle.cage_rules.specs.Laws.{Walled}
 use Rattle.capture_prices.specs.Prices.{PriceList}
-use Rattle.past_sketches.specs.Figures.{Figure, Sketch, figure_at}
-use Rattle.past_sketches.specs.Fits.{Fits, IsManOf, is_plain}
+use Rattle.past_sketches.specs.Figures.{Figure, Sketch}
+use Rattle.past_sketches.specs.Fits.{Fits, IsManOf, MayBeMarked, is_plain}
 use Rattle.past_account.specs.Account.{IsClosedBy, IsForcedBy, mark_limit}
 use Rattle.past_account.specs.Limits.{Limit, allows, any, other, plain}
 use Rattle.past_account.specs.Zones.{room_past}
@@ -39,7 +38,7 @@ either-limit true x so told h = ap not (told refl)
 either-limit false x so told h = h
 
 -- an account that closes against a mark forces it
-pub account-forces : (o : List Bool) (g : List Move) (S : Sketch) (set : List Bool) (zones : List (List Bool)) (p : PriceList) (i : ℕ) (fits : Fits o g S) → Walled o g set → IsForcedBy o S set zones p i → (f : Figure) (s : ℕ) (m : Man) → figure_at S i ≡ Some f → IsManOf o g f (fits.label i) s m → is_plain o g (fits.label i) m ≡ true
+pub account-forces : (o : List Bool) (g : List Move) (S : Sketch) (set : List Bool) (zones : List (List Bool)) (p : PriceList) (i : ℕ) (fits : Fits o g S) → Walled o g set → IsForcedBy o S set zones p i → MayBeMarked o g S fits i
 account-forces o g S set zones p i fits walled forced f s m there is = elim (cases_Bool (is_plain o g (fits.label i) m)) [
   | inl so ↦ so
   | inr otherwise ↦

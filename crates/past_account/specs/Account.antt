@@ -65,16 +65,18 @@ by_marks S = counted_by (λ i f. mark_limit f) S
 abbrev pub against : ℕ → Sketch → List Counted
 against i S = counted_by (λ j f. cond (j == i) other (mark_limit f)) S
 
--- The set's squares are those of fixed figures, these are zones of figures, and for these prices the figures cost too much.
-pub record IsClosedBy (o : List Bool) (S : Sketch) (set : List Bool) (zones : List (List Bool)) (p : PriceList) : Type 0 where
+-- The set's squares are those of fixed figures, these are zones of figures, and for these prices the figures, each with what is known of
+-- him, cost too much.
+pub record AreTooDear (o : List Bool) (S : Sketch) (set : List Bool) (zones : List (List Bool)) (p : PriceList) (xs : List Counted) : Type 0 where
   pub fixed : IsWithin set (fixed_squares S)
   pub zones_are : AreZones set S zones
   pub prices : IsTrue (are_prices p)
-  pub above : CostTooMuch o p set (room_past set zones) (by_marks S)
+  pub above : CostTooMuch o p set (room_past set zones) xs
 
--- the same if what a mark would say of the figure with number i is false
-pub record IsForcedBy (o : List Bool) (S : Sketch) (set : List Bool) (zones : List (List Bool)) (p : PriceList) (i : ℕ) : Type 0 where
-  pub fixed : IsWithin set (fixed_squares S)
-  pub zones_are : AreZones set S zones
-  pub prices : IsTrue (are_prices p)
-  pub above : CostTooMuch o p set (room_past set zones) (against i S)
+-- they do with their marks
+abbrev pub IsClosedBy : List Bool → Sketch → List Bool → List (List Bool) → PriceList → Type 0
+IsClosedBy o S set zones p = AreTooDear o S set zones p (by_marks S)
+
+-- they do if what a mark would say of the figure with number i is false
+abbrev pub IsForcedBy : List Bool → Sketch → List Bool → List (List Bool) → PriceList → ℕ → Type 0
+IsForcedBy o S set zones p i = AreTooDear o S set zones p (against i S)

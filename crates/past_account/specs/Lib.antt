@@ -3,3 +3,4 @@ pub mod Limits
 pub mod Account
 pub mod Frozen
 pub mod Closes
+pub mod Refuted

@@ -1,5 +1,5 @@
 -- Zones: where the pawn of a figure can have stood; and regions of officers who didn't go over all squares of a zone.
-use Rattle.std.specs.Prelude.{ℕ, ◌≡◌, ◌-◌, ◌<◌, ◌==◌, Bool, false, ◌&&◌, ◌||◌, not, nat_lt, IsTrue, List, Option, Some, None}
+use Rattle.std.specs.Prelude.{ℕ, ◌≡◌, ◌-◌, ◌==◌, Bool, false, ◌&&◌, ◌||◌, not, nat_lt, IsTrue, List, Option, Some, None}
 use Rattle.std.specs.List.{Contains, list_all, list_any, range_with_len}
 use Rattle.board_base.specs.Board.{file, is_in, same_kind}
 use Rattle.board_base.specs.Attacks.{king_distance, on_the_way}

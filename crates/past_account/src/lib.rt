@@ -6,4 +6,7 @@
 
 mod laws;
 
-pub use laws::{accounts_are_sound, accounts_hold, frozen_figures_stay, rooms_are_regions};
+pub use laws::{
+    accounts_are_sound, accounts_hold, frozen_figures_stay, refuted_sketches_fit_no_game,
+    rooms_are_regions,
+};

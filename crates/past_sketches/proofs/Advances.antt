@@ -19,11 +19,12 @@ use Rattle.play_rules.specs.Laws.{is_end}
 use Rattle.play_rules.proofs.Ends.{no_pawn_on_ends}
 use Rattle.men_account.specs.Labels.{label_at, labels_after}
 use Rattle.men_account.proofs.Origins.{promoted_man}
+use Rattle.past_sketches.specs.Closed.{goes_straight}
 use Rattle.past_sketches.specs.Figures.{Figure, Sketch, figure_at, may_be}
+use Rattle.past_sketches.specs.FileOrder.{leaves_room}
+use Rattle.past_sketches.specs.Steps.{Step, changed_by, is_deed, is_step, made_by, pawn_before}
 use Rattle.past_sketches.specs.Fits.{Fits, IsManOf, Stands, is_plain}
-use Rattle.past_sketches.specs.Closed.{leaves_room}
 use Rattle.past_sketches.specs.Moments.{FitsStep, IsCalm}
-use Rattle.past_sketches.specs.Steps.{Step, changed_by, goes_on, is_deed, is_step, made_by, pawn_before}
 use Rattle.past_sketches.proofs.Changed.{fits-changed}
 use Rattle.past_sketches.proofs.Deeds.{Mover, no-castling, was-pawn}
 use Rattle.past_sketches.proofs.Moments.{Moment, earlier, from-within, legal, plain-before}
@@ -83,7 +84,7 @@ module _ (o : List Bool) (p : List Move) (m : Move) (held : Rights) (exact : Lis
           let b = mover-before o p m held exact T it deed j f found his i g None false e same (mark-before none) in
           record { label = b.label; there = b.there; colour = b.colour; kind = b.kind; square = b.square; mark = b.mark }
 
-  advance : m.promo ≡ None → file m.from ≡ file m.to → ((w : ℕ) → is_empty (at (board_after o p) w) ≡ false → ((ranks_apart m.from m.to == 2) && (w == on_the_way m.from m.to 1)) ≡ false) → goes_on (turn_after p) m.from m.to ≡ true → is_in exact (file m.from) ≡ true → FitsStep o p exact T
+  advance : m.promo ≡ None → file m.from ≡ file m.to → ((w : ℕ) → is_empty (at (board_after o p) w) ≡ false → ((ranks_apart m.from m.to == 2) && (w == on_the_way m.from m.to 1)) ≡ false) → goes_straight (turn_after p) m.from m.to ≡ true → is_in exact (file m.from) ≡ true → FitsStep o p exact T
   unfolding move is_step promotion_fits
   advance none same crossed goes on_exact =
       let own = side o p m held exact T it deed j f found his in
@@ -98,7 +99,7 @@ module _ (o : List Bool) (p : List Move) (m : Move) (held : Rights) (exact : Lis
             ap (λ (g : Option Figure). made_by exact T g move) found
             ∙ or_right _ _ (and_from _ _ (and_from _ _ (and_from _ _ (and_from _ _ (and_from _ _ on_exact
             (and_from _ _ (and_from _ _ (and_from _ _ (and_from _ _ now.square (lt-ltb _ _ (legal o p m held exact T it).on_board)) (lt-ltb _ _ (from-within o p m held exact T it))) (not_from_false _ inner)) (not_from_false _ (from-free o p m held exact T it))))
-            (subst (λ (k : Kind). may_be f k ≡ true) pawn-kind now.kind)) (not_from_false _ short)) (subst (λ (c : Colour). goes_on c m.from m.to ≡ true) own goes))
+            (subst (λ (k : Kind). may_be f k ≡ true) pawn-kind now.kind)) (not_from_false _ short)) (subst (λ (c : Colour). goes_straight c m.from m.to ≡ true) own goes))
             (and_from _ _ (and_from _ _ (and_from _ _ refl refl) (eq-eqb f.place f.place refl)) room));
         mover = f;
         moved = found;

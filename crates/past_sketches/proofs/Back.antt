@@ -20,8 +20,8 @@ use Rattle.play_rules.proofs.Kings.{castle-ends}
 use Rattle.men_account.specs.Labels.{label_at, labels_after}
 use Rattle.men_account.proofs.Origins.{Came, moved_here, promoted_man, rook-there, stayed, with_the_king}
 use Rattle.past_sketches.specs.Figures.{Figure, Sketch, figure_at}
-use Rattle.past_sketches.specs.Fits.{Fits, IsManOf, IsPawnOn, Stands}
 use Rattle.past_sketches.specs.Steps.{is_deed}
+use Rattle.past_sketches.specs.Fits.{Fits, IsManOf, IsPawnOn, Stands}
 use Rattle.past_sketches.proofs.Moments.{Moment, earlier, legal, man-of, plain-before}
 use Rattle.past_sketches.proofs.Quiet.{mover-colour, officer-from, pawn-from, pawn-sides}
 use Rattle.past_sketches.proofs.Castling.{king-from, rook-from}

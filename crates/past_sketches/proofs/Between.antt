@@ -1,9 +1,8 @@
 -- A man who went over empty squares went past all squares that are in no set, but his target.
-use Rattle.std.proofs.Common.{◌≡◌, ◌≢◌, ℕ, ◌+◌, ◌-◌, ◌*◌, ◌<◌, ◌≤◌, ◌==◌, inl, inr, Bool, true, false, ◌&&◌, ◌||◌, not, List, sym, arith, ◌∙◌, ap, refl}
-use Rattle.std.specs.List.{list_all, list_any, range_with_len}
-use Rattle.std.proofs.lemmas.Bool.{and_parts, and_from, or_cases, or_left, or_right, cases_lt, eqb-true, both_ways, cases_Bool, cases_eq, false_from_ne_true, ne_eqb, not_from_false}
-use Rattle.general_lemmas.proofs.Ranges.{all-each, all_in_range, any-found, any-one}
-use Rattle.board_base.specs.Board.{Places, at, file, is_empty, is_in, rank, same_kind}
+use Rattle.std.proofs.Common.{◌≡◌, ◌≢◌, ℕ, ◌+◌, ◌-◌, ◌*◌, ◌<◌, ◌≤◌, ◌==◌, inl, inr, Bool, true, false, ◌&&◌, ◌||◌, not, List, sym, arith}
+use Rattle.std.proofs.lemmas.Bool.{and_parts, and_from, or_cases, or_left, or_right, cases_lt, eqb-true}
+use Rattle.general_lemmas.proofs.Ranges.{all-each, all_in_range}
+use Rattle.board_base.specs.Board.{Places, at, file, is_empty, is_in, rank}
 use Rattle.board_base.specs.Attacks.{distance, files_apart, is_open, kind_attacks, king_distance, on_one_diagonal, on_one_line, on_the_way, ranks_apart, toward}
 use Rattle.board_base.specs.declared.men.Colour.{Colour}
 use Rattle.board_base.specs.declared.men.Kind.{Kind}
@@ -87,17 +86,17 @@ open-past board set s t on free clear =
     let vacant : is_empty (at board (on_the_way s t k)) ≡ true = all_in_range (λ i. is_empty (at board (on_the_way s t i))) 1 (king_distance s t - 1) k clear low high in
     no-wall set (on_the_way s t k) (free (on_the_way s t k) (not-yet s t k on (omega arith)) vacant))
 
-pub goes-past : (board : Places) (set : List Bool) (c : Colour) (k : Kind) (s t : ℕ) → ((w : ℕ) → w ≢ t → is_empty (at board w) ≡ true → is_in set w ≡ false) → kind_attacks board c k s t ≡ true → kind_attacks (walls set) c k s t ≡ true
+pub past-walls : (board : Places) (set : List Bool) (c : Colour) (k : Kind) (s t : ℕ) → ((w : ℕ) → w ≢ t → is_empty (at board w) ≡ true → is_in set w ≡ false) → kind_attacks board c k s t ≡ true → kind_attacks (walls set) c k s t ≡ true
 unfolding kind_attacks
-goes-past board set c Pawn s t free h = h
-goes-past board set c Knight s t free h = h
-goes-past board set c King s t free h = h
-goes-past board set c Bishop s t free h =
+past-walls board set c Pawn s t free h = h
+past-walls board set c Knight s t free h = h
+past-walls board set c King s t free h = h
+past-walls board set c Bishop s t free h =
     let parts = and_parts (not (s == t) && on_one_diagonal s t) _ h in
     and_from _ _ parts.0 (open-past board set s t (or_right _ _ (and_parts (not (s == t)) _ parts.0).1) free parts.1)
-goes-past board set c Rook s t free h =
+past-walls board set c Rook s t free h =
     let parts = and_parts (not (s == t) && on_one_line s t) _ h in
     and_from _ _ parts.0 (open-past board set s t (or_left _ _ (and_parts (not (s == t)) _ parts.0).1) free parts.1)
-goes-past board set c Queen s t free h =
+past-walls board set c Queen s t free h =
     let parts = and_parts (not (s == t) && (on_one_line s t || on_one_diagonal s t)) _ h in
     and_from _ _ parts.0 (open-past board set s t (and_parts (not (s == t)) _ parts.0).1 free parts.1)

@@ -1,7 +1,5 @@
 -- A castling: the king and the rook stood on squares of their figures before it.
-use Rattle.std.proofs.Common.{◌≡◌, ℕ, ◌<◌, inl, inr, Bool, true, false, List, [], ◌∷◌, ◌++◌, refl, ap, sym, ◌∙◌, subst, ◌⊎◌, ◌≢◌}
-use Rattle.play_rules.proofs.Ends.{no_pawn_on_ends}
-use Rattle.play_rules.specs.Laws.{is_end}
+use Rattle.std.proofs.Common.{◌≡◌, ℕ, ◌<◌, inl, inr, Bool, true, false, List, [], ◌∷◌, ◌++◌, refl, ap, sym, ◌∙◌, subst}
 use Rattle.std.proofs.lemmas.Bool.{and_parts, and_from, both_ways, false_from_ne_true, lt-ltb, not_from_false, not-true}
 use Rattle.std.proofs.lemmas.Option.{none-some, same_Some}
 use Rattle.std.specs.Prelude.{Option, Some, None}
@@ -27,11 +25,12 @@ use Rattle.men_account.proofs.Origins.{Came, moved_here, promoted_man, stayed, w
 use Rattle.cage_rules.specs.Regions.{walls}
 use Rattle.cage_rules.proofs.Goings.{IsPiece, went}
 use Rattle.cage_rules.proofs.Stays.{castle-from, rook-comes, whence}
+use Rattle.past_sketches.specs.Closed.{is_loose, is_quiet_way, is_unguarded}
 use Rattle.past_sketches.specs.Figures.{Figure, Sketch, figure_at, fixed_squares, is_fixed_on, may_be}
+use Rattle.past_sketches.specs.Touching.{touched_squares}
 use Rattle.past_sketches.specs.Fits.{IsManOf}
-use Rattle.past_sketches.specs.Closed.{is_loose, is_quiet_way, is_unguarded, touched_squares}
 use Rattle.past_sketches.proofs.Sketches.{fixed-there}
-use Rattle.past_sketches.proofs.Between.{goes-past}
+use Rattle.past_sketches.proofs.Between.{past-walls}
 use Rattle.past_sketches.proofs.Touching.{king-attacks, king-by, touched-attacked, touched-next}
 use Rattle.past_sketches.proofs.Homes.{crossed-away}
 use Rattle.past_sketches.proofs.Moments.{Moment, fixed-man, legal}
@@ -137,7 +136,7 @@ module _ (o : List Bool) (p : List Move) (m : Move) (held : Rights) (exact : Lis
   king-way : (c : Colour) (e s : ℕ) → turn_after p ≡ c → is_loose held T e s ≡ true → kind_attacks (walls (fixed_squares T)) c King e s ≡ true → is_in (touched_squares T (opponent (turn_after p))) s ≡ false → is_unguarded T (turn_after p) King e ≡ true → is_quiet_way held T c King e s ≡ true
   king-way c e s own loose hits safe apart =
       let safe' = subst (λ (d : Colour). is_in (touched_squares T (opponent d)) s ≡ false) own safe in
-      and_from _ _ (and_from _ _ (and_from _ _ loose hits) (not_from_false _ safe')) (subst (λ (d : Colour). is_unguarded T d King e ≡ true) own apart)
+      and_from _ _ (and_from _ _ loose (and_from _ _ hits (not_from_false _ safe'))) (subst (λ (d : Colour). is_unguarded T d King e ≡ true) own apart)
 
   -- the king may have stood on the square that he crosses, and at home
   king-crossed : (i : ℕ) (f : Figure) (l : ℕ) (man : Man) → figure_at T i ≡ Some f → IsManOf o (p ++ m ∷ []) f l m.to man → turn_after p ≡ man.colour → same_kind King man.kind ≡ true → is_in f.squares (crossed x) ≡ true
@@ -203,8 +202,9 @@ module _ (o : List Bool) (p : List Move) (m : Move) (held : Rights) (exact : Lis
       elim (went board (turn_after p) (unmoved o p) (last_move p) m man (rook_home x) (crossed x) there piece (legal o p m held exact T it).manner led) [
         | inl same ↦ subst (λ (s : ℕ). is_in f.squares s ≡ true) (sym same) now.square
         | inr hits ↦
-            let past : kind_attacks (walls (fixed_squares T)) man.colour man.kind (rook_home x) (crossed x) ≡ true = goes-past board (fixed_squares T) man.colour man.kind (rook_home x) (crossed x) (λ w other vacant. empty-free w vacant) hits in
+            let past : kind_attacks (walls (fixed_squares T)) man.colour man.kind (rook_home x) (crossed x) ≡ true = past-walls board (fixed_squares T) man.colour man.kind (rook_home x) (crossed x) (λ w other vacant. empty-free w vacant) hits in
             it.closed i f Rook (rook_home x) (crossed x) found (subst (λ (k : Kind). may_be f k ≡ true) (sym kind) now.kind) now.square
-            (and_from _ _ (and_from _ _ (loose-crossed (rook_home x) small rook_home-free) (subst (λ (d : Colour). kind_attacks (walls (fixed_squares T)) d Rook (rook_home x) (crossed x) ≡ true) now.colour (subst (λ (k : Kind). kind_attacks (walls (fixed_squares T)) man.colour k (rook_home x) (crossed x) ≡ true) (sym kind) past)))
+            (and_from _ _ (and_from _ _ (loose-crossed (rook_home x) small rook_home-free)
+            (subst (λ (d : Colour). kind_attacks (walls (fixed_squares T)) d Rook (rook_home x) (crossed x) ≡ true) now.colour (subst (λ (k : Kind). kind_attacks (walls (fixed_squares T)) man.colour k (rook_home x) (crossed x) ≡ true) (sym kind) past)))
             (subst (λ (d : Colour). is_unguarded T d Rook (rook_home x) ≡ true) (rook-own man there ∙ now.colour) (subst (λ (k : Kind). is_unguarded T (turn_after p) k (rook_home x) ≡ true) (sym kind) (unguarded o p m held exact T it (rook_home x) man there (rook-own man there))))) refl
       ]

@@ -8,9 +8,9 @@ use Rattle.std.proofs.lemmas.Bool.{both_ways, cases_Bool, cases_lt, eq-eqb, or_c
 use Rattle.std.proofs.lemmas.Option.{same_Some}
 use Rattle.std.specs.Prelude.{Some}
 use Rattle.board_base.specs.declared.moves.Move.{Move}
-use Rattle.past_sketches.specs.Figures.{Figure, Sketch, figure_at}
+use Rattle.past_sketches.specs.Figures.{Figure, Sketch, each_changed, figure_at}
+use Rattle.past_sketches.specs.Steps.{is_next_place}
 use Rattle.past_sketches.specs.Fits.{Fits, IsPawnOn, Stands}
-use Rattle.past_sketches.specs.Steps.{each_changed, is_next_place}
 
 pub changed-at : (h : ℕ → Figure → Figure) (k : ℕ) (T : Sketch) (i : ℕ) (g : Figure) → figure_at (each_changed h k T) i ≡ Some g → (f : Figure) × (figure_at T i ≡ Some f) × (h (k + i) f ≡ g)
 changed-at h k [] i g e = cc

@@ -1,24 +1,20 @@
 -- A sketch that fits a moment has no figure give check whose side gives none then, however often it is trimmed.
-use Rattle.std.proofs.Common.{◌≡◌, ℕ, zero, suc, Bool, true, false, ◌&&◌, List, ap, sym, ◌∙◌}
+use Rattle.std.proofs.Common.{◌≡◌, ℕ, zero, suc, Bool, false, ◌&&◌, List, ap, sym, ◌∙◌}
 use Rattle.std.proofs.lemmas.Bool.{and_parts, false_from_ne_true}
-use Rattle.std.specs.List.{list_all, list_any, range_with_len}
 use Rattle.general_lemmas.proofs.Ranges.{any-one}
-use Rattle.board_base.specs.Board.{Places, at, is_in, is_the, opponent, same_colour, same_kind}
+use Rattle.board_base.specs.Board.{Places, at, is_in, opponent}
 use Rattle.board_base.specs.Game.{IsGame, board_after}
 use Rattle.board_base.specs.declared.men.Colour.{Colour}
-use Rattle.board_base.specs.declared.men.Kind.TheVariants.{King}
 use Rattle.board_base.specs.declared.moves.Move.{Move}
-use Rattle.board_base.proofs.KindsOfMen.{colour_is}
 use Rattle.play_rules.proofs.Kings.{length-after}
-use Rattle.past_sketches.specs.Figures.{Figure, Sketch, figure_at, is_fixed_on}
-use Rattle.past_sketches.specs.Fits.{Fits}
-use Rattle.past_sketches.specs.Closed.{touched_squares}
-use Rattle.past_sketches.specs.Moments.{FitsStep, IsCalm}
+use Rattle.past_sketches.specs.Figures.{Sketch, figure_at}
 use Rattle.past_sketches.specs.Steps.{taken_back}
-use Rattle.past_sketches.specs.Trimmed.{trimmed}
-use Rattle.past_sketches.specs.Refuted.{gives_check, is_hit, side_checks, trims}
-use Rattle.past_sketches.proofs.Sketches.{any-figure, fixed-there}
-use Rattle.past_sketches.proofs.Touching.{AreThere, king-there, touched-who}
+use Rattle.past_sketches.specs.Touching.{gives_check, kings_of, side_checks, touched_squares}
+use Rattle.past_sketches.specs.Trimmed.{trimmed, trims}
+use Rattle.past_sketches.specs.Fits.{Fits}
+use Rattle.past_sketches.specs.Moments.{FitsStep, IsCalm}
+use Rattle.past_sketches.proofs.Sketches.{fixed-there}
+use Rattle.past_sketches.proofs.Touching.{AreThere, king-on, touched-who}
 use Rattle.past_sketches.proofs.Trimmed.{trim-fits}
 use Rattle.past_sketches.proofs.Wider.{man-inside}
 
@@ -32,16 +28,10 @@ no-check : (o : List Bool) (p : List Move) (T : Sketch) (c : Colour) → IsGame 
 unfolding gives_check
 no-check o p T c game fits calm = false_from_ne_true _ (λ h.
     let board : Places = board_after o p in
-    let by = any-figure T (is_hit T c) h in
-    let f : Figure = by.figure in
-    let parts = and_parts (same_colour (opponent c) f.colour && list_all (same_kind King) f.kinds) (list_any (λ q. is_fixed_on q f && is_in (touched_squares T c) q) (range_with_len 0 64)) by.passes in
-    let two = and_parts (same_colour (opponent c) f.colour) (list_all (same_kind King) f.kinds) parts.0 in
-    let on = any-one (λ q. is_fixed_on q f && is_in (touched_squares T c) q) 0 64 parts.1 in
-    let hits = and_parts (is_fixed_on on.number f) (is_in (touched_squares T c) on.number) on.passes in
-    let own : opponent c ≡ f.colour = colour_is (opponent c) f.colour two.0 in
-    let king : is_the (opponent c) King (at board on.number) ≡ true = king-there board (opponent c) on.number f (there-fits o p T game fits (opponent c) by.number f on.number by.found hits.0 own) own two.1 in
-    let touch = touched-who board T c on.number (there-fits o p T game fits c) hits.1 in
-    calm touch.square on.number touch.man touch.there touch.own king touch.near)
+    let on = any-one (λ q. is_in (kings_of T (opponent c)) q && is_in (touched_squares T c) q) 0 64 h in
+    let parts = and_parts (is_in (kings_of T (opponent c)) on.number) (is_in (touched_squares T c) on.number) on.passes in
+    let touch = touched-who board T c on.number (there-fits o p T game fits c) parts.1 in
+    calm touch.square on.number touch.man touch.there touch.own (king-on board T (opponent c) on.number (there-fits o p T game fits (opponent c)) parts.0) touch.near)
 
 trims-fit : (o : List Bool) (p : List Move) (n : ℕ) (T : Sketch) → IsGame o p → Fits o p T → Fits o p (trims n T)
 trims-fit o p zero T game fits = fits

@@ -29,8 +29,8 @@ use Rattle.men_fates.proofs.Goings.{mover-home, pawn-ends}
 use Rattle.men_fates.proofs.MoreDeeds.{mover-goes, way-more}
 use Rattle.men_fates.proofs.Treads.{Tread, capture, double, one-trodden, single, tread}
 use Rattle.past_sketches.specs.Figures.{Figure, Sketch, figure_at, may_be}
+use Rattle.past_sketches.specs.Steps.{Step, arrives, is_deed, is_next_place, is_step, leaves_place, made_by, passes, takes}
 use Rattle.past_sketches.specs.Fits.{IsManOf}
-use Rattle.past_sketches.specs.Steps.{Step, arrives, is_deed, is_step, made_by, passes, takes, is_next_place, leaves_place}
 use Rattle.past_sketches.proofs.Sketches.{kind-any}
 use Rattle.past_sketches.proofs.Moments.{Moment, earlier, from-within, legal, man-of}
 use Rattle.past_sketches.proofs.Quiet.{files-differ, from-free, mover-colour}

@@ -1,10 +1,14 @@
 -- Examples of sketches, small enough to compute.
 use Rattle.std.proofs.Common.{◌≡◌, ◌==◌, ℕ, zero, suc, ◌+◌, ◌<◌, inl, inr, Bool, true, false, cond, ◌||◌, not, List, [], ◌∷◌, map, refl, ap, sym, subst, arith}
-use Rattle.past_sketches.proofs.Refutes.{no-game}
+use Rattle.past_sketches.proofs.Climbing.{climb}
 use Rattle.past_sketches.proofs.Sketches.{on-only}
 use Rattle.past_sketches.specs.Moments.{FitsGame}
+use Rattle.past_sketches.specs.Closed.{IsClosed, is_loose, is_quiet_way}
+use Rattle.past_sketches.specs.Figures.{Figure, Sketch, figure_at, fixed_squares, may_be, only_on}
+use Rattle.past_sketches.specs.Homes.{may_be_array}
+use Rattle.past_sketches.specs.Steps.{Step, arrives, is_step, made_by, may_have_gone, may_have_made, taken_back}
+use Rattle.past_sketches.specs.Touching.{gives_check, guarded_squares, kings_of, side_checks, touched_squares, touches}
 use Rattle.past_sketches.specs.Trimmed.{trimmed}
-use Rattle.past_sketches.specs.Refuted.{Refuted, gives_check, may_be_array, side_checks, steps}
 use Rattle.play_rules.specs.Laws.{is_end}
 use Rattle.board_base.specs.declared.moves.Move.{Move}
 use Rattle.board_base.proofs.KindsOfMen.{kind_is}
@@ -22,9 +26,6 @@ use Rattle.board_base.specs.declared.men.Colour.{Colour}
 use Rattle.board_base.specs.declared.men.Kind.TheVariants.{Pawn, Knight, Bishop, Rook, Queen, King}
 use Rattle.cage_rules.specs.Regions.{walls}
 use Rattle.cage_rules.specs.Sets.{squares_that}
-use Rattle.past_sketches.specs.Figures.{Figure, Sketch, fixed_squares, only_on, figure_at, may_be}
-use Rattle.past_sketches.specs.Closed.{guarded_squares, is_quiet_way, touched_squares, touches, IsClosed, is_loose}
-use Rattle.past_sketches.specs.Steps.{Step, is_step, taken_back, arrives, made_by, may_have_gone, may_have_made}
 
 fixed : Colour → Kind → ℕ → Figure
 fixed c k s = record { colour = c; kinds = k ∷ []; squares = only_on s; marked = false; place = 0 }
@@ -43,37 +44,37 @@ corner-shut = (refl, refl)
 
 -- but a loose pawn shuts nobody in
 corner-open : is_quiet_way no_rights (fixed White Bishop 0 ∷ roaming White Pawn ∷ []) White Bishop 18 0 ≡ true
-unfolding fixed roaming fixed_squares squares_that kind_attacks distance king_distance on_the_way toward walls guarded_squares
+unfolding fixed roaming fixed_squares squares_that kind_attacks distance king_distance on_the_way toward walls guarded_squares kings_of
 corner-open = refl
 
 -- a pawn on its own rank has no quiet way there, and one beyond it has one from behind
 pawn-ways : (is_quiet_way no_rights corner White Pawn 1 9 ≡ false) × (is_quiet_way no_rights corner White Pawn 17 25 ≡ true)
-unfolding corner fixed fixed_squares squares_that guarded_squares
+unfolding corner fixed fixed_squares squares_that guarded_squares kings_of
 pawn-ways = (refl, refl)
 
 -- after a castling the rook may have come from the king's home, so that neither is stuck
 castled : is_quiet_way no_rights (fixed White King 6 ∷ fixed White Rook 5 ∷ []) White Rook 4 5 ≡ true
-unfolding fixed fixed_squares squares_that kind_attacks distance king_distance on_the_way toward walls guarded_squares
+unfolding fixed fixed_squares squares_that kind_attacks distance king_distance on_the_way toward walls guarded_squares kings_of
 castled = refl
 
 -- a king doesn't come to a square that a fixed pawn attacks, nor from one next to the other king
 king-ways : (is_quiet_way no_rights (fixed White King 20 ∷ fixed Black Pawn 29 ∷ []) White King 12 20 ≡ false) × (is_quiet_way no_rights (fixed White King 20 ∷ fixed Black King 2 ∷ []) White King 11 20 ≡ false)
-unfolding fixed fixed_squares squares_that kind_attacks distance king_distance on_the_way toward walls touched_squares guarded_squares touches
+unfolding fixed fixed_squares squares_that kind_attacks distance king_distance on_the_way toward walls touched_squares guarded_squares kings_of touches
 king-ways = (refl, refl)
 
 -- no pawn comes from d3, where he would check the king fixed on c4, but from d2 by a double step he does, over a square where nobody is fixed
 guards : (is_quiet_way no_rights (fixed Black King 26 ∷ roaming White Pawn ∷ []) White Pawn 19 27 ≡ false) × (is_quiet_way no_rights (fixed Black King 26 ∷ roaming White Pawn ∷ []) White Pawn 11 27 ≡ true) × (is_quiet_way no_rights (fixed Black King 26 ∷ fixed White Rook 19 ∷ []) White Pawn 11 27 ≡ false)
-unfolding fixed roaming fixed_squares squares_that kind_attacks distance king_distance on_the_way toward guarded_squares touches
+unfolding fixed roaming fixed_squares squares_that kind_attacks distance king_distance on_the_way toward guarded_squares kings_of touches
 guards = (refl, refl, refl)
 
 -- nor a queen from where she would touch him
 guard-queen : is_quiet_way no_rights (fixed Black King 26 ∷ []) White Queen 19 3 ≡ false
-unfolding fixed fixed_squares squares_that kind_attacks distance king_distance on_the_way toward walls guarded_squares touches
+unfolding fixed fixed_squares squares_that kind_attacks distance king_distance on_the_way toward walls guarded_squares kings_of touches
 guard-queen = refl
 
 -- before a promotion on e8 from d7 the pawn would have checked the king fixed on c8, with White to move
 checking-step : side_checks (taken_back (fixed White Queen 60 ∷ fixed Black King 58 ∷ []) (record { by = 0; from = 51; to = 60; taken = Some Rook; passing = false; place = 0 })) (Some (fixed White Queen 60)) ≡ true
-unfolding fixed fixed_squares squares_that kind_attacks distance king_distance on_the_way toward touched_squares touches taken_back gives_check
+unfolding fixed fixed_squares squares_that kind_attacks distance king_distance on_the_way toward touched_squares kings_of touches taken_back gives_check
 checking-step = refl
 
 -- the pawn on c3 may have taken a knight there from b2, but no king, and may not have come from c2 so
@@ -120,12 +121,7 @@ no-way : (T : Sketch) (c : Colour) (k : Kind) (e s : ℕ) → e < 64 → list_al
 no-way T c k e s small none way = both_ways _ (not-true _ (all_in_range (λ d. not (is_quiet_way no_rights T c k d s)) 0 64 e none (omega arith) (omega arith))) way
 
 loose-inside : (T : Sketch) (c : Colour) (k : Kind) (e s : ℕ) → is_quiet_way no_rights T c k e s ≡ true → e < 64
-loose-inside T c Pawn e s h = inside-of T e s (and_parts _ _ (and_parts _ _ (and_parts _ _ h).0).0).0
-loose-inside T c King e s h = inside-of T e s (and_parts _ _ (and_parts _ _ (and_parts _ _ h).0).0).0
-loose-inside T c Knight e s h = inside-of T e s (and_parts _ _ (and_parts _ _ h).0).0
-loose-inside T c Bishop e s h = inside-of T e s (and_parts _ _ (and_parts _ _ h).0).0
-loose-inside T c Rook e s h = inside-of T e s (and_parts _ _ (and_parts _ _ h).0).0
-loose-inside T c Queen e s h = inside-of T e s (and_parts _ _ (and_parts _ _ h).0).0
+loose-inside T c k e s h = inside-of T e s (and_parts _ _ (and_parts _ _ h).0).0
 
 cornered-closed : IsClosed no_rights [] cornered
 unfolding cornered fixed roaming
@@ -206,9 +202,6 @@ cornered-steps x (suc (suc zero)) h = no-step cornered x (roaming White King) (�
 cornered-steps x (suc (suc (suc zero))) h = no-step cornered x (roaming Black King) (λ made. king-no (rank x.to == 0) (told cornered (roaming Black King) x made).arrival) h
 cornered-steps x (suc (suc (suc (suc i)))) h = both_ways false refl h
 
-cornered-refuted : Refuted no_odds no_rights (λ S. false) (λ i S. false) cornered
-unfolding is_step
-cornered-refuted = steps cornered [] (λ x. 0) cornered-closed cornered-away (λ x made calm. absurd (cornered-steps x x.by made))
-
 cornered-never : (p : List Move) → FitsGame no_odds p no_rights cornered → ⊥
-cornered-never p it = no-game no_odds no_rights (λ S. false) (λ i S. false) (record { closed = λ S q h other. both_ways false refl h; forced = λ S i q h other f s m e man. absurd (both_ways false refl h) }) cornered cornered-refuted p it
+unfolding is_step
+cornered-never p it = climb no_odds no_rights [] cornered (λ x. 0) cornered-closed cornered-away (λ x made calm. absurd (cornered-steps x x.by made)) p it.game it.rights it.fits

@@ -18,6 +18,8 @@ pub mod Passed
 pub mod Trimmed
 pub mod Checks
 pub mod Rearranged
-pub mod Refutes
+pub mod Climbing
+pub mod Clashing
+pub mod Knowing
 pub mod Queries
 pub mod Listed

@@ -18,9 +18,9 @@ use Rattle.men_account.proofs.Origins.{Before, before}
 use Rattle.men_fates.specs.Deeds.{way_by, way_of}
 use Rattle.men_fates.specs.Ways.{is_straight}
 use Rattle.men_fates.proofs.MoreDeeds.{way-more}
+use Rattle.past_sketches.specs.Closed.{IsClosed}
 use Rattle.past_sketches.specs.Figures.{Figure, Sketch, figure_at, fixed_squares, is_fixed_on}
 use Rattle.past_sketches.specs.Fits.{Fits, IsManOf, is_plain}
-use Rattle.past_sketches.specs.Closed.{IsClosed}
 use Rattle.past_sketches.proofs.Sketches.{fixed-by, fixed-there}
 use Rattle.past_sketches.proofs.Wider.{man-inside}
 

@@ -10,7 +10,7 @@ use Rattle.board_base.specs.declared.men.Colour.{Colour}
 use Rattle.board_base.specs.declared.men.Colour.TheVariants.{White, Black}
 use Rattle.board_base.specs.declared.men.Kind.TheVariants.{Pawn}
 use Rattle.past_sketches.specs.Figures.{Figure}
-use Rattle.past_sketches.specs.Closed.{is_pawn_on, stands_beside}
+use Rattle.past_sketches.specs.FileOrder.{is_pawn_on, stands_beside}
 
 -- a square w of one file lies on one side of two squares
 pub record Sides (e t w : ℕ) : Type 0 where

@@ -38,9 +38,9 @@ use Rattle.men_fates.proofs.Strikes.{label-some}
 use Rattle.men_fates.proofs.Treads.{Passes, Tread, capture, double, passes-on, single, tread}
 use Rattle.men_fates.proofs.Lasting.{carried-elsewhere}
 use Rattle.past_sketches.specs.Figures.{Figure, Sketch, figure_at}
+use Rattle.past_sketches.specs.Steps.{Step, bystander, changed_by, is_deed, pawn_before, victim_on}
 use Rattle.past_sketches.specs.Fits.{Fits, IsManOf, Stands, IsPawnOn, is_plain}
 use Rattle.past_sketches.specs.Moments.{FitsStep, IsCalm}
-use Rattle.past_sketches.specs.Steps.{Step, bystander, changed_by, is_deed, pawn_before, victim_on}
 use Rattle.past_sketches.proofs.Moments.{Moment, earlier, legal, plain-before}
 use Rattle.past_sketches.proofs.Changed.{fits-with}
 use Rattle.past_sketches.proofs.Deeds.{is-step, no-castling, unmarked}

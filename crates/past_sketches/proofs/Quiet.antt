@@ -17,7 +17,7 @@ use Rattle.board_base.specs.declared.men.Man.{Man}
 use Rattle.board_base.specs.declared.moves.Move.{Move}
 use Rattle.board_base.specs.declared.castles.Castle.{Castle}
 use Rattle.board_base.proofs.CastleSquares.{crossed-not-home}
-use Rattle.board_base.proofs.KindsOfMen.{colour_is, opponent-twice, same_colour-self, another_kind}
+use Rattle.board_base.proofs.KindsOfMen.{colour_is, opponent-twice, same_colour-self}
 use Rattle.board_base.proofs.Ways.{king_distance-sym}
 use Rattle.play_rules.specs.Laws.{is_end}
 use Rattle.play_rules.proofs.Attacked.{no_king_left_attacked}
@@ -27,16 +27,18 @@ use Rattle.play_rules.proofs.Kings.{castle-ends, two-castles, within}
 use Rattle.play_rules.proofs.Legality.{Manner, castles, doubles, moves, passes, steps, takes}
 use Rattle.men_account.specs.Labels.{label_at, labels_after}
 use Rattle.men_account.proofs.Captured.{opponent-differs}
-use Rattle.men_account.proofs.Origins.{Came, moved_here, promoted_man, stayed, with_the_king, rook-there}
+use Rattle.men_account.proofs.Origins.{Came, moved_here, promoted_man, stayed, with_the_king}
 use Rattle.cage_rules.specs.Frozen.{is_next, is_past_home}
 use Rattle.cage_rules.specs.Regions.{walls}
 use Rattle.cage_rules.proofs.Stays.{Untouched}
 use Rattle.men_fates.proofs.Treads.{Tread, capture, crosses-ahead, double, single, tread}
+use Rattle.past_sketches.specs.Closed.{goes_past, has_room, is_loose, is_quiet_way, is_unguarded, pawn_goes}
 use Rattle.past_sketches.specs.Figures.{Figure, Sketch, figure_at, fixed_squares, may_be}
+use Rattle.past_sketches.specs.FileOrder.{leaves_room}
+use Rattle.past_sketches.specs.Touching.{touched_squares}
 use Rattle.past_sketches.specs.Fits.{IsManOf, IsPawnOn}
-use Rattle.past_sketches.specs.Closed.{has_room, is_loose, is_quiet_way, is_unguarded, leaves_room, pawn_goes, touched_squares}
 use Rattle.past_sketches.proofs.Sketches.{each-figure, each-kind, fixed-there}
-use Rattle.past_sketches.proofs.Between.{goes-past}
+use Rattle.past_sketches.proofs.Between.{past-walls}
 use Rattle.past_sketches.proofs.Touching.{AreThere, ManThere, king-attacks, king-by, king-in-check, near-hit, touched-attacked, touched-next}
 use Rattle.past_sketches.proofs.Order.{Sides, other-rank, room-by, step-sides, then-sides}
 use Rattle.past_sketches.proofs.Homes.{pawn-past, target-away, two-steps}
@@ -152,13 +154,13 @@ module _ (o : List Bool) (p : List Move) (m : Move) (held : Rights) (exact : Lis
   loose-target e small free = and_from _ _ (and_from _ _ (lt-ltb _ _ small) (not_from_false _ free)) (not_from_false _ (target-away held m untouched))
 
   -- an officer's or a king's way
-  quiet-officer : (c : Colour) (k : Kind) (e s : ℕ) → same_kind Pawn k ≡ false → is_loose held T e s ≡ true → kind_attacks (walls (fixed_squares T)) c k e s ≡ true → is_unguarded T c k e ≡ true → (same_kind King k ≡ true → is_in (touched_squares T (opponent c)) s ≡ false) → is_quiet_way held T c k e s ≡ true
-  quiet-officer c Pawn e s piece loose hits guard king = absurd (both_ways _ piece refl)
-  quiet-officer c Knight e s piece loose hits guard king = and_from _ _ (and_from _ _ loose hits) guard
-  quiet-officer c Bishop e s piece loose hits guard king = and_from _ _ (and_from _ _ loose hits) guard
-  quiet-officer c Rook e s piece loose hits guard king = and_from _ _ (and_from _ _ loose hits) guard
-  quiet-officer c Queen e s piece loose hits guard king = and_from _ _ (and_from _ _ loose hits) guard
-  quiet-officer c King e s piece loose hits guard king = and_from _ _ (and_from _ _ (and_from _ _ loose hits) (not_from_false _ (king refl))) guard
+  officer-past : (c : Colour) (k : Kind) (e s : ℕ) → same_kind Pawn k ≡ false → kind_attacks (walls (fixed_squares T)) c k e s ≡ true → (same_kind King k ≡ true → is_in (touched_squares T (opponent c)) s ≡ false) → goes_past T c k e s ≡ true
+  officer-past c Pawn e s piece hits king = absurd (both_ways _ piece refl)
+  officer-past c Knight e s piece hits king = hits
+  officer-past c Bishop e s piece hits king = hits
+  officer-past c Rook e s piece hits king = hits
+  officer-past c Queen e s piece hits king = hits
+  officer-past c King e s piece hits king = and_from _ _ hits (not_from_false _ (king refl))
 
   -- a move by an officer or a king that is no castling
   pub officer-from : castling (board_after o p) m ≡ None → (i : ℕ) (f : Figure) (l : ℕ) (man : Man) → figure_at T i ≡ Some f → IsManOf o (p ++ m ∷ []) f l m.to man → at (board_after o p) m.from ≡ Some man → same_kind Pawn man.kind ≡ false → is_in f.squares m.from ≡ true
@@ -167,19 +169,20 @@ module _ (o : List Bool) (p : List Move) (m : Move) (held : Rights) (exact : Lis
       let lawful = legal o p m held exact T it in
       let own : turn_after p ≡ man.colour = mover-colour man there in
       let hits : kind_attacks board man.colour man.kind m.from m.to ≡ true = officer-hits board (turn_after p) (unmoved o p) (last_move p) m man there piece none lawful.manner in
-      let past : kind_attacks (walls (fixed_squares T)) man.colour man.kind m.from m.to ≡ true = goes-past board (fixed_squares T) man.colour man.kind m.from m.to (empty-free none) hits in
+      let past : kind_attacks (walls (fixed_squares T)) man.colour man.kind m.from m.to ≡ true = past-walls board (fixed_squares T) man.colour man.kind m.from m.to (empty-free none) hits in
       let small : m.from < 64 = from-within o p m held exact T it in
       let way : is_quiet_way held T man.colour man.kind m.from m.to ≡ true =
-      quiet-officer man.colour man.kind m.from m.to piece (loose-target m.from small from-free) past (subst (λ (d : Colour). is_unguarded T d man.kind m.from ≡ true) own (unguarded m.from man there own)) (λ king.
+      and_from _ _ (and_from _ _ (loose-target m.from small from-free) (officer-past man.colour man.kind m.from m.to piece past (λ king.
       let his : same_colour (turn_after p) man.colour ≡ true = ap (λ (d : Colour). same_colour d man.colour) own ∙ same_colour-self man.colour in
       let after : is_the (turn_after p) King (at (board_after o (p ++ m ∷ [])) m.to) ≡ true = ap (is_the (turn_after p) King) now.there ∙ and_from _ _ his king in
-      subst (λ (d : Colour). is_in (touched_squares T (opponent d)) m.to ≡ false) own (king-untouched m.to lawful.on_board after)) in
+      subst (λ (d : Colour). is_in (touched_squares T (opponent d)) m.to ≡ false) own (king-untouched m.to lawful.on_board after))))
+      (subst (λ (d : Colour). is_unguarded T d man.kind m.from ≡ true) own (unguarded m.from man there own)) in
       it.closed i f man.kind m.from m.to found now.kind now.square (subst (λ (d : Colour). is_quiet_way held T d man.kind m.from m.to ≡ true) now.colour way) (or_left _ _ (not_from_false _ piece))
 
   -- a pawn's way
   quiet-pawn : (f : Figure) (man : Man) (e s : ℕ) → turn_after p ≡ man.colour → man.colour ≡ f.colour → is_loose held T e s ≡ true → is_past_home (turn_after p) s ≡ true → pawn_goes T (turn_after p) e s ≡ true → is_unguarded T (turn_after p) Pawn e ≡ true → is_quiet_way held T f.colour Pawn e s ≡ true
   quiet-pawn f man e s own colour loose past goes guard =
-      subst (λ (d : Colour). is_quiet_way held T d Pawn e s ≡ true) (own ∙ colour) (and_from _ _ (and_from _ _ (and_from _ _ loose past) goes) guard)
+      subst (λ (d : Colour). is_quiet_way held T d Pawn e s ≡ true) (own ∙ colour) (and_from _ _ (and_from _ _ loose (and_from _ _ past goes)) guard)
 
   -- who didn't make a move that is no castling
   rests : castling (board_after o p) m ≡ None → (l s u : ℕ) (man : Man) → (label_at (labels_after o p) m.from ≡ Some l → ⊥) → Came (board_after o p) (labels_after o p) m u s l man → (s ≢ m.to) × (s ≢ m.from) × (at (board_after o p) s ≡ Some man)
@@ -265,7 +268,7 @@ module _ (o : List Bool) (p : List Move) (m : Move) (held : Rights) (exact : Lis
       goes : Tread (board_after o p) (turn_after p) m → is_in f.squares m.from ≡ true
       goes (single one ahead_is file_is free) =
           it.closed i f Pawn m.from m.to found is_pawn now.square
-          (quiet-pawn f man m.from m.to own now.colour (loose-target m.from small from-free) (pawn-past (turn_after p) m.from m.to small (legal o p m held exact T it).on_board ahead_is starts ends) (and_from _ _ (eq-eqb _ _ file_is) (or_left _ _ ahead_is)) guard) room
+          (quiet-pawn f man m.from m.to own now.colour (loose-target m.from small from-free) (pawn-past (turn_after p) m.from m.to small (legal o p m held exact T it).on_board ahead_is starts ends) (and_from _ _ (and_from _ _ (eq-eqb _ _ file_is) (or_left _ _ ahead_is)) (or_left _ _ ahead_is)) guard) room
       goes (capture one ahead_is aside enemy) = absurd (files-differ m.from m.to aside same)
       goes (double two home file_is crossed_free free) =
           let x : ℕ = on_the_way m.from m.to 1 in
@@ -273,4 +276,4 @@ module _ (o : List Bool) (p : List Move) (m : Move) (held : Rights) (exact : Lis
           let t = two-steps (turn_after p) m.from x m.to on home file_is two (crosses-ahead (turn_after p) m.from m.to on home file_is two) in
           it.closed i f Pawn m.from m.to found is_pawn now.square
           (quiet-pawn f man m.from m.to own now.colour (loose-target m.from small from-free) (pawn-past (turn_after p) x m.to t.within on t.second t.inner_crossed ends)
-          (and_from _ _ (eq-eqb _ _ file_is) (or_right (one_ahead (turn_after p) m.from m.to) _ (and_from _ _ (and_from _ _ (eq-eqb _ _ home) (eq-eqb _ _ two)) (not_from_false _ (empty-free none x t.apart crossed_free))))) guard) room
+          (and_from _ _ (and_from _ _ (eq-eqb _ _ file_is) (or_right (one_ahead (turn_after p) m.from m.to) _ (and_from _ _ (eq-eqb _ _ home) (eq-eqb _ _ two)))) (or_right (one_ahead (turn_after p) m.from m.to) _ (not_from_false _ (empty-free none x t.apart crossed_free)))) guard) room

@@ -15,9 +15,9 @@ use Rattle.board_base.proofs.Without.{length-array}
 use Rattle.play_rules.proofs.Kings.{within}
 use Rattle.men_account.proofs.Labelled.{labels-apart, labels-colours}
 use Rattle.men_account.proofs.PawnLaws.{himself}
+use Rattle.past_sketches.specs.Clashes.{is_crowded}
 use Rattle.past_sketches.specs.Figures.{Figure, IsRearranged, Sketch, figure_at, may_be}
 use Rattle.past_sketches.specs.Fits.{Fits, IsManOf, IsPawnOn}
-use Rattle.past_sketches.specs.Refuted.{is_crowded}
 use Rattle.past_sketches.proofs.Wanted.{fewer}
 use Rattle.past_sketches.proofs.Wider.{stands-wider}
 

@@ -1,7 +1,9 @@
 -- Before a step of a sketch the sketch fits that the step is taken back to.
 use Rattle.std.proofs.Common.{◌≡◌, ◌≢◌, ℕ, ◌+◌, ◌*◌, ◌<◌, ◌≤◌, ◌==◌, ◌⊎◌, inl, inr, Bool, true, false, ◌&&◌, not, List, [], ◌∷◌, ◌++◌, refl, ap, sym, ◌∙◌, subst, arith}
 use Rattle.past_sketches.proofs.Order.{other-rank, pawn-file, room-by}
-use Rattle.past_sketches.specs.Closed.{is_pawn_on}
+use Rattle.past_sketches.specs.Figures.{Figure, Sketch, figure_at}
+use Rattle.past_sketches.specs.FileOrder.{is_pawn_on}
+use Rattle.past_sketches.specs.Steps.{Step, back_by, bystander, changed_by, is_cleared, is_deed, leaves_place, pawn_before, taken_back, victim_on}
 use Rattle.past_sketches.proofs.Quiet.{calm-now, files-differ}
 use Rattle.men_account.proofs.Origins.{promoted_man}
 use Rattle.men_fates.proofs.MoreDeeds.{label-is, label-told}
@@ -34,10 +36,8 @@ use Rattle.men_account.proofs.Captured.{man-there}
 use Rattle.men_account.proofs.Labelled.{labels-apart, labels-each_man}
 use Rattle.men_fates.proofs.Strikes.{label-some}
 use Rattle.cage_rules.proofs.Filling.{is_in-that}
-use Rattle.past_sketches.specs.Figures.{Figure, Sketch, figure_at}
 use Rattle.past_sketches.specs.Fits.{Fits, IsManOf, IsPawnOn, Stands, is_plain}
 use Rattle.past_sketches.specs.Moments.{FitsStep, IsCalm}
-use Rattle.past_sketches.specs.Steps.{Step, back_by, bystander, changed_by, is_cleared, is_deed, pawn_before, taken_back, victim_on, leaves_place}
 use Rattle.past_sketches.proofs.Sketches.{only-kind, only-on, each-figure, each-kind}
 use Rattle.past_sketches.proofs.Moments.{Moment, earlier, from-not-to, from-within, legal, plain-before}
 use Rattle.past_sketches.proofs.Changed.{Between, InOrder, LeastAbove, fits-changed, fits-with, least-above}

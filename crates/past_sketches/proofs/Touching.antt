@@ -16,7 +16,7 @@ use Rattle.board_base.proofs.Ways.{near-open}
 use Rattle.cage_rules.specs.Frozen.{is_next}
 use Rattle.cage_rules.proofs.Filling.{in-that}
 use Rattle.past_sketches.specs.Figures.{Figure, Sketch, figure_at, is_fixed_on, may_be}
-use Rattle.past_sketches.specs.Closed.{guarded_squares, is_king_hit, touched_squares, touches, touches_from}
+use Rattle.past_sketches.specs.Touching.{guarded_squares, is_king_on, kings_of, touched_squares, touches, touches_from}
 use Rattle.past_sketches.proofs.Sketches.{AnyFigure, any-figure, each-kind}
 
 -- no square lies between, whoever stands on the board
@@ -101,26 +101,29 @@ pub record KingBy (board : Places) (c : Colour) (k : Kind) (e : ℕ) : Type 0 wh
   pub king : is_the (opponent c) King (at board square) ≡ true
   pub near : touches c k e square ≡ true
 
-pub king-there : (board : Places) (c : Colour) (q : ℕ) (f : Figure) → ManThere board f q → c ≡ f.colour → list_all (same_kind King) f.kinds ≡ true → is_the c King (at board q) ≡ true
+king-there : (board : Places) (c : Colour) (q : ℕ) (f : Figure) → ManThere board f q → c ≡ f.colour → list_all (same_kind King) f.kinds ≡ true → is_the c King (at board q) ≡ true
 king-there board c q f who own kings =
     let king : same_kind King who.man.kind ≡ true = each-kind f.kinds (same_kind King) who.man.kind kings who.kind in
     let his : same_colour c who.man.colour ≡ true = ap (λ (d : Colour). same_colour d who.man.colour) (own ∙ sym who.colour) ∙ same_colour-self who.man.colour in
     ap (is_the c King) who.there ∙ and_from _ _ his king
 
-king-found : (board : Places) (T : Sketch) (c : Colour) (k : Kind) (e : ℕ) → AreThere board T (opponent c) → AnyFigure T (λ f. same_colour (opponent c) f.colour && list_any (is_king_hit c k e f) (range_with_len 0 64)) → KingBy board c k e
-king-found board T c k e there by =
+-- a fixed king stands where he is fixed
+pub king-on : (board : Places) (T : Sketch) (c : Colour) (q : ℕ) → AreThere board T c → is_in (kings_of T c) q ≡ true → is_the c King (at board q) ≡ true
+unfolding kings_of
+king-on board T c q there member =
+    let by = any-figure T (is_king_on c q) (in-that (λ s. list_any (is_king_on c s) T) q member).1 in
     let f : Figure = by.figure in
-    let parts = and_parts (same_colour (opponent c) f.colour) (list_any (is_king_hit c k e f) (range_with_len 0 64)) by.passes in
-    let on = any-one (is_king_hit c k e f) 0 64 parts.1 in
-    let two = and_parts (is_fixed_on on.number f && list_all (same_kind King) f.kinds) (touches c k e on.number) on.passes in
-    let hits = and_parts (is_fixed_on on.number f) (list_all (same_kind King) f.kinds) two.0 in
-    let own : opponent c ≡ f.colour = colour_is (opponent c) f.colour parts.0 in
-    record { square = on.number; within = on.below; king = king-there board (opponent c) on.number f (there by.number f on.number by.found hits.0 own) own hits.1; near = two.1 }
+    let parts = and_parts (same_colour c f.colour && is_fixed_on q f) (list_all (same_kind King) f.kinds) by.passes in
+    let two = and_parts (same_colour c f.colour) (is_fixed_on q f) parts.0 in
+    let own : c ≡ f.colour = colour_is c f.colour two.0 in
+    king-there board c q f (there by.number f q by.found two.1 own) own parts.1
 
 pub king-by : (board : Places) (T : Sketch) (c : Colour) (k : Kind) (e : ℕ) → AreThere board T (opponent c) → is_in (guarded_squares T c k) e ≡ true → KingBy board c k e
 unfolding guarded_squares
 king-by board T c k e there member =
-    king-found board T c k e there (any-figure T _ (in-that (λ u. list_any (λ f. same_colour (opponent c) f.colour && list_any (is_king_hit c k u f) (range_with_len 0 64)) T) e member).1)
+    let on = any-one (λ q. is_in (kings_of T (opponent c)) q && touches c k e q) 0 64 (in-that (λ u. list_any (λ q. is_in (kings_of T (opponent c)) q && touches c k u q) (range_with_len 0 64)) e member).1 in
+    let parts = and_parts (is_in (kings_of T (opponent c)) on.number) (touches c k e on.number) on.passes in
+    record { square = on.number; within = on.below; king = king-on board T (opponent c) on.number there parts.0; near = parts.1 }
 
 king-kind : (board : Places) (c : Colour) (k : Kind) (q s : ℕ) → same_kind King k ≡ true → is_next q s ≡ true → kind_attacks board c k q s ≡ true
 unfolding kind_attacks

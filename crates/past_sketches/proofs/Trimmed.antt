@@ -13,9 +13,9 @@ use Rattle.cage_rules.proofs.Filling.{is_in-that}
 use Rattle.men_account.specs.Labels.{label_at, labels_after}
 use Rattle.play_rules.proofs.Kings.{length-after}
 use Rattle.past_sketches.specs.Figures.{Figure, Sketch, figure_at, fixed_squares, is_fixed_on}
-use Rattle.past_sketches.specs.Fits.{Fits, IsManOf, IsPawnOn}
-use Rattle.past_sketches.specs.Closed.{leaves_room}
+use Rattle.past_sketches.specs.FileOrder.{leaves_room}
 use Rattle.past_sketches.specs.Trimmed.{is_in_order, is_left_to, trimmed, trimmed_figure}
+use Rattle.past_sketches.specs.Fits.{Fits, IsManOf, IsPawnOn}
 use Rattle.past_sketches.proofs.Changed.{fits-changed}
 use Rattle.past_sketches.proofs.Order.{other-rank, room-by}
 use Rattle.past_sketches.proofs.Sketches.{AnyFigure, each-figure, each-kind, fixed-by, fixed-there}

@@ -8,8 +8,8 @@ use Rattle.general_lemmas.proofs.Counts.{count-cons, one_if, one_if-more}
 use Rattle.general_lemmas.proofs.Ranges.{all_in_range}
 use Rattle.men_account.proofs.Labelled.{first-is}
 use Rattle.past_sketches.specs.Figures.{Figure, Sketch, figure_at}
+use Rattle.past_sketches.specs.Homes.{has_homes, is_home, lives_within, may_be_array}
 use Rattle.past_sketches.specs.Fits.{Fits}
-use Rattle.past_sketches.specs.Refuted.{has_homes, is_home, lives_within, may_be_array}
 use Rattle.past_sketches.proofs.Sketches.{each-figure}
 use Rattle.past_sketches.proofs.Wider.{begins}
 

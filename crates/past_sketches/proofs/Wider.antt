@@ -10,8 +10,8 @@ use Rattle.board_base.proofs.KindsOfMen.{same_colour-self, same_kind-self}
 use Rattle.play_rules.proofs.Kings.{length-after, within}
 use Rattle.play_rules.proofs.Games.{no_moves}
 use Rattle.past_sketches.specs.Figures.{AreWider, Figure, IsAbove, IsWider, Sketch, figure_at}
+use Rattle.past_sketches.specs.Homes.{is_home}
 use Rattle.past_sketches.specs.Fits.{Fits, IsManOf, Stands}
-use Rattle.past_sketches.specs.Refuted.{is_home}
 use Rattle.past_sketches.proofs.Sketches.{kind-any}
 
 pub stands-wider : (o : List Bool) (p : List Move) (f g : Figure) (l : ℕ) → IsWider f g → Stands o p f l → Stands o p g l

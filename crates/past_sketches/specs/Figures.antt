@@ -27,6 +27,11 @@ figure_at [] i = None
 figure_at (f ∷ T) zero = Some f
 figure_at (f ∷ T) (suc i) = figure_at T i
 
+-- the figures, changed by their numbers, of which k is the first
+abbrev pub each_changed : (ℕ → Figure → Figure) → ℕ → Sketch → Sketch
+each_changed h k [] = []
+each_changed h k (f ∷ T) = h k f ∷ each_changed h (suc k) T
+
 -- the figure may be of this kind
 abbrev pub may_be : Figure → Kind → Bool
 may_be f k = list_any (λ j. same_kind j k) f.kinds

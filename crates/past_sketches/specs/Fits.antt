@@ -40,3 +40,7 @@ pub record Fits (o : List Bool) (p : List Move) (T : Sketch) : Type 0 where
   pub apart : (i j : ℕ) (f g : Figure) → figure_at T i ≡ Some f → figure_at T j ≡ Some g → label i ≡ label j → i ≡ j
   pub kings : (h : ℕ) → IsTrue (is_a King (at (array_of o) h)) → (i : ℕ) × (f : Figure) × (figure_at T i ≡ Some f) × (label i ≡ h)
   pub order : (i j : ℕ) (f g : Figure) (s t : ℕ) → figure_at T i ≡ Some f → figure_at T j ≡ Some g → IsPawnOn o p (label i) s → IsPawnOn o p (label j) t → file s ≡ file t → rank s < rank t → f.place < g.place
+
+-- What a mark says is true of the man of the figure with this number.
+abbrev pub MayBeMarked : (o : List Bool) (p : List Move) (T : Sketch) → Fits o p T → ℕ → Type 0
+MayBeMarked o p T fits i = (f : Figure) (s : ℕ) (m : Man) → figure_at T i ≡ Some f → IsManOf o p f (fits.label i) s m → IsTrue (is_plain o p (fits.label i) m)

@@ -1,7 +1,11 @@
 pub mod Figures
 pub mod Fits
+pub mod FileOrder
+pub mod Touching
 pub mod Closed
 pub mod Steps
 pub mod Moments
 pub mod Trimmed
-pub mod Refuted
+pub mod Homes
+pub mod Clashes
+pub mod Known

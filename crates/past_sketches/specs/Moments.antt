@@ -10,7 +10,7 @@ use Rattle.board_base.specs.declared.moves.Move.{Move}
 use Rattle.board_base.specs.declared.castles.Castle.{Castle}
 use Rattle.past_sketches.specs.Figures.{Figure, Sketch, figure_at}
 use Rattle.past_sketches.specs.Fits.{Fits}
-use Rattle.past_sketches.specs.Closed.{touches}
+use Rattle.past_sketches.specs.Touching.{touches}
 use Rattle.past_sketches.specs.Steps.{Step, is_step, taken_back}
 
 -- the sketch fits after these moves of a game, in which these rights are held

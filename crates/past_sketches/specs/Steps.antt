@@ -1,18 +1,19 @@
 -- Steps: the moves of figures that are taken back one by one, captures by pawns, promotions, and on exact files all moves by pawns.
-use Rattle.std.specs.Prelude.{ℕ, suc, ◌+◌, ◌*◌, Bool, true, false, cond, ◌&&◌, ◌||◌, not, ◌==◌, nat_lt, length, List, [], ◌∷◌, ◌++◌, map, Option, Some, None, is_none, is_some}
-use Rattle.past_sketches.specs.Closed.{stands_beside, leaves_room}
+use Rattle.std.specs.Prelude.{ℕ, ◌+◌, ◌*◌, Bool, true, false, cond, ◌&&◌, ◌||◌, not, ◌==◌, nat_lt, length, List, [], ◌∷◌, ◌++◌, map, Option, Some, None, is_none, is_some}
 use Rattle.std.specs.List.{filter, flat_map, list_all, list_any, range_with_len}
 use Rattle.board_base.specs.Board.{Places, at, file, is_a, is_in, opponent, rank, same_kind}
 use Rattle.board_base.specs.Attacks.{files_apart, one_ahead, on_the_way, ranks_apart}
 use Rattle.board_base.specs.Play.{ahead, behind, en_passant_rank}
-use Rattle.board_base.specs.Legal.{is_officer, last_rank, pawn_rank}
+use Rattle.board_base.specs.Legal.{is_officer, last_rank}
 use Rattle.board_base.specs.declared.men.Colour.{Colour}
 use Rattle.board_base.specs.declared.men.Kind.{Kind}
 use Rattle.board_base.specs.declared.men.Kind.TheVariants.{Pawn, Knight, Bishop, Rook, Queen, King}
 use Rattle.board_base.specs.declared.moves.Move.{Move}
 use Rattle.play_rules.specs.Laws.{is_end}
 use Rattle.cage_rules.specs.Sets.{squares_that}
-use Rattle.past_sketches.specs.Figures.{Figure, Sketch, figure_at, fixed_squares, may_be, only_on}
+use Rattle.past_sketches.specs.Closed.{goes_straight}
+use Rattle.past_sketches.specs.Figures.{Figure, Sketch, each_changed, figure_at, fixed_squares, may_be, only_on}
+use Rattle.past_sketches.specs.FileOrder.{leaves_room, stands_beside}
 
 -- the move is a capture by a pawn, or a promotion, or a pawn's on an exact file
 unfoldable pub is_deed : List Bool → Places → Move → Bool
@@ -62,10 +63,6 @@ abbrev pub may_have_made : Sketch → Figure → Step → Bool
 may_have_made T f x =
     not f.marked && has_squares T f x && one_ahead f.colour x.from x.to && arrives f x.to && cond x.passing (passes f.colour x.from x.to x.taken) (takes f.colour x.from x.to x.taken) && has_place T x
 
--- Article 3.7: one square straight on, or two from where pawns begin
-abbrev pub goes_on : Colour → ℕ → ℕ → Bool
-goes_on c s t = (file s == file t) && (one_ahead c s t || ((rank s == pawn_rank c) && (ranks_apart s t == 2)))
-
 -- he took nobody, and keeps his place, which all leave to him
 abbrev pub keeps_place : Sketch → Figure → Step → Bool
 keeps_place T f x = is_none x.taken && not x.passing && (x.place == f.place) && list_all (leaves_room f x.from) T
@@ -73,7 +70,7 @@ keeps_place T f x = is_none x.taken && not x.passing && (x.place == f.place) && 
 -- the figure may have gone straight on, on an exact file, and is still a pawn
 abbrev pub may_have_gone : List Bool → Sketch → Figure → Step → Bool
 may_have_gone exact T f x =
-    is_in exact (file x.from) && has_squares T f x && may_be f Pawn && not (rank x.to == last_rank f.colour) && goes_on f.colour x.from x.to && keeps_place T f x
+    is_in exact (file x.from) && has_squares T f x && may_be f Pawn && not (rank x.to == last_rank f.colour) && goes_straight f.colour x.from x.to && keeps_place T f x
 
 abbrev pub made_by : List Bool → Sketch → Option Figure → Step → Bool
 made_by exact T None x = false
@@ -127,11 +124,6 @@ victims f x = cond x.passing (victim_on f Pawn (ahead f.colour x.to) ∷ []) (ta
     taken_man : Option Kind → List Figure
     taken_man None = []
     taken_man (Some k) = victim_on f k x.to ∷ []
-
--- the figures, changed by their numbers, of which k is the first
-abbrev pub each_changed : (ℕ → Figure → Figure) → ℕ → Sketch → Sketch
-each_changed h k [] = []
-each_changed h k (f ∷ T) = h k f ∷ each_changed h (suc k) T
 
 abbrev pub changed_by : Colour → Step → ℕ → Figure → Figure
 changed_by c x i f = cond (i == x.by) (pawn_before x f) (bystander c x f)

@@ -1,12 +1,11 @@
 -- Trimmed sketches: at one moment everybody stands on a square of his own, and the pawns of a file stand in their order.
-use Rattle.std.specs.Prelude.{ℕ, Bool, ◌&&◌, ◌||◌, not}
+use Rattle.std.specs.Prelude.{ℕ, zero, suc, Bool, ◌&&◌, ◌||◌, not}
 use Rattle.std.specs.List.{list_all}
 use Rattle.board_base.specs.Board.{is_in, same_kind}
 use Rattle.board_base.specs.declared.men.Kind.TheVariants.{Pawn}
 use Rattle.cage_rules.specs.Sets.{squares_that}
-use Rattle.past_sketches.specs.Figures.{Figure, Sketch, fixed_squares, is_fixed_on}
-use Rattle.past_sketches.specs.Closed.{leaves_room}
-use Rattle.past_sketches.specs.Steps.{each_changed}
+use Rattle.past_sketches.specs.Figures.{Figure, Sketch, each_changed, fixed_squares, is_fixed_on}
+use Rattle.past_sketches.specs.FileOrder.{leaves_room}
 
 -- nobody is fixed on s, unless it is the figure himself
 abbrev pub is_left_to : Sketch → Figure → ℕ → Bool
@@ -22,3 +21,8 @@ trimmed_figure T f = record f { squares = squares_that (λ s. is_in f.squares s 
 -- each figure loses the squares on which another is fixed, and a pawn those that its neighbours on the file leave no room for
 unfoldable pub trimmed : Sketch → Sketch
 trimmed T = each_changed (λ i f. trimmed_figure T f) 0 T
+
+-- the sketch, trimmed so many times
+abbrev pub trims : ℕ → Sketch → Sketch
+trims zero T = T
+trims (suc n) T = trims n (trimmed T)

@@ -6,6 +6,4 @@
 
 mod laws;
 
-pub use laws::{
-    closed_sketches_go_back, refuted_sketches_fit_no_game, sketches_fit, steps_are_listed,
-};
+pub use laws::{closed_sketches_go_back, sketches_fit, sketches_misfit, steps_are_listed};

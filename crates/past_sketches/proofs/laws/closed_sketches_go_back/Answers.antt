@@ -1,5 +1,6 @@
 use Rattle.past_sketches.proofs.Back.{fits-before}
-use Rattle.past_sketches.proofs.Refutes.{steps-back}
+use Rattle.past_sketches.proofs.Checks.{step-calm}
+use Rattle.past_sketches.proofs.Climbing.{steps-back}
 use Rattle.past_sketches.proofs.laws.closed_sketches_go_back.Goals as goal
 
 pub returns-clause-quiet : goal.returns-clause-quiet
@@ -9,3 +10,6 @@ returns-clause-quiet c o p m held exact T it closed quiet =
 pub returns-clause-steps : goal.returns-clause-steps
 returns-clause-steps c o p m held exact T it closed =
     steps-back o p m held exact T (record { game = it.game; rights = it.rights; fits = it.fits; closed = closed })
+
+pub returns-clause-calm : goal.returns-clause-calm
+returns-clause-calm c = step-calm
