@@ -86,7 +86,7 @@ inner-step Black set z t u inside first second end =
 holds-there : (set : List Bool) (z : ℕ) → z < 64 → is_end z ≡ false → is_in set z ≡ false → may_hold set z ≡ true
 holds-there set z inside inner out = and_from _ _ (lt-ltb z 64 inside) (not_from_false _ (or_from _ _ inner out))
 
-held-inside : (set : List Bool) (z : ℕ) → may_hold set z ≡ true → z < 64
+pub held-inside : (set : List Bool) (z : ℕ) → may_hold set z ≡ true → z < 64
 held-inside set z holds = ltb-true z 64 (and_parts (nat_lt z 64) (not (is_end z || is_in set z)) holds).0
 
 straight-on : (f : Figure) (z t : ℕ) (way : List ℕ) → (f.marked ≡ true → is_straight z (t ∷ way) ≡ true) → (not f.marked || (file z == file t)) ≡ true

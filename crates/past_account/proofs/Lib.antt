@@ -13,3 +13,5 @@ pub mod Marking
 pub mod Closed
 pub mod Refutes
 mod Examples
+mod FrozenExamples
+mod QueryExamples

@@ -23,3 +23,4 @@ pub mod Clashing
 pub mod Knowing
 pub mod Queries
 pub mod Listed
+pub mod Drawn
