@@ -211,7 +211,7 @@ def cages():
 
 
 def balance():
-    parts = "board_base query_base cage_rules fen_text capture_prices balance_rule"
+    parts = "board_base query_base cage_rules fen_text capture_prices balance_rule price_search"
     with built("balance", parts, ["--", CHAINS[0], "0", "0"]) as program:
         for fen in [*CHAINS, RETRACTED[3], RETRACTED[4], RETRACTED[7]]:
             none, many, found = (instructions([program, fen, a, b]) for a, b in (("0", "0"), ("20", "0"), ("0", "1")))

@@ -16,7 +16,7 @@ use Rattle.cage_rules.specs.Regions.{beginner, is_officer_home}
 use Rattle.cage_rules.proofs.Beginners.{array-there}
 use Rattle.capture_prices.specs.Prices.{PriceList}
 use Rattle.balance_rule.specs.Costs.{gone, gone_as, never, stands, stands_as}
-use Rattle.balance_rule.specs.Grounds.{BeginsOn}
+use Rattle.balance_rule.specs.FirstMen.{BeginsOn}
 use Rattle.balance_rule.specs.LeastWays.{seen_by}
 
 -- the man on the place begins where he should

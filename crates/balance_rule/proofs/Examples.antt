@@ -1,5 +1,4 @@
--- Small queries that the balance of captures closes, one of them at equal prices, one that it doesn't with a price that is one too low,
--- and what their men cost.
+-- Small queries that the balance of captures closes, one that it doesn't with a price that is one too low, and what their men cost.
 use Rattle.std.proofs.Common.{◌≡◌, ℕ, ◌==◌, inl, inr, Bool, true, false, ◌&&◌, ◌||◌, not, List, [], ◌∷◌, length, map, set, refl, ap, arith}
 use Rattle.std.proofs.lemmas.Bool.{and_parts, both_ways, cases_lt, or_cases}
 use Rattle.std.proofs.lemmas.List.{get_or_past}
@@ -20,12 +19,11 @@ use Rattle.cage_rules.proofs.Tested.{any-told, at_board}
 use Rattle.static_rules.specs.SetRules.{IsSettled}
 use Rattle.capture_prices.specs.Prices.{PriceList, priced}
 use Rattle.balance_rule.specs.Balance.{BalanceAt, cost_table, gone_row, most_cost, side_cost, stand_row}
-use Rattle.balance_rule.specs.EqualPrices.{EqualPricesSupport, equal_prices}
 use Rattle.balance_rule.specs.Costs.{never, pawn_stands, ways_from, ways_with_len}
 use Rattle.balance_rule.proofs.Sound.{balance-closed}
 
 -- this board at these odds, with nothing else known
-abbrev shown_at : List Bool → Places → Asked
+abbrev pub shown_at : List Bool → Places → Asked
 shown_at o board = record {
   board = board;
   turn = White;
@@ -42,7 +40,7 @@ shown = shown_at no_odds
 nobody : (s : ℕ) → is_in no_odds s ≡ true → ⊥
 nobody s member = both_ways (is_in no_odds s) (in-none 64 s) member
 
-settled : (o odds : List Bool) (board : Places) → IsSettled o (shown_at odds board) no_odds
+pub settled : (o odds : List Bool) (board : Places) → IsSettled o (shown_at odds board) no_odds
 settled o odds board = record {
   whole = refl;
   frozen = record { occupied = λ s member. absurd (nobody s member); caged = λ s member. absurd (nobody s member) };
@@ -50,11 +48,11 @@ settled o odds board = record {
 }
 
 -- the array without all men but the kings and the white pawn of a2
-one_pawn : List Bool
+unfoldable pub one_pawn : List Bool
 one_pawn = map (λ s. not ((s == 4) || (s == 8) || (s == 60))) (range_with_len 0 64)
 
 -- he stands on b3, so he took a man, and there was none
-on_b3 : Places
+unfoldable pub on_b3 : Places
 on_b3 = set (set (set no_men 4 (man White King)) 17 (man White Pawn)) 60 (man Black King)
 
 -- each capture by a white pawn costs 1
@@ -149,58 +147,3 @@ passed_supports = record {
 
 passed_closed : (g : List Move) → LeadsTo two_pawns g (shown passed) → ⊥
 passed_closed = balance-closed two_pawns (shown passed) no_odds gate_on_a4 passed_supports
-
--- some square from which or over which the man on s may have come is empty
-abbrev has_way : Places → ℕ → Bool
-has_way board s = list_any (λ t. may_enter (at board s) s t && is_empty (at board t)) (range_with_len 0 64)
-
--- with the pawn on b3 each of the three men has such a square
-b3_ways : list_all (λ s. is_empty (at on_b3 s) || has_way on_b3 s) (range_with_len 0 64) ≡ true
-unfolding on_b3 is_entry distance king_distance
-b3_ways = refl
-
-b3_size : length on_b3 ≡ 64
-unfolding on_b3
-b3_size = refl
-
--- so no set with a square is frozen
-b3_loose : (o set : List Bool) → IsFrozen (shown_at o on_b3) set → (s : ℕ) → is_in set s ≡ true → ⊥
-b3_loose o set frozen s member = elim (cases_lt s 64) [
-  | inl inside ↦ elim (or_cases (is_empty (at on_b3 s)) (has_way on_b3 s) (at_board (λ x. is_empty (at on_b3 x) || has_way on_b3 x) s b3_ways inside)) [
-    | inl empty ↦ both_ways _ (frozen.occupied s member) empty
-    | inr way ↦
-        let found = any-told (λ t. may_enter (at on_b3 s) s t && is_empty (at on_b3 t)) 0 64 way in
-        let parts = and_parts (may_enter (at on_b3 s) s found.0) (is_empty (at on_b3 found.0)) found.2 in
-        elim (frozen.caged s member) [
-          | inl home ↦ both_ways false refl home
-          | inr caged ↦ both_ways _ (frozen.occupied found.0 (caged found.0 (must-tells on_b3 s found.0 found.1 parts.0))) parts.1
-        ]
-  ]
-  | inr past ↦ both_ways _ (frozen.occupied s member) (ap is_empty (get_or_past on_b3 s None (omega (arith, past, b3_size))))
-]
-
-equal_white : side_cost one_pawn on_b3 equal_prices no_odds White ≡ 216
-unfolding one_pawn on_b3 cost_table stand_row gone_row men_squares array_of initial_array least_cost injections pawn_stands ways_from ways_with_len distance
-equal_white = refl
-
-equal_black : side_cost one_pawn on_b3 equal_prices no_odds Black ≡ 96
-unfolding one_pawn on_b3 cost_table stand_row gone_row men_squares array_of initial_array least_cost injections
-equal_black = refl
-
-equal_most : most_cost one_pawn equal_prices ≡ 288
-unfolding one_pawn men_squares array_of initial_array
-equal_most = refl
-
-b3_equal : EqualPricesSupport (shown_at one_pawn on_b3)
-unfolding one_pawn on_b3 men_squares array_of initial_array
-b3_equal = record {
-  set = no_odds;
-  greatest = λ other frozen as_array s member. absurd (b3_loose one_pawn other frozen s member);
-  supports = record {
-    settled = settled one_pawn one_pawn on_b3;
-    prices = refl;
-    white = omega arith;
-    black = omega arith;
-    above = omega (arith, equal_white, equal_black, equal_most);
-  };
-}

@@ -8,7 +8,8 @@ use Rattle.board_base.specs.declared.men.Colour.{Colour}
 use Rattle.men_fates.specs.Ways.{fee}
 use Rattle.capture_prices.specs.Prices.{PriceList, are_prices, gate, take}
 use Rattle.balance_rule.specs.Costs.{never}
-use Rattle.balance_rule.specs.LeastWays.{AreLeastTo, IsLeast, IsReach, aside_to, IsReachTo, fee_behind, fee_of, gates_on, next_aside, seen_by, straight_to}
+use Rattle.balance_rule.specs.LeastWays.{AreLeastTo, IsLeast, IsReach, aside_to, fee_of, gates_on, seen_by, straight_to}
+use Rattle.balance_rule.specs.NextWays.{IsReachTo, fee_behind, next_aside}
 use Rattle.balance_rule.specs.declared.reaches.Reach.{Reach}
 use Rattle.balance_rule.proofs.Reaching.{IsStepAside, aside-next, aside-step, at-home, beside, blocked, fee-least, no-step, not-yet, straight-next}
 use Rattle.balance_rule.proofs.Gates.{gate-small}

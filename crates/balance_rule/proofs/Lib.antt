@@ -20,4 +20,4 @@ pub mod StandingMen
 pub mod LostMen
 pub mod TrueHomes
 pub mod Sound
-mod Examples
+pub mod Examples

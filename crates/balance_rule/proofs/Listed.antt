@@ -90,7 +90,7 @@ least-most : (xs : List ℕ) → least xs ≤ never
 least-most [] = omega arith
 least-most (x ∷ xs) = omega (arith, least-most xs)
 
-least-below : (xs : List ℕ) (x : ℕ) → Contains xs x → least xs ≤ x
+pub least-below : (xs : List ℕ) (x : ℕ) → Contains xs x → least xs ≤ x
 least-below [] x h = absurd (contains-none x h)
 least-below (y ∷ xs) x h = elim (contains-cases y xs x h) [
   | inl same ↦ omega arith

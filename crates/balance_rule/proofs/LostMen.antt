@@ -15,8 +15,7 @@ use Rattle.board_base.specs.declared.moves.Move.{Move}
 use Rattle.men_account.specs.Homes.{is_officer_of}
 use Rattle.men_account.specs.Labels.{labels_after}
 use Rattle.men_account.proofs.FilesLeft.{array-inside}
-use Rattle.query_base.specs.Asked.{Asked}
-use Rattle.cage_rules.specs.Laws.{Caged, IsGone}
+use Rattle.cage_rules.specs.Laws.{IsGone, Walled}
 use Rattle.cage_rules.specs.Regions.{region, region_from}
 use Rattle.cage_rules.proofs.Regions.{length-region}
 use Rattle.cage_rules.proofs.Tested.{member-inside}
@@ -24,7 +23,7 @@ use Rattle.men_fates.specs.Deeds.{Strike, strikes, way_of}
 use Rattle.men_fates.specs.Fates.{FellOn, brings, may_fall}
 use Rattle.men_fates.specs.Ways.{fee, is_way, way_end}
 use Rattle.men_fates.proofs.Brought.{brought-officer, brought-pawn}
-use Rattle.men_fates.proofs.Lasting.{frozen-last}
+use Rattle.men_fates.proofs.Lasting.{walled-last}
 use Rattle.men_fates.proofs.Roads.{way-past}
 use Rattle.men_fates.proofs.Tombs.{each-exposed, each-officer-fell, each-pawn-fell}
 use Rattle.capture_prices.specs.Prices.{PriceList, are_prices, gate, take}
@@ -40,7 +39,7 @@ use Rattle.balance_rule.proofs.Priced.{take-small}
 use Rattle.balance_rule.proofs.StandingMen.{is-officer, kind-turned, spent}
 
 -- an officer is one of those that a pawn may become
-any-officer : (f : Kind → Bool) (k : Kind) → is_officer k ≡ true → f k ≡ true → list_any f (Knight ∷ Bishop ∷ Rook ∷ Queen ∷ []) ≡ true
+pub any-officer : (f : Kind → Bool) (k : Kind) → is_officer k ≡ true → f k ≡ true → list_any f (Knight ∷ Bishop ∷ Rook ∷ Queen ∷ []) ≡ true
 any-officer f Pawn officer passes = absurd (both_ways false refl officer)
 any-officer f King officer passes = absurd (both_ways false refl officer)
 any-officer f Knight officer passes = or_left (f Knight) _ passes
@@ -66,14 +65,14 @@ taken-or-not (y ∷ all) h = elim (cases_eq y.of h) [
 abbrev pub gained : PriceList → List Bool → List Move → Colour → ℕ → ℕ
 gained p o g c h = ledger.earned (take p (opponent c)) (strikes o g (opponent c)) h
 
-module _ (o : List Bool) (g : List Move) (q : Asked) (set : List Bool) (p : PriceList) (c : Colour) (known : IsTrue (are_prices p)) (caged : Caged o g q set) where
+module _ (o : List Bool) (g : List Move) (set : List Bool) (p : PriceList) (c : Colour) (known : IsTrue (are_prices p)) (walled : Walled o g set) where
   -- a man who was taken by a pawn earns the price of the square
-  gains : (x : Strike) → Contains (strikes o g (opponent c)) x → (gained p o g c x.of ≡ earned p set c x.on) × (earned p set c x.on ≤ 96)
+  pub gains : (x : Strike) → Contains (strikes o g (opponent c)) x → (gained p o g c x.of ≡ earned p set c x.on) × (earned p set c x.on ≤ 96)
   gains x there =
-      let falls : earned p set c x.on ≡ take p (opponent c) x.on = cond-true (may_fall set c x.on) (take p (opponent c) x.on) 0 (each-exposed o g q set c caged x there) in
-      (earns-price o g (opponent c) (take p (opponent c)) caged.leads.game x there ∙ sym falls, omega (arith, falls, take-small p (opponent c) x.on known))
+      let falls : earned p set c x.on ≡ take p (opponent c) x.on = cond-true (may_fall set c x.on) (take p (opponent c) x.on) 0 (each-exposed o g set c walled x there) in
+      (earns-price o g (opponent c) (take p (opponent c)) walled.game x there ∙ sym falls, omega (arith, falls, take-small p (opponent c) x.on known))
 
-  gains-nothing : (h : ℕ) → ((x : Strike) → Contains (strikes o g (opponent c)) x → x.of ≢ h) → gained p o g c h ≡ 0
+  pub gains-nothing : (h : ℕ) → ((x : Strike) → Contains (strikes o g (opponent c)) x → x.of ≢ h) → gained p o g c h ≡ 0
   gains-nothing h none = earns-nothing (take p (opponent c)) (strikes o g (opponent c)) h none
 
   module _ (h : ℕ) (first : Man) (began : at (array_of o) h ≡ Some first) (own : same_colour c first.colour ≡ true) where
@@ -83,7 +82,7 @@ module _ (o : List Bool) (g : List Move) (q : Asked) (set : List Bool) (p : Pric
       | inr none ↦ omega (arith, gains-nothing h none)
       | inl (x, there, same) ↦
           let officer : is_officer_of c (at (array_of o) x.of) ≡ true = ap (λ (k : ℕ). is_officer_of c (at (array_of o) k)) same ∙ ap (is_officer_of c) began ∙ and_from _ _ own (is-officer first.kind piece king) in
-          let member : is_in (region set h) x.on ≡ true = ap (λ (k : ℕ). is_in (region set k) x.on) (sym same) ∙ each-officer-fell o g q set c caged x there officer in
+          let member : is_in (region set h) x.on ≡ true = ap (λ (k : ℕ). is_in (region set k) x.on) (sym same) ∙ each-officer-fell o g set c walled x there officer in
           let inside : x.on < 64 = member-inside (region set h) x.on (length-region set _ h) member in
           let most = (greatest-listed (is_in (region set h)) (earned p set c)).above x.on inside member in
           let here = gains x there in
@@ -93,21 +92,21 @@ module _ (o : List Bool) (g : List Move) (q : Asked) (set : List Bool) (p : Pric
     ]
 
     module _ (pawn : same_kind first.kind Pawn ≡ true) where
-      home : is_the c Pawn (at (array_of o) h) ≡ true
+      pub home : is_the c Pawn (at (array_of o) h) ≡ true
       home = ap (is_the c Pawn) began ∙ and_from _ _ own (kind-turned Pawn first.kind ∙ pawn)
 
-      inside : h < 64
+      pub inside : h < 64
       inside = array-inside o (is_the c Pawn) h refl home
 
-      whole : is_way c set h (way_of o g h) ≡ true
-      whole = way-past o g g [] q set c h caged (sym (append-nil g)) (ap (is_of c) began ∙ own)
+      pub whole : is_way c set h (way_of o g h) ≡ true
+      whole = way-past o g g [] set c h walled (sym (append-nil g)) (ap (is_of c) began ∙ own)
 
-      pays : fee (take p c) h (way_of o g h) ≡ paid (take p c) (strikes o g c) h
-      pays = fee-paid o g c (take p c) h caged.leads.game (ap (is_of c) began ∙ own)
+      pub pays : fee (take p c) h (way_of o g h) ≡ paid (take p c) (strikes o g c) h
+      pays = fee-paid o g c (take p c) h walled.game (ap (is_of c) began ∙ own)
 
       -- one who was promoted
-      tolled : (rank (way_end h (way_of o g h)) == last_rank c) ≡ true → way_cost p c h (way_of o g h) ≡ 96 + spent p o g c h
-      tolled last = ap (λ (n : ℕ). 96 + n) (toll-paid o g c (take p c) (gate p) h caged.leads.game home (or_right (is_there (labels_after o g) h) (rank (way_end h (way_of o g h)) == last_rank c) last))
+      pub tolled : (rank (way_end h (way_of o g h)) == last_rank c) ≡ true → way_cost p c h (way_of o g h) ≡ 96 + spent p o g c h
+      tolled last = ap (λ (n : ℕ). 96 + n) (toll-paid o g c (take p c) (gate p) h walled.game home (or_right (is_there (labels_after o g) h) (rank (way_end h (way_of o g h)) == last_rank c) last))
 
       -- no way costs less than the least
       under : (way : List ℕ) → is_way c set h way ≡ true → pawn_gone p set c h ≤ loss_cost p set c h way
@@ -152,7 +151,7 @@ module _ (o : List Bool) (g : List Move) (q : Asked) (set : List Bool) (p : Pric
         | inr none ↦ omega (arith, gains-nothing h none, untaken)
         | inl (x, there, same) ↦
             let of-pawn : is_the c Pawn (at (array_of o) x.of) ≡ true = ap (λ (k : ℕ). is_the c Pawn (at (array_of o) k)) same ∙ home in
-            let fell : FellOn set c h (way_of o g h) x.on = subst (λ (k : ℕ). FellOn set c k (way_of o g k) x.on) same (each-pawn-fell o g q set c caged x there of-pawn) in
+            let fell : FellOn set c h (way_of o g h) x.on = subst (λ (k : ℕ). FellOn set c k (way_of o g k) x.on) same (each-pawn-fell o g set c walled x there of-pawn) in
             let here = gains x there in
             let his : gained p o g c h ≡ earned p set c x.on = ap (gained p o g c) (sym same) ∙ here.0 in
             elim (cases_Bool (same_kind Pawn fell.kind)) [
@@ -172,7 +171,24 @@ module _ (o : List Bool) (g : List Move) (q : Asked) (set : List Bool) (p : Pric
               omega (arith, e, is, officer, officer-lost piece king)
         ]
 
+    -- whether he is gone or not, that he is gone would cost no more
+    unearned-so : is_in set h ≡ false → same_kind first.kind King ≡ false → gone_as p set c first.kind h ≤ 96 + spent p o g c h
+    unearned-so outside king =
+        let e = cond-false (is_in set h) never (cond (same_kind first.kind Pawn) (pawn_gone p set c h) (piece_gone p set c first.kind h)) outside in
+        elim (cases_Bool (same_kind first.kind Pawn)) [
+          | inl pawn ↦ let is = cond-true (same_kind first.kind Pawn) (pawn_gone p set c h) (piece_gone p set c first.kind h) pawn in omega (arith, e, is, untaken pawn)
+          | inr piece ↦
+              let is = cond-false (same_kind first.kind Pawn) (pawn_gone p set c h) (piece_gone p set c first.kind h) piece in
+              let officer = cond-false (same_kind first.kind King) never (96 - most_earned p set c (is_in (region set h))) king in
+              omega (arith, e, is, officer)
+        ]
+
+    pub unearned-most : is_in set h ≡ false → same_kind first.kind King ≡ false → gone p set c (at (array_of o) h) h ≤ 96 + spent p o g c h
+    unearned-most outside king =
+        let here : gone p set c (at (array_of o) h) h ≡ gone_as p set c first.kind h = ap (λ (place : Option Man). gone p set c place h) began ∙ cond-true (same_colour c first.colour) (gone_as p set c first.kind h) never own in
+        omega (arith, here, unearned-so outside king)
+
     pub gone-most : IsGone o g h → same_kind first.kind King ≡ false → gone p set c (at (array_of o) h) h + gained p o g c h ≤ 96 + spent p o g c h
     gone-most lost king =
         let here : gone p set c (at (array_of o) h) h ≡ gone_as p set c first.kind h = ap (λ (place : Option Man). gone p set c place h) began ∙ cond-true (same_colour c first.colour) (gone_as p set c first.kind h) never own in
-        omega (arith, here, lost-so (false_from_ne_true _ (λ member. frozen-last o g q set h caged member lost)) king)
+        omega (arith, here, lost-so (false_from_ne_true _ (λ member. walled-last o g set h walled member lost)) king)

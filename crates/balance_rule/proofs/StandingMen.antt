@@ -21,10 +21,8 @@ use Rattle.men_account.proofs.FilesLeft.{array-inside}
 use Rattle.men_account.proofs.Labelled.{labels-apart, labels-each_man}
 use Rattle.men_account.proofs.Captured.{man-there}
 use Rattle.men_account.proofs.PawnLaws.{himself, man-of}
-use Rattle.query_base.specs.Asked.{Asked}
-use Rattle.cage_rules.specs.Laws.{Caged}
+use Rattle.cage_rules.specs.Laws.{Walled}
 use Rattle.cage_rules.specs.Regions.{region}
-use Rattle.cage_rules.proofs.FrozenLabels.{keep-labels}
 use Rattle.cage_rules.proofs.Refuted.{home-there}
 use Rattle.cage_rules.proofs.Roamers.{in-region}
 use Rattle.men_fates.specs.Deeds.{is_label, strikes, way_of}
@@ -72,17 +70,17 @@ stays o g c h s game home label =
     let man = man-there (board_after o g) (labels_after o g) s h (labels-each_man o g game) label in
     record { first = first.0; man = man.0; began = first.1; own = sym (ap (is_of c) first.1) ∙ home; there = man.1; label = label }
 
-module _ (o : List Bool) (g : List Move) (q : Asked) (set : List Bool) (p : PriceList) (c : Colour) (h s : ℕ) (caged : Caged o g q set) (x : Stays o g c h s) where
+module _ (o : List Bool) (g : List Move) (set : List Bool) (p : PriceList) (c : Colour) (h s : ℕ) (walled : Walled o g set) (x : Stays o g c h s) where
   -- a man of the set stands where he began
-  stands-home : (is_in set h || is_in set s) ≡ true → h ≡ s
+  pub stands-home : (is_in set h || is_in set s) ≡ true → h ≡ s
   stands-home member = elim (or_cases (is_in set h) (is_in set s) member) [
-    | inl began ↦ sym (labels-apart o g caged.leads.game s h h x.label (keep-labels o g q set caged g ([], sym (append-nil g)) h began))
-    | inr here ↦ same_Some h s (sym x.label ∙ keep-labels o g q set caged g ([], sym (append-nil g)) s here)
+    | inl began ↦ sym (labels-apart o g walled.game s h h x.label (walled.labels g ([], sym (append-nil g)) h began))
+    | inr here ↦ same_Some h s (sym x.label ∙ walled.labels g ([], sym (append-nil g)) s here)
   ]
 
-  there-now : is_there (labels_after o g) h ≡ true
+  pub there-now : is_there (labels_after o g) h ≡ true
   there-now =
-      let inside : s < 64 = labelled-inside o g s h caged.leads.game x.label in
+      let inside : s < 64 = labelled-inside o g s h walled.game x.label in
       any-found (λ t. is_label (label_at (labels_after o g) t) h) 0 64 s (omega arith) (omega arith) (label-is (label_at (labels_after o g) s) h x.label)
 
   pawn-stands : same_kind x.first.kind Pawn ≡ true → pawn_stands p set c h x.man.kind s ≤ 96 + spent p o g c h
@@ -91,22 +89,22 @@ module _ (o : List Bool) (g : List Move) (q : Asked) (set : List Bool) (p : Pric
       let way : List ℕ = way_of o g h in
       let home : is_the c Pawn (at (array_of o) h) ≡ true = ap (is_the c Pawn) x.began ∙ and_from _ _ x.own (kind-turned Pawn x.first.kind ∙ pawn) in
       let inside : h < 64 = array-inside o (is_the c Pawn) h refl home in
-      let is : is_way c set h way ≡ true = way-past o g g [] q set c h caged (sym (append-nil g)) (ap (is_of c) x.began ∙ x.own) in
-      let comes : brings set c h way x.man.kind s ≡ true = brought o g g [] q set c h s x.man caged (sym (append-nil g)) home x.label x.there in
+      let is : is_way c set h way ≡ true = way-past o g g [] set c h walled (sym (append-nil g)) (ap (is_of c) x.began ∙ x.own) in
+      let comes : brings set c h way x.man.kind s ≡ true = brought o g g [] set c h s x.man walled (sym (append-nil g)) home x.label x.there in
       let least = (least-listed c set h (λ w. brings set c h w x.man.kind s) (way_cost p c h) inside).below way is comes in
-      let tolls = toll-paid o g c (take p c) (gate p) h caged.leads.game home (or_left (is_there (labels_after o g) h) (rank (way_end h way) == last_rank c) there-now) in
+      let tolls = toll-paid o g c (take p c) (gate p) h walled.game home (or_left (is_there (labels_after o g) h) (rank (way_end h way) == last_rank c) there-now) in
       omega (arith, least, tolls)
 
   -- who began as no pawn is who he was
-  himself-still : same_kind x.first.kind Pawn ≡ false → x.first ≡ x.man
-  himself-still piece = same_Some x.first x.man (sym x.began ∙ himself o g caged.leads.game s h x.man x.label x.there (ap (is_a Pawn) x.began ∙ kind-turned Pawn x.first.kind ∙ piece))
+  pub himself-still : same_kind x.first.kind Pawn ≡ false → x.first ≡ x.man
+  himself-still piece = same_Some x.first x.man (sym x.began ∙ himself o g walled.game s h x.man x.label x.there (ap (is_a Pawn) x.began ∙ kind-turned Pawn x.first.kind ∙ piece))
 
   in-his-region : same_kind x.first.kind Pawn ≡ false → same_kind x.first.kind King ≡ false → is_in (region set h) s ≡ true
   in-his-region piece king =
       let home = home-there o c h (ap (is_officer_of c) x.began ∙ and_from _ _ x.own (is-officer x.first.kind piece king)) in
-      (in-region o g q set h caged home.1 home.0 g ([], sym (append-nil g)) s x.label).0
+      (in-region o g set h walled home.1 home.0 g ([], sym (append-nil g)) s x.label).0
 
-  piece-stands : same_kind x.first.kind Pawn ≡ false → piece_stands set x.first.kind h x.man.kind s ≡ 96
+  pub piece-stands : same_kind x.first.kind Pawn ≡ false → piece_stands set x.first.kind h x.man.kind s ≡ 96
   piece-stands piece =
       let same : same_kind x.first.kind x.man.kind ≡ true = ap (λ (m : Man). same_kind x.first.kind m.kind) (sym (himself-still piece)) ∙ same_kind-self x.first.kind in
       let may : (same_kind x.first.kind King || is_in (region set h) s) ≡ true = elim (cases_Bool (same_kind x.first.kind King)) [

@@ -74,18 +74,18 @@ fate o g h game =
           both_ways _ (none.1 s (contains-range 0 64 s (omega arith) (omega arith))) (label-is (label_at labels s) h label))
     ]
 
-placed : (o : List Bool) (g : List Move) (h s : ℕ) → IsGame o g → label_at (labels_after o g) s ≡ Some h → place_of (labels_after o g) h ≡ Some s
+pub placed : (o : List Bool) (g : List Move) (h s : ℕ) → IsGame o g → label_at (labels_after o g) s ≡ Some h → place_of (labels_after o g) h ≡ Some s
 placed o g h s game label = elim (fate o g h game) [
   | standing t is there ↦ is ∙ ap Some (labels-apart o g game t s h there label)
   | missing is none ↦ absurd (none s label)
 ]
 
 -- the place of a home among the homes of its side
-abbrev column : Colour → ℕ → ℕ
+abbrev pub column : Colour → ℕ → ℕ
 column White h = h
 column Black h = h - 48
 
-column-is : (o : List Bool) (c : Colour) (h : ℕ) → is_of c (at (array_of o) h) ≡ true → (column c h < 16) × (home_of c (column c h) ≡ h)
+pub column-is : (o : List Bool) (c : Colour) (h : ℕ) → is_of c (at (array_of o) h) ≡ true → (column c h < 16) × (home_of c (column c h) ≡ h)
 column-is o White h here = (home-white o h here, refl)
 column-is o Black h here =
     let above : 47 < h = (home-black o h here).0 in
@@ -98,19 +98,19 @@ home_at None = 0
 home_at (Some h) = h
 
 -- different numbers that all stand in another list are no more
-fewer : (xs ys : List ℕ) → Differ xs → ((z : ℕ) → Has xs z → Has ys z) → length xs ≤ length ys
+pub fewer : (xs ys : List ℕ) → Differ xs → ((z : ℕ) → Has xs z → Has ys z) → length xs ≤ length ys
 fewer xs ys differ among =
     omega (arith, sum-among (λ _. 1) xs ys differ among, sum-ones (λ _. 1) xs (λ z h. refl), sum-ones (λ _. 1) ys (λ z h. refl))
 
 -- the costs of rows one after another
-cost-append : (a b : List (List ℕ)) (x y : List ℕ) → length a ≡ length x → assignment_cost (a ++ b) (x ++ y) ≡ assignment_cost a x + assignment_cost b y
+pub cost-append : (a b : List (List ℕ)) (x y : List ℕ) → length a ≡ length x → assignment_cost (a ++ b) (x ++ y) ≡ assignment_cost a x + assignment_cost b y
 cost-append [] b [] y size = omega arith
 cost-append [] b (j ∷ x) y size = absurd (omega arith)
 cost-append (row ∷ a) b [] y size = absurd (omega arith)
 cost-append (row ∷ a) b (j ∷ x) y size = omega (arith, cost-append a b x y (omega arith))
 
 -- a list of homes in the places of its side
-within-side : (c : Colour) (hs : List ℕ) → ((h : ℕ) → Has hs h → column c h < 16) → (k d : ℕ) → k < length (map (column c) hs) → get_or (map (column c) hs) k d < 16
+pub within-side : (c : Colour) (hs : List ℕ) → ((h : ℕ) → Has hs h → column c h < 16) → (k d : ℕ) → k < length (map (column c) hs) → get_or (map (column c) hs) k d < 16
 within-side c [] small k d inside = absurd (omega arith)
 within-side c (h ∷ hs) small zero d inside = small h (inl refl)
 within-side c (h ∷ hs) small (suc k) d inside = within-side c hs (λ z there. small z (inr there)) k d (omega arith)
@@ -120,21 +120,21 @@ rows-sum : (c : Colour) (row : ℕ → List ℕ) (to f : ℕ → ℕ) (squares :
 rows-sum c row to f [] tells = refl
 rows-sum c row to f (s ∷ squares) tells = omega (arith, tells s (inl refl), rows-sum c row to f squares (λ t there. tells t (inr there)), sum_by-cons f (to s) (map to squares))
 
-alike-sum : (c : Colour) (row : List ℕ) (f : ℕ → ℕ) (hs : List ℕ) → ((h : ℕ) → Has hs h → slice_index row (column c h) ≡ f h) → assignment_cost (replicate (length hs) row) (map (column c) hs) ≡ sum_by f hs
+pub alike-sum : (c : Colour) (row : List ℕ) (f : ℕ → ℕ) (hs : List ℕ) → ((h : ℕ) → Has hs h → slice_index row (column c h) ≡ f h) → assignment_cost (replicate (length hs) row) (map (column c) hs) ≡ sum_by f hs
 alike-sum c row f [] tells = refl
 alike-sum c row f (h ∷ hs) tells = omega (arith, tells h (inl refl), alike-sum c row f hs (λ k there. tells k (inr there)), sum_by-cons f h hs)
 
 -- a row of what f tells of the homes of a side
-row-at : (o : List Bool) (c : Colour) (f : ℕ → ℕ) (h : ℕ) → is_of c (at (array_of o) h) ≡ true → slice_index (map (λ j. f (home_of c j)) (range_with_len 0 16)) (column c h) ≡ f h
+pub row-at : (o : List Bool) (c : Colour) (f : ℕ → ℕ) (h : ℕ) → is_of c (at (array_of o) h) ≡ true → slice_index (map (λ j. f (home_of c j)) (range_with_len 0 16)) (column c h) ≡ f h
 row-at o c f h home =
     let is = column-is o c h home in
     get_or-map-range_with_len (λ j. f (home_of c j)) 0 16 (column c h) (column c h) 0 is.0 (omega arith) ∙ ap f is.1
 
-twice : (b : Bool) → b ≡ not (not b)
+pub twice : (b : Bool) → b ≡ not (not b)
 twice true = refl
 twice false = refl
 
-on-square : (c : Colour) (board : Places) (s : ℕ) → Has (men_squares c board) s → (is_of c (at board s) ≡ true) × (s < 64)
+pub on-square : (c : Colour) (board : Places) (s : ℕ) → Has (men_squares c board) s → (is_of c (at board s) ≡ true) × (s < 64)
 unfolding men_squares
 on-square c board s there =
     let kept = has-filter (λ t. is_of c (at board t)) (range_with_len 0 64) s there in

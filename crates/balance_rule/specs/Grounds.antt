@@ -1,11 +1,12 @@
--- Inner: no public clause cites this file.
 -- What is known of a side before its men are looked at.
-use Rattle.std.specs.Prelude.{ℕ, ◌≡◌, ◌<◌, ◌+◌, Bool, false, ◌||◌, nat_le, IsTrue, List, [], slice_index, slice_index_or}
-use Rattle.board_base.specs.Board.{array_of, is_in, man, same_kind}
+use Rattle.std.specs.Prelude.{ℕ, ◌≡◌, ◌<◌, ◌+◌, Bool, false, ◌||◌, IsTrue, List, [], slice_index, slice_index_or}
+use Rattle.board_base.specs.Board.{array_of, is_in, man}
 use Rattle.board_base.specs.declared.men.Colour.{Colour}
 use Rattle.board_base.specs.declared.men.Kind.{Kind}
-use Rattle.board_base.specs.declared.men.Kind.TheVariants.{Pawn, Knight, Bishop, Rook, Queen, King}
+use Rattle.board_base.specs.declared.men.Kind.TheVariants.{Knight, Bishop, Rook, Queen}
 use Rattle.cage_rules.specs.Regions.{is_officer_home, region, region_from}
+use Rattle.cage_rules.specs.Sets.{squares_that}
+use Rattle.men_fates.specs.Fates.{may_fall}
 use Rattle.capture_prices.specs.Prices.{PriceList, are_prices}
 use Rattle.balance_rule.specs.Costs.{most_earned}
 use Rattle.balance_rule.specs.LeastWays.{IsReach, seen_by}
@@ -32,10 +33,7 @@ pub record IsGround (o : List Bool) (p : PriceList) (g : Ground) : Type 0 where
   pub bishops : ArePromoted g.frozen g.side Bishop g.bishops
   pub rooks : ArePromoted g.frozen g.side Rook g.rooks
   pub queens : ArePromoted g.frozen g.side Queen g.queens
+  pub exposed : g.exposed ≡ squares_that (may_fall g.frozen g.side)
+  pub promoted : (f s : ℕ) → f < 8 → s < 64 → is_in (slice_index_or g.promoted f []) s ≡ comes_promoted g.frozen g.side (seen_by g.side (56 + f)) s
   pub most_at_home : (f : ℕ) → f < 8 → IsTrue (is_officer_home (seen_by g.side f)) → slice_index g.most_at_home f ≡ most_earned p g.frozen g.side (is_in (region g.frozen (seen_by g.side f)))
   pub most_promoted : (f : ℕ) → f < 8 → slice_index g.most_promoted f ≡ most_earned p g.frozen g.side (comes_promoted g.frozen g.side (seen_by g.side (56 + f)))
-
--- a man of this kind begins on the number n of his side: pawns on 8 to 15, and officers below
-pub record BeginsOn (c : Colour) (first : Kind) (n : ℕ) : Type 0 where
-  pub pawn : same_kind first Pawn ≡ nat_le 8 n
-  pub officer : n < 8 → same_kind first King ≡ false → IsTrue (is_officer_home (seen_by c n))

@@ -1,4 +1,3 @@
--- Inner: no public clause cites this file.
 -- Prices by the squares as a side sees them.
 use Rattle.std.specs.Prelude.{ℕ, ◌≡◌, ◌<◌, ◌≤◌, Bool, List, slice_index}
 use Rattle.board_base.specs.declared.men.Colour.{Colour}

@@ -16,7 +16,7 @@ use capture_prices::Prices;
 use query_base::Query;
 
 /// Tells the caller that a set has 64 truth values.
-pub(crate) fn is_whole(set: SquareSet)
+pub fn is_whole(set: SquareSet)
     ensures { length set ≡ 64 }
 {
     let _ = set.has(Square::known(0));

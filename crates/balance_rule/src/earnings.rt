@@ -1,4 +1,4 @@
-ghost use Rattle.std.specs.Prelude.{◌≡◌, ◌<◌, ◌==◌, ◌&&◌, ◌||◌, ℕ, Bool, IfSome, List, [], slice_index, slice_index_or};
+ghost use Rattle.std.specs.Prelude.{◌≡◌, ◌<◌, ◌==◌, ◌&&◌, ◌||◌, ℕ, Bool, List, [], slice_index, slice_index_or};
 ghost use Rattle.board_base.specs.Board.{is_in, opponent};
 ghost use Rattle.board_base.specs.declared.men.Colour.{Colour as AColour};
 ghost use Rattle.cage_rules.specs.Sets.{squares_that};
@@ -29,7 +29,7 @@ const CLASSES: [u64; 16] = [
 ];
 
 /// The squares of both sets.
-pub(crate) fn both(a: SquareSet, b: SquareSet) -> SquareSet
+pub fn both(a: SquareSet, b: SquareSet) -> SquareSet
     ensures { (s : ℕ) → s < 64 → is_in result s ≡ (is_in a s && is_in b s) }
 {
     SquareSet::from_bits(a.bits() & b.bits())
@@ -43,7 +43,7 @@ pub(crate) fn either(a: SquareSet, b: SquareSet) -> SquareSet
 }
 
 /// The squares of a class.
-fn squares_of_class(class: usize) -> SquareSet
+pub fn squares_of_class(class: usize) -> SquareSet
     requires { class < 16 }
     ensures { (s : ℕ) → s < 64 → is_in result s ≡ (class_of s == class) }
 {
@@ -83,19 +83,4 @@ pub(crate) fn earned_in_each(
         earned[f] = earned_within(exposed, takes, sets[f]);
     }
     earned
-}
-
-/// A class that has a square in the set and of whose numbers none is greater; None where that number is 0.
-pub(crate) fn best_class(takes: &[u8; 16], within: SquareSet) -> Option<usize>
-    ensures { IfSome result (λ class. class < 16) }
-{
-    let mut best: Option<usize> = None;
-    let mut most = 0;
-    for class in 0..16 {
-        if takes[class] > most && both(within, squares_of_class(class)).next_from(0) < 64 {
-            best = Some(class);
-            most = takes[class];
-        }
-    }
-    best
 }

@@ -7,7 +7,8 @@ ghost use Rattle.men_fates.specs.Fates.{brings};
 ghost use Rattle.men_fates.specs.Ways.{toll};
 ghost use Rattle.capture_prices.specs.Prices.{PriceList, gate, take};
 ghost use Rattle.balance_rule.specs.Costs.{gone, gone_as, loss_cost, never, pawn_gone, pawn_stands, piece_gone, piece_stands, stands, stands_as};
-ghost use Rattle.balance_rule.specs.Grounds.{ArePromoted, BeginsOn, IsGround};
+ghost use Rattle.balance_rule.specs.Grounds.{ArePromoted, IsGround};
+ghost use Rattle.balance_rule.specs.FirstMen.{BeginsOn};
 ghost use Rattle.balance_rule.specs.LeastWays.{IsLeast, IsReach, ends_on, seen_by};
 
 use crate::grounds::Ground;
@@ -59,7 +60,7 @@ fn pawn_stands(ground: &Ground, f: u8, kind: Kind, s: Square) -> u16
 }
 
 /// What it costs at least that the pawn of this file is gone, of the ways that end on the square with this number.
-pub(crate) fn loss_at(ground: &Ground, f: u8, i: u8) -> u16
+pub fn loss_at(ground: &Ground, f: u8, i: u8) -> u16
     requires file { f < 8 }
     requires inside { i < 64 }
     ensures { (o : List Bool) (p : PriceList) → IsGround o p ground.now → is_in ground.now.frozen (seen_by ground.now.side (8 + f)) ≡ false → IsLeast ground.now.side ground.now.frozen (seen_by ground.now.side (8 + f)) (ends_on (seen_by ground.now.side (8 + f)) (seen_by ground.now.side i)) (loss_cost p ground.now.frozen ground.now.side (seen_by ground.now.side (8 + f))) result }
@@ -154,7 +155,7 @@ fn gone_as(ground: &Ground, first: Kind, n: u8) -> u16
 }
 
 /// What it costs at least that the man on this place of a square began on this number of the side; `NEVER` where nobody of the side did.
-pub(crate) fn stands(ground: &Ground, n: u8, place: Option<Man>, s: Square) -> u16
+pub fn stands(ground: &Ground, n: u8, place: Option<Man>, s: Square) -> u16
     requires { n < 16 }
     ensures small { result ≤ never }
     ensures value { (o : List Bool) (p : PriceList) → IsGround o p ground.now → result ≡ stands p ground.now.frozen ground.now.side (at (array_of o) (seen_by ground.now.side n)) (seen_by ground.now.side n) place s }

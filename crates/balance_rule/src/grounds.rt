@@ -1,7 +1,8 @@
-ghost use Rattle.std.specs.Prelude.{◌≡◌, ◌+◌, ◌<◌, ◌||◌, ℕ, IsTrue, [], slice_index_or};
+ghost use Rattle.std.specs.Prelude.{◌≡◌, ◌+◌, ◌<◌, ◌||◌, ℕ, Bool, IsTrue, List, [], slice_index_or};
 ghost use Rattle.board_base.specs.Board.{is_in};
 ghost use Rattle.board_base.specs.Legal.{is_officer};
 ghost use Rattle.cage_rules.specs.Regions.{is_officer_home, region};
+ghost use Rattle.capture_prices.specs.Prices.{PriceList};
 ghost use Rattle.balance_rule.specs.Grounds.{ArePromoted, IsGround};
 ghost use Rattle.balance_rule.specs.LeastWays.{seen_by};
 
@@ -15,34 +16,34 @@ use capture_prices::Prices;
 use query_base::Query;
 
 /// What is known of a side before its men are looked at. Files are counted as the side sees the board.
-#[derive(Drop)]
-pub(crate) struct Ground {
-    pub(crate) side: Colour,
-    pub(crate) frozen: SquareSet,
+#[derive(Clone, Copy)]
+pub struct Ground {
+    pub side: Colour,
+    pub frozen: SquareSet,
     /// The array at the query's odds.
-    pub(crate) first: Board,
+    pub first: Board,
     /// The squares on which its men are exposed to enemy pawns.
-    pub(crate) exposed: SquareSet,
+    pub exposed: SquareSet,
     /// What its pawns pay on each square, and what its men earn there.
-    pub(crate) tariff: Tariff,
+    pub tariff: Tariff,
     /// What the ways of its pawns outside the set cost at least.
-    pub(crate) reaches: [Reach; 8],
+    pub reaches: [Reach; 8],
     /// The regions of its knights, bishops, rooks and queen from their homes.
-    pub(crate) regions: [SquareSet; 8],
+    pub regions: [SquareSet; 8],
     /// The regions of knights from the squares of its last rank.
-    pub(crate) knights: [SquareSet; 8],
+    pub knights: [SquareSet; 8],
     /// Those of bishops.
-    pub(crate) bishops: [SquareSet; 8],
+    pub bishops: [SquareSet; 8],
     /// Those of rooks.
-    pub(crate) rooks: [SquareSet; 8],
+    pub rooks: [SquareSet; 8],
     /// Those of queens.
-    pub(crate) queens: [SquareSet; 8],
+    pub queens: [SquareSet; 8],
     /// The squares of some of these four regions.
-    pub(crate) promoted: [SquareSet; 8],
+    pub promoted: [SquareSet; 8],
     /// What a knight, bishop, rook or queen earns at most who is taken in the region of his home.
-    pub(crate) most_at_home: [u16; 8],
+    pub most_at_home: [u16; 8],
     /// What a man earns at most who is taken after he was promoted on a square of the last rank.
-    pub(crate) most_promoted: [u16; 8],
+    pub most_promoted: [u16; 8],
 }
 
 /// The regions of the side's knights, bishops, rooks and queen from their homes.
@@ -89,7 +90,7 @@ fn some_of(
 }
 
 /// What is known of a side of the query, beside a frozen set and at these prices.
-pub(crate) fn ground_of(query: &Query, frozen: SquareSet, prices: &Prices, side: Colour) -> Ground
+pub fn ground_of(query: &Query, frozen: SquareSet, prices: &Prices, side: Colour) -> Ground
     ensures side { result.side ≡ side }
     ensures frozen { result.frozen ≡ frozen }
     ensures ground { IsGround query.now.odds prices.now result }
@@ -122,7 +123,11 @@ pub(crate) fn ground_of(query: &Query, frozen: SquareSet, prices: &Prices, side:
 }
 
 /// Reckons with other prices.
-pub(crate) fn set_prices(ground: &mut Ground, prices: &Prices) {
+pub fn set_prices(ground: &mut Ground, prices: &Prices)
+    ensures side { ground.new.side ≡ ground.old.side }
+    ensures frozen { ground.new.frozen ≡ ground.old.frozen }
+    ensures ground { (o : List Bool) (p : PriceList) → IsGround o p ground.old → IsGround o prices.now ground.new }
+{
     let enemy = prices.takes(ground.side.other());
     ground.tariff = tariff_of(ground.side, ground.exposed, prices);
     ground.reaches = reaches_of(ground.side, ground.frozen, &ground.tariff);

@@ -3,7 +3,6 @@
 //! Articles are those of the FIDE Laws of Chess, in force from 1 January 2023.
 #![tactic(auto)]
 
-mod ascent;
 mod balance;
 mod earnings;
 mod fates;
@@ -11,11 +10,15 @@ mod grounds;
 mod laws;
 mod reaches;
 mod tables;
-mod tallies;
 mod tariffs;
 mod views;
 
-pub use ascent::find_balance;
-pub use balance::{balances, most_cost, side_cost};
-pub use laws::balance_closes;
-pub use tables::begun_with;
+pub use balance::{balances, is_whole, most_cost, side_cost};
+pub use earnings::{both, squares_of_class};
+pub use fates::{loss_at, stands};
+pub use grounds::{Ground, ground_of, set_prices};
+pub use laws::{balance_closes, costs_bound_walls};
+pub use reaches::{NEVER, Reach, capped_sum, fee_at, toll_at};
+pub use tables::{begun_with, cost_table, gone_row, number_of_home};
+pub use tariffs::{Tariff, class_of};
+pub use views::{number_of, seen_by};

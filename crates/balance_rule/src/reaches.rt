@@ -4,33 +4,34 @@ ghost use Rattle.capture_prices.specs.Prices.{PriceList, are_prices};
 ghost use Rattle.balance_rule.specs.Costs.{never};
 ghost use Rattle.balance_rule.specs.Tariffs.{IsTariff};
 ghost use Rattle.balance_rule.specs.declared.reaches.Reach.{Reach as AReach};
-ghost use Rattle.balance_rule.specs.LeastWays.{IsReach, IsReachTo, fee_of, next_aside, seen_by, toll_of};
+ghost use Rattle.balance_rule.specs.LeastWays.{IsReach, fee_of, seen_by, toll_of};
+ghost use Rattle.balance_rule.specs.NextWays.{IsReachTo, next_aside};
 
 use crate::tariffs::Tariff;
 use crate::views::seen_by;
 use board_base::{Colour, SquareSet};
 
 /// More than anything costs: it stands where something can't be.
-pub(crate) const NEVER: u16 = 5000;
+pub const NEVER: u16 = 5000;
 
 /// What the ways of a pawn cost at least, by the squares on which they end, as his side sees them.
 #[derive(Clone, Copy)]
-pub(crate) struct Reach {
+pub struct Reach {
     /// The gates of a way on which he captures nowhere.
-    pub(crate) straight: [u16; 64],
+    pub straight: [u16; 64],
     /// The fees of a way on which he captures somewhere.
-    pub(crate) aside: [u16; 64],
+    pub aside: [u16; 64],
 }
 
 /// The sum, or `NEVER` where that is less.
-pub(crate) fn capped_sum(a: u16, b: u16) -> u16
+pub fn capped_sum(a: u16, b: u16) -> u16
     ensures { result ≡ min never (a + b) }
 {
     NEVER.min(a.saturating_add(b))
 }
 
 /// The least fee of all ways to a square: nothing where he needs no capture.
-pub(crate) fn fee_at(reach: &Reach, i: u8) -> u16
+pub fn fee_at(reach: &Reach, i: u8) -> u16
     requires { i < 64 }
     ensures { result ≡ fee_of (slice_index reach.now.straight i) (slice_index reach.now.aside i) }
 {
@@ -43,7 +44,7 @@ pub(crate) fn fee_at(reach: &Reach, i: u8) -> u16
 }
 
 /// The least toll of all ways to a square.
-pub(crate) fn toll_at(reach: &Reach, i: u8) -> u16
+pub fn toll_at(reach: &Reach, i: u8) -> u16
     requires { i < 64 }
     ensures { result ≡ toll_of (slice_index reach.now.straight i) (slice_index reach.now.aside i) }
 {

@@ -15,7 +15,7 @@ use arrayvec::ArrayVec;
 use board_base::{Board, Colour, Odds, Square, array_of, is_of};
 
 /// The number of a side's home, as the side sees the board, by its place among the side's sixteen homes in ascending order.
-pub(crate) fn number_of_home(side: Colour, j: u8) -> u8
+pub fn number_of_home(side: Colour, j: u8) -> u8
     requires { j < 16 }
     ensures home { seen_by side result ≡ home_of side j }
     ensures few { result < 16 }
@@ -40,7 +40,7 @@ fn stand_row(ground: &Ground, board: &Board, s: Square) -> [u16; 16]
 }
 
 /// What it costs that the man of each of the side's homes is gone.
-fn gone_row(ground: &Ground) -> [u16; 16]
+pub fn gone_row(ground: &Ground) -> [u16; 16]
     ensures small { All (λ cost. cost ≤ never) result }
     ensures value { (o : List Bool) (p : PriceList) → IsGround o p ground.now → result ≡ gone_row p ground.now.frozen ground.now.side (array_of o) }
 {
@@ -109,11 +109,7 @@ fn fill_up(rows: &mut ArrayVec<[u16; 16], 16>, row: [u16; 16], begun: u8)
 }
 
 /// A row for each man of the side, and one for each who is missing of so many; None exactly where it has more.
-pub(crate) fn cost_table(
-    ground: &Ground,
-    board: &Board,
-    begun: u8,
-) -> Option<ArrayVec<[u16; 16], 16>>
+pub fn cost_table(ground: &Ground, board: &Board, begun: u8) -> Option<ArrayVec<[u16; 16], 16>>
     requires { begun ≤ 16 }
     ensures table { IfSome result (λ rows. IsTable rows.items 16 never) }
     ensures items { (o : List Bool) (p : PriceList) → IsGround o p ground.now → begun ≡ men_on ground.now.side (array_of o) → SomeIff (option_map (λ rows. rows.items) result) (men_on ground.now.side board.now ≤ begun) (cost_table p ground.now.frozen ground.now.side (array_of o) board.now) }

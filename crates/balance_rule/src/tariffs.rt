@@ -12,17 +12,17 @@ use capture_prices::{Gate, Prices};
 
 /// What a side's pawns pay on each square, as the side sees the board, and what its men earn there.
 #[derive(Clone, Copy)]
-pub(crate) struct Tariff {
+pub struct Tariff {
     /// For a capture there.
-    pub(crate) take: [u16; 64],
+    pub take: [u16; 64],
     /// For treading it, where they never capture.
-    pub(crate) gate: [u16; 64],
+    pub gate: [u16; 64],
     /// What a man of the side who is taken there earns.
-    pub(crate) earned: [u16; 64],
+    pub earned: [u16; 64],
 }
 
 /// The class of a square, by its file and its shade.
-pub(crate) fn class_of(s: Square) -> u8
+pub fn class_of(s: Square) -> u8
     ensures value { result ≡ class_of s }
     ensures few { result < 16 }
 {

@@ -8,7 +8,7 @@ use Rattle.board_base.specs.declared.men.Kind.{Kind}
 use Rattle.board_base.specs.declared.men.Kind.TheVariants.{Pawn, Knight, Bishop, Rook, Queen, King}
 use Rattle.general_lemmas.proofs.Ranges.{all_in_range}
 use Rattle.board_base.proofs.Ways.{distance-low, king_distance-sym, distance-sym, zero-apart}
-use Rattle.cage_rules.specs.Frozen.{is_next, is_entry}
+use Rattle.cage_rules.specs.Frozen.{is_entry, is_next, is_plain_entry}
 use Rattle.cage_rules.proofs.Rays.{RayStep, diagonal-end, diagonal-step, line-end, line-step, no-steps}
 
 -- an entry to t that a man who comes from s leaves, or crosses last, and that is empty then
@@ -67,37 +67,59 @@ knight-apart s t h same =
     let zero_times : files_apart s t * ranks_apart s t ≡ 0 * ranks_apart s t = ap (λ (n : ℕ). n * ranks_apart s t) none in
     omega arith
 
+-- the same of a man who was never promoted, and of a pawn that never captured
+pub record PlainWay (board : Places) (c : Colour) (k : Kind) (s t : ℕ) : Type 0 where
+  pub entry : ℕ
+  pub inside : entry < 64
+  pub apart : entry ≢ t
+  pub vacant : (entry ≡ s) ⊎ (is_empty (at board entry) ≡ true)
+  pub enters : is_plain_entry c k t entry ≡ true
+
 -- an officer or a king who goes from s to t
-pub man-enters : (board : Places) (c : Colour) (k : Kind) (s t : ℕ) → s < 64 → t < 64 → same_kind Pawn k ≡ false → kind_attacks board c k s t ≡ true → WayIn board c k s t
-unfolding kind_attacks is_entry
-man-enters board c Pawn s t small inside other h = absurd (both_ways true other refl)
-man-enters board c Knight s t small inside other h =
+pub man-enters-plain : (board : Places) (c : Colour) (k : Kind) (s t : ℕ) → s < 64 → t < 64 → same_kind Pawn k ≡ false → kind_attacks board c k s t ≡ true → PlainWay board c k s t
+unfolding kind_attacks is_plain_entry
+man-enters-plain board c Pawn s t small inside other h = absurd (both_ways true other refl)
+man-enters-plain board c Knight s t small inside other h =
     let e : (files_apart t s * ranks_apart t s == 2) ≡ true = ap (λ (n : ℕ). n == 2) (sym (knight-back s t)) ∙ h in
-    record { entry = s; inside = small; apart = knight-apart s t h; vacant = inl refl; enters = or_left _ _ e }
-man-enters board c Bishop s t small inside other h =
+    record { entry = s; inside = small; apart = knight-apart s t h; vacant = inl refl; enters = e }
+man-enters-plain board c Bishop s t small inside other h =
     let parts = and_parts _ _ h in
     let two = and_parts _ _ parts.0 in
     let apart : s ≢ t = eqb-false s t (not-true _ two.0) in
     let last = last-diagonal s t small inside apart two.1 in
-    record { entry = last_square s t; inside = last.inside; apart = next-apart t _ last.next; vacant = last-vacant board s t small apart parts.1; enters = or_left _ _ (and_from _ _ last.next last.way) }
-man-enters board c Rook s t small inside other h =
+    record { entry = last_square s t; inside = last.inside; apart = next-apart t _ last.next; vacant = last-vacant board s t small apart parts.1; enters = and_from _ _ last.next last.way }
+man-enters-plain board c Rook s t small inside other h =
     let parts = and_parts _ _ h in
     let two = and_parts _ _ parts.0 in
     let apart : s ≢ t = eqb-false s t (not-true _ two.0) in
     let last = last-line s t small inside apart two.1 in
-    record { entry = last_square s t; inside = last.inside; apart = next-apart t _ last.next; vacant = last-vacant board s t small apart parts.1; enters = or_left _ _ (and_from _ _ last.next last.way) }
-man-enters board c Queen s t small inside other h =
+    record { entry = last_square s t; inside = last.inside; apart = next-apart t _ last.next; vacant = last-vacant board s t small apart parts.1; enters = and_from _ _ last.next last.way }
+man-enters-plain board c Queen s t small inside other h =
     let parts = and_parts _ _ h in
     let two = and_parts _ _ parts.0 in
     let apart : s ≢ t = eqb-false s t (not-true _ two.0) in
     elim (or_cases _ _ two.1) [
       | inl line ↦
           let last = last-line s t small inside apart line in
-          record { entry = last_square s t; inside = last.inside; apart = next-apart t _ last.next; vacant = last-vacant board s t small apart parts.1; enters = or_left _ _ last.next }
+          record { entry = last_square s t; inside = last.inside; apart = next-apart t _ last.next; vacant = last-vacant board s t small apart parts.1; enters = last.next }
       | inr diagonal ↦
           let last = last-diagonal s t small inside apart diagonal in
-          record { entry = last_square s t; inside = last.inside; apart = next-apart t _ last.next; vacant = last-vacant board s t small apart parts.1; enters = or_left _ _ last.next }
+          record { entry = last_square s t; inside = last.inside; apart = next-apart t _ last.next; vacant = last-vacant board s t small apart parts.1; enters = last.next }
     ]
-man-enters board c King s t small inside other h =
+man-enters-plain board c King s t small inside other h =
     let back : is_next t s ≡ true = ap (λ (n : ℕ). n == 1) (king_distance-sym t s) ∙ h in
     record { entry = s; inside = small; apart = next-apart t s back; vacant = inl refl; enters = back }
+
+plain-entry : (c : Colour) (k : Kind) (s t : ℕ) → same_kind Pawn k ≡ false → is_plain_entry c k s t ≡ true → is_entry c k s t ≡ true
+unfolding is_entry is_plain_entry
+plain-entry c Pawn s t other h = absurd (both_ways true other refl)
+plain-entry c Knight s t other h = or_left _ _ h
+plain-entry c Bishop s t other h = or_left _ _ h
+plain-entry c Rook s t other h = or_left _ _ h
+plain-entry c Queen s t other h = or_left _ _ h
+plain-entry c King s t other h = h
+
+pub man-enters : (board : Places) (c : Colour) (k : Kind) (s t : ℕ) → s < 64 → t < 64 → same_kind Pawn k ≡ false → kind_attacks board c k s t ≡ true → WayIn board c k s t
+man-enters board c k s t small inside other h =
+    let way = man-enters-plain board c k s t small inside other h in
+    record { entry = way.entry; inside = way.inside; apart = way.apart; vacant = way.vacant; enters = plain-entry c k t way.entry other way.enters }

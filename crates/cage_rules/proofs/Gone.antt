@@ -21,12 +21,13 @@ use Rattle.play_rules.proofs.Ends.{no_pawn_on_ends}
 use Rattle.play_rules.proofs.Doubles.{castles-no-pawn}
 use Rattle.play_rules.proofs.Kings.{castle-ends, length-after, within}
 use Rattle.query_base.specs.Asked.{Asked}
-use Rattle.cage_rules.specs.Laws.{Caged, IsGone, IsNotPawned, IsSafeFromPawns}
+use Rattle.cage_rules.specs.Laws.{Caged, IsGone, IsNotPawned, IsSafeFromPawns, Walled}
 use Rattle.cage_rules.specs.Regions.{beginner, is_dead, is_exposed, is_officer_home, is_shielded, is_struck, may_strike, region}
-use Rattle.cage_rules.proofs.Histories.{game-begins, kept-in}
+use Rattle.cage_rules.proofs.Histories.{game-begins}
 use Rattle.cage_rules.proofs.Regions.{length-region}
 use Rattle.cage_rules.proofs.Roamers.{in-region, officer-of}
 use Rattle.cage_rules.proofs.Stays.{Stays}
+use Rattle.cage_rules.proofs.WalledGames.{caged-walled, walled-stays}
 use Rattle.general_lemmas.proofs.Ranges.{any-found}
 use Rattle.cage_rules.proofs.Tested.{at_board, member-inside}
 
@@ -34,7 +35,7 @@ use Rattle.cage_rules.proofs.Tested.{at_board, member-inside}
 pub dead-gone : (o : List Bool) (g : List Move) (q : Asked) (set : List Bool) (h : ℕ) → Caged o g q set → is_officer_home h ≡ true → is_in o h ≡ false → is_dead q.board set h ≡ true → IsGone o g h
 unfolding is_dead
 dead-gone o g q set h caged home there dead s label =
-    let here = in-region o g q set h caged home there g ([], sym (append-nil g)) s label in
+    let here = in-region o g set h (caged-walled o g q set caged) home there g ([], sym (append-nil g)) s label in
     let first = officer-of h home in
     let alive : is_like (beginner h) (at q.board s) ≡ true =
     ap (λ (b : Places). is_like (beginner h) (at b s)) (sym caged.leads.board) ∙ ap (is_like (beginner h)) (here.1 ∙ first.1) ∙ ap (λ (p : Option Man). is_like p (Some first.0)) first.1
@@ -56,10 +57,10 @@ left-out m None board e pawn stay =
 left-out m (Some c) board e pawn stay = both_ways _ (another_kind King Pawn (at board m.from) pawn) (castle-ends board m c e).king
 
 -- no pawn stands where it would capture into a shielded region, when it is about to
-pub shielded-safe : (o : List Bool) (g : List Move) (q : Asked) (set : List Bool) (h : ℕ) → Caged o g q set → is_shielded set h ≡ true → IsSafeFromPawns o g set h
+pub shielded-safe : (o : List Bool) (g : List Move) (set : List Bool) (h : ℕ) → Walled o g set → is_shielded set h ≡ true → IsSafeFromPawns o g set h
 unfolding is_shielded is_exposed
-shielded-safe o g q set h caged shielded before m (after, e) member struck = false_from_ne_true _ (λ pawn.
-    let more : IsGame o (before ++ m ∷ after) = subst (IsGame o) e caged.leads.game in
+shielded-safe o g set h walled shielded before m (after, e) member struck = false_from_ne_true _ (λ pawn.
+    let more : IsGame o (before ++ m ∷ after) = subst (IsGame o) e walled.game in
     let game : IsGame o before = game-begins o before (m ∷ after) more in
     let l : Legality (board_after o before) (turn_after before) (unmoved o before) (last_move before) m = legality _ _ _ _ _ (more before after m refl) in
     let f : m.from < 64 = from-inside (board_after o before) m.from (length-after o before game) pawn in
@@ -71,7 +72,7 @@ shielded-safe o g q set h caged shielded before m (after, e) member struck = fal
           let exposed : is_exposed set (beginner h) m.to ≡ true = any-found (may_strike set (beginner h) m.to) 0 64 m.from (omega arith) (omega arith) strikes in
           absurd (both_ways _ (not-true _ (at_board (λ t. not (is_in (region set h) t && is_exposed set (beginner h) t)) m.to shielded l.on_board)) (and_from _ _ member exposed))
     ] in
-    left-out m (castling (board_after o before) m) (board_after o before) refl pawn ((kept-in o g before after m q set caged e).stay m.from covered))
+    left-out m (castling (board_after o before) m) (board_after o before) refl pawn (walled-stays o g before after m set walled e m.from covered))
 
 -- a pawn that comes to an occupied square captures there
 captures : (board : Places) (c : Colour) (rights : Castle → Bool) (last : Option Move) (m : Move) → is_a Pawn (at board m.from) ≡ true → is_empty (at board m.to) ≡ false → Manner board c rights last m → (one_ahead c m.from m.to && (files_apart m.from m.to == 1)) ≡ true
@@ -91,13 +92,13 @@ struck-from place b c t u e other h =
     subst (λ (p : Option Man). is_struck p t u ≡ true) (sym e) (subst (λ (d : Colour). (one_ahead d u t && (files_apart u t == 1)) ≡ true) same h)
 
 -- no pawn captures the man who began on a shielded home
-pub shielded-unpawned : (o : List Bool) (g : List Move) (q : Asked) (set : List Bool) (h : ℕ) → Caged o g q set → is_officer_home h ≡ true → is_in o h ≡ false → is_shielded set h ≡ true → IsNotPawned o g h
-shielded-unpawned o g q set h caged home there shielded before m (after, e) label = false_from_ne_true _ (λ pawn.
+pub shielded-unpawned : (o : List Bool) (g : List Move) (set : List Bool) (h : ℕ) → Walled o g set → is_officer_home h ≡ true → is_in o h ≡ false → is_shielded set h ≡ true → IsNotPawned o g h
+shielded-unpawned o g set h walled home there shielded before m (after, e) label = false_from_ne_true _ (λ pawn.
     let first = officer-of h home in
-    let here = in-region o g q set h caged home there before (m ∷ after, e) m.to label in
+    let here = in-region o g set h walled home there before (m ∷ after, e) m.to label in
     let man : at (board_after o before) m.to ≡ Some first.0 = here.1 ∙ first.1 in
-    let more : IsGame o (before ++ m ∷ after) = subst (IsGame o) e caged.leads.game in
+    let more : IsGame o (before ++ m ∷ after) = subst (IsGame o) e walled.game in
     let l : Legality (board_after o before) (turn_after before) (unmoved o before) (last_move before) m = legality _ _ _ _ _ (more before after m refl) in
     let takes_it = captures (board_after o before) (turn_after before) (unmoved o before) (last_move before) m pawn (ap is_empty man) l.manner in
     let struck : is_struck (beginner h) m.to m.from ≡ true = struck-from (beginner h) first.0 (turn_after before) m.to m.from first.1 (ap (is_of (turn_after before)) (sym man) ∙ l.not_own) takes_it in
-    both_ways _ (shielded-safe o g q set h caged shielded before m (after, e) here.0 struck) pawn)
+    both_ways _ (shielded-safe o g set h walled shielded before m (after, e) here.0 struck) pawn)

@@ -27,7 +27,7 @@ use Rattle.cage_rules.proofs.Stays.{Stays, StillFrozen, stays, same-man}
 pub game-begins : (o : List Bool) (before after : List Move) → IsGame o (before ++ after) → IsGame o before
 game-begins o before after game b a n e = game b (a ++ after) n (ap (λ (x : List Move). x ++ after) e ∙ append_assoc b (n ∷ a) after)
 
-unmoved-begins : (o : List Bool) (before after : List Move) (x : Castle) → unmoved o (before ++ after) x ≡ true → unmoved o before x ≡ true
+pub unmoved-begins : (o : List Bool) (before after : List Move) (x : Castle) → unmoved o (before ++ after) x ≡ true → unmoved o before x ≡ true
 unmoved-begins o before after x h =
     let parts = and_parts _ _ h in
     and_from _ _ parts.0 (and_parts _ _ (sym (list_all-append (λ m. not (touches m x)) before after) ∙ parts.1)).0

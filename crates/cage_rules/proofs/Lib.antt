@@ -1,11 +1,12 @@
 pub mod Must
 mod Rays
-mod Entries
-mod PawnEntries
-mod Arrivals
+pub mod Entries
+pub mod PawnEntries
+pub mod Arrivals
 pub mod Stays
 pub mod Histories
 pub mod FrozenLabels
+pub mod WalledGames
 pub mod Tested
 pub mod Filling
 pub mod SetAlgebra

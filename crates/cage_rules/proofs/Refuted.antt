@@ -28,6 +28,7 @@ use Rattle.cage_rules.specs.Frozen.{IsFrozen}
 use Rattle.cage_rules.specs.Regions.{beginner, is_dead, is_officer_home, is_shielded}
 use Rattle.cage_rules.specs.Refuted.{HasTooMany, NeedTooMany, is_spent}
 use Rattle.cage_rules.proofs.Gone.{dead-gone, shielded-unpawned}
+use Rattle.cage_rules.proofs.WalledGames.{caged-walled}
 
 pub officer-kind : (k : Kind) → is_officer k ≡ true → (same_kind Knight k || same_kind Bishop k || same_kind Rook k || same_kind Queen k) ≡ true
 officer-kind Pawn h = cc
@@ -89,7 +90,7 @@ unfolding array_of beginner
 spent-untaken o g q set c h caged home there shielded (before, m, after, split, takes) = elim takes.target [
   | inl here ↦
       let label : label_at (labels_after o before) m.to ≡ Some h = subst (λ (t : ℕ). label_at (labels_after o before) t ≡ Some h) here takes.label in
-      both_ways _ (shielded-unpawned o g q set h caged home there shielded before m (after, split) label) (and_parts (is_of c (at (board_after o before) m.from)) (is_a Pawn (at (board_after o before) m.from)) takes.pawn).1
+      both_ways _ (shielded-unpawned o g set h (caged-walled o g q set caged) home there shielded before m (after, split) label) (and_parts (is_of c (at (board_after o before) m.from)) (is_a Pawn (at (board_after o before) m.from)) takes.pawn).1
   | inr past ↦ home-no-pawn (at initial_array h) home (kept-pawn (is_in o h) (opponent c) (at initial_array h) (sym (ap (is_the (opponent c) Pawn) (at-without o initial_array h)) ∙ past.1))
 ]
 

@@ -16,17 +16,17 @@ use Rattle.board_base.specs.declared.moves.Move.{Move}
 use Rattle.board_base.proofs.KindsOfMen.{another_kind, colour_is, kind_is}
 use Rattle.play_rules.proofs.Legality.{Legality, legality}
 use Rattle.play_rules.proofs.Games.{in_every_game}
-use Rattle.query_base.specs.Asked.{Asked}
 use Rattle.men_account.specs.Labels.{Labels, label_at, labels_after}
 use Rattle.men_account.proofs.Moved.{moved_from}
 use Rattle.men_account.proofs.Labelled.{labels-each_man, labels-colours, labels-promotions, length-labels, first-is, on-label}
-use Rattle.cage_rules.specs.Laws.{Caged, StaysInRegion}
+use Rattle.cage_rules.specs.Laws.{StaysInRegion, Walled}
 use Rattle.cage_rules.specs.Regions.{beginner, is_officer_home, may_roam, region, walls}
 use Rattle.cage_rules.proofs.Beginners.{array-there, officer-inside}
 use Rattle.cage_rules.proofs.FrozenLabels.{label-more}
 use Rattle.cage_rules.proofs.Goings.{IsPiece, went}
-use Rattle.cage_rules.proofs.Histories.{frozen-begun, game-begins, kept-in}
+use Rattle.cage_rules.proofs.Histories.{game-begins}
 use Rattle.cage_rules.proofs.Regions.{region-goes, region-home}
+use Rattle.cage_rules.proofs.WalledGames.{walled-full, walled-stays}
 use Rattle.cage_rules.proofs.Walls.{goes-between}
 
 -- a place with a man
@@ -88,8 +88,8 @@ label-inside labels s h size label = elim (cases_lt s 64) [
 roams : (set : List Bool) (place : Option Man) (man : Man) (u s : ℕ) → place ≡ Some man → kind_attacks (walls set) man.colour man.kind u s ≡ true → is_in set s ≡ false → may_roam set place u s ≡ true
 roams set place man u s e hits out = subst (λ (p : Option Man). may_roam set p u s ≡ true) (sym e) (and_from _ _ hits (not_from_false _ out))
 
-pub stays-in-region : (o : List Bool) (g : List Move) (q : Asked) (set : List Bool) (h : ℕ) → Caged o g q set → is_officer_home h ≡ true → is_in o h ≡ false → (before : List Move) → IsGame o before → (after : List Move) → g ≡ before ++ after → (s : ℕ) → label_at (labels_after o before) s ≡ Some h → is_in (region set h) s ≡ true
-stays-in-region o g q set h caged home there =
+pub stays-in-region : (o : List Bool) (g : List Move) (set : List Bool) (h : ℕ) → Walled o g set → is_officer_home h ≡ true → is_in o h ≡ false → (before : List Move) → IsGame o before → (after : List Move) → g ≡ before ++ after → (s : ℕ) → label_at (labels_after o before) s ≡ Some h → is_in (region set h) s ≡ true
+stays-in-region o g set h walled home there =
     let inside : h < 64 = officer-inside h home in
     let first = officer-of h home in
     in_every_game o (λ k. (after : List Move) → g ≡ k ++ after → (s : ℕ) → label_at (labels_after o k) s ≡ Some h → is_in (region set h) s ≡ true)
@@ -103,18 +103,18 @@ stays-in-region o g q set h caged home there =
     let man : at (board_after o k) u ≡ Some first.0 = began-so o k h u game home there from.2 ∙ first.1 in
     elim (cases_Bool (is_in set s)) [
       | inl member ↦
-          let same : u ≡ s = same_Some u s (sym from.1 ∙ ((kept-in o g k after m q set caged e).stay s member).from) in
+          let same : u ≡ s = same_Some u s (sym from.1 ∙ (walled-stays o g k after m set walled e s member).from) in
           ap (is_in (region set h)) (sym same) ∙ before
       | inr out ↦ elim (went (board_after o k) (turn_after k) (unmoved o k) (last_move k) m first.0 u s man first.2 l.manner from.1) [
         | inl same ↦ ap (is_in (region set h)) (sym same) ∙ before
         | inr hits ↦
-            let more : IsGame o (k ++ m ∷ []) = game-begins o (k ++ m ∷ []) after (subst (IsGame o) whole caged.leads.game) in
+            let more : IsGame o (k ++ m ∷ []) = game-begins o (k ++ m ∷ []) after (subst (IsGame o) whole walled.game) in
             region-goes set (beginner h) h u s (label-inside (labels_after o (k ++ m ∷ [])) s h (length-labels o (k ++ m ∷ []) more) label) before
-            (roams set (beginner h) first.0 u s first.1 (goes-between (board_after o k) set first.0.colour first.0.kind u s (frozen-begun o g k (m ∷ after) q set caged e).occupied hits) out)
+            (roams set (beginner h) first.0 u s first.1 (goes-between (board_after o k) set first.0.colour first.0.kind u s (walled-full o g k (m ∷ after) set walled e) hits) out)
       ]
     ])
 
-pub in-region : (o : List Bool) (g : List Move) (q : Asked) (set : List Bool) (h : ℕ) → Caged o g q set → is_officer_home h ≡ true → is_in o h ≡ false → StaysInRegion o g set h
-in-region o g q set h caged home there before (after, e) s label =
-    let game : IsGame o before = game-begins o before after (subst (IsGame o) e caged.leads.game) in
-    (stays-in-region o g q set h caged home there before game after e s label, began-so o before h s game home there label)
+pub in-region : (o : List Bool) (g : List Move) (set : List Bool) (h : ℕ) → Walled o g set → is_officer_home h ≡ true → is_in o h ≡ false → StaysInRegion o g set h
+in-region o g set h walled home there before (after, e) s label =
+    let game : IsGame o before = game-begins o before after (subst (IsGame o) e walled.game) in
+    (stays-in-region o g set h walled home there before game after e s label, began-so o before h s game home there label)

@@ -59,7 +59,7 @@ target-touches m x h = elim (or_cases (king_home x == m.to) (rook_home x == m.to
 ]
 
 -- the target of a move that touches no held home is none
-target-away : (held : Rights) (m : Move) → Untouched held m → is_held_home held m.to ≡ false
+pub target-away : (held : Rights) (m : Move) → Untouched held m → is_held_home held m.to ≡ false
 target-away held m untouched = any-castle (λ x. holds held x && ((king_home x == m.to) || (rook_home x == m.to))) (λ x. false_from_ne_true _ (λ h.
     let parts = and_parts _ _ h in
     both_ways _ (untouched x parts.0) (target-touches m x parts.1)))
@@ -67,11 +67,11 @@ target-away held m untouched = any-castle (λ x. holds held x && ((king_home x =
 crossed-apart : (x y : Castle) → ((king_home y == crossed x) || (rook_home y == crossed x)) ≡ false
 crossed-apart x y = not-true _ (each-castle (λ z. not ((king_home z == crossed x) || (rook_home z == crossed x))) (each-castle (λ w. list_all (λ z. not ((king_home z == crossed w) || (rook_home z == crossed w))) all_castles) refl x) y)
 
-crossed-away : (held : Rights) (x : Castle) → is_held_home held (crossed x) ≡ false
+pub crossed-away : (held : Rights) (x : Castle) → is_held_home held (crossed x) ≡ false
 crossed-away held x = any-castle (λ y. holds held y && ((king_home y == crossed x) || (rook_home y == crossed x))) (λ y. and_right _ _ (crossed-apart x y))
 
 -- what is on the square after the move, told by whether it is the square of a man taken en passant, the target, and the origin
-abbrev came : Places → Option Kind → ℕ → ℕ → Bool → Bool → Bool → Option Man
+abbrev pub came : Places → Option Kind → ℕ → ℕ → Bool → Bool → Bool → Option Man
 came board promo from s taken at_to at_from = arrived (promoted promo) None at_to (on_square board (cond taken None (cond at_to (Some from) (cond at_from None (Some s)))))
 
 record Came (taken at_to at_from : Bool) : Type 0 where
@@ -86,13 +86,13 @@ came-cases board promo from s false false true h = absurd (both_ways _ h refl)
 came-cases board promo from s false false false h = record { not_taken = refl; whence = inr (refl, refl) }
 
 -- the origin, and a square that was empty before, are empty after the move
-vacated : (board : Places) (promo : Option Kind) (from e : ℕ) (taken at_from : Bool) → (e == from) ≡ at_from → (e ≡ from) ⊎ (is_empty (at board e) ≡ true) → is_empty (came board promo from e taken false at_from) ≡ true
+pub vacated : (board : Places) (promo : Option Kind) (from e : ℕ) (taken at_from : Bool) → (e == from) ≡ at_from → (e ≡ from) ⊎ (is_empty (at board e) ≡ true) → is_empty (came board promo from e taken false at_from) ≡ true
 vacated board promo from e true at_from here h = refl
 vacated board promo from e false true here h = refl
 vacated board promo from e false false here (inl same) = absurd (both_ways _ here (eq-eqb _ _ same))
 vacated board promo from e false false here (inr none) = none
 
-after-plain : (board : Places) (m : Move) (s : ℕ) → length board ≡ 64 → m.from < 64 → m.to < 64 → at (played_as board m None) s ≡ came board m.promo m.from s (goes_en_passant board m && (s == en_passant_victim m)) (s == m.to) (s == m.from)
+pub after-plain : (board : Places) (m : Move) (s : ℕ) → length board ≡ 64 → m.from < 64 → m.to < 64 → at (played_as board m None) s ≡ came board m.promo m.from s (goes_en_passant board m && (s == en_passant_victim m)) (s == m.to) (s == m.from)
 after-plain board m s len f t = at-moved (promoted m.promo) m None (goes_en_passant board m) board s (promoted-none m.promo) len f t
 
 man-of : (c : Colour) (place : Option Man) → is_of c place ≡ true → (man : Man) × (place ≡ Some man) × (same_colour c man.colour ≡ true)
@@ -140,7 +140,7 @@ rook-comes WhiteLong = refl
 rook-comes BlackShort = refl
 rook-comes BlackLong = refl
 
-king-leaves : (x : Castle) → whence x (king_home x) ≡ None
+pub king-leaves : (x : Castle) → whence x (king_home x) ≡ None
 unfolding whence
 king-leaves WhiteShort = refl
 king-leaves WhiteLong = refl
@@ -155,7 +155,7 @@ king-comes BlackShort = refl
 king-comes BlackLong = refl
 
 -- a rook next to his king's home may have come from there
-rook-enters : (c : Colour) (x : Castle) → is_entry c Rook (crossed x) (king_home x) ≡ true
+pub rook-enters : (c : Colour) (x : Castle) → is_entry c Rook (crossed x) (king_home x) ≡ true
 unfolding is_entry king_distance distance
 rook-enters c WhiteShort = refl
 rook-enters c WhiteLong = refl
@@ -163,7 +163,7 @@ rook-enters c BlackShort = refl
 rook-enters c BlackLong = refl
 
 -- and the king over the square next to it
-king-enters : (c : Colour) (x : Castle) → is_entry c King (king_target x) (crossed x) ≡ true
+pub king-enters : (c : Colour) (x : Castle) → is_entry c King (king_target x) (crossed x) ≡ true
 unfolding is_entry king_distance distance
 king-enters c WhiteShort = refl
 king-enters c WhiteLong = refl
@@ -179,7 +179,7 @@ pub castle-from : (board : Places) (m : Move) (x : Castle) (s : ℕ) → Ends m 
 unfolding whence
 castle-from board m x s ends = ap (λ (n : ℕ). carried_from (rook_home x) (crossed x) s >>= carried_from n m.to) (sym ends.from) ∙ ap (λ (n : ℕ). carried_from (rook_home x) (crossed x) s >>= carried_from (king_home x) n) (sym ends.to)
 
-after-castle : (board : Places) (m : Move) (x : Castle) (s : ℕ) → Ends m x board → length board ≡ 64 → m.from < 64 → m.to < 64 → at (played_as board m (Some x)) s ≡ on_square board (whence x s)
+pub after-castle : (board : Places) (m : Move) (x : Castle) (s : ℕ) → Ends m x board → length board ≡ 64 → m.from < 64 → m.to < 64 → at (played_as board m (Some x)) s ≡ on_square board (whence x s)
 after-castle board m x s ends len f t =
     at-moved (promoted m.promo) m (Some x) (goes_en_passant board m) board s (promoted-none m.promo) len f t ∙ ap (on_square board) (castle-from board m x s ends)
 
@@ -209,7 +209,7 @@ stays-whence board x s true at_king r k cr t h = absurd (both_ways _ h (rw (cr, 
 stays-whence board x s false true r k cr t h = absurd (both_ways _ h (rw (cr, r, t, k) refl))
 stays-whence board x s false false r k cr t h = rw (cr, r, t, k) refl
 
-rook-at : (c : Colour) (place : Option Man) → is_the c Rook place ≡ true → is_a Rook place ≡ true
+pub rook-at : (c : Colour) (place : Option Man) → is_the c Rook place ≡ true → is_a Rook place ≡ true
 rook-at c place h = (and_parts _ _ h).1
 
 stays-castle : (board : Places) (c : Colour) (rights : Castle → Bool) (last : Option Move) (m : Move) (x : Castle) (held : Rights) (set : List Bool) (s : ℕ) → castling board m ≡ Some x → length board ≡ 64 → m.from < 64 → Legality board c rights last m → Untouched held m → StillFrozen (played_as board m (Some x)) held set → is_in set s ≡ true → Stays m (Some x) (goes_en_passant board m) s

@@ -1,7 +1,7 @@
 -- Frozen sets: men who can't have come to their squares, since each way there leads from or over a square that is never empty.
 use Rattle.std.specs.Prelude.{ℕ, ◌≡◌, ◌*◌, Bool, false, ◌&&◌, ◌||◌, ◌==◌, ◌⊎◌, nat_lt, IsTrue, List, Option, Some, None}
 use Rattle.std.specs.List.{Contains, filter, list_any, range_with_len}
-use Rattle.board_base.specs.Board.{Places, array_of, at, is_empty, is_in, rank}
+use Rattle.board_base.specs.Board.{Places, array_of, at, file, is_empty, is_in, rank}
 use Rattle.board_base.specs.Attacks.{files_apart, ranks_apart, king_distance, on_one_diagonal, on_one_line, one_ahead}
 use Rattle.board_base.specs.Legal.{last_rank}
 use Rattle.board_base.specs.Play.{all_castles, king_home, rook_home}
@@ -41,6 +41,15 @@ is_entry c Bishop s t = (is_next s t && on_one_diagonal s t) || is_before_promot
 is_entry c Rook s t = (is_next s t && on_one_line s t) || is_before_promotion c s t
 is_entry c Queen s t = is_next s t || is_before_promotion c s t
 is_entry c King s t = is_next s t
+
+-- the same of a man who was never promoted, and of a pawn that never captured
+unfoldable pub is_plain_entry : Colour → Kind → ℕ → ℕ → Bool
+is_plain_entry c Pawn s t = is_past_home c s && (one_ahead c t s && (file s == file t))
+is_plain_entry c Knight s t = files_apart s t * ranks_apart s t == 2
+is_plain_entry c Bishop s t = is_next s t && on_one_diagonal s t
+is_plain_entry c Rook s t = is_next s t && on_one_line s t
+is_plain_entry c Queen s t = is_next s t
+is_plain_entry c King s t = is_next s t
 
 -- the man on s, if there is one, may have come so
 abbrev pub may_enter : Option Man → ℕ → ℕ → Bool

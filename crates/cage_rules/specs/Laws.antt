@@ -1,8 +1,8 @@
 -- What holds of the men on a frozen set, and of those who began at home beside it, in every game that leads to the query.
 use Rattle.std.specs.Prelude.{ℕ, ◌≡◌, Bool, false, IsTrue, List, ◌∷◌, ◌++◌, Some}
-use Rattle.board_base.specs.Board.{at, is_a, is_in}
+use Rattle.board_base.specs.Board.{array_of, at, is_a, is_in}
 use Rattle.board_base.specs.declared.men.Kind.TheVariants.{Pawn}
-use Rattle.board_base.specs.Game.{board_after}
+use Rattle.board_base.specs.Game.{IsGame, board_after}
 use Rattle.board_base.specs.declared.moves.Move.{Move}
 use Rattle.query_base.specs.Asked.{Asked}
 use Rattle.men_account.specs.Labels.{label_at, labels_after}
@@ -26,6 +26,16 @@ StoodSo o g q set = (before : List Move) → Begins before g → (s : ℕ) → I
 -- after each of the game's beginnings each man on the set is the one who began there
 abbrev pub KeepLabels : List Bool → List Move → List Bool → Type 0
 KeepLabels o g set = (before : List Move) → Begins before g → (s : ℕ) → IsTrue (is_in set s) → label_at (labels_after o before) s ≡ Some s
+
+-- The men of the set stay: the game goes from the array without the men on the squares of o, and after each of its beginnings the man
+-- on each square of the set is the one who began there.
+pub record Walled (o : List Bool) (g : List Move) (set : List Bool) : Type 0 where
+  pub game : IsGame o g
+  pub labels : KeepLabels o g set
+
+-- after each of the game's beginnings each square of the set holds the array's man
+abbrev pub StandAsBegun : List Bool → List Move → List Bool → Type 0
+StandAsBegun o g set = (before : List Move) → Begins before g → (s : ℕ) → IsTrue (is_in set s) → at (board_after o before) s ≡ at (array_of o) s
 
 -- After each of the game's beginnings the man who began on h, if he is still on the board, stands in his region, and is of the kind
 -- and colour with which he began.

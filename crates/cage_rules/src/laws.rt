@@ -6,7 +6,7 @@ ghost use Rattle.board_base.specs.declared.moves.Move.{Move};
 ghost use Rattle.query_base.specs.Asked.{Asked};
 ghost use Rattle.query_base.specs.Reach.{Reaches};
 ghost use Rattle.cage_rules.specs.Frozen.{IsAsArray, IsFrozen};
-ghost use Rattle.cage_rules.specs.Laws.{Caged, IsGone, IsNotPawned, IsSafeFromPawns, KeepLabels, StaysInRegion, StoodSo};
+ghost use Rattle.cage_rules.specs.Laws.{Caged, IsGone, IsNotPawned, IsSafeFromPawns, KeepLabels, StandAsBegun, StaysInRegion, StoodSo, Walled};
 ghost use Rattle.cage_rules.specs.Regions.{IsLeastClosed, IsLeastFrom, is_dead, is_officer_home, is_shielded, region, region_from};
 ghost use Rattle.cage_rules.specs.Sets.{union};
 ghost use Rattle.cage_rules.specs.Reach.{LeadsTo};
@@ -45,6 +45,17 @@ pub fn officers_stay_in_regions()
     ensures dead { (o : List Bool) (g : List Move) (q : Asked) (set : List Bool) (h : ℕ) → Caged o g q set → IsTrue (is_officer_home h) → is_in o h ≡ false → IsTrue (is_dead q.board set h) → IsGone o g h }
     ensures safe { (o : List Bool) (g : List Move) (q : Asked) (set : List Bool) (h : ℕ) → Caged o g q set → IsTrue (is_shielded set h) → IsSafeFromPawns o g set h }
     ensures shielded { (o : List Bool) (g : List Move) (q : Asked) (set : List Bool) (h : ℕ) → Caged o g q set → IsTrue (is_officer_home h) → is_in o h ≡ false → IsTrue (is_shielded set h) → IsNotPawned o g h }
+{}
+
+/// The same laws wherever the men of a set stay, as those of a frozen set do (`frozen`). They are the men of the array (`stood`), and
+/// who began on the home of an officer is in his region beside the set (`region`), where no pawn captures if the home is shielded
+/// (`safe`), and so doesn't capture him (`shielded`).
+pub fn walled_men_stay()
+    ensures frozen { (o : List Bool) (g : List Move) (q : Asked) (set : List Bool) → Caged o g q set → Walled o g set }
+    ensures stood { (o : List Bool) (g : List Move) (set : List Bool) → Walled o g set → StandAsBegun o g set }
+    ensures region { (o : List Bool) (g : List Move) (set : List Bool) (h : ℕ) → Walled o g set → IsTrue (is_officer_home h) → is_in o h ≡ false → StaysInRegion o g set h }
+    ensures safe { (o : List Bool) (g : List Move) (set : List Bool) (h : ℕ) → Walled o g set → IsTrue (is_shielded set h) → IsSafeFromPawns o g set h }
+    ensures shielded { (o : List Bool) (g : List Move) (set : List Bool) (h : ℕ) → Walled o g set → IsTrue (is_officer_home h) → is_in o h ≡ false → IsTrue (is_shielded set h) → IsNotPawned o g h }
 {}
 
 /// The laws of sets together: two frozen sets are frozen together, and two that are as in the array are so together; and where a

@@ -15,7 +15,8 @@ mod ways;
 pub use arrays::{as_array, greatest_as_array};
 pub use frozen::{greatest_frozen, is_frozen};
 pub use laws::{
-    frozen_men_stood, frozen_refutes, larger_sets_gain, officers_stay_in_regions, regions_are_least,
+    frozen_men_stood, frozen_refutes, larger_sets_gain, officers_stay_in_regions,
+    regions_are_least, walled_men_stay,
 };
 pub use refutations::{captures_refute, promotions_refute};
 pub use roaming::{exposed, is_dead, is_officer_home, is_shielded, region, region_from};

@@ -6,7 +6,7 @@ use Rattle.query_base.specs.Asked.{Asked}
 use Rattle.query_base.specs.Targets.{target}
 use Rattle.query_base.specs.declared.claims.Claim.{Claim}
 use Rattle.cert_text.specs.Certificate.{Certificate, IsTextOf}
-use Rattle.balance_rule.specs.EqualPrices.{EqualPricesSupport}
+use Rattle.price_search.specs.FlatPrices.{FlatPricesSupport}
 use Rattle.retro_search.specs.Answers.{IsProofOf}
 use Rattle.retro_search.specs.Unsettled.{IsAgainst, IsUnpriced, StaysUnsettled, WhereRefutable}
 use Rattle.command_answers.specs.Limits.{most_bytes}
@@ -26,14 +26,14 @@ pub record TellsSettlingProof (depth : ℕ) (claim : Claim) (q : Asked) (text : 
   pub is_text : IsTextOf text cert
   pub short : length text ≤ most_bytes
 
--- The claim's target isn't refutable at the depth by rule lines, and equal prices don't support it. The text tells a line of it that is
--- open at the depth, ends elsewhere than at the array, and has fewer moves than the nodes. Where these are at most 250,000, equal prices
+-- The claim's target isn't refutable at the depth by rule lines, and flat prices don't support it. The text tells a line of it that is
+-- open at the depth, ends elsewhere than at the array, and has fewer moves than the nodes. Where these are at most 250,000, flat prices
 -- support no query on the line.
 pub record TellsUnsettledLine (depth nodes : ℕ) (claim : Claim) (q : Asked) (text : List ℕ) : Type 0 where
   pub line : List Unmove
   pub unsettled : StaysUnsettled line (target q claim) depth
   pub few : length line < nodes
-  pub unpriced : EqualPricesSupport (target q claim) → ⊥
+  pub unpriced : FlatPricesSupport (target q claim) → ⊥
   pub line_unpriced : nodes ≤ 250000 → IsUnpriced (target q claim) line
   pub text_is : text ≡ undecided_line line
 
@@ -44,11 +44,11 @@ pub record TellsGame (depth nodes : ℕ) (claim : Claim) (q : Asked) (text : Lis
   pub few : length game < nodes
   pub text_is : text ≡ countered_line game
 
--- Where the claim's target is refutable by rule lines at some depth up to this one, it costs more than the nodes, and equal prices don't
+-- Where the claim's target is refutable by rule lines at some depth up to this one, it costs more than the nodes, and flat prices don't
 -- support it. The text says that the nodes are spent.
 pub record TellsSpentThere (depth nodes : ℕ) (claim : Claim) (q : Asked) (text : List ℕ) : Type 0 where
   pub dear : WhereRefutable (target q claim) depth (λ n. nodes < n)
-  pub unpriced : EqualPricesSupport (target q claim) → ⊥
+  pub unpriced : FlatPricesSupport (target q claim) → ⊥
   pub text_is : text ≡ spent_line nodes
 
 -- what is said of a claim about a query

@@ -7,7 +7,7 @@ use Rattle.query_base.specs.Asked.{Asked}
 use Rattle.query_base.specs.Reach.{Contradicts, Reaches}
 use Rattle.query_base.specs.Targets.{target}
 use Rattle.query_base.specs.declared.claims.Claim.{Claim}
-use Rattle.balance_rule.specs.EqualPrices.{EqualPricesSupport}
+use Rattle.price_search.specs.FlatPrices.{FlatPricesSupport}
 use Rattle.retro_search.specs.Outcomes.{HasProof, IfRefuted}
 use Rattle.retro_search.specs.Refutable.{IsRefutable}
 use Rattle.retro_search.specs.Unsettled.{WhereRefutable}
@@ -15,15 +15,15 @@ use Rattle.retro_search.specs.declared.searchers.Outcome.{Outcome}
 use Rattle.retro_search.specs.declared.searchers.Outcome.TheVariants.{Refuted, Open, Spent}
 use Rattle.diagram_study.specs.Findings.{IsOutcome, IsProof, IsProvedAt, is_refuted}
 
-pub outcome_is : (q a : Asked) (claim : Claim) (depth nodes : ℕ) (outcome : Outcome) → a ≡ target q claim → ((g : List Move) → Reaches g a ↔ Contradicts g claim q) → IfRefuted outcome (λ height. HasProof a height depth) → (outcome ≡ Open → IsRefutable a depth [] → ⊥) → (outcome ≡ Spent → WhereRefutable a depth (λ n. nodes < n)) → (1 ≤ nodes → EqualPricesSupport a → IsTrue (is_refuted outcome)) → IsOutcome q claim depth nodes outcome
+pub outcome_is : (q a : Asked) (claim : Claim) (depth nodes : ℕ) (outcome : Outcome) → a ≡ target q claim → ((g : List Move) → Reaches g a ↔ Contradicts g claim q) → IfRefuted outcome (λ height. HasProof a height depth) → (outcome ≡ Open → IsRefutable a depth [] → ⊥) → (outcome ≡ Spent → WhereRefutable a depth (λ n. nodes < n)) → (1 ≤ nodes → FlatPricesSupport a → IsTrue (is_refuted outcome)) → IsOutcome q claim depth nodes outcome
 outcome_is q a claim depth nodes (Refuted height) is contradicted proof opened spent priced = record {
   proof = subst (λ (t : Asked). HasProof t height depth) is proof;
   holds = λ g against. proof.unreached g ((contradicted g).1 against);
 }
 outcome_is q a claim depth nodes Open is contradicted proof opened spent priced =
-    (λ refutable. opened refl (subst (λ (t : Asked). IsRefutable t depth []) (sym is) refutable), λ some e. absurd (both_ways false refl (priced some (subst EqualPricesSupport (sym is) e))))
+    (λ refutable. opened refl (subst (λ (t : Asked). IsRefutable t depth []) (sym is) refutable), λ some e. absurd (both_ways false refl (priced some (subst FlatPricesSupport (sym is) e))))
 outcome_is q a claim depth nodes Spent is contradicted proof opened spent priced =
-    (subst (λ (t : Asked). WhereRefutable t depth (λ n. nodes < n)) is (spent refl), λ some e. absurd (both_ways false refl (priced some (subst EqualPricesSupport (sym is) e))))
+    (subst (λ (t : Asked). WhereRefutable t depth (λ n. nodes < n)) is (spent refl), λ some e. absurd (both_ways false refl (priced some (subst FlatPricesSupport (sym is) e))))
 
 -- what is refutable at a depth is so at each greater one
 abbrev pub DeeperRefuteMore : Type 0

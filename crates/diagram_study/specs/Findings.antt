@@ -4,7 +4,7 @@ use Rattle.query_base.specs.Asked.{Asked}
 use Rattle.query_base.specs.Reach.{Holds}
 use Rattle.query_base.specs.Targets.{target}
 use Rattle.query_base.specs.declared.claims.Claim.{Claim}
-use Rattle.balance_rule.specs.EqualPrices.{EqualPricesSupport}
+use Rattle.price_search.specs.FlatPrices.{FlatPricesSupport}
 use Rattle.retro_search.specs.Costs.{IsCost}
 use Rattle.retro_search.specs.Outcomes.{HasProof}
 use Rattle.retro_search.specs.Refutable.{IsRefutable}
@@ -19,16 +19,16 @@ pub record IsProvedAt (q : Asked) (claim : Claim) (depth height : ℕ) : Type 0 
   pub proof : HasProof (target q claim) height depth
   pub holds : Holds claim q
 
--- where any query may be visited, equal prices don't support the claim's target
-abbrev pub LacksEqualPrices : Asked → Claim → ℕ → Type 0
-LacksEqualPrices q claim nodes = 1 ≤ nodes → EqualPricesSupport (target q claim) → ⊥
+-- where any query may be visited, flat prices don't support the claim's target
+abbrev pub LacksFlatPrices : Asked → Claim → ℕ → Type 0
+LacksFlatPrices q claim nodes = 1 ≤ nodes → FlatPricesSupport (target q claim) → ⊥
 
 -- What one search to a depth comes to: it proves the claim; or rule lines don't refute its target at the depth; or wherever they do,
--- there or at a lower depth, the target's cost is above the nodes. What isn't proved lacks equal prices.
+-- there or at a lower depth, the target's cost is above the nodes. What isn't proved lacks flat prices.
 abbrev pub IsOutcome : Asked → Claim → ℕ → ℕ → Outcome → Type 0
 IsOutcome q claim depth nodes (outcome.Refuted height) = IsProvedAt q claim depth height
-IsOutcome q claim depth nodes outcome.Open = (IsRefutable (target q claim) depth [] → ⊥) × LacksEqualPrices q claim nodes
-IsOutcome q claim depth nodes outcome.Spent = WhereRefutable (target q claim) depth (λ n. nodes < n) × LacksEqualPrices q claim nodes
+IsOutcome q claim depth nodes outcome.Open = (IsRefutable (target q claim) depth [] → ⊥) × LacksFlatPrices q claim nodes
+IsOutcome q claim depth nodes outcome.Spent = WhereRefutable (target q claim) depth (λ n. nodes < n) × LacksFlatPrices q claim nodes
 
 -- the search refuted the target
 abbrev pub is_refuted : Outcome → Bool
@@ -47,11 +47,11 @@ pub record IsProof (q : Asked) (claim : Claim) (most nodes depth : ℕ) : Type 0
   pub least : IsUnprovedBelow q claim nodes depth
 
 -- What was found of a claim about a query. Where it is open, rule lines don't refute its target at the greatest depth nor at any lower
--- one; where the search was spent, the target's cost is above the nodes wherever they do. What isn't proved lacks equal prices.
+-- one; where the search was spent, the target's cost is above the nodes wherever they do. What isn't proved lacks flat prices.
 abbrev pub IsFound : Asked → Claim → ℕ → ℕ → Finding → Type 0
 IsFound q claim most nodes (Proved depth) = IsProof q claim most nodes depth
-IsFound q claim most nodes Open = ((k : ℕ) → k ≤ most → IsRefutable (target q claim) k [] → ⊥) × LacksEqualPrices q claim nodes
-IsFound q claim most nodes Spent = WhereRefutable (target q claim) most (λ n. nodes < n) × LacksEqualPrices q claim nodes
+IsFound q claim most nodes Open = ((k : ℕ) → k ≤ most → IsRefutable (target q claim) k [] → ⊥) × LacksFlatPrices q claim nodes
+IsFound q claim most nodes Spent = WhereRefutable (target q claim) most (λ n. nodes < n) × LacksFlatPrices q claim nodes
 
 -- a proof was found
 abbrev pub is_proved : Finding → Bool

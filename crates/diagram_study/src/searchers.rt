@@ -1,5 +1,5 @@
 ghost use Rattle.std.specs.Prelude.{◌≡◌, ◌<◌, ◌≤◌, [], IfOk, IsTrue};
-ghost use Rattle.balance_rule.specs.EqualPrices.{EqualPricesSupport};
+ghost use Rattle.price_search.specs.FlatPrices.{FlatPricesSupport};
 ghost use Rattle.retro_search.specs.Outcomes.{HasProof, IfRefuted};
 ghost use Rattle.retro_search.specs.Refutable.{IsRefutable};
 ghost use Rattle.retro_search.specs.Unsettled.{WhereRefutable};
@@ -35,12 +35,12 @@ impl Searchers {
     }
 
     /// Searches for a refutation of the query by rule lines; and where these leave it open, or cost too much, by the balance of captures
-    /// too, as far as eight moves back. Where equal prices support the query, and any may be visited, it is refuted.
+    /// too, as far as eight moves back. Where flat prices support the query, and any may be visited, it is refuted.
     pub(crate) fn refute(&mut self, query: &Query, limits: Limits) -> Result<Outcome, Memory>
         ensures refuted { IfOk result (λ outcome. IfRefuted outcome (λ height. HasProof query.now height limits.depth)) }
         ensures stays_open { IfOk result (λ outcome. outcome ≡ Outcome.Open → IsRefutable query.now limits.depth [] → ⊥) }
         ensures spent { IfOk result (λ outcome. outcome ≡ Outcome.Spent → WhereRefutable query.now limits.depth (λ n. limits.nodes < n)) }
-        ensures priced { IfOk result (λ outcome. 1 ≤ limits.nodes → EqualPricesSupport query.now → IsTrue (is_refuted outcome)) }
+        ensures priced { IfOk result (λ outcome. 1 ≤ limits.nodes → FlatPricesSupport query.now → IsTrue (is_refuted outcome)) }
     {
         let by_rule_lines = self.by_rule_lines.refute(query, limits)?;
         if is_refuted(by_rule_lines) {

@@ -240,7 +240,7 @@ table-short = All-from_recursion IsShortRight table (
               (
                 never-short _ refl,
                 (
-                  (λ _. (Settle 64 500000, inl (refl, refl)), λ _. refl),
+                  (λ _. (Settle 64 250000, inl (refl, refl)), λ _. refl),
                   (never-short _ refl, (never-short _ refl, (never-short _ refl, (never-short _ refl, (never-short _ refl, (never-short _ refl, (never-short _ refl, tt))))))),
                 ),
               ),

@@ -230,7 +230,7 @@ const FURTHER: &str = "  retractor --help | --version
 
 DEPTH: how many moves are taken back at most, from 0 to 64. NODES: how many positions a search visits, or how many lines
 a tree has, at most, from 1 to 500000. START: any number. GAMES: from 1 to 1000. PLIES: from 1 to 200.
-`settle` alone is `settle 64 500000`, and `study` alone is `study 64 20000`.
+`settle` alone is `settle 64 250000`, and `study` alone is `study 64 20000`.
 
 Statuses: 0 done, 1 refused, 2 undecided, 3 nodes spent, 4 a game against the claim, 5 bad words, 6 bad input, 7 reading
 failed, 8 writing failed, 9 not enough memory, 10 the input has more than 67108864 bytes.

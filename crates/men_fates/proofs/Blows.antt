@@ -20,16 +20,15 @@ use Rattle.play_rules.proofs.Kings.{length-after}
 use Rattle.general_lemmas.proofs.Differing.{contains-has}
 use Rattle.general_lemmas.proofs.Lists.{contains-cases, contains-map, contains-none}
 use Rattle.general_lemmas.proofs.Ranges.{any-found}
-use Rattle.query_base.specs.Asked.{Asked}
 use Rattle.men_account.specs.Labels.{Labels, label_at, labels_after}
 use Rattle.men_account.specs.Captures.{captured_by_pawns, taken_on}
 use Rattle.men_account.proofs.Captured.{captured-enemies, captured-gone, man-there, opponent-differs}
 use Rattle.men_account.proofs.FilesLeft.{pawn-home}
 use Rattle.men_account.proofs.Labelled.{labels-each_man}
-use Rattle.cage_rules.specs.Laws.{Caged}
+use Rattle.cage_rules.specs.Laws.{Walled}
 use Rattle.cage_rules.specs.Regions.{is_exposed, may_strike}
 use Rattle.cage_rules.proofs.Gone.{from-inside, left-out}
-use Rattle.cage_rules.proofs.Histories.{kept-in}
+use Rattle.cage_rules.proofs.WalledGames.{walled-stays}
 use Rattle.men_fates.specs.Deeds.{Strike, strike, strike_by, strikes, way_of}
 use Rattle.men_fates.specs.Fates.{may_fall}
 use Rattle.men_fates.proofs.MoreDeeds.{other-rests, strike-none, strike-plain, strikes-more}
@@ -93,19 +92,19 @@ takes-aslant board labels c m l each label (double two home same crossed free) =
 takes-aslant board labels c m l each label (capture one ahead aside enemy) = (ahead, aside)
 
 -- where a pawn takes a man, he may fall
-pub falls : (o : List Bool) (g k after : List Move) (m : Move) (q : Asked) (set : List Bool) (c : Colour) (x : Strike) → Caged o g q set → g ≡ k ++ m ∷ after → IsGame o k → Legality (board_after o k) (turn_after k) (unmoved o k) (last_move k) m → Blow (board_after o k) (labels_after o k) (opponent c) m x → may_fall set c x.on ≡ true
+pub falls : (o : List Bool) (g k after : List Move) (m : Move) (set : List Bool) (c : Colour) (x : Strike) → Walled o g set → g ≡ k ++ m ∷ after → IsGame o k → Legality (board_after o k) (turn_after k) (unmoved o k) (last_move k) m → Blow (board_after o k) (labels_after o k) (opponent c) m x → may_fall set c x.on ≡ true
 unfolding is_exposed
-falls o g k after m q set c x caged e game legal b =
+falls o g k after m set c x walled e game legal b =
     let board : Places = board_after o k in
     let his = and_parts (is_of (opponent c) (at board m.from)) (is_a Pawn (at board m.from)) b.pawn in
     let way : Tread board (opponent c) m = mover-tread o k m (opponent c) legal his.0 his.1 in
     let goes = takes-aslant board (labels_after o k) (opponent c) m x.of (labels-each_man o k game (taken_on board m)) b.of way in
     let inside : m.from < 64 = from-inside board m.from (length-after o k game) his.1 in
     let inner : is_end m.from ≡ false = false_from_ne_true _ (λ end. both_ways _ (no_pawn_on_ends o k game m.from end) his.1) in
-    let free : is_in set m.from ≡ false = false_from_ne_true _ (λ covered. left-out m (castling board m) board refl his.1 ((kept-in o g k after m q set caged e).stay m.from covered)) in
+    let free : is_in set m.from ≡ false = false_from_ne_true _ (λ covered. left-out m (castling board m) board refl his.1 (walled-stays o g k after m set walled e m.from covered)) in
     let strikes : may_strike set (man c Pawn) m.to m.from ≡ true = and_from _ _ (and_from _ _ goes.0 (eq-eqb _ 1 goes.1)) (not_from_false _ (or_from _ _ inner free)) in
     let exposed : is_exposed set (man c Pawn) m.to ≡ true = any-found (may_strike set (man c Pawn) m.to) 0 64 m.from (omega arith) (omega arith) strikes in
-    ap (may_fall set c) (sym b.on) ∙ and_from _ _ (not_from_false _ (target-free o g k after m q set caged e)) exposed
+    ap (may_fall set c) (sym b.on) ∙ and_from _ _ (not_from_false _ (target-free o g k after m set walled e)) exposed
 
 -- what is kept of the captures that were made, and holds of each that is made, holds of each capture of the game
 pub in-each-blow : (o : List Bool) (g : List Move) (c : Colour) (P : List Move → Strike → Type 0) → ((k after : List Move) (m : Move) (x : Strike) → g ≡ k ++ m ∷ after → IsGame o k → Contains (strikes o k c) x → P k x → P (k ++ m ∷ []) x) → ((k after : List Move) (m : Move) (x : Strike) → g ≡ k ++ m ∷ after → IsGame o k → Legality (board_after o k) (turn_after k) (unmoved o k) (last_move k) m → Blow (board_after o k) (labels_after o k) c m x → P (k ++ m ∷ []) x) → IsGame o g → (x : Strike) → Contains (strikes o g c) x → P g x

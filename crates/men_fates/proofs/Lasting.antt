@@ -1,4 +1,4 @@
--- The men who are never taken: kings, and those on a frozen set.
+-- The men who are never taken: kings, and those who stay on a set.
 use Rattle.std.proofs.Common.{◌≡◌, ◌≢◌, ℕ, ◌==◌, inl, inr, Bool, true, false, List, [], refl, ap, sym, ◌∙◌, subst}
 use Rattle.std.proofs.lemmas.Bool.{and_left, and_parts, both_ways, cases_eq, cond-false, cond-true, eq-eqb, ne_eqb}
 use Rattle.std.proofs.lemmas.List.{append-nil}
@@ -22,9 +22,8 @@ use Rattle.men_account.proofs.Labelled.{first-is, labels-each_man}
 use Rattle.men_account.proofs.Moved.{carried_from, moved_from, on_square}
 use Rattle.men_account.proofs.Origins.{rook-there}
 use Rattle.men_account.proofs.PawnLaws.{himself}
-use Rattle.query_base.specs.Asked.{Asked}
-use Rattle.cage_rules.specs.Laws.{Caged, IsGone}
-use Rattle.cage_rules.proofs.FrozenLabels.{keep-labels, label-more}
+use Rattle.cage_rules.specs.Laws.{IsGone, Walled}
+use Rattle.cage_rules.proofs.FrozenLabels.{label-more}
 use Rattle.cage_rules.proofs.Stays.{castle-from, king-comes}
 use Rattle.men_fates.proofs.Strikes.{label-some}
 use Rattle.men_fates.proofs.Treads.{passes-on}
@@ -102,5 +101,5 @@ king-labelled o c h home =
 pub king-lasts : (o : List Bool) (g : List Move) (c : Colour) (h : ℕ) → IsGame o g → is_the c King (at (array_of o) h) ≡ true → IsGone o g h → ⊥
 king-lasts o g c h game home gone = let here = king-labelled o c h home g game in gone here.0 here.1
 
-pub frozen-last : (o : List Bool) (g : List Move) (q : Asked) (set : List Bool) (h : ℕ) → Caged o g q set → is_in set h ≡ true → IsGone o g h → ⊥
-frozen-last o g q set h caged member gone = gone h (keep-labels o g q set caged g ([], sym (append-nil g)) h member)
+pub walled-last : (o : List Bool) (g : List Move) (set : List Bool) (h : ℕ) → Walled o g set → is_in set h ≡ true → IsGone o g h → ⊥
+walled-last o g set h walled member gone = gone h (walled.labels g ([], sym (append-nil g)) h member)

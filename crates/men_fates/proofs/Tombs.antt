@@ -24,7 +24,6 @@ use Rattle.play_rules.proofs.Doubles.{last_move-more}
 use Rattle.play_rules.proofs.Games.{board_after-more, game_before, legal_last}
 use Rattle.play_rules.proofs.Kings.{length-after}
 use Rattle.general_lemmas.proofs.Lists.{by_last}
-use Rattle.query_base.specs.Asked.{Asked}
 use Rattle.men_account.specs.Labels.{label_at, labels_after}
 use Rattle.men_account.specs.Captures.{taken_on}
 use Rattle.men_account.specs.Homes.{is_officer_of}
@@ -34,7 +33,7 @@ use Rattle.men_account.proofs.InRegions.{officer-no-pawn}
 use Rattle.men_account.proofs.Labelled.{labels_after-more, labels-each_man, labels-promotions, length-labels}
 use Rattle.men_account.proofs.Origins.{Came, stayed, moved_here, with_the_king, before, rook-there}
 use Rattle.men_account.proofs.PawnWays.{victim-pawn}
-use Rattle.cage_rules.specs.Laws.{Caged}
+use Rattle.cage_rules.specs.Laws.{Walled}
 use Rattle.cage_rules.specs.Regions.{region}
 use Rattle.cage_rules.proofs.Refuted.{home-there}
 use Rattle.cage_rules.proofs.Roamers.{in-region}
@@ -95,7 +94,7 @@ double-way o k l h game two label pawn =
     came-double o k l was.square h who.0 legal two (sym (ap (is_a Pawn) who.1) ∙ pawn) was.came
 
 -- a way that ends by crossing a square, straight on
-fell-crossing : (set : List Bool) (c : Colour) (h : ℕ) (whole w : List ℕ) (x v : ℕ) → whole ≡ w ++ x ∷ v ∷ [] → is_way c set h whole ≡ true → file x ≡ file v → (rank x == last_rank c) ≡ false → FellOn set c h whole x
+pub fell-crossing : (set : List Bool) (c : Colour) (h : ℕ) (whole w : List ℕ) (x v : ℕ) → whole ≡ w ++ x ∷ v ∷ [] → is_way c set h whole ≡ true → file x ≡ file v → (rank x == last_rank c) ≡ false → FellOn set c h whole x
 fell-crossing set c h whole w x v e goes same short =
     let begins : whole ≡ (w ++ x ∷ []) ++ v ∷ [] = e ∙ sym (append_assoc w (x ∷ []) (v ∷ [])) in
     let ends : way_end h (w ++ x ∷ []) ≡ x = end-append h w (x ∷ []) in
@@ -111,11 +110,15 @@ fell-crossing set c h whole w x v e goes same short =
       brought = brings-pawn set c h (w ++ x ∷ []) Pawn x refl ends short;
     }
 
+pub fell-crossing-kind : (set : List Bool) (c : Colour) (h : ℕ) (whole w : List ℕ) (x v : ℕ) (e : whole ≡ w ++ x ∷ v ∷ []) (goes : is_way c set h whole ≡ true) (same : file x ≡ file v) (short : (rank x == last_rank c) ≡ false) → (fell-crossing set c h whole w x v e goes same short).kind ≡ Pawn
+unfolding fell-crossing
+fell-crossing-kind set c h whole w x v e goes same short = refl
+
 fell-moved : (set : List Bool) (c : Colour) (h : ℕ) (old new : List ℕ) (s t : ℕ) → old ≡ new → s ≡ t → FellOn set c h old s → FellOn set c h new t
 fell-moved set c h old new s t e f fell = subst (FellOn set c h new) f (subst (λ (w : List ℕ). FellOn set c h w s) e fell)
 
 -- whom a move takes past its target, has just crossed the target by a double step
-passed-way : (o : List Bool) (k : List Move) (m : Move) (c : Colour) (h : ℕ) → IsGame o k → Passes (board_after o k) (opponent c) (last_move k) m → label_at (labels_after o k) (en_passant_victim m) ≡ Some h → (w : List ℕ) × (v : ℕ) × (way_of o k h ≡ w ++ m.to ∷ v ∷ []) × (file m.to ≡ file v) × ((rank m.to == last_rank c) ≡ false)
+pub passed-way : (o : List Bool) (k : List Move) (m : Move) (c : Colour) (h : ℕ) → IsGame o k → Passes (board_after o k) (opponent c) (last_move k) m → label_at (labels_after o k) (en_passant_victim m) ≡ Some h → (w : List ℕ) × (v : ℕ) × (way_of o k h ≡ w ++ m.to ∷ v ∷ []) × (file m.to ≡ file v) × ((rank m.to == last_rank c) ≡ false)
 passed-way o k m c h game passes label = elim (by_last k) [
   | inl none ↦ absurd (none-some passes.step (ap last_move (sym none) ∙ last_is (last_move k) passes.step passes.was_last))
   | inr (ys, l, split) ↦
@@ -132,10 +135,10 @@ passed-way o k m c h game passes label = elim (by_last k) [
 ]
 
 -- how a pawn's home is left by its man when a pawn takes him
-fell-now : (o : List Bool) (g k after : List Move) (m : Move) (q : Asked) (set : List Bool) (c : Colour) (x : Strike) → Caged o g q set → g ≡ k ++ m ∷ after → IsGame o k → Legality (board_after o k) (turn_after k) (unmoved o k) (last_move k) m → is_the c Pawn (at (array_of o) x.of) ≡ true → Blow (board_after o k) (labels_after o k) (opponent c) m x → FellOn set c x.of (way_of o k x.of) m.to
-fell-now o g k after m q set c x caged e game legal first b =
+fell-now : (o : List Bool) (g k after : List Move) (m : Move) (set : List Bool) (c : Colour) (x : Strike) → Walled o g set → g ≡ k ++ m ∷ after → IsGame o k → Legality (board_after o k) (turn_after k) (unmoved o k) (last_move k) m → is_the c Pawn (at (array_of o) x.of) ≡ true → Blow (board_after o k) (labels_after o k) (opponent c) m x → FellOn set c x.of (way_of o k x.of) m.to
+fell-now o g k after m set c x walled e game legal first b =
     let board : Places = board_after o k in
-    let goes : is_way c set x.of (way_of o k x.of) ≡ true = way-past o g k (m ∷ after) q set c x.of caged e (and_parts (is_of c (at (array_of o) x.of)) (is_a Pawn (at (array_of o) x.of)) first).0 in
+    let goes : is_way c set x.of (way_of o k x.of) ≡ true = way-past o g k (m ∷ after) set c x.of walled e (and_parts (is_of c (at (array_of o) x.of)) (is_a Pawn (at (array_of o) x.of)) first).0 in
     elim (cases_Bool (goes_en_passant board m)) [
       | inl past ↦
           let side : turn_after k ≡ opponent c = same-side (turn_after k) (opponent c) (at board m.from) legal.mover (and_parts (is_of (opponent c) (at board m.from)) (is_a Pawn (at board m.from)) b.pawn).0 in
@@ -154,29 +157,29 @@ fell-now o g k after m q set c x caged e game legal first b =
             crossing = inl refl;
             captures = refl;
             goes = goes;
-            brought = brought o g k (m ∷ after) q set c x.of m.to who.0 caged e first label who.1;
+            brought = brought o g k (m ∷ after) set c x.of m.to who.0 walled e first label who.1;
           }
     ]
 
 -- where a pawn took a man of this side, he may fall
-pub each-exposed : (o : List Bool) (g : List Move) (q : Asked) (set : List Bool) (c : Colour) → Caged o g q set → (x : Strike) → Contains (strikes o g (opponent c)) x → may_fall set c x.on ≡ true
-each-exposed o g q set c caged =
+pub each-exposed : (o : List Bool) (g : List Move) (set : List Bool) (c : Colour) → Walled o g set → (x : Strike) → Contains (strikes o g (opponent c)) x → may_fall set c x.on ≡ true
+each-exposed o g set c walled =
     in-each-blow o g (opponent c) (λ k x. may_fall set c x.on ≡ true) (λ k after m x e game old here. here)
-    (λ k after m x e game legal b. falls o g k after m q set c x caged e game legal b)
-    caged.leads.game
+    (λ k after m x e game legal b. falls o g k after m set c x walled e game legal b)
+    walled.game
 
 -- if he began as a pawn, a beginning of his way brings him there
-pub each-pawn-fell : (o : List Bool) (g : List Move) (q : Asked) (set : List Bool) (c : Colour) → Caged o g q set → (x : Strike) → Contains (strikes o g (opponent c)) x → is_the c Pawn (at (array_of o) x.of) ≡ true → FellOn set c x.of (way_of o g x.of) x.on
-each-pawn-fell o g q set c caged =
+pub each-pawn-fell : (o : List Bool) (g : List Move) (set : List Bool) (c : Colour) → Walled o g set → (x : Strike) → Contains (strikes o g (opponent c)) x → is_the c Pawn (at (array_of o) x.of) ≡ true → FellOn set c x.of (way_of o g x.of) x.on
+each-pawn-fell o g set c walled =
     in-each-blow o g (opponent c) (λ k x. is_the c Pawn (at (array_of o) x.of) ≡ true → FellOn set c x.of (way_of o k x.of) x.on)
     (λ k after m x e game old here first. fell-moved set c x.of (way_of o k x.of) (way_of o (k ++ m ∷ []) x.of) x.on x.on (sym (fallen-rests o k m (opponent c) x game old)) refl (here first))
     (λ k after m x e game legal b first.
     fell-moved set c x.of (way_of o k x.of) (way_of o (k ++ m ∷ []) x.of) m.to x.on (sym (falling-rests o k m c x game (and_parts (is_of c (at (array_of o) x.of)) (is_a Pawn (at (array_of o) x.of)) first).0 b)) b.on
-    (fell-now o g k after m q set c x caged e game legal first b))
-    caged.leads.game
+    (fell-now o g k after m set c x walled e game legal first b))
+    walled.game
 
 -- who began as no pawn is taken on the target
-plain-victim : (o : List Bool) (k : List Move) (m : Move) (h : ℕ) → IsGame o k → Legality (board_after o k) (turn_after k) (unmoved o k) (last_move k) m → is_a Pawn (at (array_of o) h) ≡ false → label_at (labels_after o k) (taken_on (board_after o k) m) ≡ Some h → label_at (labels_after o k) m.to ≡ Some h
+pub plain-victim : (o : List Bool) (k : List Move) (m : Move) (h : ℕ) → IsGame o k → Legality (board_after o k) (turn_after k) (unmoved o k) (last_move k) m → is_a Pawn (at (array_of o) h) ≡ false → label_at (labels_after o k) (taken_on (board_after o k) m) ≡ Some h → label_at (labels_after o k) m.to ≡ Some h
 plain-victim o k m h game legal no_pawn label =
     let board : Places = board_after o k in
     elim (cases_Bool (goes_en_passant board m)) [
@@ -189,11 +192,11 @@ plain-victim o k m h game legal no_pawn label =
     ]
 
 -- if he began as an officer, it was in his region
-pub each-officer-fell : (o : List Bool) (g : List Move) (q : Asked) (set : List Bool) (c : Colour) → Caged o g q set → (x : Strike) → Contains (strikes o g (opponent c)) x → is_officer_of c (at (array_of o) x.of) ≡ true → is_in (region set x.of) x.on ≡ true
-each-officer-fell o g q set c caged =
+pub each-officer-fell : (o : List Bool) (g : List Move) (set : List Bool) (c : Colour) → Walled o g set → (x : Strike) → Contains (strikes o g (opponent c)) x → is_officer_of c (at (array_of o) x.of) ≡ true → is_in (region set x.of) x.on ≡ true
+each-officer-fell o g set c walled =
     in-each-blow o g (opponent c) (λ k x. is_officer_of c (at (array_of o) x.of) ≡ true → is_in (region set x.of) x.on ≡ true) (λ k after m x e game old here. here)
     (λ k after m x e game legal b officer.
     let home = home-there o c x.of officer in
     let label = plain-victim o k m x.of game legal (officer-no-pawn c (at (array_of o) x.of) officer) b.of in
-    ap (is_in (region set x.of)) (sym b.on) ∙ (in-region o g q set x.of caged home.1 home.0 k (m ∷ after, e) m.to label).0)
-    caged.leads.game
+    ap (is_in (region set x.of)) (sym b.on) ∙ (in-region o g set x.of walled home.1 home.0 k (m ∷ after, e) m.to label).0)
+    walled.game

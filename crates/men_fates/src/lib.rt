@@ -8,4 +8,4 @@ mod deeds;
 mod fates;
 
 pub use deeds::{pawns_go_ways, pawns_strike};
-pub use fates::{men_fall_to_pawns, men_last, pawns_pass_frozen_men};
+pub use fates::{men_fall_to_pawns, men_last, pawns_pass_frozen_men, pawns_pass_walls};

@@ -56,7 +56,7 @@ there-before o c h g m game legal keeps = elim (his-or-none h (board_after o g) 
   ]
 ]
 
-straight-both : (o : List Bool) (h : ℕ) (g : List Move) (m : Move) → is_straight h (way_of o (g ++ m ∷ []) h) ≡ true → (is_straight h (way_of o g h) ≡ true) × (is_straight (way_end h (way_of o g h)) (way_by h (board_after o g) (labels_after o g) m) ≡ true)
+pub straight-both : (o : List Bool) (h : ℕ) (g : List Move) (m : Move) → is_straight h (way_of o (g ++ m ∷ []) h) ≡ true → (is_straight h (way_of o g h) ≡ true) × (is_straight (way_end h (way_of o g h)) (way_by h (board_after o g) (labels_after o g) m) ≡ true)
 straight-both o h g m straight = straight-append h (way_of o g h) (way_by h (board_after o g) (labels_after o g) m) (ap (is_straight h) (sym (way-more o g m h)) ∙ straight)
 
 keeps-before : (o : List Bool) (c : Colour) (h : ℕ) (g : List Move) (m : Move) → IsGame o g → Legality (board_after o g) (turn_after g) (unmoved o g) (last_move g) m → Keeps o c h (g ++ m ∷ []) → Keeps o c h g

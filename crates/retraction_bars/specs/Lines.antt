@@ -1,5 +1,5 @@
 -- The lines that tell why nobody can have moved last.
-use Rattle.std.specs.Prelude.{ℕ, Bool, ◌&&◌, not, ◌==◌, List, [], ◌∷◌, ◌++◌, Option, Some, None}
+use Rattle.std.specs.Prelude.{ℕ, Bool, cond, ◌&&◌, not, ◌==◌, length, List, [], ◌∷◌, ◌++◌, Option, Some, None}
 use Rattle.std.specs.List.{flat_map, list_any, range_with_len}
 use Rattle.board_base.specs.Board.{at, is_the, rank}
 use Rattle.board_base.specs.Legal.{pawn_rank}
@@ -14,7 +14,8 @@ use Rattle.retraction_bars.specs.Scopes.{same_manner}
 use Rattle.retraction_bars.specs.Sentences.{label_words, sentences_words, text_if, whole_words}
 use Rattle.retraction_bars.specs.declared.gathering.Clause.{Clause}
 use Rattle.retraction_bars.specs.declared.pairs.Pair.{Pair}
-use Rattle.retraction_bars.specs.declared.phrases.Phrase.TheVariants.{Also, AtOnce, OnFirst, Is, Stop, End}
+use Rattle.retraction_bars.specs.declared.phrases.Phrase.{Phrase}
+use Rattle.retraction_bars.specs.declared.phrases.Phrase.TheVariants.{Also, AtOnce, OnFirst, OnOwnFirst, Is, Stop, End}
 use Rattle.retraction_bars.specs.declared.scopes.Manner.TheVariants.{Anywhere}
 
 -- Article 2.3: a pawn of the side that moved stands on its first square
@@ -33,9 +34,17 @@ labels_words q p = flat_map (label_if q p) (range_with_len 0 64)
 unfoldable pub has_first : Asked → Bool
 has_first q = list_any (is_first q) (range_with_len 0 64)
 
+-- what is said of the pawns on these first squares, each of which is two letters after a space
+abbrev pub firsts_phrase : List ℕ → Phrase
+firsts_phrase labels = cond (length labels == 3) OnOwnFirst OnFirst
+
+-- the line of some pawns on their first squares
+abbrev pub some_firsts : List ℕ → List ℕ → List ℕ
+some_firsts indent labels = indent ++ labels ++ phrase (firsts_phrase labels)
+
 -- the line of the pawns on their first squares
 abbrev pub firsts_line : Asked → List ℕ → List ℕ
-firsts_line q indent = text_if (has_first q) (indent ++ labels_words q (is_first q) ++ phrase OnFirst)
+firsts_line q indent = text_if (has_first q) (some_firsts indent (labels_words q (is_first q)))
 
 -- the clause says that the bar with this number bars all ways of a man
 abbrev pub is_whole : ℕ → Clause → Bool

@@ -1,11 +1,12 @@
 -- The phrases of the sentences.
 use Rattle.std.specs.Prelude.{ℕ, List, codes}
 use Rattle.retraction_bars.specs.declared.phrases.Phrase.{Phrase}
-use Rattle.retraction_bars.specs.declared.phrases.Phrase.TheVariants.{OnFirst, AllOccupied, AllAttacked, LastMove, GaveCheck, Occupied, ItGave, And, NeverMoved, RuledOut, TooMany, ByClock, NotPassed, Illegal, From, Quietly, Capturing, EnPassant, AsPawn, Also, AtOnce, Is, Stop, End}
+use Rattle.retraction_bars.specs.declared.phrases.Phrase.TheVariants.{OnFirst, OnOwnFirst, AllOccupied, AllAttacked, LastMove, GaveCheck, Occupied, ItGave, And, NeverMoved, RuledOut, TooMany, ByClock, NotPassed, Illegal, From, Quietly, Capturing, EnPassant, AsPawn, Also, AtOnce, Is, Stop, End}
 
 -- the words of a phrase
 unfoldable pub phrase : Phrase → List ℕ
 phrase OnFirst = codes ": on their first squares.\n"
+phrase OnOwnFirst = codes ": on its first square.\n"
 phrase AllOccupied = codes "every square to come from is occupied"
 phrase AllAttacked = codes "from any square it attacked the king already"
 phrase LastMove = codes "the last move was "
@@ -15,7 +16,7 @@ phrase ItGave = codes "it attacked the king already"
 phrase And = codes " and "
 phrase NeverMoved = codes " never moved"
 phrase RuledOut = codes "ruled out"
-phrase TooMany = codes " would have had too many men"
+phrase TooMany = codes " would have had too many pawns and promoted men"
 phrase ByClock = codes "the clock forbids it"
 phrase NotPassed = codes "no double step came just before"
 phrase Illegal = codes "no legal move"

@@ -2,12 +2,14 @@
 use Rattle.std.specs.Prelude.{ℕ, Bool, false, true, cond, ◌&&◌, ◌==◌, List, [], ◌∷◌, ◌++◌, Option, Some, None}
 use Rattle.std.specs.Bool.{beq}
 use Rattle.std.specs.List.{flat_map, list_any, range_with_len}
-use Rattle.board_base.specs.Board.{at}
+use Rattle.board_base.specs.Board.{at, is_of}
+use Rattle.board_base.specs.declared.men.Kind.TheVariants.{Rook}
 use Rattle.board_base.specs.Play.{king_home, rook_home}
 use Rattle.board_base.specs.Texts.{square_text}
 use Rattle.board_base.specs.declared.moves.Move.{Move}
-use Rattle.prose_words.specs.Words.{place_initial, side_word}
+use Rattle.prose_words.specs.Words.{initial, place_initial, side_word}
 use Rattle.query_base.specs.Asked.{Asked}
+use Rattle.unmove_gen.specs.Listed.{mover}
 use Rattle.retraction_bars.specs.Numbers.{bar_at}
 use Rattle.retraction_bars.specs.Phrases.{phrase}
 use Rattle.retraction_bars.specs.Scopes.{same_manner}
@@ -28,10 +30,15 @@ abbrev pub double_words : Option Move → List ℕ
 double_words None = []
 double_words (Some m) = square_text m.from ++ 45 ∷ square_text m.to
 
+-- the letter of the man of the side that moved who stood on a square before the move and didn't make it: he stands there still, or is a
+-- rook, since only the rook of a castling goes with another man
+abbrev pub bystander_initial : Asked → ℕ → List ℕ
+bystander_initial q s = cond (is_of (mover q) (at q.board s)) (place_initial (at q.board s)) (initial Rook)
+
 -- what bars a retraction, in words
 abbrev pub bar_words : Asked → Bar → List ℕ
 bar_words q bar.Only = phrase word.LastMove ++ double_words q.only
-bar_words q (bar.Check s) = place_initial (at q.board s) ++ square_text s ++ phrase word.GaveCheck
+bar_words q (bar.Check s) = bystander_initial q s ++ square_text s ++ phrase word.GaveCheck
 bar_words q bar.Occupied = phrase word.Occupied
 bar_words q bar.Itself = phrase word.ItGave
 bar_words q (bar.Held x) = square_text (king_home x) ++ phrase word.And ++ square_text (rook_home x) ++ phrase word.NeverMoved

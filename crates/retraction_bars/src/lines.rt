@@ -2,7 +2,7 @@ ghost use Rattle.std.specs.Prelude.{◌≡◌, ◌∷◌, [], ◌++◌, ◌&&◌
 ghost use Rattle.std.specs.List.{list_any};
 ghost use Rattle.board_base.specs.Legal.{pawn_rank};
 ghost use Rattle.retraction_bars.specs.Clauses.{clauses};
-ghost use Rattle.retraction_bars.specs.Lines.{bars_text, firsts_line, group_line, group_lines, has_first, is_first, is_grouped, is_part, is_whole, labels_words, lines_of, man_line, man_lines, pair_line};
+ghost use Rattle.retraction_bars.specs.Lines.{bars_text, firsts_line, firsts_phrase, some_firsts, group_line, group_lines, has_first, is_first, is_grouped, is_part, is_whole, labels_words, lines_of, man_line, man_lines, pair_line};
 ghost use Rattle.retraction_bars.specs.Numbers.{bar_at};
 ghost use Rattle.retraction_bars.specs.Phrases.{phrase};
 ghost use Rattle.retraction_bars.specs.Sentences.{label_words, sentences_words, text_if, whole_words};
@@ -65,14 +65,46 @@ fn push_firsts(query: &Query, out: &mut Vec<u8>) -> Result<(), AllocError>
     Ok(())
 }
 
+/// The pawns on their first squares, as a list of their own.
+fn firsts_of(alloc: Global, query: &Query) -> Result<Vec<u8>, AllocError>
+    ensures { IfOk result (λ v. v.items ≡ labels_words query.now (is_first query.now)) }
+{
+    let mut labels = Vec::new(alloc);
+    push_firsts(query, &mut labels)?;
+    Ok(labels)
+}
+
+fn firsts_phrase(labels: &[u8]) -> Phrase
+    ensures { result ≡ firsts_phrase labels.now }
+{
+    if labels.len() == 3 {
+        Phrase::OnOwnFirst
+    } else {
+        Phrase::OnFirst
+    }
+}
+
+fn push_some_firsts(indent: &[u8], labels: &[u8], out: &mut Vec<u8>) -> Result<(), AllocError>
+    ensures { IfOk result (λ _. out.new.items ≡ out.old.items ++ some_firsts indent.now labels.now) }
+{
+    say(indent, out)?;
+    say(labels, out)?;
+    say_phrase(firsts_phrase(labels), out)?;
+    Ok(())
+}
+
 /// The line of the pawns on their first squares.
-fn push_firsts_line(query: &Query, indent: &[u8], out: &mut Vec<u8>) -> Result<(), AllocError>
+fn push_firsts_line(
+    alloc: Global,
+    query: &Query,
+    indent: &[u8],
+    out: &mut Vec<u8>,
+) -> Result<(), AllocError>
     ensures { IfOk result (λ _. out.new.items ≡ out.old.items ++ firsts_line query.now indent.now) }
 {
     if has_first(query) {
-        say(indent, out)?;
-        push_firsts(query, out)?;
-        say_phrase(Phrase::OnFirst, out)?;
+        let labels = firsts_of(alloc, query)?;
+        push_some_firsts(indent, labels.as_slice(), out)?;
     }
     Ok(())
 }
@@ -218,6 +250,7 @@ fn push_man_lines(
 }
 
 fn push_lines(
+    alloc: Global,
     query: &Query,
     cs: &[Clause],
     indent: &[u8],
@@ -225,7 +258,7 @@ fn push_lines(
 ) -> Result<(), AllocError>
     ensures { IfOk result (λ _. out.new.items ≡ out.old.items ++ lines_of query.now indent.now cs.now) }
 {
-    push_firsts_line(query, indent, out)?;
+    push_firsts_line(alloc, query, indent, out)?;
     push_group_lines(query, cs, indent, out)?;
     push_man_lines(query, cs, indent, out)?;
     Ok(())
@@ -252,7 +285,7 @@ fn push_all_lines(
     ensures { IfOk result (λ _. out.new.items ≡ out.old.items ++ lines_of query.now indent.now (clauses query.now)) }
 {
     let cs = clauses(alloc, query)?;
-    push_lines(query, cs.as_slice(), indent, out)?;
+    push_lines(alloc, query, cs.as_slice(), indent, out)?;
     Ok(())
 }
 

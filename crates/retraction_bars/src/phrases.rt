@@ -8,6 +8,7 @@ use std::alloc::AllocError;
 #[derive(Clone, Copy)]
 pub enum Phrase {
     OnFirst,
+    OnOwnFirst,
     AllOccupied,
     AllAttacked,
     LastMove,
@@ -39,6 +40,7 @@ fn phrase_of(p: Phrase) -> &'static [u8]
 {
     match p {
         Phrase::OnFirst => b": on their first squares.\n",
+        Phrase::OnOwnFirst => b": on its first square.\n",
         Phrase::AllOccupied => b"every square to come from is occupied",
         Phrase::AllAttacked => b"from any square it attacked the king already",
         Phrase::LastMove => b"the last move was ",
@@ -48,7 +50,7 @@ fn phrase_of(p: Phrase) -> &'static [u8]
         Phrase::And => b" and ",
         Phrase::NeverMoved => b" never moved",
         Phrase::RuledOut => b"ruled out",
-        Phrase::TooMany => b" would have had too many men",
+        Phrase::TooMany => b" would have had too many pawns and promoted men",
         Phrase::ByClock => b"the clock forbids it",
         Phrase::NotPassed => b"no double step came just before",
         Phrase::Illegal => b"no legal move",

@@ -2,16 +2,16 @@ ghost use Rattle.std.specs.Prelude.{◌≡◌, ◌++◌, IfOk};
 ghost use Rattle.std.specs.List.{list_any};
 ghost use Rattle.retraction_bars.specs.Phrases.{phrase};
 ghost use Rattle.retraction_bars.specs.Numbers.{bar_at};
-ghost use Rattle.retraction_bars.specs.Sentences.{bar_words, double_words, is_ground, label_words, manner_words, origin_words, origins_words, sentence_words, sentences_words, spaced, start_of, tells, text_if, whole_words};
+ghost use Rattle.retraction_bars.specs.Sentences.{bar_words, bystander_initial, double_words, is_ground, label_words, manner_words, origin_words, origins_words, sentence_words, sentences_words, spaced, start_of, tells, text_if, whole_words};
 
 use crate::bars::Bar;
 use crate::gathering::Clause;
 use crate::numbers::bar_at;
 use crate::phrases::{Phrase, say_phrase};
 use crate::scopes::{Manner, same_manner};
-use board_base::{Castle, Colour, Move, Square};
+use board_base::{Castle, Colour, Kind, Move, Square, is_of};
 use castle_history::home;
-use prose_words::{place_initial, push_square, say, side_word};
+use prose_words::{initial, place_initial, push_square, say, side_word};
 use query_base::Query;
 use std::alloc::AllocError;
 
@@ -34,10 +34,22 @@ fn push_only(query: &Query, out: &mut Vec<u8>) -> Result<(), AllocError>
     Ok(())
 }
 
+/// The letter of a man who stood on a square before the move of another, and gave check: he stands there still, or is a rook that castled.
+fn bystander_initial(query: &Query, s: Square) -> &'static [u8]
+    ensures { result.now ≡ bystander_initial query.now s }
+{
+    let place = query.board.at(s);
+    if is_of(query.turn.other(), place) {
+        place_initial(place)
+    } else {
+        initial(Kind::Rook)
+    }
+}
+
 fn push_check(query: &Query, s: Square, out: &mut Vec<u8>) -> Result<(), AllocError>
     ensures { IfOk result (λ _. out.new.items ≡ out.old.items ++ bar_words query.now (Bar.Check s)) }
 {
-    say(place_initial(query.board.at(s)), out)?;
+    say(bystander_initial(query, s), out)?;
     push_square(s, out)?;
     say_phrase(Phrase::GaveCheck, out)?;
     Ok(())

@@ -2,3 +2,4 @@
 pub mod CostSums
 pub mod OneCost
 pub mod Deeper
+pub mod WholeSizes

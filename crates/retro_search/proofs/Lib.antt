@@ -5,6 +5,7 @@ pub mod Pricing
 pub mod Settled
 pub mod Costs
 pub mod Expansions
+pub mod Sizing
 pub mod Bound
 pub mod Roots
 pub mod TextSizes

@@ -8,7 +8,7 @@ use Rattle.query_base.specs.Asked.{Asked}
 use Rattle.query_base.specs.Reach.{Contradicts, Reaches}
 use Rattle.query_base.specs.Targets.{target}
 use Rattle.query_base.specs.declared.claims.Claim.{Claim}
-use Rattle.balance_rule.specs.EqualPrices.{EqualPricesSupport}
+use Rattle.price_search.specs.FlatPrices.{FlatPricesSupport}
 use Rattle.cert_text.specs.Seen.{tree_of}
 use Rattle.cert_text.specs.SeenCert.{cert_of}
 use Rattle.cert_text.specs.Certificate.{HasText}
@@ -23,6 +23,7 @@ use Rattle.retro_search.specs.Lone.{IsAfforded, IsDear, unmoves_in_all}
 use Rattle.retro_search.specs.Outcomes.{HasProof}
 use Rattle.retro_search.specs.RuleLines.{IsByRuleLines}
 use Rattle.retro_search.specs.Costs.{IsCost}
+use Rattle.retro_search.specs.SearchSizes.{IsLargeSearch}
 use Rattle.retro_search.specs.Searched.{IsUnsettled}
 use Rattle.retro_search.specs.Sizes.{nodes_in}
 use Rattle.retro_search.specs.Tidy.{IsFresh}
@@ -184,7 +185,7 @@ told_unpriced claim q depth nodes run f by few t =
     on_undecided claim q nodes t.came f (IsUnpriced (target q claim)) t.tells
     (if_err t.came _ _ (λ s. if_open s _ _ (λ line o l whole apart. subst (IsUnpriced (target q claim)) (sym whole) o)) (t.comes.unpriced by few))
 
--- what equal prices support is refuted, where a query may be visited
+-- what flat prices support is refuted, where a query may be visited
 priced_err : (why : Unrefuted) (nodes : ℕ) (P : Type 0) → 1 ≤ nodes → (why ≡ Memory → P) → (why ≡ Memory) ⊎ (nodes ≡ 0) → P
 priced_err why nodes P some memory (inl e) = memory e
 priced_err why nodes P some memory (inr none) = absurd (omega arith)
@@ -198,11 +199,14 @@ priced_found claim q nodes came (found.Countered g) some (line, is, told) h =
 priced_found claim q nodes came (found.Spent n) some (is, all) h =
     let here : (why.Spent ≡ Memory) ⊎ (nodes ≡ 0) = subst (λ (c : Result Refutation Unrefuted). IfErr c (λ s. (s ≡ Memory) ⊎ (nodes ≡ 0))) is h in priced_err why.Spent nodes ⊥ some (λ e. cc) here
 
-pub told_priced : (claim : Claim) (q : Asked) (depth nodes : ℕ) (run : Run) (f : Found) → run.reasons ≡ All → 1 ≤ nodes → EqualPricesSupport (target q claim) → IsTold depth nodes run claim q f → IsProved f
+pub told_priced : (claim : Claim) (q : Asked) (depth nodes : ℕ) (run : Run) (f : Found) → run.reasons ≡ All → 1 ≤ nodes → FlatPricesSupport (target q claim) → IsTold depth nodes run claim q f → IsProved f
 told_priced claim q depth nodes run f by some e t = priced_found claim q nodes t.came f some t.tells (t.comes.priced by e)
 
 pub told_spent : (claim : Claim) (q : Asked) (depth nodes : ℕ) (run : Run) (f : Found) → IsTold depth nodes run claim q f → IfSpentAt f (λ n. WhereRefutable (target q claim) depth (λ m. nodes < m))
 told_spent claim q depth nodes run f t = on_spent claim q nodes t.came f _ t.tells t.comes.spent
+
+pub told_large : (claim : Claim) (q : Asked) (depth nodes : ℕ) (run : Run) (f : Found) → IsTold depth nodes run claim q f → IfSpentAt f (λ n. IsLargeSearch (target q claim) depth nodes)
+told_large claim q depth nodes run f t = on_spent claim q nodes t.came f _ t.tells t.comes.outsized
 
 pub told_never_weaker : (claim : Claim) (q : Asked) (depth nodes : ℕ) (run : Run) (f : Found) → IsTold depth nodes run claim q f → WhereRefutable (target q claim) depth (λ n. n ≤ nodes → IsProved f)
 told_never_weaker claim q depth nodes run f t = on_never_weaker claim q (target q claim) depth nodes t.came f t.tells t.comes.unsettled t.comes.spent

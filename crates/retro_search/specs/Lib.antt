@@ -1,6 +1,7 @@
 pub mod Refutable
 pub mod Lines
 pub mod Costs
+pub mod SearchSizes
 pub mod Lone
 pub mod Sizes
 pub mod Heights

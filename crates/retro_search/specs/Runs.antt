@@ -6,7 +6,7 @@ use Rattle.retro_search.specs.Vain.{AreVain}
 use Rattle.retro_search.specs.declared.runs.Reasons.TheVariants.{RuleLines}
 use Rattle.retro_search.specs.declared.runs.Run.{Run as ARun}
 
--- what is kept is sound, and by rule lines alone where the run is; equal prices support none of the queries for which none were found
+-- what is kept is sound, and by rule lines alone where the run is; flat prices support none of the queries for which none were found
 pub record IsReady (run : ARun) : Type 0 where
   pub sound : IsSound run.memo
   pub lined : run.reasons ≡ RuleLines → KeepsRuleLines run.memo

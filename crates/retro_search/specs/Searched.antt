@@ -11,6 +11,7 @@ use Rattle.cert_checker.specs.Proving.{Proves}
 use Rattle.retro_search.specs.Refutable.{IsRefutable}
 use Rattle.retro_search.specs.Lines.{IsFirstOpen, EndsAtArray}
 use Rattle.retro_search.specs.Costs.{IsCost, SumsUpTo}
+use Rattle.retro_search.specs.SearchSizes.{IsSearchSize, SumsAll}
 use Rattle.retro_search.specs.Heights.{height}
 use Rattle.retro_search.specs.Unsettled.{IsOpenLine}
 use Rattle.retro_search.specs.declared.runs.Reasons.{Reasons}
@@ -31,6 +32,10 @@ pub record IsOpen (line : OpenLine) (q : Asked) (depth : ℕ) (ancestors : List 
 -- the costs of the predecessors, up to and with the first that isn't refutable at this depth
 abbrev pub IsCostBelow : Asked → ℕ → List Asked → ℕ → Type 0
 IsCostBelow q depth ancestors n = SumsUpTo (λ u. IsCost (predecessor q u) depth (q ∷ ancestors)) (λ u. IsRefutable (predecessor q u) depth (q ∷ ancestors)) (unmoves q) n
+
+-- the sizes of the searches of all predecessors at this depth
+abbrev pub IsSizeBelow : Asked → ℕ → List Asked → ℕ → Type 0
+IsSizeBelow q depth ancestors n = SumsAll (λ u. IsSearchSize (predecessor q u) depth (q ∷ ancestors)) (unmoves q) n
 
 -- the query isn't refutable by rule lines, and this line of it is open, the last unmove first, marked where it ends at the array
 pub record IsUnsettled (line : OpenLine) (q : Asked) (depth : ℕ) (ancestors : List Asked) : Type 0 where

@@ -9,7 +9,7 @@ use Rattle.query_base.specs.Targets.{target}
 use Rattle.query_base.specs.declared.claims.Claim.{Claim}
 use Rattle.unmove_gen.specs.Listed.{unmoves}
 use Rattle.unmove_gen.specs.Predecessor.{predecessor}
-use Rattle.balance_rule.specs.EqualPrices.{EqualPricesSupport}
+use Rattle.price_search.specs.FlatPrices.{FlatPricesSupport}
 use Rattle.retro_search.specs.Refutable.{IsRefutable, IsShut}
 use Rattle.retro_search.specs.Costs.{IsCost}
 use Rattle.retro_search.specs.Lines.{EndsAtArray, forwards}
@@ -22,10 +22,10 @@ IsOpenLine q zero ancestors (u ∷ line) = ⊥
 IsOpenLine q (suc depth) ancestors (u ∷ line) =
     (IsShut q ancestors → ⊥) × (Reaches [] q → ⊥) × Contains (unmoves q) u × IsOpenLine (predecessor q u) depth (q ∷ ancestors) line
 
--- equal prices support no query on the line
+-- flat prices support no query on the line
 abbrev pub IsUnpriced : Asked → List Unmove → Type 0
-IsUnpriced q [] = EqualPricesSupport q → ⊥
-IsUnpriced q (u ∷ line) = (EqualPricesSupport q → ⊥) × IsUnpriced (predecessor q u) line
+IsUnpriced q [] = FlatPricesSupport q → ⊥
+IsUnpriced q (u ∷ line) = (FlatPricesSupport q → ⊥) × IsUnpriced (predecessor q u) line
 
 -- The query isn't refutable at the depth by rule lines, and this line is open: it has as many unmoves as the depth, and ends elsewhere
 -- than at the array.

@@ -3,8 +3,8 @@
 use Rattle.std.specs.Prelude.{List}
 use Rattle.std.specs.List.{All}
 use Rattle.query_base.specs.Asked.{Asked}
-use Rattle.balance_rule.specs.EqualPrices.{EqualPricesSupport}
+use Rattle.price_search.specs.FlatPrices.{FlatPricesSupport}
 
--- equal prices support none of these
+-- flat prices support none of these
 abbrev pub AreVain : List Asked → Type 0
-AreVain qs = All (λ q. EqualPricesSupport q → ⊥) qs
+AreVain qs = All (λ q. FlatPricesSupport q → ⊥) qs

@@ -1,5 +1,5 @@
 ghost use Rattle.std.specs.Prelude.{◌≡◌, IfSome, IsSome, None};
-ghost use Rattle.balance_rule.specs.EqualPrices.{EqualPricesSupport};
+ghost use Rattle.price_search.specs.FlatPrices.{FlatPricesSupport};
 ghost use Rattle.cert_text.specs.Tree.{rule};
 ghost use Rattle.cert_text.specs.declared.reasons.Reason.TheVariants.{Balance};
 ghost use Rattle.cert_text.specs.Seen.{tree_of};
@@ -9,11 +9,11 @@ ghost use Rattle.retro_search.specs.Vain.{AreVain};
 
 use crate::refutations::Refutation;
 use crate::runs::{Reasons, Run};
-use balance_rule::find_balance;
 use board_base::SquareSet;
 use capture_prices::Prices;
 use cert_text::{Body, Node, Reason};
 use indexmap::IndexSet;
+use price_search::{PriceDesk, find_balance};
 use query_base::Query;
 
 /// The most queries of which it is noted that no prices were found.
@@ -36,7 +36,7 @@ fn balanced(set: SquareSet, prices: &Prices) -> Refutation
 
 /// Notes that no prices were found for the query, if there is room.
 fn note(query: &Query, vain: &mut IndexSet<Query>)
-    ensures { (EqualPricesSupport query.now → ⊥) → AreVain vain.old.keys → AreVain vain.new.keys }
+    ensures { (FlatPricesSupport query.now → ⊥) → AreVain vain.old.keys → AreVain vain.new.keys }
 {
     if vain.len() < MOST_VAIN {
         let _ = vain.insert(*query);
@@ -45,16 +45,16 @@ fn note(query: &Query, vain: &mut IndexSet<Query>)
 
 /// A refutation of one node by a set and prices that support the query, if some are found. What was looked for in vain is noted, and
 /// not looked for again.
-fn priced(query: &Query, vain: &mut IndexSet<Query>) -> Option<Refutation>
+fn priced(query: &Query, vain: &mut IndexSet<Query>, desk: &mut PriceDesk) -> Option<Refutation>
     ensures alone { IfSome result (λ found. StandsAlone (tree_of found.node) query.now 0 2) }
     ensures numbers { IfSome result (λ found. (found.lean ≡ 0) × (found.height ≡ 0) × (found.lines ≡ 2)) }
-    ensures equal { AreVain vain.old.keys → EqualPricesSupport query.now → IsSome result }
+    ensures flat { AreVain vain.old.keys → FlatPricesSupport query.now → IsSome result }
     ensures vain { AreVain vain.old.keys → AreVain vain.new.keys }
 {
     if vain.contains(query) {
         return None;
     }
-    if let Some((set, prices)) = find_balance(query) {
+    if let Some((set, prices)) = find_balance(query, desk) {
         return Some(balanced(set, &prices));
     }
     note(query, vain);
@@ -66,11 +66,11 @@ pub(crate) fn by_balance(query: &Query, run: &mut Run) -> Option<Refutation>
     ensures alone { IfSome result (λ found. StandsAlone (tree_of found.node) query.now 0 2) }
     ensures numbers { IfSome result (λ found. (found.lean ≡ 0) × (found.height ≡ 0) × (found.lines ≡ 2)) }
     ensures lines { run.old.reasons ≡ Reasons.RuleLines → (result ≡ None) × (run.new ≡ run.old) }
-    ensures equal { run.old.reasons ≡ Reasons.All → AreVain run.old.vain.keys → EqualPricesSupport query.now → IsSome result }
+    ensures flat { run.old.reasons ≡ Reasons.All → AreVain run.old.vain.keys → FlatPricesSupport query.now → IsSome result }
     ensures same { IsSameButVain run.old run.new }
 {
     match run.reasons {
         Reasons::RuleLines => None,
-        Reasons::All => priced(query, &mut run.vain),
+        Reasons::All => priced(query, &mut run.vain, &mut run.desk),
     }
 }

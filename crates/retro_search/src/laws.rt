@@ -5,6 +5,7 @@ ghost use Rattle.retro_search.specs.Refutable.{IsRefutable};
 ghost use Rattle.retro_search.specs.Lines.{IsFirstOpen};
 ghost use Rattle.retro_search.specs.Costs.{IsCost};
 ghost use Rattle.retro_search.specs.Lone.{IsMemoCost};
+ghost use Rattle.retro_search.specs.SearchSizes.{IsSearchSize};
 
 /// The law that each query which isn't refutable has one first open line, at each depth and below any ancestors. This does nothing
 /// when it runs.
@@ -29,4 +30,12 @@ pub fn deeper_searches_refute_more()
 pub fn one_memo_cost_each()
     ensures some { (q : Asked) (depth : ℕ) → (n : ℕ) × IsMemoCost q depth n }
     ensures one { (q : Asked) (depth m n : ℕ) → IsMemoCost q depth m → IsMemoCost q depth n → m ≡ n }
+{}
+
+/// The law that the whole search of each query has one size, at each depth and below any ancestors, which is at least the cost of the
+/// query. This does nothing when it runs.
+pub fn one_search_size_each()
+    ensures some { (q : Asked) (depth : ℕ) (ancestors : List Asked) → (n : ℕ) × IsSearchSize q depth ancestors n }
+    ensures one { (q : Asked) (depth : ℕ) (ancestors : List Asked) (m n : ℕ) → IsSearchSize q depth ancestors m → IsSearchSize q depth ancestors n → m ≡ n }
+    ensures costs_fit { (q : Asked) (depth : ℕ) (ancestors : List Asked) (m n : ℕ) → IsCost q depth ancestors m → IsSearchSize q depth ancestors n → m ≤ n }
 {}

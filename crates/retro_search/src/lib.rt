@@ -22,6 +22,7 @@ mod unrefuted;
 pub use answers::Found;
 pub use laws::{
     deeper_searches_refute_more, one_cost_each, one_memo_cost_each, one_open_line_each,
+    one_search_size_each,
 };
 pub use limits::Limits;
 pub use runs::Reasons;

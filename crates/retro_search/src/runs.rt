@@ -4,6 +4,7 @@ ghost use Rattle.retro_search.specs.Tidy.{IsFresh};
 
 use crate::memos::Memo;
 use indexmap::IndexSet;
+use price_search::PriceDesk;
 use query_base::Query;
 use std::alloc::Global;
 
@@ -27,6 +28,8 @@ pub struct Run {
     pub memo: Memo,
     /// Queries for which no prices were found.
     pub vain: IndexSet<Query>,
+    /// What is kept while prices are sought.
+    pub desk: PriceDesk,
 }
 
 impl Run {
@@ -41,6 +44,7 @@ impl Run {
             reasons,
             memo: Memo::new(alloc),
             vain: IndexSet::new(alloc),
+            desk: PriceDesk::new(alloc),
         }
     }
 
@@ -55,6 +59,7 @@ impl Run {
             reasons,
             memo: Memo::off(alloc),
             vain: IndexSet::new(alloc),
+            desk: PriceDesk::new(alloc),
         }
     }
 }

@@ -1,11 +1,12 @@
 ghost use Rattle.std.specs.Prelude.{◌≡◌, ◌≤◌, ◌<◌, ◌↔◌, [], IfErr, IfOk, None};
 ghost use Rattle.query_base.specs.Targets.{target};
-ghost use Rattle.balance_rule.specs.EqualPrices.{EqualPricesSupport};
+ghost use Rattle.price_search.specs.FlatPrices.{FlatPricesSupport};
 ghost use Rattle.cert_text.specs.SeenCert.{cert_of};
 ghost use Rattle.retro_search.specs.Answers.{IfCountered, IfProved, IfSpentAt, IfUndecided, IfUnspent, IsAnswer, IsProved, IsShort};
 ghost use Rattle.retro_search.specs.Attempts.{ComesTo};
 ghost use Rattle.retro_search.specs.Outcomes.{HasProof, IfRefuted, IsRefuted};
 ghost use Rattle.retro_search.specs.Refutable.{IsRefutable};
+ghost use Rattle.retro_search.specs.SearchSizes.{IsLargeSearch};
 ghost use Rattle.retro_search.specs.Unrefuted.{IfTooLarge};
 ghost use Rattle.retro_search.specs.Unsettled.{IsAgainst, IsUnpriced, StaysUnsettled, WhereRefutable};
 
@@ -80,12 +81,12 @@ impl Searcher {
     /// and no clause depends on it.
     ///
     /// - `Refuted` comes wherever rule lines refute the query at some depth up to that of the limits at a cost of at most their nodes, by
-    ///   all reasons also where equal prices support it, and often elsewhere. A tree of the height that it gives proves the query, and no
+    ///   all reasons also where flat prices support it, and often elsewhere. A tree of the height that it gives proves the query, and no
     ///   game of any length reaches it.
     /// - `Open` comes only where rule lines don't refute the query at the depth. By rule lines alone it comes wherever they don't, unless
     ///   `Spent` comes.
-    /// - `Spent` comes only where the cost of the query is above the nodes at each depth up to that of the limits at which rule lines
-    ///   refute it.
+    /// - `Spent` comes only where the whole search of the query to the depth is larger than the nodes; and its cost is above them at each
+    ///   depth up to that of the limits at which rule lines refute it.
     ///
     /// Want of memory is a free answer: `Memory` may take the place of each of these, and the next question may be asked all the same.
     pub fn refute(&mut self, query: &Query, limits: Limits) -> Result<Outcome, Memory>
@@ -93,8 +94,9 @@ impl Searcher {
         ensures low { self.old ≡ Reasons.RuleLines → IfOk result (λ outcome. IfRefuted outcome (λ height. IsRefutable query.now height [])) }
         ensures open { IfOk result (λ outcome. outcome ≡ Outcome.Open → IsRefutable query.now limits.depth [] → ⊥) }
         ensures spent { IfOk result (λ outcome. outcome ≡ Outcome.Spent → WhereRefutable query.now limits.depth (λ n. limits.nodes < n)) }
+        ensures large { IfOk result (λ outcome. outcome ≡ Outcome.Spent → IsLargeSearch query.now limits.depth limits.nodes) }
         ensures never_weaker { IfOk result (λ outcome. WhereRefutable query.now limits.depth (λ n. n ≤ limits.nodes → IsRefuted outcome)) }
-        ensures priced { self.old ≡ Reasons.All → 1 ≤ limits.nodes → EqualPricesSupport query.now → IfOk result IsRefuted }
+        ensures priced { self.old ≡ Reasons.All → 1 ≤ limits.nodes → FlatPricesSupport query.now → IfOk result IsRefuted }
         ensures exactly { self.old ≡ Reasons.RuleLines → IfOk result (λ outcome. (outcome ≡ Outcome.Spent → ⊥) → (IsRefuted outcome ↔ IsRefutable query.now limits.depth [])) }
         ensures reasons { self.new ≡ self.old }
     {
@@ -114,16 +116,17 @@ impl Searcher {
     /// captures. What earlier questions kept serves this one, and no clause depends on it. The query bars no move of its own.
     ///
     /// - `Proved` comes wherever rule lines refute the target at some depth up to that of the limits at a cost of at most their nodes, by
-    ///   all reasons also where equal prices support it, and often elsewhere; by rule lines alone, exactly where they refute it at the depth
+    ///   all reasons also where flat prices support it, and often elsewhere; by rule lines alone, exactly where they refute it at the depth
     ///   and `Spent` doesn't come. The certificate is of this claim and this query, proves it, goes back no further than the depth, and has
     ///   at most 500,000 nodes. It has a text where the claim has one, and no text of more than 64 MiB. No game of any length contradicts
     ///   the claim.
     /// - `Undecided` comes with a line of listed unmoves on which no rule line supports a query, and none is covered by one before it. It
-    ///   has as many unmoves as the depth, and doesn't end at the array. By all reasons and with at most 250,000 nodes, equal prices
+    ///   has as many unmoves as the depth, and doesn't end at the array. By all reasons and with at most 250,000 nodes, flat prices
     ///   support no query on it.
     /// - `Countered` comes with a game that contradicts the claim, and has no more moves than the depth.
-    /// - `Spent` comes only where the cost of the target is above the nodes at each depth up to that of the limits at which rule lines
-    ///   refute it. It says how many queries were visited, which are all that were allowed.
+    /// - `Spent` comes only where the whole search of the target to the depth is larger than the nodes; and its cost is above them at each
+    ///   depth up to that of the limits at which rule lines refute it. It says how many queries were visited, which are all that were
+    ///   allowed.
     ///
     /// Want of memory is a free answer: `Memory` may take the place of each of these.
     pub fn settle(&mut self, query: &Query, claim: &Claim, limits: Limits) -> Result<Found, Memory>
@@ -133,8 +136,9 @@ impl Searcher {
         ensures undecided { IfOk result (λ found. IfUndecided found (λ line. StaysUnsettled line (target query.now claim.now) limits.depth)) }
         ensures countered { IfOk result (λ found. IfCountered found (λ game. IsAgainst game claim.now query.now limits.depth)) }
         ensures spent { IfOk result (λ found. IfSpentAt found (λ visited. WhereRefutable (target query.now claim.now) limits.depth (λ n. limits.nodes < n))) }
+        ensures large { IfOk result (λ found. IfSpentAt found (λ visited. IsLargeSearch (target query.now claim.now) limits.depth limits.nodes)) }
         ensures never_weaker { IfOk result (λ found. WhereRefutable (target query.now claim.now) limits.depth (λ n. n ≤ limits.nodes → IsProved found)) }
-        ensures priced { self.old ≡ Reasons.All → 1 ≤ limits.nodes → EqualPricesSupport (target query.now claim.now) → IfOk result IsProved }
+        ensures priced { self.old ≡ Reasons.All → 1 ≤ limits.nodes → FlatPricesSupport (target query.now claim.now) → IfOk result IsProved }
         ensures unpriced { self.old ≡ Reasons.All → limits.nodes ≤ 250000 → IfOk result (λ found. IfUndecided found (IsUnpriced (target query.now claim.now))) }
         ensures exactly { self.old ≡ Reasons.RuleLines → IfOk result (λ found. IfUnspent found (IsProved found ↔ IsRefutable (target query.now claim.now) limits.depth [])) }
         ensures reasons { self.new ≡ self.old }

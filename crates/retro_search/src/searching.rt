@@ -1,10 +1,11 @@
 ghost use Rattle.std.specs.Prelude.{ℕ, List, ◌≡◌, ◌+◌, ◌*◌, ◌<◌, ◌≤◌, ◌⊎◌, [], IfErr, IfOk, IsTrue, OnOk, false, length, reverse, suc};
-ghost use Rattle.balance_rule.specs.EqualPrices.{EqualPricesSupport};
+ghost use Rattle.price_search.specs.FlatPrices.{FlatPricesSupport};
 ghost use Rattle.query_base.specs.Reach.{Reaches};
 ghost use Rattle.cert_text.specs.Seen.{tree_of};
 ghost use Rattle.retro_search.specs.Refutable.{IsRefutable, IsShut};
 ghost use Rattle.retro_search.specs.Costs.{IsCost};
-ghost use Rattle.retro_search.specs.Searched.{AreCounted, IsCostBelow, IsCounted, IsOpen, IsUnsettled, WhereEachRefutable};
+ghost use Rattle.retro_search.specs.SearchSizes.{IsSearchSize};
+ghost use Rattle.retro_search.specs.Searched.{AreCounted, IsCostBelow, IsCounted, IsOpen, IsSizeBelow, IsUnsettled, WhereEachRefutable};
 ghost use Rattle.retro_search.specs.Unrefuted.{IfOpen, IfSpent, IfTooLarge};
 ghost use Rattle.retro_search.specs.Unsettled.{IsUnpriced};
 ghost use Rattle.retro_search.specs.Vain.{AreVain};
@@ -102,10 +103,12 @@ pub(crate) fn search(
     ensures too_large { run.old.reasons ≡ Reasons.RuleLines → IfErr result (λ stop. IfTooLarge stop (run.old.memo.on ≡ false → ⊥)) }
     ensures twice { IfOk result (λ found. run.old.memo.on ≡ false → found.lines + 2 * run.new.left ≤ 2 * run.old.left) }
     ensures few_visits { IfErr result (λ stop. IfTooLarge stop (run.old.memo.on ≡ false → 250000 < run.old.left)) }
-    ensures priced { run.old.reasons ≡ Reasons.All → AreVain run.old.vain.keys → EqualPricesSupport query.now → IfErr result (λ stop. (stop ≡ Unrefuted.Memory) ⊎ (run.old.left ≡ 0)) }
+    ensures priced { run.old.reasons ≡ Reasons.All → AreVain run.old.vain.keys → FlatPricesSupport query.now → IfErr result (λ stop. (stop ≡ Unrefuted.Memory) ⊎ (run.old.left ≡ 0)) }
     ensures unpriced { run.old.reasons ≡ Reasons.All → AreVain run.old.vain.keys → IfErr result (λ stop. IfOpen stop (λ line. IsUnpriced query.now (reverse line.back.items))) }
     ensures cost { OnOk result (IsRefutable query.now depth (reverse ancestors.old.items) → (n : ℕ) → IsCost query.now depth (reverse ancestors.old.items) n → run.old.left ≤ run.new.left + n) }
     ensures spent { IfErr result (λ stop. IfSpent stop (IsCounted run.old.reasons query.now depth (reverse ancestors.old.items) → (n : ℕ) → IsCost query.now depth (reverse ancestors.old.items) n → run.old.left < n)) }
+    ensures size { OnOk result ((n : ℕ) → IsSearchSize query.now depth (reverse ancestors.old.items) n → run.old.left ≤ run.new.left + n) }
+    ensures outsized { IfErr result (λ stop. IfSpent stop ((n : ℕ) → IsSearchSize query.now depth (reverse ancestors.old.items) n → run.old.left < n)) }
     ensures deep { IfErr result (λ stop. IfOpen stop (λ line. length line.back.items < run.old.left)) }
     ensures on { GoesOn run.old run.new }
     ensures lined { run.old.reasons ≡ Reasons.RuleLines → IfOk result (λ found. IsByRuleLines (tree_of found.node)) }
@@ -175,9 +178,11 @@ fn expand(
     ensures too_large { run.old.reasons ≡ Reasons.RuleLines → IfErr result (λ stop. IfTooLarge stop (run.old.memo.on ≡ false → ⊥)) }
     ensures twice { IfOk result (λ found. run.old.memo.on ≡ false → found.lines + 2 * run.new.left ≤ 2 * run.old.left + 1) }
     ensures few_visits { IfErr result (λ stop. IfTooLarge stop (run.old.memo.on ≡ false → 250000 ≤ run.old.left)) }
-    ensures unpriced { run.old.reasons ≡ Reasons.All → AreVain run.old.vain.keys → (EqualPricesSupport query.now → ⊥) → IfErr result (λ stop. IfOpen stop (λ line. IsUnpriced query.now (reverse line.back.items))) }
+    ensures unpriced { run.old.reasons ≡ Reasons.All → AreVain run.old.vain.keys → (FlatPricesSupport query.now → ⊥) → IfErr result (λ stop. IfOpen stop (λ line. IsUnpriced query.now (reverse line.back.items))) }
     ensures cost { OnOk result (WhereEachRefutable query.now below (reverse ancestors.old.items) (λ n. run.old.left ≤ run.new.left + n)) }
     ensures spent { IfErr result (λ stop. IfSpent stop (AreCounted run.old.reasons query.now below (reverse ancestors.old.items) → (n : ℕ) → IsCostBelow query.now below (reverse ancestors.old.items) n → run.old.left < n)) }
+    ensures size { OnOk result ((n : ℕ) → IsSizeBelow query.now below (reverse ancestors.old.items) n → run.old.left ≤ run.new.left + n) }
+    ensures outsized { IfErr result (λ stop. IfSpent stop ((n : ℕ) → IsSizeBelow query.now below (reverse ancestors.old.items) n → run.old.left < n)) }
     ensures deep { IfErr result (λ stop. IfOpen stop (λ line. length line.back.items ≤ run.old.left)) }
     ensures on { GoesOn run.old run.new }
     ensures lined { run.old.reasons ≡ Reasons.RuleLines → IfOk result (λ found. IsByRuleLines (tree_of found.node)) }

@@ -5,7 +5,7 @@ use Rattle.query_base.specs.Reach.{Holds}
 use Rattle.query_base.specs.Targets.{target}
 use Rattle.query_base.specs.declared.claims.Claim.{Claim}
 use Rattle.cert_text.specs.Certificate.{Certificate}
-use Rattle.balance_rule.specs.EqualPrices.{EqualPricesSupport, equal_prices}
+use Rattle.price_search.specs.FlatPrices.{FlatPricesSupport, flat_prices}
 use Rattle.balance_rule.proofs.Sound.{balance-unreached}
 use Rattle.cert_checker.specs.Proving.{ProvesClaim}
 use Rattle.cert_checker.proofs.Contradicted.{contradiction-reaches}
@@ -25,12 +25,12 @@ settling-done depth nodes claim q Countered text answers ref cheap = absurd (ans
 settling-done depth nodes claim q Spent text answers ref cheap = absurd (omega (arith, answers.dear depth cheap.0 (omega arith) ref cheap.1, cheap.2))
 settling-done depth nodes claim q _ text answers ref cheap = absurd answers
 
--- no game contradicts a claim whose target equal prices support
-settling-priced : (depth nodes : ℕ) (claim : Claim) (q : Asked) (ending : Status) (text : List ℕ) → AnswersSettling depth nodes claim q ending text → EqualPricesSupport (target q claim) → ending ≡ Done
+-- no game contradicts a claim whose target flat prices support
+settling-priced : (depth nodes : ℕ) (claim : Claim) (q : Asked) (ending : Status) (text : List ℕ) → AnswersSettling depth nodes claim q ending text → FlatPricesSupport (target q claim) → ending ≡ Done
 settling-priced depth nodes claim q Done text answers e = refl
 settling-priced depth nodes claim q Undecided text answers e = absurd (answers.unpriced e)
 settling-priced depth nodes claim q Countered text answers e =
-    absurd (balance-unreached (target q claim) e.set equal_prices e.supports answers.game (contradiction-reaches answers.game claim q answers.against.contradicts))
+    absurd (balance-unreached (target q claim) e.set (flat_prices e.payers) e.supports answers.game (contradiction-reaches answers.game claim q answers.against.contradicts))
 settling-priced depth nodes claim q Spent text answers e = absurd (answers.unpriced e)
 settling-priced depth nodes claim q _ text answers e = absurd answers
 
@@ -43,10 +43,10 @@ settle-refuted depth nodes input ending text answers good cheap = elim answers [
   | inr none ↦ absurd (states-some input good.0 good.1 none.0 good.2 none.1)
 ]
 
--- and where equal prices support it
+-- and where flat prices support it
 settle-priced : (depth nodes : ℕ) (input : List ℕ) (ending : Status) (text : List ℕ) → AnswersSettle depth nodes input ending text → StatesPriced input → ending ≡ Done
 settle-priced depth nodes input ending text answers good = elim answers [
-  | inl said ↦ settling-priced depth nodes said.0 said.1 ending text said.3 (stated (λ claim q. EqualPricesSupport (target q claim)) input good.0 said.0 good.1 said.1 good.2 said.2 good.3)
+  | inl said ↦ settling-priced depth nodes said.0 said.1 ending text said.3 (stated (λ claim q. FlatPricesSupport (target q claim)) input good.0 said.0 good.1 said.1 good.2 said.2 good.3)
   | inr none ↦ absurd (states-some input good.0 good.1 none.0 good.2 none.1)
 ]
 

@@ -17,7 +17,7 @@ use Rattle.game_text.specs.Words.{words, AreTextsOf}
 use Rattle.san_text.specs.FromArray.{Tells}
 use Rattle.cert_checker.specs.Proving.{ProvesClaim}
 use Rattle.proof_prose.specs.Prose.{Explains}
-use Rattle.balance_rule.specs.EqualPrices.{EqualPricesSupport}
+use Rattle.price_search.specs.FlatPrices.{FlatPricesSupport}
 use Rattle.retro_search.specs.Answers.{IsProofOf}
 use Rattle.retro_search.specs.Refutable.{IsRefutable}
 use Rattle.codex_verdict.specs.Rights.{AreRights, claim_of}
@@ -149,9 +149,9 @@ abbrev pub StatesCheap : ℕ → ℕ → List ℕ → Type 0
 StatesCheap depth nodes input =
     (claim : Claim) × (q : Asked) × States input claim q × IsCheap depth nodes claim q
 
--- the input states a claim whose target equal prices support
+-- the input states a claim whose target flat prices support
 abbrev pub StatesPriced : List ℕ → Type 0
-StatesPriced input = (claim : Claim) × (q : Asked) × States input claim q × EqualPricesSupport (target q claim)
+StatesPriced input = (claim : Claim) × (q : Asked) × States input claim q × FlatPricesSupport (target q claim)
 
 -- the input states a claim that a certificate proves, of at most 500,000 nodes, which goes back no further than the depth
 abbrev pub StatesProved : ℕ → List ℕ → Type 0
@@ -176,7 +176,7 @@ Succeeds Line input = ProvesLine input
 Succeeds (Dossier depth nodes) input = StatesProvable depth input
 Succeeds (Sample start games plies) input = Unit {0}
 
--- with such an input the command succeeds: a search, where the nodes suffice; `settle` also where equal prices support the target
+-- with such an input the command succeeds: a search, where the nodes suffice; `settle` also where flat prices support the target
 abbrev pub MustSucceed : Command → List ℕ → Type 0
 MustSucceed (Solve depth nodes) input = StatesRefutable depth input × StatesCheap depth nodes input
 MustSucceed (Settle depth nodes) input = (StatesRefutable depth input × StatesCheap depth nodes input) ⊎ StatesPriced input

@@ -28,7 +28,7 @@ words_of (Sample start games plies) = codes "sample" ∷ decimal start ∷ decim
 -- the words call the command without its numbers, which are the usual ones: `settle` alone, or `study` alone
 abbrev pub AreShortWordsOf : List (List ℕ) → Command → Type 0
 AreShortWordsOf words command =
-    ((words ≡ codes "settle" ∷ []) × (command ≡ Settle 64 500000)) ⊎ ((words ≡ codes "study" ∷ []) × (command ≡ Study 64 20000))
+    ((words ≡ codes "settle" ∷ []) × (command ≡ Settle 64 250000)) ⊎ ((words ≡ codes "study" ∷ []) × (command ≡ Study 64 20000))
 
 -- the words, as bytes, call the command: in full, or without its numbers
 abbrev pub AreWordsOf : List (List ℕ) → Command → Type 0

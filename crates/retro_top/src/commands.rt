@@ -90,10 +90,11 @@ pub enum Command {
     },
 }
 
-/// What `settle` alone calls: the search goes as far as it may.
+/// What `settle` alone calls: a search as deep as it may be, and with the most nodes with which an open line tells that flat prices
+/// support no query on it.
 const SETTLE_ALONE: Command = Command::Settle {
     depth: 64,
-    nodes: 500_000,
+    nodes: 250_000,
 };
 
 /// What `study` alone calls: as far as a search may go, but with fewer nodes each, for there are many searches.

@@ -1,10 +1,12 @@
 //! The rule on the balance of captures, on a written board.
 
-use balance_rule::{balances, find_balance};
+use balance_rule::balances;
 use board_base::{Odds, SquareSet};
 use cage_rules::greatest_as_array;
 use capture_prices::Prices;
 use fen_text::read_four_fields;
+use price_search::{PriceDesk, find_balance};
+use std::alloc::Global;
 
 /// The pawns of e2, a7, f7 and g7, who have never moved.
 const AT_HOME: u64 = 0x0061_0000_0000_1000;
@@ -67,11 +69,12 @@ const ARRAY: &str = "rnbqkbnr/pppppppp/8/8/8/8/PPPPPPPP/RNBQKBNR w - -";
 
 /// Whether equal prices support the position with the greatest set that is as in the array, and whether some prices are found. None where
 /// it can't be read.
-fn is_found(position: &str) -> Option<(bool, bool)> {
+fn is_found(alloc: Global, position: &str) -> Option<(bool, bool)> {
     let query = read_four_fields(position.as_bytes())?;
     let equal = Prices::new(&[24; 16], &[24; 16], &[])?;
     let supported = balances(&query, greatest_as_array(&query), &equal);
-    Some((supported, find_balance(&query).is_some()))
+    let mut desk = PriceDesk::new(alloc);
+    Some((supported, find_balance(&query, &mut desk).is_some()))
 }
 
 /// Position, whether equal prices support it, and whether some prices are found.
@@ -83,6 +86,6 @@ fn finds_prices(rt: HostRuntime) {
         (ARRAY, (false, false)),
     ];
     for (position, found) in rows {
-        assert_eq!(rt; is_found(position), Some(found), "{position}");
+        assert_eq!(rt; is_found(rt.alloc(), position), Some(found), "{position}");
     }
 }

@@ -22,6 +22,9 @@ returns-clause-ground c =
       bishops = c.promoted_of-bishops.ensures;
       rooks = c.promoted_of-rooks.ensures;
       queens = c.promoted_of-queens.ensures;
+      exposed = c.exposed-exposed.ensures;
+      promoted = λ f s low inside.
+          c.some_of-promoted.ensures f s low inside ∙ some-promoted c.args.frozen c.args.side (seen_by c.args.side (56 + f)) s _ _ _ _ (c.promoted_of-knights.ensures f low) (c.promoted_of-bishops.ensures f low) (c.promoted_of-rooks.ensures f low) (c.promoted_of-queens.ensures f low);
       most_at_home = λ f low home.
           c.earned_in_each.ensures c.args.prices.now c.args.frozen c.args.side c.exposed-exposed.ensures enemy f low
           ∙ ap (λ (l : List Bool). most_earned c.args.prices.now c.args.frozen c.args.side (is_in l)) (c.regions_of-regions.ensures f low home);

@@ -1,6 +1,7 @@
 use Rattle.std.proofs.Common.{◌≡◌, ◌+◌, ◌-◌, ◌*◌, ◌≤◌, ◌<◌, ℕ, min, arith, sym, ◌∙◌, ap, subst, slice_index}
 use Rattle.board_base.specs.Board.{is_in}
-use Rattle.balance_rule.specs.LeastWays.{IsReachTo, seen_by}
+use Rattle.balance_rule.specs.LeastWays.{seen_by}
+use Rattle.balance_rule.specs.NextWays.{IsReachTo}
 use Rattle.balance_rule.specs.declared.reaches.Reach.{Reach}
 use Rattle.balance_rule.proofs.Growing.{so-far-beside, so-far-more, so-far-skip}
 use Rattle.balance_rule.proofs.reaches.add_rank.Goals as goal

@@ -1,5 +1,5 @@
 use Rattle.std.proofs.Common.{◌≡◌, ◌+◌, ◌*◌, arith, refl, subst}
-use Rattle.balance_rule.specs.LeastWays.{IsReachTo}
+use Rattle.balance_rule.specs.NextWays.{IsReachTo}
 use Rattle.balance_rule.proofs.Growing.{so-far-all, so-far-start}
 use Rattle.balance_rule.proofs.reaches.reach_from.Goals as goal
 

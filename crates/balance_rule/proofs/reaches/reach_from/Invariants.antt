@@ -1,6 +1,6 @@
 use Rattle.std.specs.Prelude.{IsTrue, ◌*◌}
 use Rattle.capture_prices.specs.Prices.{PriceList, are_prices}
-use Rattle.balance_rule.specs.LeastWays.{IsReachTo}
+use Rattle.balance_rule.specs.NextWays.{IsReachTo}
 use Rattle.balance_rule.specs.Tariffs.{IsTariff}
 use Rattle.balance_rule.proofs.reaches.reach_from.Given as goal
 

@@ -3,6 +3,7 @@ use Rattle.std.specs.Prelude.{IfErr, IfOk}
 use Rattle.query_base.specs.Asked.{Asked}
 use Rattle.retro_search.specs.Costs.{IsCost}
 use Rattle.retro_search.specs.Kept.{IsRefutation}
+use Rattle.retro_search.specs.SearchSizes.{IsSearchSize}
 use Rattle.retro_search.specs.Searched.{IsCounted, IsOpen, IsUnsettled}
 use Rattle.retro_search.specs.Unrefuted.{IfOpen, IfSpent}
 use Rattle.retro_search.specs.Unsettled.{WhereRefutable}
@@ -37,6 +38,7 @@ returns-clause-comes c =
       first = λ by. subst (λ (l : List Asked). IfErr c.search.result (λ s. IfOpen s (λ line. IsOpen line q depth (reverse l)))) none (c.search.ensures.unrefuted by);
       deep = c.search.ensures.deep;
       spent = if_err c.search.result _ _ (λ s. if_spent s _ _ (counted_at _ c.args.limits.nodes q depth _ none)) c.search.ensures.spent;
+      outsized = subst (λ (l : List Asked). IfErr c.search.result (λ s. IfSpent s ((n : ℕ) → IsSearchSize q depth (reverse l) n → c.args.limits.nodes < n))) none c.search.ensures.outsized;
       dear = λ by.
           subst (λ (l : List Asked). IfErr c.search.result (λ s. IfSpent s ((n : ℕ) → IsCost q depth (reverse l) n → c.args.limits.nodes < n))) none
           (if_err c.search.result _ _ (λ s. if_spent s _ _ (λ cost. cost (inl by))) c.search.ensures.spent);

@@ -1,6 +1,6 @@
 use Rattle.std.proofs.Common.{◌≡◌, ◌≤◌, ◌⊎◌, ◌∙◌, ℕ, inl, inr}
 use Rattle.std.specs.Prelude.{IfErr, Result, Ok, Err}
-use Rattle.balance_rule.specs.EqualPrices.{EqualPricesSupport}
+use Rattle.price_search.specs.FlatPrices.{FlatPricesSupport}
 use Rattle.query_base.specs.Asked.{Asked}
 use Rattle.retro_search.specs.Attempts.{ComesTo}
 use Rattle.retro_search.specs.declared.refutations.Refutation.{Refutation}
@@ -14,9 +14,9 @@ err_always : {A E : Type 0} (r : Result A E) (P : E → Type 0) → ((e : E) →
 err_always {A} {E} (Ok a) P h = tt
 err_always {A} {E} (Err e) P h = h e
 
--- A search by rule lines alone does for a search by any reasons, where equal prices aren't looked for in vain, and more nodes are allowed
+-- A search by rule lines alone does for a search by any reasons, where flat prices aren't looked for in vain, and more nodes are allowed
 -- than half of those that fill a certificate.
-for_any : (came : Result Refutation Unrefuted) (q : Asked) (depth nodes : ℕ) (own any : Reasons) → own ≡ RuleLines → (any ≡ All → EqualPricesSupport q → nodes ≡ 0) → (nodes ≤ 250000 → ⊥) → ComesTo came q depth nodes own → ComesTo came q depth nodes any
+for_any : (came : Result Refutation Unrefuted) (q : Asked) (depth nodes : ℕ) (own any : Reasons) → own ≡ RuleLines → (any ≡ All → FlatPricesSupport q → nodes ≡ 0) → (nodes ≤ 250000 → ⊥) → ComesTo came q depth nodes own → ComesTo came q depth nodes any
 for_any came q depth nodes own any by none many w = record {
   refuted = w.refuted;
   lined = λ _. w.lined by;
@@ -24,6 +24,7 @@ for_any came q depth nodes own any by none many w = record {
   first = λ _. w.first by;
   deep = w.deep;
   spent = w.spent;
+  outsized = w.outsized;
   dear = λ _. w.dear by;
   priced = λ all e. err_always came (λ why. (why ≡ Memory) ⊎ (nodes ≡ 0)) (λ why. inr (none all e));
   unpriced = λ all few. absurd (many few);

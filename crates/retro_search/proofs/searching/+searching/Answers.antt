@@ -24,6 +24,8 @@ use Rattle.indexmap.specs.IndexMap.{values}
 use Rattle.cert_text.specs.Seen.{tree_of}
 use Rattle.retro_search.proofs.Costs.CostSums.{cost_positive}
 use Rattle.retro_search.proofs.Expansions.{deeper_open, deeper_unsettled, expands_more, expands_none, expands_open, expands_spent, expands_unsettled, if_large, if_spent, listed_in, no_open, ok_always, own_ok, own_spent}
+use Rattle.retro_search.proofs.Costs.WholeSizes.{size_positive}
+use Rattle.retro_search.proofs.Sizing.{outsized, sized_all, sized_more, sized_none, sized_ok, sized_spent}
 use Rattle.retro_search.proofs.Bound.GoodSteps.{good_all, good_more, good_none, good_room, good_small, good_spent}
 use Rattle.retro_search.proofs.Bound.Goods.{good_at, if_ok_both, kept_well, paid_at, paid_at_none, shut_well, visited, well_at}
 use Rattle.retro_search.proofs.Lines.OpenLines.{if_open, leaf_open, stop_open}
@@ -36,6 +38,7 @@ pub expand-loop-unmove-init : goal.expand-loop-unmove-init
 expand-loop-unmove-init t c = record {
   expands = expands_none c.args.query.now c.args.below _ c.new-unmoves.result c.new-children.result c.args.run.now c.new-unmoves.ensures c.new-children.ensures.kids c.new-children.ensures.numbers c.requires.sound c.requires.lined;
   well = λ by ps m g. good_none ps m c.args.query.now c.args.below _ c.new-unmoves.result c.new-children.result c.args.run.now c.new-unmoves.ensures c.new-children.ensures.kids c.new-children.ensures.numbers g;
+  sized = sized_none c.args.query.now c.args.below _ c.new-unmoves.result c.args.run.now.left c.new-unmoves.ensures;
   kept = c.in-Ok.ensures.items;
 }
 
@@ -81,6 +84,7 @@ expand-loop-unmove-preserved t c =
         lines = c.in-Ok-add.ensures.lines;
         room = c.in-Ok-add.ensures.room;
       }) (c.in-Ok-search.ensures.well (c.loop-unmove.invariant.expands.on.reasons ∙ by));
+      sized = sized_more c.args.query.now c.args.below _ c.loop-unmove.unmoves c.next.new.self c.loop-unmove.run.left c.search.new.run.left c.args.run.now.left c.in-Some.unmove c.pred.result _ c.pred.ensures up c.loop-unmove.invariant.sized c.in-Some.ensures c.in-Ok-search.ensures.size;
       kept = c.in-Ok-search.ensures.kept ∙ c.loop-unmove.invariant.kept;
     }
 
@@ -265,3 +269,48 @@ expand-returns-in-Err-search-clause-on t c = further c.args.run.now c.loop-unmov
 
 pub expand-returns-in-Err-add-clause-on : goal.expand-returns-in-Err-add-clause-on
 expand-returns-in-Err-add-clause-on t c = further c.args.run.now c.loop-unmove.run c.search.new.run c.loop-unmove.invariant.expands.on c.in-Ok-search.ensures.on
+
+pub expand-returns-in-Err-search-clause-outsized : goal.expand-returns-in-Err-search-clause-outsized
+expand-returns-in-Err-search-clause-outsized t c =
+    let up = pushed c.args.ancestors.now.items _ c.args.query.now c.loop-unmove.invariant.kept in
+    sized_spent c.args.query.now c.args.below _ c.loop-unmove.unmoves c.next.new.self c.loop-unmove.run.left c.args.run.now.left c.in-Some.unmove c.pred.result _ c.in-Err-search.stop c.lengthened.result c.pred.ensures up c.loop-unmove.invariant.sized c.in-Some.ensures c.lengthened.ensures c.in-Err-search.ensures.outsized
+
+pub expand-returns-in-Err-add-clause-outsized : goal.expand-returns-in-Err-add-clause-outsized
+expand-returns-in-Err-add-clause-outsized t c = if_spent c.in-Err-add.stop _ _ (λ (h : ⊥). absurd h) c.in-Err-add.ensures.unspent
+
+pub expand-returns-clause-size : goal.expand-returns-clause-size
+expand-returns-clause-size t c = sized_all c.args.query.now c.args.below _ c.loop-unmove.unmoves c.loop-unmove.run.left c.args.run.now.left c.loop-unmove.invariant.sized
+
+pub search-returns-then-run-eq0-clause-outsized : goal.search-returns-then-run-eq0-clause-outsized
+search-returns-then-run-eq0-clause-outsized t c n h =
+    omega (arith, size_positive c.args.depth c.args.query.now (reverse c.args.ancestors.now.items) n h, c.if-run-eq0.true)
+
+pub search-returns-in-Some-clause-size : goal.search-returns-in-Some-clause-size
+search-returns-in-Some-clause-size t c n h =
+    omega (arith, size_positive c.args.depth c.args.query.now (reverse c.args.ancestors.now.items) n h, c.if-run-eq0.false)
+
+pub search-returns-in-Some-find-clause-size : goal.search-returns-in-Some-find-clause-size
+search-returns-in-Some-find-clause-size t c =
+    ok_always c.taken.result _ (λ n h. omega (arith, size_positive c.args.depth c.args.query.now (reverse c.args.ancestors.now.items) n h, c.if-run-eq0.false))
+
+pub search-returns-in-Some-by_balance-clause-size : goal.search-returns-in-Some-by_balance-clause-size
+search-returns-in-Some-by_balance-clause-size t c =
+    ok_always c.kept_alone.result _ (λ n h. omega (arith, size_positive c.args.depth c.args.query.now (reverse c.args.ancestors.now.items) n h, c.if-run-eq0.false, c.by_balance.ensures.same.left, c.kept_alone.ensures.on.1))
+
+pub search-returns-then-keep_alone-clause-size : goal.search-returns-then-keep_alone-clause-size
+search-returns-then-keep_alone-clause-size t c n h =
+    let q : Asked = c.args.query.now in
+    let above : List Asked = reverse c.args.ancestors.now.items in
+    let elsewhere : Reaches [] q → ⊥ = λ here. both_ways _ c.if-at_array.false (c.is_array-at_array.ensures.1 here) in
+    let left : c.by_balance.new.run.left ≡ c.args.run.now.left - 1 = c.by_balance.ensures.same.left in
+    let own = sized_ok c.args.depth q above c.args.run.now.left c.by_balance.new.run.left c.expand.new.run.left c.if-depth-eq0.false c.if-run-eq0.false left (unshut-here _ _ _ c.deref.ensures.value c.in_default.ensures.shut) elsewhere c.in-Ok.ensures.size n h in
+    let same : c.keep_alone.new.run.left ≡ c.expand.new.run.left = c.keep_alone.ensures.on.1 in
+    omega (arith, own, same)
+
+pub search-returns-in-Err-clause-outsized : goal.search-returns-in-Err-clause-outsized
+search-returns-in-Err-clause-outsized t c =
+    let q : Asked = c.args.query.now in
+    let above : List Asked = reverse c.args.ancestors.now.items in
+    let elsewhere : Reaches [] q → ⊥ = λ here. both_ways _ c.if-at_array.false (c.is_array-at_array.ensures.1 here) in
+    let left : c.by_balance.new.run.left ≡ c.args.run.now.left - 1 = c.by_balance.ensures.same.left in
+    if_spent c.in-Err.stop _ _ (outsized c.args.depth q above c.args.run.now.left c.by_balance.new.run.left c.if-depth-eq0.false c.if-run-eq0.false left (unshut-here _ _ _ c.deref.ensures.value c.in_default.ensures.shut) elsewhere) c.in-Err.ensures.outsized

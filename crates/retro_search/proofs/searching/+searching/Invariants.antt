@@ -3,6 +3,7 @@ use Rattle.query_base.specs.Asked.{Asked}
 use Rattle.retro_search.specs.Good.{IsGoodBelow}
 use Rattle.retro_search.specs.declared.runs.Reasons.TheVariants.{RuleLines}
 use Rattle.retro_search.proofs.Expansions.{Expands}
+use Rattle.retro_search.proofs.Sizing.{IsSized}
 use Rattle.retro_search.proofs.Bound.GoodSteps.{GoodSoFar}
 use Rattle.retro_search.proofs.searching.+searching.Given as goal
 
@@ -20,5 +21,6 @@ invariant-expand-loop-unmove l = record {
   expands : Expands l.query l.below (reverse l.fn.ancestors.items) l.unmoves l.children l.run l.fn.run;
   well : l.fn.run.reasons ≡ RuleLines → (ps : List Asked) (m : ℕ) → IsGoodBelow ps m l.query l.below (reverse l.fn.ancestors.items) l.fn.run
       → GoodSoFar ps m l.query l.below (reverse l.fn.ancestors.items) l.unmoves l.children l.run l.fn.run;
+  sized : IsSized l.query l.below (reverse l.fn.ancestors.items) l.unmoves l.run.left l.fn.run.left;
   kept : l.ancestors.items ≡ l.fn.ancestors.items ++ l.query ∷ [];
 }

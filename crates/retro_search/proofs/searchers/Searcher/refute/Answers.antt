@@ -40,3 +40,6 @@ returns-in-Err-Spent-clause-never_weaker c =
 
 pub returns-in-Err-Spent-clause-exactly : goal.returns-in-Err-Spent-clause-exactly
 returns-in-Err-Spent-clause-exactly c by unspent = absurd (unspent refl)
+
+pub returns-in-Err-Spent-clause-large : goal.returns-in-Err-Spent-clause-large
+returns-in-Err-Spent-clause-large c e = rw c.in-Err-Spent.field-0-is at c.in-Err-Spent.ensures.comes.outsized

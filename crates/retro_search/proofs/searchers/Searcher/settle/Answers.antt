@@ -1,6 +1,6 @@
 use Rattle.std.proofs.Common.{◌∙◌}
 use Rattle.retro_search.proofs.Roots.{if_ok}
-use Rattle.retro_search.proofs.Telling.{told_against, told_exactly, told_never_weaker, told_priced, told_short, told_spent, told_unpriced, told_unsettled}
+use Rattle.retro_search.proofs.Telling.{told_against, told_exactly, told_large, told_never_weaker, told_priced, told_short, told_spent, told_unpriced, told_unsettled}
 use Rattle.retro_search.proofs.searchers.Searcher.settle.Goals as goal
 
 pub returns-clause-short : goal.returns-clause-short
@@ -29,3 +29,6 @@ returns-clause-unpriced c by few =
 pub returns-clause-exactly : goal.returns-clause-exactly
 returns-clause-exactly c by =
     if_ok c.answer.result _ _ (λ f. told_exactly c.args.claim.now c.args.query.now c.args.limits.depth c.args.limits.nodes _ f (c.self.view_is ∙ by)) c.answer.ensures.told
+
+pub returns-clause-large : goal.returns-clause-large
+returns-clause-large c = if_ok c.answer.result _ _ (λ f. told_large c.args.claim.now c.args.query.now c.args.limits.depth c.args.limits.nodes _ f) c.answer.ensures.told

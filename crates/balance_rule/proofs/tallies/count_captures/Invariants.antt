@@ -1,5 +1,0 @@
-use Rattle.std.proofs.Common.{◌<◌}
-use Rattle.balance_rule.proofs.tallies.count_captures.Given as goal
-
-abbrev pub invariant-loop : goal.invariant-loop
-invariant-loop l = l.i < 64

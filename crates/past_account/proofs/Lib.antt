@@ -1,0 +1,17 @@
+pub mod Comers
+pub mod Placing
+pub mod Accesses
+pub mod Pins
+pub mod Reached
+pub mod NoZones
+pub mod InZones
+pub mod Rooms
+pub mod Losses
+pub mod Sides
+pub mod Closing
+pub mod Marking
+pub mod Closed
+pub mod Refutes
+mod Examples
+mod FrozenExamples
+mod QueryExamples

@@ -1,0 +1,26 @@
+mod Examples
+pub mod Sketches
+pub mod Wider
+pub mod Wanted
+pub mod Moments
+pub mod Touching
+pub mod Between
+pub mod Homes
+pub mod Order
+pub mod Quiet
+pub mod Castling
+pub mod Back
+pub mod Changed
+pub mod Deeds
+pub mod Taken
+pub mod Advances
+pub mod Passed
+pub mod Trimmed
+pub mod Checks
+pub mod Rearranged
+pub mod Climbing
+pub mod Clashing
+pub mod Knowing
+pub mod Queries
+pub mod Listed
+pub mod Drawn

@@ -1,0 +1,11 @@
+pub mod Figures
+pub mod Fits
+pub mod FileOrder
+pub mod Touching
+pub mod Closed
+pub mod Steps
+pub mod Moments
+pub mod Trimmed
+pub mod Homes
+pub mod Clashes
+pub mod Known

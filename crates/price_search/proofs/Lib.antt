@@ -1,0 +1,2 @@
+pub mod HomesCosts
+mod Examples

@@ -1,0 +1,2 @@
+pub mod FlatPrices
+pub mod FlatGrounds

@@ -1,0 +1,204 @@
+ghost use Rattle.std.specs.Prelude.{IfSome, IsSome};
+ghost use Rattle.balance_rule.specs.Balance.{BalanceSupports};
+ghost use Rattle.price_search.specs.FlatPrices.{FlatPricesSupport, flat_prices};
+ghost use Rattle.price_search.specs.declared.payers.Payers.{Payers as APayers};
+
+use crate::ascent::{Sought, seek};
+use crate::flat_grounds::{FlatGround, FlatGrounds, Homes, flat_fails};
+use crate::keys::{Key, Placed, homes_by_squares, homes_by_traces, placed_men, traces_of};
+use crate::payers::{Payers, flat_prices};
+use arrayvec::ArrayVec;
+use balance_rule::{balances, is_whole};
+use board_base::SquareSet;
+use cage_rules::greatest_as_array;
+use capture_prices::Prices;
+use indexmap::IndexMap;
+use query_base::Query;
+use std::alloc::Global;
+
+/// The most keys of which it is noted what was found.
+const MOST_TRIED: usize = 65_536;
+
+/// What is kept while prices are sought for one position after another.
+#[derive(Drop)]
+pub struct PriceDesk {
+    /// What is known at flat prices of the last set and odds.
+    kept: Option<FlatGrounds>,
+    /// What was found for each key, with homes in order of the men's traces.
+    tried: IndexMap<Key, Sought>,
+}
+
+/// The men of both sides in order of their traces.
+#[derive(Drop)]
+struct PlacedMen {
+    white: ArrayVec<Placed, 16>,
+    black: ArrayVec<Placed, 16>,
+}
+
+impl PriceDesk {
+    /// Nothing is kept.
+    pub fn new(alloc: Global) -> PriceDesk {
+        PriceDesk {
+            kept: None,
+            tried: IndexMap::new(alloc),
+        }
+    }
+}
+
+impl PlacedMen {
+    /// These homes, which are in ascending order of the men's squares, in order of their traces.
+    fn by_traces(&self, homes: &Homes) -> Homes {
+        Homes {
+            white: homes_by_traces(self.white.as_slice(), &homes.white),
+            black: homes_by_traces(self.black.as_slice(), &homes.black),
+        }
+    }
+
+    /// These homes, which are in order of the men's traces, in ascending order of their squares.
+    fn by_squares(&self, homes: &Homes) -> Homes {
+        Homes {
+            white: homes_by_squares(self.white.as_slice(), &homes.white),
+            black: homes_by_squares(self.black.as_slice(), &homes.black),
+        }
+    }
+}
+
+/// What was found for the position's key, or is found now, with the homes in ascending order of the men's squares; None where a side
+/// has more men than it began with.
+fn sought(
+    kept: &FlatGrounds,
+    tried: &mut IndexMap<Key, Sought>,
+    query: &Query,
+    set: SquareSet,
+) -> Option<Sought> {
+    let men = PlacedMen {
+        white: placed_men(&kept.both.white.side, &query.board)?,
+        black: placed_men(&kept.both.black.side, &query.board)?,
+    };
+    let key = Key {
+        set,
+        odds: query.odds,
+        white: traces_of(men.white.as_slice()),
+        black: traces_of(men.black.as_slice()),
+    };
+    if let Some(found) = tried.get(&key) {
+        return Some(Sought {
+            both: men.by_squares(&found.both),
+            white_alone: men.by_squares(&found.white_alone),
+            black_alone: men.by_squares(&found.black_alone),
+            prices: found.prices,
+        });
+    }
+    let found = seek(query, kept)?;
+    if tried.len() < MOST_TRIED {
+        let by_traces = Sought {
+            both: men.by_traces(&found.both),
+            white_alone: men.by_traces(&found.white_alone),
+            black_alone: men.by_traces(&found.black_alone),
+            prices: found.prices,
+        };
+        let _ = tried.insert(key, by_traces);
+    }
+    Some(found)
+}
+
+/// Keeps what is known at flat prices of the query with this set.
+fn keep(kept: &mut Option<FlatGrounds>, query: &Query, set: SquareSet)
+    ensures { IsSome kept.new }
+{
+    if let Some(grounds) = kept {
+        if grounds.fits(set, query.odds) {
+            return;
+        }
+    }
+    *kept = Some(FlatGrounds::new(query, set));
+}
+
+/// These prices, if they support the query with this set.
+fn if_balanced(query: &Query, set: SquareSet, prices: Prices) -> Option<Prices>
+    ensures supports { IfSome result (λ found. BalanceSupports query.now set found) }
+    ensures all { BalanceSupports query.now set prices → IsSome result }
+{
+    if balances(query, set, &prices) {
+        Some(prices)
+    } else {
+        None
+    }
+}
+
+/// These flat prices, if they support the query with this set. They need not be tried where homes show that they don't.
+fn flat_if_balanced(
+    kept: &FlatGround,
+    query: &Query,
+    set: SquareSet,
+    payers: Payers,
+    homes: &Homes,
+) -> Option<Prices>
+    ensures supports { IfSome result (λ found. BalanceSupports query.now set found) }
+    ensures all { BalanceSupports query.now set (flat_prices payers) → IsSome result }
+{
+    if flat_fails(kept, query, set, payers, homes) {
+        return None;
+    }
+    if_balanced(query, set, flat_prices(payers))
+}
+
+/// Flat prices that support the query with this set, if some do.
+fn find_flat(kept: &FlatGrounds, query: &Query, set: SquareSet, found: &Sought) -> Option<Prices>
+    ensures supports { IfSome result (λ prices. BalanceSupports query.now set prices) }
+    ensures flat { (payers : APayers) → BalanceSupports query.now set (flat_prices payers) → IsSome result }
+{
+    let both = flat_if_balanced(&kept.both, query, set, Payers::Both, &found.both);
+    if both.is_some() {
+        return both;
+    }
+    let white = flat_if_balanced(
+        &kept.white_alone,
+        query,
+        set,
+        Payers::WhiteAlone,
+        &found.white_alone,
+    );
+    if white.is_some() {
+        return white;
+    }
+    flat_if_balanced(
+        &kept.black_alone,
+        query,
+        set,
+        Payers::BlackAlone,
+        &found.black_alone,
+    )
+}
+
+/// Prices that support the query with this set, if they are found: flat ones if some do.
+fn find_prices(query: &Query, set: SquareSet, desk: &mut PriceDesk) -> Option<Prices>
+    ensures supports { IfSome result (λ prices. BalanceSupports query.now set prices) }
+    ensures flat { (payers : APayers) → BalanceSupports query.now set (flat_prices payers) → IsSome result }
+{
+    keep(&mut desk.kept, query, set);
+    let Some(kept) = &desk.kept else {
+        unreachable!()
+    };
+    let found = sought(kept, &mut desk.tried, query, set).unwrap_or(Sought::nothing());
+    let flat = find_flat(kept, query, set, &found);
+    if flat.is_some() {
+        return flat;
+    }
+    if_balanced(query, set, found.prices?)
+}
+
+/// A set and prices that support the query, if they are found. They are where flat prices support it; elsewhere none need be, even
+/// where there are some. The set is the greatest one that is as in the array. What was found or sought in vain is kept on the desk for
+/// other positions where the men cost the same.
+pub fn find_balance(query: &Query, desk: &mut PriceDesk) -> Option<(SquareSet, Prices)>
+    ensures supports { IfSome result (λ found. BalanceSupports query.now found.0 found.1) }
+    ensures flat { FlatPricesSupport query.now → IsSome result }
+{
+    let set = greatest_as_array(query);
+    is_whole(set);
+    match find_prices(query, set, desk) {
+        Some(prices) => Some((set, prices)),
+        None => None,
+    }
+}

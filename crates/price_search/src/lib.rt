@@ -1,0 +1,16 @@
+//! The search for prices at which the balance of captures shows that no game leads to a position. What it finds is tried by the rule
+//! itself, so nothing rests on how it is found. Only the desk, on which it keeps what it found, takes memory.
+#![tactic(auto)]
+
+mod ascent;
+mod classes;
+mod desk;
+mod flat_grounds;
+mod keys;
+mod payers;
+mod places;
+mod tallies;
+mod weighing;
+
+pub use desk::{PriceDesk, find_balance};
+pub use payers::Payers;
