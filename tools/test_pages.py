@@ -1,7 +1,9 @@
 """Tests of the pages: that the README stays short, that links lead somewhere, and that what is quoted stands in the code.
 
 python3 -m unittest discover -s tools
+RETRACTOR=PATH python3 -m unittest discover -s tools     what the pages show too, with the built program
 """
+import os
 import pathlib
 import re
 import subprocess
@@ -83,6 +85,13 @@ class Pages(unittest.TestCase):
         for block in re.findall(r"```\n(.*?)```", front, re.S):
             for line in block.strip().split("\n"):
                 self.assertIn(squeezed(line), code, f"TRUST.md quotes: {line}")
+
+
+@unittest.skipUnless("RETRACTOR" in os.environ, "RETRACTOR names no built program")
+class Shown(unittest.TestCase):
+    def test_the_program_writes_what_the_pages_show(self):
+        done = subprocess.run([sys.executable, TOP / "tools" / "session.py", os.environ["RETRACTOR"]], capture_output=True, text=True)
+        self.assertEqual(done.returncode, 0, done.stdout)
 
 
 class Lists(unittest.TestCase):
