@@ -9,6 +9,7 @@ mod assigning;
 mod attempts;
 mod diagrams;
 mod finding;
+mod hunts;
 mod orders;
 mod replaying;
 mod settings;

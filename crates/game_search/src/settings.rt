@@ -17,6 +17,9 @@ pub const SHUT_SOFTLY: u32 = 8;
 /// What it costs that no plan of the pawns was found, though there may be one.
 pub const NO_PLAN_YET: u32 = 60;
 
+/// The price of a move of the officer who is to capture a man.
+pub const HUNT: u32 = 6;
+
 /// From how many buckets one is drawn.
 pub const SPAN: usize = 96;
 

@@ -1,7 +1,8 @@
 use crate::accounts::{Account, Books, account_of};
 use crate::diagrams::{Beginning, Diagram, beginning_of};
+use crate::hunts::hunt_moves;
 use crate::orders::pawns_before;
-use crate::settings::{CAPTURE, NO_PLAN_YET, Setting};
+use crate::settings::{CAPTURE, HUNT, NO_PLAN_YET, Setting};
 use crate::walls::ground_of;
 use crate::wants::{BothWants, Wants};
 use board_base::Memory;
@@ -208,12 +209,15 @@ impl Valuer {
         };
         let before = pawns_before(&diagram.white, &self.beginning.white)
             .saturating_add(pawns_before(&diagram.black, &self.beginning.black));
+        let hunts = hunt_moves(&accounts.white, &diagram.white, &diagram.black, pawns.own_free)
+            .saturating_add(hunt_moves(&accounts.black, &diagram.black, &diagram.white, pawns.other_free));
         let value = accounts
             .white
             .cost
             .saturating_add(accounts.black.cost)
             .saturating_add(pawn_cost(setting, &camps, &pawns))
             .saturating_add(setting.order.saturating_mul(before))
+            .saturating_add(HUNT.saturating_mul(hunts))
             .saturating_add(plan.cost);
         Ok(Some(Worth {
             value,

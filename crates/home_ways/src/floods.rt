@@ -72,7 +72,7 @@ fn king_steps(from: u64) -> u64 {
 }
 
 /// The squares that men of this kind on these squares reach by one move, past empty ones.
-fn steps(kind: Kind, from: u64, empty: u64) -> u64 {
+pub fn steps(kind: Kind, from: u64, empty: u64) -> u64 {
     match kind {
         Kind::Knight => knight_steps(from),
         Kind::Bishop => bishop_steps(from, empty),

@@ -31,11 +31,12 @@ pub enum Shut {
     Hard,
 }
 
-/// How far each square is from an officer's home, and whether the home is shut in.
+/// How far each square is from an officer's home, whether the home is shut in, and the squares to which it then is open.
 #[derive(Clone, Copy)]
 pub struct Way {
     pub moves: [u8; 64],
     pub shut: Shut,
+    pub region: u64,
 }
 
 /// What the way home depends on: the men who stand for good, these and those who stand in the way now, and the home.
@@ -55,6 +56,17 @@ struct Kept {
 /// Nobody comes to the middle of the board from there.
 fn is_shut(moves: &[u8; 64]) -> bool {
     moves[24..40].iter().all(|m| *m == FAR)
+}
+
+/// The squares from which there is a way.
+fn region_of(moves: &[u8; 64]) -> u64 {
+    let mut region: u64 = 0;
+    for (s, m) in moves.iter().enumerate() {
+        if *m != FAR {
+            region |= bit(s);
+        }
+    }
+    region
 }
 
 /// The squares that the other side's pawns guard from their homes.
@@ -87,14 +99,18 @@ fn way_home(scene: &Scene) -> Way {
     for s in 0..64 {
         moves[s] = joined(hard[s], soft[s]);
     }
-    let shut = if is_shut(&hard) {
-        Shut::Hard
+    let (shut, region) = if is_shut(&hard) {
+        (Shut::Hard, region_of(&hard))
     } else if is_shut(&soft) {
-        Shut::Softly
+        (Shut::Softly, region_of(&soft))
     } else {
-        Shut::Open
+        (Shut::Open, 0)
     };
-    Way { moves, shut }
+    Way {
+        moves,
+        shut,
+        region,
+    }
 }
 
 fn place_of(scene: &Scene) -> usize {
@@ -122,6 +138,7 @@ impl Ways {
             way: Way {
                 moves: [FAR; 64],
                 shut: Shut::Open,
+                region: 0,
             },
         };
         match vec![in alloc; none; KEPT] {
