@@ -13,6 +13,8 @@ const DARK: u64 = 0xaa55_aa55_aa55_aa55;
 #[derive(Clone, Copy)]
 pub struct Account {
     pub cost: u32,
+    /// How many moves its king is from home.
+    pub king_moves: u32,
     /// Its officers' homes to which nobody goes, one bit each.
     pub missing: u8,
     /// The homes that are shut in.
@@ -67,23 +69,21 @@ pub struct Books<'a> {
     pub origins: Origins,
 }
 
-/// What it costs that a king isn't at home.
-fn king_cost(books: &mut Books, king: u64) -> u32 {
-    let mut cost: u32 = 0;
+/// How many moves a king is from home; None where there is no way.
+fn king_moves(books: &mut Books, king: u64) -> Option<u32> {
     if king == bit(HOMES[0]) {
-        return 0;
+        return Some(0);
     }
     let way = books.ways.to(books.ground.walls, books.ground.soft, 0);
+    let mut most: u8 = 0;
     for square in squares_of(king) {
-        let moves = way.moves[square % 64];
-        let price = if moves == FAR {
-            NEVER
-        } else {
-            books.setting.king_move.saturating_mul(u32::from(moves))
-        };
-        cost = cost.saturating_add(price);
+        most = most.max(way.moves[square % 64]);
     }
-    cost
+    if most == FAR {
+        None
+    } else {
+        Some(u32::from(most))
+    }
 }
 
 /// The home of a slot. If it is shut in, that is noted.
@@ -209,7 +209,8 @@ pub fn account_of(books: &mut Books, force: &Force) -> Option<Account> {
         dark_bishops: assign_kind(books, force.bishops & DARK, &[6], &mut closed),
         light_bishops: assign_kind(books, force.bishops & !DARK, &[7], &mut closed),
     };
-    let mut cost = king_cost(books, force.king);
+    let king_moves = king_moves(books, force.king)?;
+    let mut cost = books.setting.king_move.saturating_mul(king_moves);
     let mut promoted: u32 = 0;
     let mut missing: u8 = 0;
     for part in officers.all() {
@@ -227,6 +228,7 @@ pub fn account_of(books: &mut Books, force: &Force) -> Option<Account> {
     let lost_cost = books.setting.missing_pawn.saturating_mul(u32::from(pawns_lost));
     Some(Account {
         cost: cost.saturating_add(lost_cost),
+        king_moves,
         missing,
         closed,
         promoted: promoted.min(8) as u8,

@@ -6,18 +6,6 @@ use home_ways::{bit, has, squares_of, steps};
 /// How far off anybody is at most.
 const MOST_MOVES: u32 = 5;
 
-/// The side's men as the other side sees them.
-fn turned(force: &Force) -> Force {
-    Force {
-        king: force.king.swap_bytes(),
-        queens: force.queens.swap_bytes(),
-        rooks: force.rooks.swap_bytes(),
-        knights: force.knights.swap_bytes(),
-        bishops: force.bishops.swap_bytes(),
-        pawns: force.pawns.swap_bytes(),
-    }
-}
-
 /// How many moves a line man of this kind needs to one of the squares, if there is any: one or more.
 fn line_moves(kind: Kind, men: u64, empty: u64, targets: u64) -> u32 {
     let reached = steps(kind, men, empty) & empty;
@@ -92,7 +80,7 @@ fn pawn_squares(free: u8, bars: u64) -> u64 {
 /// How far the other side's men are from where they may have captured those who are missing: a pawn on these files, and each officer whose
 /// home is shut in.
 pub fn hunt_moves(account: &Account, own: &Force, other: &Force, free: u8) -> u32 {
-    let hunters = turned(other);
+    let hunters = other.turned();
     let all = own.all() | hunters.all();
     let mut moves: u32 = 0;
     if account.pawns_lost > 0 {

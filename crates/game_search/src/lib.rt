@@ -10,6 +10,7 @@ mod attempts;
 mod diagrams;
 mod finding;
 mod hunts;
+mod kings;
 mod orders;
 mod replaying;
 mod settings;

@@ -1,5 +1,5 @@
 use crate::bits::bit;
-use crate::floods::{NOT_A, NOT_H, flood};
+use crate::floods::{flood, guarded};
 use crate::homes::{HOMES, Slot};
 use board_base::{Kind, Memory};
 use std::alloc::Global;
@@ -8,6 +8,9 @@ pub use crate::floods::FAR;
 
 /// What a way costs more that leads past men who can still move.
 const DETOUR: u8 = 8;
+
+/// Where the other side's pawns begin.
+const PAWN_HOMES: u64 = 0x00ff_0000_0000_0000;
 
 /// How many ways are kept.
 const KEPT: usize = 8192;
@@ -69,12 +72,6 @@ fn region_of(moves: &[u8; 64]) -> u64 {
     region
 }
 
-/// The squares that the other side's pawns guard from their homes.
-fn guarded(walls: u64) -> u64 {
-    let pawns = walls & 0x00ff_0000_0000_0000;
-    pawns >> 9 & NOT_H | pawns >> 7 & NOT_A
-}
-
 /// The way past those who can move, where there is one, else round those who can't.
 fn joined(hard: u8, soft: u8) -> u8 {
     if soft != FAR {
@@ -90,7 +87,7 @@ fn way_home(scene: &Scene) -> Way {
     let kind = KINDS[scene.slot % 8];
     let home = bit(HOMES[scene.slot % 8]);
     let shunned = match kind {
-        Kind::King => guarded(scene.walls),
+        Kind::King => guarded(scene.walls & PAWN_HOMES),
         _ => 0,
     };
     let hard = flood(kind, home, scene.walls, shunned);
