@@ -1,21 +1,17 @@
 -- Small queries that the balance of captures closes, one that it doesn't with a price that is one too low, and what their men cost.
-use Rattle.std.proofs.Common.{◌≡◌, ℕ, ◌==◌, inl, inr, Bool, true, false, ◌&&◌, ◌||◌, not, List, [], ◌∷◌, length, map, set, refl, ap, arith}
-use Rattle.std.proofs.lemmas.Bool.{and_parts, both_ways, cases_lt, or_cases}
-use Rattle.std.proofs.lemmas.List.{get_or_past}
+use Rattle.std.proofs.Common.{◌≡◌, ℕ, ◌==◌, Bool, true, false, ◌||◌, not, List, [], ◌∷◌, map, set, refl, arith}
+use Rattle.std.proofs.lemmas.Bool.{both_ways}
 use Rattle.std.specs.Prelude.{None, replicate}
-use Rattle.std.specs.List.{list_all, list_any, range_with_len}
-use Rattle.board_base.specs.Board.{Places, array_of, at, initial_array, is_empty, is_in, man, no_men, no_odds, men_squares}
-use Rattle.board_base.specs.Attacks.{distance, king_distance}
+use Rattle.std.specs.List.{range_with_len}
+use Rattle.board_base.specs.Board.{Places, array_of, initial_array, is_in, man, no_men, no_odds, men_squares}
+use Rattle.board_base.specs.Attacks.{distance}
 use Rattle.board_base.specs.declared.men.Colour.TheVariants.{White, Black}
 use Rattle.board_base.specs.declared.men.Kind.TheVariants.{Pawn, King}
 use Rattle.board_base.specs.declared.moves.Move.{Move}
 use Rattle.board_base.proofs.Without.{in-none}
 use Rattle.query_base.specs.Asked.{Asked}
 use Rattle.assignment.specs.Assignments.{injections, least_cost}
-use Rattle.cage_rules.specs.Frozen.{IsFrozen, is_entry, may_enter}
 use Rattle.cage_rules.specs.Reach.{LeadsTo}
-use Rattle.cage_rules.proofs.Must.{must-tells}
-use Rattle.cage_rules.proofs.Tested.{any-told, at_board}
 use Rattle.static_rules.specs.SetRules.{IsSettled}
 use Rattle.capture_prices.specs.Prices.{PriceList, priced}
 use Rattle.balance_rule.specs.Balance.{BalanceAt, cost_table, gone_row, most_cost, side_cost, stand_row}

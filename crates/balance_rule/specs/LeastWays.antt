@@ -1,5 +1,5 @@
 -- The least that ways of a pawn cost, and the board as each side sees it.
-use Rattle.std.specs.Prelude.{ℕ, ◌≡◌, ◌<◌, ◌≤◌, ◌+◌, ◌-◌, ◌%◌, ◌==◌, Bool, true, cond, ◌&&◌, not, nat_lt, min, List, ◌∷◌, length, slice_index}
+use Rattle.std.specs.Prelude.{ℕ, ◌≡◌, ◌<◌, ◌≤◌, ◌-◌, ◌==◌, Bool, true, cond, ◌&&◌, not, nat_lt, min, List, ◌∷◌, slice_index}
 use Rattle.std.specs.List.{sum_by}
 use Rattle.board_base.specs.declared.men.Colour.{Colour}
 use Rattle.board_base.specs.declared.men.Colour.TheVariants.{White, Black}
