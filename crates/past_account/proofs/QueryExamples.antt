@@ -1,7 +1,7 @@
 -- A position whose sketch is refuted: 4k3/8/8/8/8/8/4PPPP/5BK1.
 use Rattle.std.proofs.Common.{◌≡◌, true, false, List, [], ◌∷◌, ◌++◌, refl, subst}
 use Rattle.std.proofs.lemmas.Bool.{both_ways}
-use Rattle.std.specs.Prelude.{Some, None, replicate}
+use Rattle.std.specs.Prelude.{None, replicate}
 use Rattle.board_base.specs.Board.{Places, array_of, initial_array, man, no_odds}
 use Rattle.board_base.specs.Attacks.{distance, kind_attacks, king_distance, on_the_way, toward}
 use Rattle.board_base.specs.Rights.{holds, no_rights}
