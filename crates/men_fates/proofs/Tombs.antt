@@ -1,5 +1,5 @@
 -- In a game that leads to a query, where pawns took the men of a side.
-use Rattle.std.proofs.Common.{◌≡◌, ℕ, ◌+◌, ◌-◌, ◌==◌, inl, inr, Bool, true, false, List, [], ◌∷◌, ◌++◌, refl, ap, sym, ◌∙◌, subst, arith}
+use Rattle.std.proofs.Common.{◌≡◌, ◌⊎◌, ℕ, ◌+◌, ◌-◌, ◌==◌, inl, inr, Bool, true, false, List, [], ◌∷◌, ◌++◌, refl, ap, sym, ◌∙◌, subst, arith}
 use Rattle.std.proofs.lemmas.Bool.{and_parts, both_ways, cases_Bool, cond-false, cond-true, eq-eqb, eqb-true, ne_eqb}
 use Rattle.std.proofs.lemmas.List.{append_assoc, append-nil}
 use Rattle.std.proofs.lemmas.Option.{none-some, same_Some}
@@ -12,6 +12,7 @@ use Rattle.board_base.specs.Legal.{last_rank}
 use Rattle.board_base.specs.Game.{IsGame, board_after, turn_after, unmoved, last_move}
 use Rattle.board_base.specs.declared.men.Colour.{Colour}
 use Rattle.board_base.specs.declared.men.Colour.TheVariants.{White, Black}
+use Rattle.board_base.specs.declared.men.Kind.{Kind}
 use Rattle.board_base.specs.declared.men.Kind.TheVariants.{Pawn, Rook}
 use Rattle.board_base.specs.declared.men.Man.{Man}
 use Rattle.board_base.specs.declared.moves.Move.{Move}
@@ -94,7 +95,7 @@ double-way o k l h game two label pawn =
     came-double o k l was.square h who.0 legal two (sym (ap (is_a Pawn) who.1) ∙ pawn) was.came
 
 -- a way that ends by crossing a square, straight on
-pub fell-crossing : (set : List Bool) (c : Colour) (h : ℕ) (whole w : List ℕ) (x v : ℕ) → whole ≡ w ++ x ∷ v ∷ [] → is_way c set h whole ≡ true → file x ≡ file v → (rank x == last_rank c) ≡ false → FellOn set c h whole x
+fell-crossing : (set : List Bool) (c : Colour) (h : ℕ) (whole w : List ℕ) (x v : ℕ) → whole ≡ w ++ x ∷ v ∷ [] → is_way c set h whole ≡ true → file x ≡ file v → (rank x == last_rank c) ≡ false → FellOn set c h whole x
 fell-crossing set c h whole w x v e goes same short =
     let begins : whole ≡ (w ++ x ∷ []) ++ v ∷ [] = e ∙ sym (append_assoc w (x ∷ []) (v ∷ [])) in
     let ends : way_end h (w ++ x ∷ []) ≡ x = end-append h w (x ∷ []) in
@@ -110,7 +111,7 @@ fell-crossing set c h whole w x v e goes same short =
       brought = brings-pawn set c h (w ++ x ∷ []) Pawn x refl ends short;
     }
 
-pub fell-crossing-kind : (set : List Bool) (c : Colour) (h : ℕ) (whole w : List ℕ) (x v : ℕ) (e : whole ≡ w ++ x ∷ v ∷ []) (goes : is_way c set h whole ≡ true) (same : file x ≡ file v) (short : (rank x == last_rank c) ≡ false) → (fell-crossing set c h whole w x v e goes same short).kind ≡ Pawn
+fell-crossing-kind : (set : List Bool) (c : Colour) (h : ℕ) (whole w : List ℕ) (x v : ℕ) (e : whole ≡ w ++ x ∷ v ∷ []) (goes : is_way c set h whole ≡ true) (same : file x ≡ file v) (short : (rank x == last_rank c) ≡ false) → (fell-crossing set c h whole w x v e goes same short).kind ≡ Pawn
 unfolding fell-crossing
 fell-crossing-kind set c h whole w x v e goes same short = refl
 
@@ -118,7 +119,7 @@ fell-moved : (set : List Bool) (c : Colour) (h : ℕ) (old new : List ℕ) (s t 
 fell-moved set c h old new s t e f fell = subst (FellOn set c h new) f (subst (λ (w : List ℕ). FellOn set c h w s) e fell)
 
 -- whom a move takes past its target, has just crossed the target by a double step
-pub passed-way : (o : List Bool) (k : List Move) (m : Move) (c : Colour) (h : ℕ) → IsGame o k → Passes (board_after o k) (opponent c) (last_move k) m → label_at (labels_after o k) (en_passant_victim m) ≡ Some h → (w : List ℕ) × (v : ℕ) × (way_of o k h ≡ w ++ m.to ∷ v ∷ []) × (file m.to ≡ file v) × ((rank m.to == last_rank c) ≡ false)
+passed-way : (o : List Bool) (k : List Move) (m : Move) (c : Colour) (h : ℕ) → IsGame o k → Passes (board_after o k) (opponent c) (last_move k) m → label_at (labels_after o k) (en_passant_victim m) ≡ Some h → (w : List ℕ) × (v : ℕ) × (way_of o k h ≡ w ++ m.to ∷ v ∷ []) × (file m.to ≡ file v) × ((rank m.to == last_rank c) ≡ false)
 passed-way o k m c h game passes label = elim (by_last k) [
   | inl none ↦ absurd (none-some passes.step (ap last_move (sym none) ∙ last_is (last_move k) passes.step passes.was_last))
   | inr (ys, l, split) ↦
@@ -134,8 +135,16 @@ passed-way o k m c h game passes label = elim (by_last k) [
       (way_of o ys h, l.to, ap (λ (g : List Move). way_of o g h) split ∙ way, squares.same_file, squares.short)
 ]
 
--- how a pawn's home is left by its man when a pawn takes him
-fell-now : (o : List Bool) (g k after : List Move) (m : Move) (set : List Bool) (c : Colour) (x : Strike) → Walled o g set → g ≡ k ++ m ∷ after → IsGame o k → Legality (board_after o k) (turn_after k) (unmoved o k) (last_move k) m → is_the c Pawn (at (array_of o) x.of) ≡ true → Blow (board_after o k) (labels_after o k) (opponent c) m x → FellOn set c x.of (way_of o k x.of) m.to
+-- the man of a home on a square, of this kind, at the end of this way
+pub record TakenThere (o : List Bool) (k : List Move) (s h : ℕ) (way : List ℕ) (kind : Kind) : Type 0 where
+  pub who : Man
+  pub label : label_at (labels_after o k) s ≡ Some h
+  pub there : at (board_after o k) s ≡ Some who
+  pub his : kind ≡ who.kind
+  pub whole : way ≡ way_of o k h
+
+-- how a pawn's home is left by its man when a pawn takes him: past the target he is a pawn, and else he stands there
+pub fell-now : (o : List Bool) (g k after : List Move) (m : Move) (set : List Bool) (c : Colour) (x : Strike) → Walled o g set → g ≡ k ++ m ∷ after → IsGame o k → Legality (board_after o k) (turn_after k) (unmoved o k) (last_move k) m → is_the c Pawn (at (array_of o) x.of) ≡ true → Blow (board_after o k) (labels_after o k) (opponent c) m x → (fell : FellOn set c x.of (way_of o k x.of) m.to) × ((fell.kind ≡ Pawn) ⊎ TakenThere o k m.to x.of fell.way fell.kind)
 fell-now o g k after m set c x walled e game legal first b =
     let board : Places = board_after o k in
     let goes : is_way c set x.of (way_of o k x.of) ≡ true = way-past o g k (m ∷ after) set c x.of walled e (and_parts (is_of c (at (array_of o) x.of)) (is_a Pawn (at (array_of o) x.of)) first).0 in
@@ -145,20 +154,22 @@ fell-now o g k after m set c x walled e game legal first b =
           let passes : Passes board (opponent c) (last_move k) m = subst (λ (d : Colour). Passes board d (last_move k) m) side (passes-on board (turn_after k) (unmoved o k) (last_move k) m past legal.manner) in
           let label : label_at (labels_after o k) (en_passant_victim m) ≡ Some x.of = ap (label_at (labels_after o k)) (sym (cond-true (goes_en_passant board m) (en_passant_victim m) m.to past)) ∙ b.of in
           let way = passed-way o k m c x.of game passes label in
-          fell-crossing set c x.of (way_of o k x.of) way.0 m.to way.1 way.2 goes way.3 way.4
+          (fell-crossing set c x.of (way_of o k x.of) way.0 m.to way.1 way.2 goes way.3 way.4, inl (fell-crossing-kind set c x.of (way_of o k x.of) way.0 m.to way.1 way.2 goes way.3 way.4))
       | inr plain ↦
           let label : label_at (labels_after o k) m.to ≡ Some x.of = ap (label_at (labels_after o k)) (sym (cond-false (goes_en_passant board m) (en_passant_victim m) m.to plain)) ∙ b.of in
-          let who = man-there board (labels_after o k) m.to x.of (labels-each_man o k game) label in
-          record {
-            way = way_of o k x.of;
-            rest = [];
-            kind = who.0.kind;
-            begins = sym (append-nil (way_of o k x.of));
-            crossing = inl refl;
-            captures = refl;
-            goes = goes;
-            brought = brought o g k (m ∷ after) set c x.of m.to who.0 walled e first label who.1;
-          }
+          let who = man-there board (labels_after o k) m.to x.of (labels-each_man o k game) label in (
+            record {
+              way = way_of o k x.of;
+              rest = [];
+              kind = who.0.kind;
+              begins = sym (append-nil (way_of o k x.of));
+              crossing = inl refl;
+              captures = refl;
+              goes = goes;
+              brought = brought o g k (m ∷ after) set c x.of m.to who.0 walled e first label who.1;
+            },
+            inr (record { who = who.0; label = label; there = who.1; his = refl; whole = refl }),
+          )
     ]
 
 -- where a pawn took a man of this side, he may fall
@@ -175,7 +186,7 @@ each-pawn-fell o g set c walled =
     (λ k after m x e game old here first. fell-moved set c x.of (way_of o k x.of) (way_of o (k ++ m ∷ []) x.of) x.on x.on (sym (fallen-rests o k m (opponent c) x game old)) refl (here first))
     (λ k after m x e game legal b first.
     fell-moved set c x.of (way_of o k x.of) (way_of o (k ++ m ∷ []) x.of) m.to x.on (sym (falling-rests o k m c x game (and_parts (is_of c (at (array_of o) x.of)) (is_a Pawn (at (array_of o) x.of)) first).0 b)) b.on
-    (fell-now o g k after m set c x walled e game legal first b))
+    (fell-now o g k after m set c x walled e game legal first b).0)
     walled.game
 
 -- who began as no pawn is taken on the target

@@ -1,11 +1,12 @@
 -- Small sketches that an account closes, or in which it forces a mark.
 use Rattle.std.specs.Prelude.{replicate}
 use Rattle.std.proofs.Common.{◌≡◌, ℕ, ◌==◌, Bool, true, false, ◌||◌, not, List, [], ◌∷◌, refl, arith}
+use Rattle.std.specs.Prelude.{replicate}
 use Rattle.std.proofs.lemmas.Bool.{both_ways}
 use Rattle.general_lemmas.proofs.Lists.{contains-none}
 use Rattle.board_base.specs.Board.{array_of, initial_array, is_in, men_squares, no_odds}
 use Rattle.board_base.specs.Attacks.{distance}
-use Rattle.board_base.specs.Rights.{Rights}
+use Rattle.board_base.specs.Rights.{no_rights}
 use Rattle.board_base.specs.declared.men.Colour.{Colour}
 use Rattle.board_base.specs.declared.men.Colour.TheVariants.{White, Black}
 use Rattle.board_base.specs.declared.men.Kind.{Kind}
@@ -33,8 +34,9 @@ equal_prices = priced (replicate 16 24) (replicate 16 24) []
 one_pawn : List Bool
 one_pawn = squares_that (λ s. not ((s == 4) || (s == 8) || (s == 60)))
 
-none_held : Rights
-none_held = record { white_short = false; white_long = false; black_short = false; black_long = false }
+-- each capture by a pawn has the price 24, and there are no gates
+abbrev even_prices : PriceList
+even_prices = priced (replicate 16 24) (replicate 16 24) []
 
 abbrev figure : Colour → Kind → (ℕ → Bool) → Figure
 figure c k on = record { colour = c; kinds = k ∷ []; squares = squares_that on; marked = false; place = 0 }
@@ -50,41 +52,41 @@ on_a = figure White Pawn (λ s. (s == 16) || (s == 24)) ∷ figure White King (�
 nobody : (s : ℕ) → is_in no_odds s ≡ true → ⊥
 nobody s member = both_ways (is_in no_odds s) (in-none 64 s) member
 
-b_white : figures_cost one_pawn equal_prices no_odds (room_past no_odds []) (by_marks on_b) White ≡ 216
+b_white : figures_cost one_pawn even_prices no_odds (room_past no_odds []) (by_marks on_b) White ≡ 216
 unfolding one_pawn on_b squares_that figure_table figure_row figure_comes lost_row men_squares array_of initial_array least_cost injections pawn_comes ways_from ways_with_len distance
 b_white = refl
 
-b_black : figures_cost one_pawn equal_prices no_odds (room_past no_odds []) (by_marks on_b) Black ≡ 96
+b_black : figures_cost one_pawn even_prices no_odds (room_past no_odds []) (by_marks on_b) Black ≡ 96
 unfolding one_pawn on_b squares_that figure_table figure_row figure_comes lost_row men_squares array_of initial_array least_cost injections
 b_black = refl
 
-pawn_most : most_cost one_pawn equal_prices ≡ 288
+pawn_most : most_cost one_pawn even_prices ≡ 288
 unfolding one_pawn squares_that men_squares array_of initial_array
 pawn_most = refl
 
 -- he took a man, and there was none
-b_closed : (g : List Move) → FitsGame one_pawn g none_held on_b → ⊥
-b_closed = closed-unfit one_pawn none_held on_b (costs no_odds [] equal_prices (λ s member. absurd (nobody s member)) (record {
+b_closed : (g : List Move) → FitsGame one_pawn g no_rights on_b → ⊥
+b_closed = closed-unfit one_pawn no_rights on_b (costs no_odds [] even_prices (λ s member. absurd (nobody s member)) (record {
   fixed = λ s member. absurd (nobody s member);
   zones_are = λ zone there. absurd (contains-none zone there);
   prices = refl;
   above = omega (arith, b_white, b_black, pawn_most);
 }))
 
-a_white : figures_cost one_pawn equal_prices no_odds (room_past no_odds []) (against 0 on_a) White ≡ 240
+a_white : figures_cost one_pawn even_prices no_odds (room_past no_odds []) (against 0 on_a) White ≡ 240
 unfolding one_pawn on_a squares_that figure_table figure_row figure_comes lost_row men_squares array_of initial_array least_cost injections pawn_comes ways_from ways_with_len distance
 a_white = refl
 
-a_black : figures_cost one_pawn equal_prices no_odds (room_past no_odds []) (against 0 on_a) Black ≡ 96
+a_black : figures_cost one_pawn even_prices no_odds (room_past no_odds []) (against 0 on_a) Black ≡ 96
 unfolding one_pawn on_a squares_that figure_table figure_row figure_comes lost_row men_squares array_of initial_array least_cost injections
 a_black = refl
 
 -- on file a he took nobody, and may be marked
-a_forced : Forces one_pawn none_held 0 on_a
+a_forced : Forces one_pawn no_rights 0 on_a
 a_forced = record {
   set = no_odds;
   zones = [];
-  prices = equal_prices;
+  prices = even_prices;
   frozen = λ s member. absurd (nobody s member);
   forced = record {
     fixed = λ s member. absurd (nobody s member);

@@ -5,10 +5,9 @@ use Rattle.std.proofs.lemmas.List.{append-nil}
 use Rattle.std.proofs.lemmas.Option.{same_Some}
 use Rattle.std.specs.Prelude.{IsTrue, Option, Some}
 use Rattle.std.specs.List.{Contains, sum_by}
-use Rattle.board_base.specs.Board.{Places, array_of, at, is_a, is_in, is_of, is_the, man, opponent, rank, same_colour, same_kind}
+use Rattle.board_base.specs.Board.{array_of, at, is_a, is_in, is_of, is_the, man, opponent, rank, same_colour, same_kind}
 use Rattle.board_base.specs.Game.{IsGame, board_after, turn_after, last_move, unmoved}
 use Rattle.board_base.specs.Legal.{is_officer, last_rank}
-use Rattle.board_base.specs.Play.{en_passant_victim, goes_en_passant}
 use Rattle.board_base.specs.declared.men.Colour.{Colour}
 use Rattle.board_base.specs.declared.men.Kind.{Kind}
 use Rattle.board_base.specs.declared.men.Kind.TheVariants.{Pawn, King}
@@ -18,7 +17,7 @@ use Rattle.board_base.proofs.KindsOfMen.{no_officer}
 use Rattle.play_rules.proofs.Legality.{Legality}
 use Rattle.men_account.specs.Homes.{is_officer_of}
 use Rattle.men_account.specs.Labels.{label_at, labels_after}
-use Rattle.men_account.proofs.Captured.{man-there, same-side}
+use Rattle.men_account.proofs.Captured.{man-there}
 use Rattle.men_account.proofs.InRegions.{officer-no-pawn}
 use Rattle.men_account.proofs.Labelled.{labels-each_man}
 use Rattle.men_account.proofs.PawnLaws.{himself}
@@ -30,12 +29,10 @@ use Rattle.men_fates.specs.Deeds.{Strike, strikes, way_of}
 use Rattle.men_fates.specs.Fates.{FellOn}
 use Rattle.men_fates.specs.Ways.{fee, is_way, way_end}
 use Rattle.men_fates.proofs.Blows.{Blow, falling-rests, fallen-rests, in-each-blow}
-use Rattle.men_fates.proofs.Brought.{as-man, brought, brought-officer, brought-pawn, his-colour}
+use Rattle.men_fates.proofs.Brought.{as-man, brought-officer, brought-pawn, his-colour}
 use Rattle.men_fates.proofs.Goings.{no-way}
 use Rattle.men_fates.proofs.Lasting.{walled-last}
-use Rattle.men_fates.proofs.Roads.{way-past}
-use Rattle.men_fates.proofs.Tombs.{each-officer-fell, fell-crossing, fell-crossing-kind, passed-way, plain-victim}
-use Rattle.men_fates.proofs.Treads.{Passes, passes-on}
+use Rattle.men_fates.proofs.Tombs.{each-officer-fell, fell-now as fell-on-now, plain-victim}
 use Rattle.capture_prices.specs.Prices.{PriceList, are_prices, take}
 use Rattle.balance_rule.specs.Costs.{earned, most_earned, never, way_cost}
 use Rattle.balance_rule.proofs.Greatests.{greatest-listed}
@@ -67,36 +64,17 @@ module _ (o : List Bool) (g : List Move) (set : List Bool) (R : Room) (room : Ha
   -- how a pawn's home is left by its man when a pawn takes him
   fell-now : (k after : List Move) (m : Move) (x : Strike) → g ≡ k ++ m ∷ after → IsGame o k → Legality (board_after o k) (turn_after k) (unmoved o k) (last_move k) m → is_the c Pawn (at (array_of o) x.of) ≡ true → Blow (board_after o k) (labels_after o k) (opponent c) m x → FellIn R set c x.of (way_of o k x.of) m.to
   fell-now k after m x e game legal first b =
-      let board : Places = board_after o k in
       let began : is_of c (at (array_of o) x.of) ≡ true = (and_parts (is_of c (at (array_of o) x.of)) (is_a Pawn (at (array_of o) x.of)) first).0 in
-      let goes : is_way c set x.of (way_of o k x.of) ≡ true = way-past o g k (m ∷ after) set c x.of walled e began in
-      elim (cases_Bool (goes_en_passant board m)) [
-        | inl past ↦
-            let side : turn_after k ≡ opponent c = same-side (turn_after k) (opponent c) (at board m.from) legal.mover (and_parts (is_of (opponent c) (at board m.from)) (is_a Pawn (at board m.from)) b.pawn).0 in
-            let passes : Passes board (opponent c) (last_move k) m = subst (λ (d : Colour). Passes board d (last_move k) m) side (passes-on board (turn_after k) (unmoved o k) (last_move k) m past legal.manner) in
-            let label : label_at (labels_after o k) (en_passant_victim m) ≡ Some x.of = ap (label_at (labels_after o k)) (sym (cond-true (goes_en_passant board m) (en_passant_victim m) m.to past)) ∙ b.of in
-            let way = passed-way o k m c x.of game passes label in
-            record {
-              fell = fell-crossing set c x.of (way_of o k x.of) way.0 m.to way.1 way.2 goes way.3 way.4;
-              room = λ officer. absurd (no-pawn _ officer (fell-crossing-kind set c x.of (way_of o k x.of) way.0 m.to way.1 way.2 goes way.3 way.4));
-            }
-        | inr plain ↦
-            let label : label_at (labels_after o k) m.to ≡ Some x.of = ap (label_at (labels_after o k)) (sym (cond-false (goes_en_passant board m) (en_passant_victim m) m.to plain)) ∙ b.of in
-            let who = man-there board (labels_after o k) m.to x.of (labels-each_man o k game) label in
-            record {
-              fell = record {
-                way = way_of o k x.of;
-                rest = [];
-                kind = who.0.kind;
-                begins = sym (append-nil (way_of o k x.of));
-                crossing = inl refl;
-                captures = refl;
-                goes = goes;
-                brought = brought o g k (m ∷ after) set c x.of m.to who.0 walled e first label who.1;
-              };
-              room = λ officer. room-of k (m ∷ after) e game m.to x.of who.0 began label who.1 officer;
-            }
-      ]
+      let how = fell-on-now o g k after m set c x walled e game legal first b in
+      record {
+        fell = how.0;
+        room = λ officer. elim how.1 [
+          | inl pawn ↦ absurd (no-pawn _ officer pawn)
+          | inr it ↦
+              subst (λ (j : Kind). R (man c j) (way_end x.of how.0.way) m.to ≡ true) (sym it.his) (subst (λ (w : List ℕ). R (man c it.who.kind) (way_end x.of w) m.to ≡ true) (sym it.whole)
+              (room-of k (m ∷ after) e game m.to x.of it.who began it.label it.there (subst (λ (j : Kind). is_officer j ≡ true) it.his officer)))
+        ];
+      }
 
   each-pawn-fell : (x : Strike) → Contains (strikes o g (opponent c)) x → is_the c Pawn (at (array_of o) x.of) ≡ true → FellIn R set c x.of (way_of o g x.of) x.on
   each-pawn-fell =

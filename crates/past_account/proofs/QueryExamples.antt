@@ -1,12 +1,9 @@
 -- A position whose sketch is refuted: 4k3/8/8/8/8/8/4PPPP/5BK1.
-use Rattle.std.proofs.Common.{◌≡◌, true, false, List, [], ◌∷◌, ◌++◌, refl, subst}
-use Rattle.std.proofs.lemmas.Bool.{both_ways}
-use Rattle.std.specs.Prelude.{Some, None, replicate}
+use Rattle.std.proofs.Common.{◌≡◌, List, [], ◌∷◌, ◌++◌, refl, subst}
+use Rattle.std.specs.Prelude.{None, replicate}
 use Rattle.board_base.specs.Board.{Places, array_of, initial_array, man, no_odds}
 use Rattle.board_base.specs.Attacks.{distance, kind_attacks, king_distance, on_the_way, toward}
-use Rattle.board_base.specs.Rights.{holds, no_rights}
-use Rattle.board_base.specs.declared.castles.Castle.{Castle}
-use Rattle.board_base.specs.declared.castles.Castle.TheVariants.{WhiteShort, WhiteLong, BlackShort, BlackLong}
+use Rattle.board_base.specs.Rights.{no_rights}
 use Rattle.board_base.specs.declared.men.Colour.TheVariants.{White, Black}
 use Rattle.board_base.specs.declared.men.Kind.TheVariants.{Pawn, Bishop, King}
 use Rattle.board_base.specs.declared.moves.Move.{Move}
@@ -17,7 +14,7 @@ use Rattle.cage_rules.specs.Sets.{squares_that}
 use Rattle.past_sketches.specs.Figures.{IsAbove, fixed_squares, sketch_of}
 use Rattle.past_sketches.specs.Fits.{Fits}
 use Rattle.past_sketches.specs.Homes.{may_be_array}
-use Rattle.past_sketches.proofs.Drawn.{drawn, fixed-anywhere, fixed-within, is_spot, same-places, still-steps, stuck-closed}
+use Rattle.past_sketches.proofs.Drawn.{drawn, fixed-anywhere, fixed-within, is_spot, none-held, same-places, still-steps, stuck-closed}
 use Rattle.past_sketches.proofs.Examples.{past_pawns}
 use Rattle.past_sketches.proofs.Queries.{query-fits}
 use Rattle.past_account.specs.Refuted.{Refuted, steps, wider}
@@ -44,12 +41,6 @@ refuted : Refuted no_odds no_rights (sketch_of behind_pawns)
 unfolding fixed_squares squares_that kind_attacks distance king_distance on_the_way toward walls may_be_array array_of initial_array
 refuted = wider (sketch_of behind_pawns) (drawn past_pawns) above
     (steps (drawn past_pawns) [] (λ x. 0) (stuck-closed (squares_that (is_spot (5 ∷ 12 ∷ 13 ∷ 14 ∷ 15 ∷ []))) past_pawns refl refl) refl (λ x made calm. absurd (still-steps past_pawns refl x made)))
-
-none-held : (x : Castle) → holds no_rights x ≡ true → ⊥
-none-held WhiteShort h = both_ways false refl h
-none-held WhiteLong h = both_ways false refl h
-none-held BlackShort h = both_ways false refl h
-none-held BlackLong h = both_ways false refl h
 
 -- no game leads there
 never : (q : Asked) → q.board ≡ behind_pawns → (g : List Move) → LeadsTo no_odds g q → ⊥

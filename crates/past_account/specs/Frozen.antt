@@ -2,13 +2,10 @@
 use Rattle.std.specs.Prelude.{ℕ, ◌≡◌, ◌<◌, ◌⊎◌, Bool, cond, IsTrue, List, Some}
 use Rattle.std.specs.List.{list_any}
 use Rattle.board_base.specs.Board.{array_of, at, is_in}
-use Rattle.board_base.specs.Rights.{Rights, holds}
-use Rattle.board_base.specs.Game.{unmoved}
-use Rattle.board_base.specs.declared.castles.Castle.{Castle}
+use Rattle.board_base.specs.Rights.{Rights}
 use Rattle.board_base.specs.declared.men.Colour.{Colour}
 use Rattle.board_base.specs.declared.men.Kind.{Kind}
 use Rattle.board_base.specs.declared.men.Man.{Man}
-use Rattle.board_base.specs.declared.moves.Move.{Move}
 use Rattle.cage_rules.specs.Frozen.{is_entry, is_held_home, is_plain_entry}
 use Rattle.past_sketches.specs.Figures.{Figure, Sketch, figure_at, is_fixed_on, may_be}
 

@@ -13,11 +13,11 @@ use Rattle.cage_rules.specs.Sets.{each_set, squares_that}
 use Rattle.men_fates.specs.Ways.{is_pawn_step}
 use Rattle.past_sketches.specs.Figures.{Figure, Sketch, figure_at}
 
--- Article 3.7: no pawn stands on rank 1 or 8, and on the set only its own men do
+-- Article 3.7: a pawn who isn't of the set may have stood on z, neither on rank 1 or 8 nor on the set
 abbrev pub may_hold : List Bool → ℕ → Bool
 may_hold set z = nat_lt z 64 && not (is_end z || is_in set z)
 
--- Article 3.7: outside the set the figure's pawn goes from z to t, straight on where he is marked
+-- Article 3.7: the figure's pawn, who isn't of the set, goes from z to t, straight on if he is marked
 abbrev pub goes_on : List Bool → Figure → ℕ → ℕ → Bool
 goes_on set f z t = may_hold set z && is_pawn_step f.colour set z t && (not f.marked || (file z == file t))
 

@@ -1,5 +1,5 @@
 //! The balance of captures of a sketch: prices show that no game has a moment that the sketch fits, or that a figure was never promoted or
-//! never captured. Everything here holds of every game. It takes no memory.
+//! never captured. With the ways back of sketches it refutes queries. Everything here holds of every game. It takes no memory.
 //!
 //! Articles are those of the FIDE Laws of Chess, in force from 1 January 2023.
 #![tactic(auto)]

@@ -8,7 +8,9 @@ use Rattle.general_lemmas.proofs.Ranges.{all_in_range}
 use Rattle.board_base.specs.Board.{is_in, no_odds, rank, same_kind}
 use Rattle.board_base.specs.Attacks.{kind_attacks, on_the_way, one_ahead}
 use Rattle.board_base.specs.Legal.{last_rank, pawn_rank}
-use Rattle.board_base.specs.Rights.{no_rights}
+use Rattle.board_base.specs.Rights.{holds, no_rights}
+use Rattle.board_base.specs.declared.castles.Castle.{Castle}
+use Rattle.board_base.specs.declared.castles.Castle.TheVariants.{WhiteShort, WhiteLong, BlackShort, BlackLong}
 use Rattle.board_base.specs.declared.men.Colour.{Colour}
 use Rattle.board_base.specs.declared.men.Colour.TheVariants.{White, Black}
 use Rattle.board_base.specs.declared.men.Kind.{Kind}
@@ -233,3 +235,10 @@ same-places S T same i j f g f' g' e1 e2 e3 e4 lower =
     let a = place-same S T same i f f' e1 e3 in
     let b = place-same S T same j g g' e2 e4 in
     omega (arith, a, b, lower)
+
+-- where no right is held, none has to be kept
+pub none-held : (x : Castle) → holds no_rights x ≡ true → ⊥
+none-held WhiteShort h = both_ways false refl h
+none-held WhiteLong h = both_ways false refl h
+none-held BlackShort h = both_ways false refl h
+none-held BlackLong h = both_ways false refl h

@@ -6,12 +6,15 @@ use Rattle.std.specs.Prelude.{Some, None, replicate}
 use Rattle.std.specs.List.{filter, range_with_len}
 use Rattle.board_base.specs.Board.{array_of, initial_array, is_in, man, no_odds}
 use Rattle.board_base.specs.Attacks.{distance, kind_attacks, king_distance, on_the_way, toward}
+use Rattle.board_base.specs.Game.{board_after}
 use Rattle.board_base.specs.Rights.{no_rights}
 use Rattle.board_base.specs.declared.men.Colour.{Colour}
 use Rattle.board_base.specs.declared.men.Colour.TheVariants.{White, Black}
 use Rattle.board_base.specs.declared.men.Kind.{Kind}
 use Rattle.board_base.specs.declared.men.Kind.TheVariants.{Pawn, Knight, Bishop, Rook, Queen, King}
 use Rattle.board_base.specs.declared.moves.Move.{Move}
+use Rattle.play_rules.proofs.Games.{no_moves}
+use Rattle.query_base.specs.Asked.{Asked}
 use Rattle.cage_rules.specs.Regions.{walls}
 use Rattle.cage_rules.specs.Sets.{squares_that}
 use Rattle.past_sketches.specs.Figures.{Figure, IsRearranged, IsWider, Sketch, figure_at, fixed_squares, may_be, only_on, sketch_of}
@@ -20,10 +23,12 @@ use Rattle.past_sketches.specs.Closed.{is_quiet_way}
 use Rattle.past_sketches.specs.Homes.{may_be_array}
 use Rattle.past_sketches.specs.Clashes.{is_clash, is_crowded}
 use Rattle.past_sketches.specs.Known.{known_at, marked_at}
+use Rattle.past_sketches.specs.Fits.{Fits}
 use Rattle.past_sketches.specs.Moments.{FitsGame}
 use Rattle.past_sketches.specs.Steps.{Step, is_step, taken_back}
 use Rattle.past_sketches.specs.Trimmed.{trimmed}
-use Rattle.past_sketches.proofs.Drawn.{Drawn, drawn, fixed-anywhere, is_spot, stuck-never}
+use Rattle.past_sketches.proofs.Drawn.{Drawn, drawn, fixed-anywhere, is_spot, none-held, stuck-never}
+use Rattle.past_sketches.proofs.Queries.{query-fits}
 
 fixed : Colour → Kind → ℕ → Figure
 fixed c k s = record { colour = c; kinds = k ∷ []; squares = only_on s; marked = false; place = 0 }
@@ -39,6 +44,14 @@ squares_in f = filter (is_in f.squares) (range_with_len 0 64)
 one_king : sketch_of (None ∷ None ∷ None ∷ None ∷ man White King ∷ []) ≡ fixed White King 4 ∷ []
 unfolding sketch_of fixed
 one_king = refl
+
+-- before the first move the sketch of the array fits
+array_asked : Asked
+array_asked = record { board = board_after no_odds []; turn = White; odds = no_odds; held = no_rights; only = None; barred = None; clock = None }
+
+array-fits : Fits no_odds [] (sketch_of (board_after no_odds []))
+unfolding array_asked
+array-fits = query-fits no_odds [] array_asked (record { game = no_moves no_odds; board = refl; held = λ x has. absurd (none-held x has) })
 
 -- QUIET WAYS
 
