@@ -13,9 +13,12 @@ const DARK: u64 = 0xaa55_aa55_aa55_aa55;
 #[derive(Clone, Copy)]
 pub struct Account {
     pub cost: u32,
-    /// Its officers' homes to which nobody goes, one bit each, and those of them that are shut in for good.
+    /// How many moves its king is from home.
+    pub king_moves: u32,
+    /// Its officers' homes to which nobody goes, one bit each.
     pub missing: u8,
-    pub shut: u8,
+    /// The homes that are shut in.
+    pub closed: Closed,
     pub promoted: u8,
     pub pawns_lost: u8,
     pub wants: Wants,
@@ -44,8 +47,17 @@ impl Account {
 
     /// The pawns, with the officers whom pawns can have captured: those whose homes aren't shut in.
     pub fn open_camp(&self) -> Camp {
-        self.camp_of(self.missing & !self.shut)
+        self.camp_of(self.missing & !self.closed.hard)
     }
+}
+
+/// Which homes are shut in.
+#[derive(Clone, Copy)]
+pub struct Closed {
+    /// Those that are for good, one bit each.
+    pub hard: u8,
+    /// Of each home the squares to which it is open, if it is shut in, or none.
+    pub regions: [u64; 8],
 }
 
 /// What an account is made of.
@@ -57,27 +69,25 @@ pub struct Books<'a> {
     pub origins: Origins,
 }
 
-/// What it costs that a king isn't at home.
-fn king_cost(books: &mut Books, king: u64) -> u32 {
-    let mut cost: u32 = 0;
+/// How many moves a king is from home; None where there is no way.
+fn king_moves(books: &mut Books, king: u64) -> Option<u32> {
     if king == bit(HOMES[0]) {
-        return 0;
+        return Some(0);
     }
     let way = books.ways.to(books.ground.walls, books.ground.soft, 0);
+    let mut most: u8 = 0;
     for square in squares_of(king) {
-        let moves = way.moves[square % 64];
-        let price = if moves == FAR {
-            NEVER
-        } else {
-            books.setting.king_move.saturating_mul(u32::from(moves))
-        };
-        cost = cost.saturating_add(price);
+        most = most.max(way.moves[square % 64]);
     }
-    cost
+    if most == FAR {
+        None
+    } else {
+        Some(u32::from(most))
+    }
 }
 
-/// The homes that are shut in for good are noted.
-fn home_of(books: &mut Books, slot: usize, shut: &mut u8) -> Home {
+/// The home of a slot. If it is shut in, that is noted.
+fn home_of(books: &mut Books, slot: usize, closed: &mut Closed) -> Home {
     let mark = 1 << (slot % 8);
     if books.origins.officers & mark == 0 {
         return NO_HOME;
@@ -87,10 +97,11 @@ fn home_of(books: &mut Books, slot: usize, shut: &mut u8) -> Home {
         Shut::Open => 0,
         Shut::Softly => SHUT_SOFTLY,
         Shut::Hard => {
-            *shut |= mark;
+            closed.hard |= mark;
             SHUT_HARD
         }
     };
+    closed.regions[slot % 8] = way.region;
     Home {
         way: Some(way),
         missing: books.setting.missing.saturating_add(more),
@@ -116,7 +127,7 @@ fn homes_asked(origins: &Origins, slots: &[usize]) -> u64 {
 }
 
 /// These men go to these homes.
-fn assign_kind(books: &mut Books, men: u64, slots: &[usize], shut: &mut u8) -> Assigned {
+fn assign_kind(books: &mut Books, men: u64, slots: &[usize], closed: &mut Closed) -> Assigned {
     if men == homes_asked(&books.origins, slots) {
         return Assigned {
             cost: 0,
@@ -125,11 +136,11 @@ fn assign_kind(books: &mut Books, men: u64, slots: &[usize], shut: &mut u8) -> A
         };
     }
     let first = match slots.first() {
-        Some(slot) => home_of(books, *slot, shut),
+        Some(slot) => home_of(books, *slot, closed),
         None => NO_HOME,
     };
     let second = match slots.get(1) {
-        Some(slot) => home_of(books, *slot, shut),
+        Some(slot) => home_of(books, *slot, closed),
         None => NO_HOME,
     };
     assign(men, &first, &second)
@@ -187,15 +198,19 @@ impl Test {
 
 /// The account of a side; None where it has too many men, or one of them can't come home.
 pub fn account_of(books: &mut Books, force: &Force) -> Option<Account> {
-    let mut shut: u8 = 0;
-    let officers = Officers {
-        queens: assign_kind(books, force.queens, &[1], &mut shut),
-        rooks: assign_kind(books, force.rooks, &[2, 3], &mut shut),
-        knights: assign_kind(books, force.knights, &[4, 5], &mut shut),
-        dark_bishops: assign_kind(books, force.bishops & DARK, &[6], &mut shut),
-        light_bishops: assign_kind(books, force.bishops & !DARK, &[7], &mut shut),
+    let mut closed = Closed {
+        hard: 0,
+        regions: [0; 8],
     };
-    let mut cost = king_cost(books, force.king);
+    let officers = Officers {
+        queens: assign_kind(books, force.queens, &[1], &mut closed),
+        rooks: assign_kind(books, force.rooks, &[2, 3], &mut closed),
+        knights: assign_kind(books, force.knights, &[4, 5], &mut closed),
+        dark_bishops: assign_kind(books, force.bishops & DARK, &[6], &mut closed),
+        light_bishops: assign_kind(books, force.bishops & !DARK, &[7], &mut closed),
+    };
+    let king_moves = king_moves(books, force.king)?;
+    let mut cost = books.setting.king_move.saturating_mul(king_moves);
     let mut promoted: u32 = 0;
     let mut missing: u8 = 0;
     for part in officers.all() {
@@ -213,8 +228,9 @@ pub fn account_of(books: &mut Books, force: &Force) -> Option<Account> {
     let lost_cost = books.setting.missing_pawn.saturating_mul(u32::from(pawns_lost));
     Some(Account {
         cost: cost.saturating_add(lost_cost),
+        king_moves,
         missing,
-        shut,
+        closed,
         promoted: promoted.min(8) as u8,
         pawns_lost,
         wants: Wants {

@@ -49,6 +49,18 @@ impl Force {
         *men |= bit(square);
     }
 
+    /// The men as the other side sees them.
+    pub fn turned(&self) -> Force {
+        Force {
+            king: self.king.swap_bytes(),
+            queens: self.queens.swap_bytes(),
+            rooks: self.rooks.swap_bytes(),
+            knights: self.knights.swap_bytes(),
+            bishops: self.bishops.swap_bytes(),
+            pawns: self.pawns.swap_bytes(),
+        }
+    }
+
     /// All its men.
     pub fn all(&self) -> u64 {
         self.king | self.queens | self.rooks | self.knights | self.bishops | self.pawns

@@ -9,6 +9,8 @@ mod assigning;
 mod attempts;
 mod diagrams;
 mod finding;
+mod hunts;
+mod kings;
 mod orders;
 mod replaying;
 mod settings;

@@ -17,6 +17,13 @@ pub const SHUT_SOFTLY: u32 = 8;
 /// What it costs that no plan of the pawns was found, though there may be one.
 pub const NO_PLAN_YET: u32 = 60;
 
+/// The price of a move of the officer who is to capture a man.
+pub const HUNT: u32 = 6;
+
+/// What a move costs that a king makes because of men who bar his way, and what it costs that they bar every way.
+pub const KING_DETOUR: u32 = 2;
+pub const KING_BARRED: u32 = 10;
+
 /// From how many buckets one is drawn.
 pub const SPAN: usize = 96;
 
@@ -36,6 +43,8 @@ pub struct Setting {
     pub order: u32,
     /// Two retractions.
     pub depth: u32,
+    /// Whether it counts who bars the kings' ways.
+    pub king_ways: bool,
     /// Whether plans of the pawns are made.
     pub plans: bool,
     /// Which query each time is drawn at random: each second or third one; 0 for none.
@@ -54,6 +63,7 @@ const BASE: Setting = Setting {
     missing_pawn: 12,
     order: 4,
     depth: 1,
+    king_ways: true,
     plans: true,
     explores: 0,
     seed: 1,
@@ -86,6 +96,7 @@ pub const ATTEMPTS: [Setting; 8] = [
     },
     Setting {
         king_move: 20,
+        king_ways: false,
         explores: 3,
         seed: 4,
         share: 3,

@@ -1,7 +1,9 @@
 use crate::accounts::{Account, Books, account_of};
 use crate::diagrams::{Beginning, Diagram, beginning_of};
+use crate::hunts::hunt_moves;
+use crate::kings::bar_cost;
 use crate::orders::pawns_before;
-use crate::settings::{CAPTURE, NO_PLAN_YET, Setting};
+use crate::settings::{CAPTURE, HUNT, NO_PLAN_YET, Setting};
 use crate::walls::ground_of;
 use crate::wants::{BothWants, Wants};
 use board_base::Memory;
@@ -114,6 +116,29 @@ fn plan_cost(setting: &Setting, camps: &Camps, pawns: &PawnCount, captures: u8, 
         .saturating_add(setting.short.saturating_mul(u32::from(short)))
 }
 
+/// What it costs that men are far from where they may have captured those who are missing.
+fn hunt_cost(accounts: &Accounts, diagram: &Diagram, pawns: &PawnCount) -> u32 {
+    let (white, black) = (&diagram.white, &diagram.black);
+    HUNT.saturating_mul(
+        hunt_moves(&accounts.white, white, black, pawns.own_free).saturating_add(hunt_moves(
+            &accounts.black,
+            black,
+            white,
+            pawns.other_free,
+        )),
+    )
+}
+
+/// What it costs that men bar the kings' ways.
+fn king_cost(setting: &Setting, accounts: &Accounts, diagram: &Diagram) -> u32 {
+    if setting.king_ways {
+        bar_cost(&accounts.white, &diagram.white, &diagram.black)
+            .saturating_add(bar_cost(&accounts.black, &diagram.black, &diagram.white))
+    } else {
+        0
+    }
+}
+
 impl Valuer {
     /// A valuer for what leads to this query.
     pub fn new(alloc: Global, query: &Query) -> Result<Valuer, Memory> {
@@ -146,6 +171,13 @@ impl Valuer {
         books.origins = self.beginning.black;
         let black = account_of(&mut books, &diagram.black)?;
         Some(Accounts { white, black })
+    }
+
+    /// What it costs that pawns are at home before officers who aren't.
+    fn order_cost(&self, setting: &Setting, diagram: &Diagram) -> u32 {
+        let before = pawns_before(&diagram.white, &self.beginning.white)
+            .saturating_add(pawns_before(&diagram.black, &self.beginning.black));
+        setting.order.saturating_mul(before)
     }
 
     /// The cheapest captures that bring the pawns home.
@@ -206,14 +238,14 @@ impl Valuer {
         let Some(plan) = plan else {
             return Ok(None);
         };
-        let before = pawns_before(&diagram.white, &self.beginning.white)
-            .saturating_add(pawns_before(&diagram.black, &self.beginning.black));
         let value = accounts
             .white
             .cost
             .saturating_add(accounts.black.cost)
             .saturating_add(pawn_cost(setting, &camps, &pawns))
-            .saturating_add(setting.order.saturating_mul(before))
+            .saturating_add(self.order_cost(setting, diagram))
+            .saturating_add(hunt_cost(&accounts, diagram, &pawns))
+            .saturating_add(king_cost(setting, &accounts, diagram))
             .saturating_add(plan.cost);
         Ok(Some(Worth {
             value,

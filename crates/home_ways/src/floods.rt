@@ -7,9 +7,9 @@ use board_base::Kind;
 pub const FAR: u8 = 200;
 
 /// All squares but those of the a-file, where a step to the right ends.
-pub const NOT_A: u64 = 0xfefe_fefe_fefe_fefe;
+const NOT_A: u64 = 0xfefe_fefe_fefe_fefe;
 /// All squares but those of the h-file, where a step to the left ends.
-pub const NOT_H: u64 = 0x7f7f_7f7f_7f7f_7f7f;
+const NOT_H: u64 = 0x7f7f_7f7f_7f7f_7f7f;
 const NOT_AB: u64 = 0xfcfc_fcfc_fcfc_fcfc;
 const NOT_GH: u64 = 0x3f3f_3f3f_3f3f_3f3f;
 const EVERY: u64 = u64::MAX;
@@ -71,8 +71,13 @@ fn king_steps(from: u64) -> u64 {
     beside | row << 8 | row >> 8
 }
 
+/// The squares that pawns guard who come down the board.
+pub fn guarded(pawns: u64) -> u64 {
+    pawns >> 9 & NOT_H | pawns >> 7 & NOT_A
+}
+
 /// The squares that men of this kind on these squares reach by one move, past empty ones.
-fn steps(kind: Kind, from: u64, empty: u64) -> u64 {
+pub fn steps(kind: Kind, from: u64, empty: u64) -> u64 {
     match kind {
         Kind::Knight => knight_steps(from),
         Kind::Bishop => bishop_steps(from, empty),

@@ -8,5 +8,6 @@ mod homes;
 mod ways;
 
 pub use bits::{Squares, bit, count, file_set, has, is_dark, squares_of};
+pub use floods::{guarded, steps};
 pub use homes::{HOMES, Slot};
 pub use ways::{FAR, Shut, Way, Ways};

@@ -1,5 +1,5 @@
 use crate::bits::bit;
-use crate::floods::{NOT_A, NOT_H, flood};
+use crate::floods::{flood, guarded};
 use crate::homes::{HOMES, Slot};
 use board_base::{Kind, Memory};
 use std::alloc::Global;
@@ -8,6 +8,9 @@ pub use crate::floods::FAR;
 
 /// What a way costs more that leads past men who can still move.
 const DETOUR: u8 = 8;
+
+/// Where the other side's pawns begin.
+const PAWN_HOMES: u64 = 0x00ff_0000_0000_0000;
 
 /// How many ways are kept.
 const KEPT: usize = 8192;
@@ -31,11 +34,12 @@ pub enum Shut {
     Hard,
 }
 
-/// How far each square is from an officer's home, and whether the home is shut in.
+/// How far each square is from an officer's home, whether the home is shut in, and the squares to which it then is open.
 #[derive(Clone, Copy)]
 pub struct Way {
     pub moves: [u8; 64],
     pub shut: Shut,
+    pub region: u64,
 }
 
 /// What the way home depends on: the men who stand for good, these and those who stand in the way now, and the home.
@@ -57,10 +61,15 @@ fn is_shut(moves: &[u8; 64]) -> bool {
     moves[24..40].iter().all(|m| *m == FAR)
 }
 
-/// The squares that the other side's pawns guard from their homes.
-fn guarded(walls: u64) -> u64 {
-    let pawns = walls & 0x00ff_0000_0000_0000;
-    pawns >> 9 & NOT_H | pawns >> 7 & NOT_A
+/// The squares from which there is a way.
+fn region_of(moves: &[u8; 64]) -> u64 {
+    let mut region: u64 = 0;
+    for (s, m) in moves.iter().enumerate() {
+        if *m != FAR {
+            region |= bit(s);
+        }
+    }
+    region
 }
 
 /// The way past those who can move, where there is one, else round those who can't.
@@ -78,7 +87,7 @@ fn way_home(scene: &Scene) -> Way {
     let kind = KINDS[scene.slot % 8];
     let home = bit(HOMES[scene.slot % 8]);
     let shunned = match kind {
-        Kind::King => guarded(scene.walls),
+        Kind::King => guarded(scene.walls & PAWN_HOMES),
         _ => 0,
     };
     let hard = flood(kind, home, scene.walls, shunned);
@@ -87,14 +96,18 @@ fn way_home(scene: &Scene) -> Way {
     for s in 0..64 {
         moves[s] = joined(hard[s], soft[s]);
     }
-    let shut = if is_shut(&hard) {
-        Shut::Hard
+    let (shut, region) = if is_shut(&hard) {
+        (Shut::Hard, region_of(&hard))
     } else if is_shut(&soft) {
-        Shut::Softly
+        (Shut::Softly, region_of(&soft))
     } else {
-        Shut::Open
+        (Shut::Open, 0)
     };
-    Way { moves, shut }
+    Way {
+        moves,
+        shut,
+        region,
+    }
 }
 
 fn place_of(scene: &Scene) -> usize {
@@ -122,6 +135,7 @@ impl Ways {
             way: Way {
                 moves: [FAR; 64],
                 shut: Shut::Open,
+                region: 0,
             },
         };
         match vec![in alloc; none; KEPT] {

@@ -1,5 +1,5 @@
 use crate::camps::{Camp, Camps, count_crossed, count_steps, highest};
-use crate::matchings::{NONE, fewest_captures};
+use crate::matchings::{Fewest, NONE, fewest_captures};
 use home_ways::{file_set, has};
 
 /// What brings the pawns of both sides home.
@@ -9,6 +9,10 @@ pub struct PawnCount {
     pub own: u8,
     /// And of the other.
     pub other: u8,
+    /// The home files to which no man of the own side comes so, one bit each.
+    pub own_free: u8,
+    /// And of the other.
+    pub other_free: u8,
     /// How many steps both make.
     pub steps: u8,
 }
@@ -49,7 +53,7 @@ fn who_leaves(camps: &Camps, choice: u32) -> Leaving {
 }
 
 /// The captures that this side's pawns need, if they aren't more than the men whom the other side lacks.
-fn captures_of(camp: &Camp, leaving: u64, foe: &Camp) -> Option<u8> {
+fn captures_of(camp: &Camp, leaving: u64, foe: &Camp) -> Option<Fewest> {
     let fewest = fewest_captures(
         camp.pawns,
         leaving,
@@ -58,7 +62,7 @@ fn captures_of(camp: &Camp, leaving: u64, foe: &Camp) -> Option<u8> {
         foe.pawns.swap_bytes(),
     );
     if fewest.captures < NONE && fewest.captures <= foe.lost() {
-        Some(fewest.captures)
+        Some(fewest)
     } else {
         None
     }
@@ -91,10 +95,16 @@ pub fn passing(camps: &Camps, capture: u32, short: u32) -> Option<PawnCount> {
         let Some(other) = captures_of(&camps.other, leaving.other, &camps.own) else {
             continue;
         };
-        let cost = price(camps, own, other, capture, short);
+        let cost = price(camps, own.captures, other.captures, capture, short);
         if cost < least {
             least = cost;
-            best = Some(PawnCount { own, other, steps });
+            best = Some(PawnCount {
+                own: own.captures,
+                other: other.captures,
+                own_free: camps.own.files & !own.files,
+                other_free: camps.other.files & !other.files,
+                steps,
+            });
         }
     }
     best

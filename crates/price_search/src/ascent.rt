@@ -1,13 +1,13 @@
 ghost use Rattle.std.specs.Prelude.{◌≤◌};
 
-use crate::flat_grounds::{FlatGround, FlatGrounds, Homes};
+use crate::flat_grounds::{FlatGround, FlatGrounds, Homes, flat_fails};
 use crate::payers::{Payers, flat_prices};
 use crate::places::free_on;
 use crate::tallies::{Deeds, Tally, deeds_of};
 use crate::weighing::Weighing;
 use assignment::solve_large;
 use balance_rule::{Ground, begun_with, cost_table, most_cost, set_prices};
-use board_base::Colour;
+use board_base::{Colour, SquareSet};
 use capture_prices::{Gate, Prices};
 use query_base::Query;
 
@@ -35,15 +35,15 @@ struct Outcome {
     homes: Homes,
 }
 
-/// What flat prices came to.
+/// Homes of the men at flat prices, and whether they show that these support the query.
 #[derive(Drop)]
-struct FlatOutcomes {
-    both: Outcome,
-    white_alone: Outcome,
-    black_alone: Outcome,
+struct FlatTried {
+    homes: Homes,
+    is_above: bool,
 }
 
-/// What a search came to: the homes of the men at the least cost at each of the flat prices, and other prices that may do.
+/// What a search came to: homes of the men that tell of each of the flat prices whether they support the query, and other prices that may
+/// do.
 #[derive(Clone, Copy)]
 pub(crate) struct Sought {
     pub(crate) both: Homes,
@@ -273,36 +273,39 @@ fn flat_outcome(kept: &FlatGround, query: &Query, payers: Payers) -> Option<Outc
     )
 }
 
-impl FlatOutcomes {
-    /// What flat prices came to; None where a side has more men than it began with.
-    fn new(kept: &FlatGrounds, query: &Query) -> Option<FlatOutcomes> {
-        Some(FlatOutcomes {
-            both: flat_outcome(&kept.both, query, Payers::Both)?,
-            white_alone: flat_outcome(&kept.white_alone, query, Payers::WhiteAlone)?,
-            black_alone: flat_outcome(&kept.black_alone, query, Payers::BlackAlone)?,
-        })
+/// Tries flat prices: with homes at the least cost at others, where these show already that they don't support the query.
+fn try_flat(
+    kept: &FlatGround,
+    query: &Query,
+    set: SquareSet,
+    payers: Payers,
+    others: &Homes,
+) -> Option<FlatTried> {
+    if flat_fails(kept, query, set, payers, others) {
+        return Some(FlatTried {
+            homes: *others,
+            is_above: false,
+        });
     }
-
-    /// Whether the men cost more than their true homes can at some flat prices, none of which has gates.
-    fn are_above(&self, most: u32) -> bool {
-        most < self.both.cost || most < self.white_alone.cost || most < self.black_alone.cost
-    }
+    let outcome = flat_outcome(kept, query, payers)?;
+    Some(FlatTried {
+        is_above: most_cost(query.odds, &flat_prices(payers)) < outcome.cost,
+        homes: outcome.homes,
+    })
 }
 
-/// Prices at which the men cost more than their true homes can, if the ascent from equal prices finds some. It ends where the tallies on
-/// its way, and those at flat prices, show that there are none.
-fn ascend(query: &Query, kept: &FlatGrounds, flat: &FlatOutcomes, most: u32) -> Option<Prices> {
+/// Prices at which the men cost more than their true homes can, if the ascent from an outcome at equal prices finds some. It ends where
+/// the tallies on its way show that there are none.
+fn ascend(query: &Query, kept: &FlatGround, first: &Outcome, most: u32) -> Option<Prices> {
     let mut ascent = Ascent::new();
-    let mut white = kept.both.white.side;
-    let mut black = kept.both.black.side;
+    let mut white = kept.white.side;
+    let mut black = kept.black.side;
     let mut weighing = Weighing::new();
-    weighing.add(&flat.white_alone.white, &flat.white_alone.black);
-    weighing.add(&flat.black_alone.white, &flat.black_alone.black);
-    weighing.add(&flat.both.white, &flat.both.black);
+    weighing.add(&first.white, &first.black);
     if weighing.weigh() {
         return None;
     }
-    ascent.climb(&flat.both, most.saturating_sub(flat.both.cost));
+    ascent.climb(first, most.saturating_sub(first.cost));
     for _ in 1..ROUNDS {
         let prices = ascent.prices()?;
         set_prices(&mut white, &prices);
@@ -321,20 +324,23 @@ fn ascend(query: &Query, kept: &FlatGrounds, flat: &FlatOutcomes, most: u32) -> 
     None
 }
 
-/// Seeks prices at which the men cost more than their true homes can, where no flat ones do; None where a side has more men than it
-/// began with.
-pub(crate) fn seek(query: &Query, kept: &FlatGrounds) -> Option<Sought> {
-    let flat = FlatOutcomes::new(kept, query)?;
+/// Tries the flat prices, and seeks others at which the men cost more than their true homes can, where none of these do; None where a side
+/// has more men than it began with.
+pub(crate) fn seek(query: &Query, set: SquareSet, kept: &FlatGrounds) -> Option<Sought> {
+    let both = flat_outcome(&kept.both, query, Payers::Both)?;
+    let homes = both.homes;
+    let white = try_flat(&kept.white_alone, query, set, Payers::WhiteAlone, &homes)?;
+    let black = try_flat(&kept.black_alone, query, set, Payers::BlackAlone, &homes)?;
     let most = most_cost(query.odds, &flat_prices(Payers::Both));
-    let prices = if flat.are_above(most) {
+    let prices = if most < both.cost || white.is_above || black.is_above {
         None
     } else {
-        ascend(query, kept, &flat, most)
+        ascend(query, &kept.both, &both, most)
     };
     Some(Sought {
-        both: flat.both.homes,
-        white_alone: flat.white_alone.homes,
-        black_alone: flat.black_alone.homes,
+        both: homes,
+        white_alone: white.homes,
+        black_alone: black.homes,
         prices,
     })
 }

@@ -89,7 +89,7 @@ fn sought(
             prices: found.prices,
         });
     }
-    let found = seek(query, kept)?;
+    let found = seek(query, set, kept)?;
     if tried.len() < MOST_TRIED {
         let by_traces = Sought {
             both: men.by_traces(&found.both),
