@@ -29,7 +29,7 @@ ahead-apart White s t h same = let up : rank t ≡ rank s + 1 = eqb-true _ _ h i
 ahead-apart Black s t h same = let down : rank s ≡ rank t + 1 = eqb-true _ _ h in omega arith
 
 -- s is on neither end
-inner : (s : ℕ) → is_end s ≡ false → (rank s ≢ 0) × (rank s ≢ 7)
+pub inner : (s : ℕ) → is_end s ≡ false → (rank s ≢ 0) × (rank s ≢ 7)
 inner s none = (λ e. both_ways _ none (or_left _ _ (eq-eqb _ _ e)), λ e. both_ways _ none (or_right _ _ (eq-eqb _ _ e)))
 
 pub past-home : (c : Colour) (s t : ℕ) → s < 64 → t < 64 → one_ahead c s t ≡ true → is_end s ≡ false → (rank t == last_rank c) ≡ false → is_past_home c t ≡ true

@@ -30,6 +30,10 @@ pub record LeftSoFar (q : Asked) (depth nodes : ℕ) (still left : List Unmove) 
 pub left_none : (q : Asked) (depth nodes : ℕ) → LeftSoFar q depth nodes (unmoves q) [] 0
 left_none q depth nodes = record { given = []; split = refl; counted = refl; are = refl; few = omega arith; texts = All-nil (λ u. IsTrue (has_text u)) }
 
+pub left_first : (q : Asked) (depth nodes : ℕ) (still left : List Unmove) → still ≡ unmoves q → left ≡ [] → LeftSoFar q depth nodes still left 0
+left_first q depth nodes still left all none =
+    subst (λ (us : List Unmove). LeftSoFar q depth nodes us left 0) (sym all) (subst (λ (us : List Unmove). LeftSoFar q depth nodes (unmoves q) us 0) (sym none) (left_none q depth nodes))
+
 joined : (b : Bool) (v : Unmove) (others more : List Unmove) → cond b others (v ∷ others) ++ more ≡ cond b (others ++ more) (v ∷ (others ++ more))
 joined true v others more = refl
 joined false v others more = refl

@@ -3,7 +3,10 @@ pub mod Plain
 pub mod Searching
 pub mod Together
 pub mod Leaving
+pub mod Looking
+pub mod JoinedTrees
 pub mod Forcing
 pub mod Telling
+pub mod Truths
 pub mod OneMove
 pub mod Seeking

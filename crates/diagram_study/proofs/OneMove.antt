@@ -1,9 +1,10 @@
 -- Unmoves that all have one move.
 use Rattle.std.proofs.Common.{◌≡◌, ℕ, zero, suc, ◌+◌, ◌<◌, ◌≤◌, Bool, true, false, cond, List, [], ◌∷◌, length, take, refl, ap, sym, subst, ◌∙◌}
-use Rattle.std.specs.Prelude.{◌&&◌, Some, None, slice_get}
-use Rattle.std.specs.List.{list_all}
+use Rattle.std.specs.Prelude.{◌&&◌, IsTrue, Some, None, slice_get}
+use Rattle.std.specs.List.{All, list_all}
 use Rattle.std.proofs.lemmas.List.{take_all}
 use Rattle.std.proofs.lemmas.List.Folds.{list_all-append}
+use Rattle.std.proofs.lemmas.List.Sums.{AllPass-from_list_all}
 use Rattle.std.proofs.Math.Bool.{and-false}
 use Rattle.general_lemmas.proofs.Splits.{up_to}
 use Rattle.board_base.specs.Legal.{is_move}
@@ -47,3 +48,15 @@ passes_more p xs i x inside there has so_far =
 
 pub all_pass : {A : Type 0} (p : A → Bool) (xs : List A) (i : ℕ) → length xs ≤ i → list_all p (take i xs) ≡ true → list_all p xs ≡ true
 all_pass p xs i past all = ap (list_all p) (sym (take_all i xs past)) ∙ all
+
+first_has : (u : Unmove) (us : List Unmove) (m : Move) (b : Bool) → list_all (has_move u.mv) (u ∷ us) ≡ b → cond b (Some u.mv) None ≡ Some m → All (λ v. IsTrue (is_move (Some m) v.mv)) (u ∷ us)
+first_has u us m true all e =
+    let same : u.mv ≡ m = cc in
+    subst (λ (n : Move). All (λ v. IsTrue (is_move (Some n) v.mv)) (u ∷ us)) same (AllPass-from_list_all (has_move u.mv) (u ∷ us) all)
+first_has u us m false all e = cc
+
+-- where all of them have one move, each has it
+pub all_have : (left : List Unmove) (m : Move) → one_move left ≡ Some m → All (λ u. IsTrue (is_move (Some m) u.mv)) left
+unfolding one_move
+all_have [] m e = cc
+all_have (u ∷ us) m e = first_has u us m (list_all (has_move u.mv) (u ∷ us)) refl e

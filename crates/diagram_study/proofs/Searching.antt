@@ -10,20 +10,21 @@ use Rattle.query_base.specs.declared.claims.Claim.{Claim}
 use Rattle.price_search.specs.FlatPrices.{FlatPricesSupport}
 use Rattle.retro_search.specs.Outcomes.{HasProof, IfRefuted}
 use Rattle.retro_search.specs.Refutable.{IsRefutable}
+use Rattle.retro_search.specs.SearchSizes.{IsLargeSearch}
 use Rattle.retro_search.specs.Unsettled.{WhereRefutable}
 use Rattle.retro_search.specs.declared.searchers.Outcome.{Outcome}
 use Rattle.retro_search.specs.declared.searchers.Outcome.TheVariants.{Refuted, Open, Spent}
-use Rattle.diagram_study.specs.Findings.{IsOutcome, IsProof, IsProvedAt, is_refuted}
+use Rattle.diagram_study.specs.Findings.{IsOutcome, IsProof, IsProvedAt, LacksFlatPrices, is_refuted}
 
-pub outcome_is : (q a : Asked) (claim : Claim) (depth nodes : ℕ) (outcome : Outcome) → a ≡ target q claim → ((g : List Move) → Reaches g a ↔ Contradicts g claim q) → IfRefuted outcome (λ height. HasProof a height depth) → (outcome ≡ Open → IsRefutable a depth [] → ⊥) → (outcome ≡ Spent → WhereRefutable a depth (λ n. nodes < n)) → (1 ≤ nodes → FlatPricesSupport a → IsTrue (is_refuted outcome)) → IsOutcome q claim depth nodes outcome
-outcome_is q a claim depth nodes (Refuted height) is contradicted proof opened spent priced = record {
+pub outcome_is : (q a : Asked) (claim : Claim) (depth nodes : ℕ) (outcome : Outcome) → a ≡ target q claim → ((g : List Move) → Reaches g a ↔ Contradicts g claim q) → IfRefuted outcome (λ height. HasProof a height depth) → (outcome ≡ Open → IsRefutable a depth [] → ⊥) → (outcome ≡ Spent → WhereRefutable a depth (λ n. nodes < n)) → (outcome ≡ Spent → IsLargeSearch a depth nodes) → (1 ≤ nodes → FlatPricesSupport a → IsTrue (is_refuted outcome)) → IsOutcome q claim depth nodes outcome
+outcome_is q a claim depth nodes (Refuted height) is contradicted proof opened spent large priced = record {
   proof = subst (λ (t : Asked). HasProof t height depth) is proof;
   holds = λ g against. proof.unreached g ((contradicted g).1 against);
 }
-outcome_is q a claim depth nodes Open is contradicted proof opened spent priced =
+outcome_is q a claim depth nodes Open is contradicted proof opened spent large priced =
     (λ refutable. opened refl (subst (λ (t : Asked). IsRefutable t depth []) (sym is) refutable), λ some e. absurd (both_ways false refl (priced some (subst FlatPricesSupport (sym is) e))))
-outcome_is q a claim depth nodes Spent is contradicted proof opened spent priced =
-    (subst (λ (t : Asked). WhereRefutable t depth (λ n. nodes < n)) is (spent refl), λ some e. absurd (both_ways false refl (priced some (subst FlatPricesSupport (sym is) e))))
+outcome_is q a claim depth nodes Spent is contradicted proof opened spent large priced =
+    (subst (λ (t : Asked). WhereRefutable t depth (λ n. nodes < n)) is (spent refl), λ some e. absurd (both_ways false refl (priced some (subst FlatPricesSupport (sym is) e))), subst (λ (t : Asked). IsLargeSearch t depth nodes) is (large refl))
 
 -- what is refutable at a depth is so at each greater one
 abbrev pub DeeperRefuteMore : Type 0
@@ -37,17 +38,19 @@ raised q claim lower depth height less proved = record {
 }
 
 -- the search one less deep leaves the target open
-pub least_by_open : DeeperRefuteMore → (q : Asked) (claim : Claim) (most nodes depth : ℕ) → IsProvedAt q claim most depth → (IsRefutable (target q claim) (depth - 1) [] → ⊥) → IsProof q claim most nodes depth
-least_by_open law q claim most nodes depth proved unrefuted = record {
+pub least_by_open : DeeperRefuteMore → (q : Asked) (claim : Claim) (most nodes depth : ℕ) → IsProvedAt q claim most depth → (IsRefutable (target q claim) (depth - 1) [] → ⊥) → LacksFlatPrices q claim nodes → IsProof q claim most nodes depth
+least_by_open law q claim most nodes depth proved unrefuted lacks = record {
   proved = proved;
   least = λ k n below refutable cost. absurd (unrefuted (law (target q claim) k (depth - 1) [] (omega (arith, below)) refutable));
+  priced = λ some e. absurd (lacks some e);
 }
 
 -- it is spent
-pub least_by_spent : (q : Asked) (claim : Claim) (most nodes depth : ℕ) → IsProvedAt q claim most depth → WhereRefutable (target q claim) (depth - 1) (λ n. nodes < n) → IsProof q claim most nodes depth
-least_by_spent q claim most nodes depth proved spent = record {
+pub least_by_spent : (q : Asked) (claim : Claim) (most nodes depth : ℕ) → IsProvedAt q claim most depth → WhereRefutable (target q claim) (depth - 1) (λ n. nodes < n) → LacksFlatPrices q claim nodes → IsProof q claim most nodes depth
+least_by_spent q claim most nodes depth proved spent lacks = record {
   proved = proved;
   least = λ k n below refutable cost. spent k n (omega (arith, below)) refutable cost;
+  priced = λ some e. absurd (lacks some e);
 }
 
 -- there is none
@@ -55,4 +58,5 @@ pub least_by_none : (q : Asked) (claim : Claim) (most nodes depth : ℕ) → IsP
 least_by_none q claim most nodes depth proved none = record {
   proved = proved;
   least = λ k n below refutable cost. absurd (omega (arith, below, none));
+  priced = λ some e. omega (arith, none);
 }

@@ -1,11 +1,12 @@
 -- The texts of what is found, one behind the other.
 use Rattle.std.proofs.Common.{◌≡◌, ℕ, ◌<◌, ◌≤◌, true, false, List, [], ◌∷◌, ◌++◌, length, refl, ap, sym, subst, ◌∙◌, arith, append_assoc, append-nil}
-use Rattle.std.specs.Prelude.{Option, Result, Ok, Err, OnOk, codes}
+use Rattle.std.specs.Prelude.{IsTrue, Option, Result, Ok, Err, OnOk, codes}
 use Rattle.std.proofs.lemmas.Bool.{cond-true, cond-false}
 use Rattle.board_base.specs.Rights.{Rights}
 use Rattle.board_base.specs.declared.castles.Castle.{Castle}
 use Rattle.board_base.specs.declared.unmoves.Unmove.{Unmove}
 use Rattle.query_base.specs.Asked.{Asked}
+use Rattle.query_base.specs.Reach.{Reaches}
 use Rattle.query_base.specs.declared.claims.Claim.TheVariants.{Illegal}
 use Rattle.line_claims.specs.declared.claims.LineClaim.{LineClaim}
 use Rattle.line_claims.specs.declared.claims.LineClaim.TheVariants.{NotBoth, Line}
@@ -20,6 +21,7 @@ use Rattle.diagram_study.specs.Forced.{AreForced, TellsForced, TellsSteps}
 use Rattle.diagram_study.specs.Studies.{IsStudy, TellsAgain, TellsBehind, TellsLength, TellsMore, TellsOther, TellsPlain, TellsPosition, other_side, without_demands}
 use Rattle.diagram_study.specs.Texts.{capture_lines, castling_lines, found_line, left_line, other_line, plain_line, steps_line}
 use Rattle.diagram_study.specs.declared.findings.Finding.{Finding}
+use Rattle.diagram_study.specs.declared.findings.Finding.TheVariants.{Proved, Open, Spent}
 use Rattle.diagram_study.specs.declared.rights.RightFound.{RightFound}
 
 -- a piece more behind what stood there
@@ -72,9 +74,9 @@ forced_untold q most nodes steps text forced few =
     ([], record { steps = steps; forced = forced; several = λ more. absurd (omega (arith, few, more)); few = λ _. refl }, sym (append-nil text))
 
 -- the texts of a study so far, one behind the other
-pub more_told : (q : Asked) (most nodes : ℕ) (found : List RightFound) (kept : Rights) (left : List Unmove) (all : ℕ) (t u v w x y z e : List ℕ) → AreFound q most nodes found → kept ≡ open_castlings found → HasLeft q most nodes left → all ≡ length (unmoves q) → u ≡ t ++ castling_lines found
+pub more_told : (q : Asked) (most nodes : ℕ) (found : List RightFound) (kept : Rights) (left : List Unmove) (all : ℕ) (t u v w x y z e : List ℕ) → AreFound q most nodes found → kept ≡ open_castlings found → HasLeft q most nodes left → (1 ≤ most → left ≡ [] → Reaches [] q) → all ≡ length (unmoves q) → u ≡ t ++ castling_lines found
     → Told (TellsPairs (TellsOpenPair q most nodes kept) castle_pairs) u v → w ≡ v ++ capture_lines found → Told (TellsLast q most nodes (one_move left)) w x → Told (TellsForced q most nodes) x y → z ≡ y ++ left_line left all → ((own : List ℕ) × (said : Option LengthText) × TellsLength q said own × (e ≡ z ++ own)) → Told (TellsMore q most nodes) t e
-more_told q most nodes found kept left all t u v w x y z e are set has counted castlings pairs captures last line lefts games =
+more_told q most nodes found kept left all t u v w x y z e are set has array counted castlings pairs captures last line lefts games =
     let first = castling_lines found in
     let second = capture_lines found in
     let third = left_line left all in
@@ -92,6 +94,7 @@ more_told q most nodes found kept left all t u v w x y z e are set has counted c
         pairs_told = subst (λ (s : Rights). TellsPairs (TellsOpenPair q most nodes s) castle_pairs pairs.0) set pairs.1;
         left = left;
         are_left = has;
+        array = array;
         last = last.0;
         last_told = last.1;
         line = line.0;
@@ -113,6 +116,12 @@ other_told q other most nodes finding t u v is found front line =
 pub position_told : (q : Asked) (most nodes : ℕ) (finding : Finding) (t u v : List ℕ) → IsFound q Illegal most nodes finding → u ≡ t ++ found_line finding Illegal → Told (TellsBehind q most nodes finding) u v → Told (TellsPosition q most nodes finding) t v
 position_told q most nodes finding t u v found line behind =
     (found_line finding Illegal ++ behind.0, record { found = found; behind = behind.0; behind_told = behind.1; text_is = refl }, joins t (found_line finding Illegal) behind.0 u v line behind.2)
+
+-- what follows where it is proved to be illegal
+pub behind_proved : (q : Asked) (most nodes : ℕ) (finding : Finding) (u v : List ℕ) → IsTrue (is_proved finding) → Told (TellsOther q most nodes) u v → Told (TellsBehind q most nodes finding) u v
+behind_proved q most nodes (Proved depth) u v proved told = told
+behind_proved q most nodes Open u v proved told = cc
+behind_proved q most nodes Spent u v proved told = cc
 
 pub plain_told : (q plain : Asked) (most nodes : ℕ) (finding : Finding) (t u v : List ℕ) → plain ≡ without_demands q → u ≡ t ++ plain_line → Told (TellsPosition plain most nodes finding) u v → Told (TellsPlain q most nodes) t v
 plain_told q plain most nodes finding t u v is line told =

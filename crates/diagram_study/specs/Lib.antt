@@ -7,3 +7,5 @@ pub mod Retractions
 pub mod Forced
 pub mod Texts
 pub mod Studies
+pub mod Facts
+pub mod Looks

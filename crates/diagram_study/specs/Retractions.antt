@@ -1,5 +1,5 @@
 -- Which retractions of a query are left.
-use Rattle.std.specs.Prelude.{ℕ, ◌≡◌, ◌-◌, cond, List, [], ◌∷◌, ◌++◌, Option, Some, None}
+use Rattle.std.specs.Prelude.{ℕ, ◌≡◌, ◌≤◌, ◌-◌, cond, IsTrue, List, [], ◌∷◌, ◌++◌, Option, Some, None}
 use Rattle.std.specs.List.{Contains, list_all}
 use Rattle.board_base.specs.Legal.{is_move}
 use Rattle.board_base.specs.declared.moves.Move.{Move}
@@ -34,10 +34,12 @@ unfoldable pub one_move : List Unmove → Option Move
 one_move [] = None
 one_move (u ∷ us) = cond (list_all (λ v. is_move (Some u.mv) v.mv) (u ∷ us)) (Some u.mv) None
 
--- what was found of the claim that this was the last move; the text is its line where it is proved, and empty elsewhere
+-- What was found of the claim that this was the last move, which it was of all unmoves that are left: where a move may be taken back, and
+-- the game of no moves doesn't reach the query, it is proved. The text is its line where it is proved, and empty elsewhere.
 pub record TellsMove (q : Asked) (most nodes : ℕ) (m : Move) (text : List ℕ) : Type 0 where
   pub finding : Finding
   pub found : IsFound q (Last m) most nodes finding
+  pub sure : 1 ≤ most → (Reaches [] q → ⊥) → IsTrue (is_proved finding)
   pub text_is : text ≡ cond (is_proved finding) (found_line finding (Last m)) []
 
 -- the text of the last move: where only one is left, what was found of it, else nothing

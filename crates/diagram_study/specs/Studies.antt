@@ -35,7 +35,7 @@ TellsLength q (Some said) text = IsLength q said × (text ≡ length_line said.a
 
 -- What is told of a position that isn't proved to be illegal: what was found of the castlings that it seems to give and that aren't
 -- demanded, of each two of them that aren't proved to be lost, of captures en passant, of the last move and of those before it, which
--- retractions are left, and how long games are.
+-- retractions are left, and how long games are. Where a move may be taken back and no retraction is left, it is the array.
 pub record TellsMore (q : Asked) (most nodes : ℕ) (text : List ℕ) : Type 0 where
   pub found : List RightFound
   pub rights : AreFound q most nodes found
@@ -43,6 +43,7 @@ pub record TellsMore (q : Asked) (most nodes : ℕ) (text : List ℕ) : Type 0 w
   pub pairs_told : TellsPairs (TellsOpenPair q most nodes (open_castlings found)) castle_pairs pairs
   pub left : List Unmove
   pub are_left : HasLeft q most nodes left
+  pub array : 1 ≤ most → left ≡ [] → Reaches [] q
   pub last : List ℕ
   pub last_told : TellsLast q most nodes (one_move left) last
   pub line : List ℕ

@@ -6,6 +6,7 @@
 
 mod findings;
 mod forced;
+mod joining;
 mod line_searches;
 mod pairs;
 mod retractions;

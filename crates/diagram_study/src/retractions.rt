@@ -1,25 +1,35 @@
-ghost use Rattle.std.specs.Prelude.{List, ℕ, ◌≡◌, ◌-◌, ◌≤◌, ◌++◌, IfOk, IfSome, IsTrue, None, OnOk, Some, length};
+ghost use Rattle.std.specs.Prelude.{List, ℕ, ◌≡◌, ◌-◌, ◌≤◌, ◌++◌, [], IfOk, IfSome, IsTrue, None, OnOk, Some, length};
 ghost use Rattle.std.specs.List.{All, list_all};
 ghost use Rattle.board_base.specs.Legal.{is_move};
 ghost use Rattle.board_base.specs.Texts.{can_promote};
 ghost use Rattle.line_claims.specs.Lines.{has_text};
 ghost use Rattle.unmove_gen.specs.Listed.{unmoves};
+ghost use Rattle.diagram_study.specs.Looks.{AreLooked};
 ghost use Rattle.diagram_study.specs.Retractions.{HasLeft, TellsLast, TellsMove, one_move};
 
+use crate::joining::joined_up;
 use crate::searchers::{Searchers, is_refuted};
 use crate::searches::{search_at, seek};
 use crate::texts::push_found;
-use board_base::{Move, UnmoveList, is_move};
+use board_base::{Move, Unmove, UnmoveList, is_move};
 use query_base::{Claim, Query};
-use retro_search::Limits;
+use retro_search::{Limits, Outcome};
 use std::alloc::AllocError;
 use unmove_gen::{Unmoves, few_unmoves, last_moves_are_listed, pred, unmoves_have_texts};
 
-/// The unmoves that are left, and how many there are in all.
+/// An unmove, and what the search of what is before it came to.
+#[derive(Clone, Copy)]
+pub struct Looked {
+    pub unmove: Unmove,
+    pub outcome: Outcome,
+}
+
+/// The unmoves with what came of their searches, those that are left, and how many there are in all.
 #[derive(Drop)]
-pub(crate) struct Counted {
-    pub(crate) left: UnmoveList,
-    pub(crate) all: u32,
+pub struct Counted {
+    pub looked: Vec<Looked>,
+    pub left: UnmoveList,
+    pub all: u32,
 }
 
 /// The unmoves of the query whose predecessors the search doesn't refute.
@@ -30,6 +40,7 @@ pub(crate) fn retractions(
 ) -> Result<Counted, AllocError>
     requires plain { query.now.barred ≡ None }
     ensures left { IfOk result (λ r. HasLeft query.now limits.depth limits.nodes r.left) }
+    ensures looked { IfOk result (λ r. AreLooked query.now (limits.depth - 1) limits.nodes [] r.left r.looked.items) }
     ensures all { IfOk result (λ r. r.all ≡ length (unmoves query.now)) }
     ensures few { IfOk result (λ r. length r.left ≤ 143360) }
     ensures texts { IfOk result (λ r. All (λ u. IsTrue (has_text u)) r.left) }
@@ -38,6 +49,7 @@ pub(crate) fn retractions(
     unmoves_have_texts();
     last_moves_are_listed();
     let below = limits.depth.saturating_sub(1);
+    let mut looked = Vec::new(searchers.alloc);
     let mut left = UnmoveList::new(searchers.alloc);
     let mut all: u32 = 0;
     let mut unmoves = Unmoves::new(query);
@@ -49,6 +61,7 @@ pub(crate) fn retractions(
             nodes: limits.nodes,
         };
         let outcome = search_at(searchers, &before, &Claim::Illegal, nearer)?;
+        looked.push(Looked { unmove: u, outcome })?;
         if !is_refuted(outcome) {
             match left.push(u) {
                 Ok(()) => {}
@@ -56,7 +69,7 @@ pub(crate) fn retractions(
             }
         }
     }
-    Ok(Counted { left, all })
+    Ok(Counted { looked, left, all })
 }
 
 /// All these unmoves have this move.
@@ -91,20 +104,24 @@ fn one_move(left: &UnmoveList) -> Option<Move>
     }
 }
 
-/// Adds the line that this was the last move, where that is proved.
+/// Adds the line that this was the last move, which it is of all unmoves that are left, where that is proved.
 fn tell_move(
     searchers: &mut Searchers,
     query: &Query,
-    m: Move,
+    m: &Move,
+    seen: &Counted,
     limits: Limits,
     text: &mut Vec<u8>,
 ) -> Result<(), AllocError>
-    requires promotion { IsTrue (can_promote m.promo) }
+    requires promotion { IsTrue (can_promote m.now.promo) }
     requires plain { query.now.barred ≡ None }
-    ensures { OnOk result ((own : List ℕ) × TellsMove query.now limits.depth limits.nodes m own × (text.new.items ≡ text.old.items ++ own)) }
+    requires looked { AreLooked query.now (limits.depth - 1) limits.nodes [] seen.now.left seen.now.looked.items }
+    requires all { All (λ u. IsTrue (is_move (Some m.now) u.mv)) seen.now.left }
+    ensures { OnOk result ((own : List ℕ) × TellsMove query.now limits.depth limits.nodes m.now own × (text.new.items ≡ text.old.items ++ own)) }
 {
-    let claim = Claim::Last(m);
-    let finding = seek(searchers, query, &claim, limits)?;
+    let claim = Claim::Last(*m);
+    let sought = seek(searchers, query, &claim, limits)?;
+    let finding = joined_up(query, Some(*m), sought, seen, limits);
     if finding.is_proved() {
         push_found(text, finding, &claim)
     } else {
@@ -116,16 +133,17 @@ fn tell_move(
 pub(crate) fn tell_last(
     searchers: &mut Searchers,
     query: &Query,
-    left: &UnmoveList,
+    seen: &Counted,
     limits: Limits,
     text: &mut Vec<u8>,
 ) -> Result<(), AllocError>
-    requires texts { All (λ u. IsTrue (has_text u)) left.now }
+    requires texts { All (λ u. IsTrue (has_text u)) seen.now.left }
     requires plain { query.now.barred ≡ None }
-    ensures { OnOk result ((own : List ℕ) × TellsLast query.now limits.depth limits.nodes (one_move left.now) own × (text.new.items ≡ text.old.items ++ own)) }
+    requires looked { AreLooked query.now (limits.depth - 1) limits.nodes [] seen.now.left seen.now.looked.items }
+    ensures { OnOk result ((own : List ℕ) × TellsLast query.now limits.depth limits.nodes (one_move seen.now.left) own × (text.new.items ≡ text.old.items ++ own)) }
 {
-    match one_move(left) {
-        Some(m) => tell_move(searchers, query, m, limits, text),
+    match one_move(&seen.left) {
+        Some(m) => tell_move(searchers, query, &m, seen, limits, text),
         None => Ok(()),
     }
 }

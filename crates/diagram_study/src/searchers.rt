@@ -2,6 +2,7 @@ ghost use Rattle.std.specs.Prelude.{◌≡◌, ◌<◌, ◌≤◌, [], IfOk, IsT
 ghost use Rattle.price_search.specs.FlatPrices.{FlatPricesSupport};
 ghost use Rattle.retro_search.specs.Outcomes.{HasProof, IfRefuted};
 ghost use Rattle.retro_search.specs.Refutable.{IsRefutable};
+ghost use Rattle.retro_search.specs.SearchSizes.{IsLargeSearch};
 ghost use Rattle.retro_search.specs.Unsettled.{WhereRefutable};
 ghost use Rattle.retro_search.specs.declared.runs.Reasons.TheVariants.{All};
 ghost use Rattle.diagram_study.specs.Findings.{is_refuted};
@@ -11,8 +12,8 @@ use query_base::Query;
 use retro_search::{Limits, Outcome, Reasons, Searcher};
 use std::alloc::Global;
 
-/// The most moves that are taken back where the balance of captures is looked for.
-const BALANCE_DEPTH: u8 = 8;
+/// Of so many nodes one is visited where the balance of captures is looked for.
+const PRICED_SHARE: u32 = 10;
 
 /// The two searches of a study. What one question makes them keep serves the others.
 #[derive(Drop)]
@@ -35,22 +36,23 @@ impl Searchers {
     }
 
     /// Searches for a refutation of the query by rule lines; and where these leave it open, or cost too much, by the balance of captures
-    /// too, as far as eight moves back. Where flat prices support the query, and any may be visited, it is refuted.
+    /// too, as far back but with a tenth of the nodes. Where flat prices support the query, and any may be visited, it is refuted.
     pub(crate) fn refute(&mut self, query: &Query, limits: Limits) -> Result<Outcome, Memory>
         ensures refuted { IfOk result (λ outcome. IfRefuted outcome (λ height. HasProof query.now height limits.depth)) }
         ensures stays_open { IfOk result (λ outcome. outcome ≡ Outcome.Open → IsRefutable query.now limits.depth [] → ⊥) }
         ensures spent { IfOk result (λ outcome. outcome ≡ Outcome.Spent → WhereRefutable query.now limits.depth (λ n. limits.nodes < n)) }
+        ensures large { IfOk result (λ outcome. outcome ≡ Outcome.Spent → IsLargeSearch query.now limits.depth limits.nodes) }
         ensures priced { IfOk result (λ outcome. 1 ≤ limits.nodes → FlatPricesSupport query.now → IsTrue (is_refuted outcome)) }
     {
         let by_rule_lines = self.by_rule_lines.refute(query, limits)?;
         if is_refuted(by_rule_lines) {
             return Ok(by_rule_lines);
         }
-        let near = Limits {
-            depth: limits.depth.min(BALANCE_DEPTH),
-            nodes: limits.nodes,
+        let few = Limits {
+            depth: limits.depth,
+            nodes: (limits.nodes + PRICED_SHARE - 1) / PRICED_SHARE,
         };
-        let by_all = self.by_all.refute(query, near)?;
+        let by_all = self.by_all.refute(query, few)?;
         if is_refuted(by_all) {
             Ok(by_all)
         } else {

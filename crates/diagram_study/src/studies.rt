@@ -1,12 +1,17 @@
-ghost use Rattle.std.specs.Prelude.{List, ℕ, ◌≡◌, ◌++◌, IfOk, None, OnOk, Option};
+ghost use Rattle.std.specs.Prelude.{List, ℕ, ◌≡◌, ◌≤◌, ◌++◌, [], IfOk, IsTrue, None, OnOk, Option};
+ghost use Rattle.query_base.specs.Reach.{Reaches};
 ghost use Rattle.diagram_study.specs.Budgets.{IsBudget};
+ghost use Rattle.diagram_study.specs.Facts.{SaysTrue};
+ghost use Rattle.diagram_study.specs.Findings.{IsFound, is_proved};
+ghost use Rattle.diagram_study.specs.Looks.{IsSeen};
 ghost use Rattle.diagram_study.specs.Studies.{IsStudy, TellsAgain, TellsBehind, TellsLength, TellsMore, TellsOther, TellsPlain, TellsPosition, makes_demands, other_side, without_demands};
 ghost use Rattle.length_bound.specs.declared.texts.LengthText.{LengthText};
 
 use crate::findings::Finding;
 use crate::forced::tell_forced;
+use crate::joining::joined_up;
 use crate::pairs::tell_pairs;
-use crate::retractions::{retractions, tell_last};
+use crate::retractions::{Counted, retractions, tell_last};
 use crate::rights::{open_castlings, seek_rights, tell_captures, tell_castlings};
 use crate::searchers::Searchers;
 use crate::searches::seek;
@@ -32,10 +37,13 @@ fn tell_length(query: &Query, text: &mut Vec<u8>) -> Result<(), AllocError>
 fn tell_more(
     searchers: &mut Searchers,
     query: &Query,
+    seen: &Counted,
     limits: Limits,
     text: &mut Vec<u8>,
 ) -> Result<(), AllocError>
     requires plain { query.now.barred ≡ None }
+    requires seen { IsSeen query.now limits.depth limits.nodes seen.now }
+    requires array { 1 ≤ limits.depth → seen.now.left ≡ [] → Reaches [] query.now }
     ensures { OnOk result ((own : List ℕ) × TellsMore query.now limits.depth limits.nodes own × (text.new.items ≡ text.old.items ++ own)) }
 {
     let found = seek_rights(searchers, query, limits)?;
@@ -43,10 +51,9 @@ fn tell_more(
     tell_castlings(text, found.as_slice())?;
     tell_pairs(searchers, query, kept, limits, text)?;
     tell_captures(text, found.as_slice())?;
-    let retractions = retractions(searchers, query, limits)?;
-    tell_last(searchers, query, &retractions.left, limits, text)?;
-    tell_forced(searchers, query, &retractions.left, limits, text)?;
-    push_left(text, &retractions.left, retractions.all)?;
+    tell_last(searchers, query, seen, limits, text)?;
+    tell_forced(searchers, query, &seen.left, limits, text)?;
+    push_left(text, &seen.left, seen.all)?;
     tell_length(query, text)
 }
 
@@ -81,17 +88,56 @@ fn tell_behind(
     searchers: &mut Searchers,
     query: &Query,
     finding: Finding,
+    seen: &Counted,
     limits: Limits,
     text: &mut Vec<u8>,
 ) -> Result<(), AllocError>
     requires plain { query.now.barred ≡ None }
+    requires seen { IsSeen query.now limits.depth limits.nodes seen.now }
+    requires sure { 1 ≤ limits.depth → (Reaches [] query.now → ⊥) → seen.now.left ≡ [] → IsTrue (is_proved finding) }
     ensures { OnOk result ((own : List ℕ) × TellsBehind query.now limits.depth limits.nodes finding own × (text.new.items ≡ text.old.items ++ own)) }
 {
     match finding {
         Finding::Proved(_) => tell_other(searchers, query, limits, text),
-        Finding::Open => tell_more(searchers, query, limits, text),
-        Finding::Spent => tell_more(searchers, query, limits, text),
+        Finding::Open => tell_more(searchers, query, seen, limits, text),
+        Finding::Spent => tell_more(searchers, query, seen, limits, text),
     }
+}
+
+/// Adds what is found of the position by its retractions, where the search alone doesn't prove that it is illegal.
+fn tell_seen(
+    searchers: &mut Searchers,
+    query: &Query,
+    sought: Finding,
+    limits: Limits,
+    text: &mut Vec<u8>,
+) -> Result<Finding, AllocError>
+    requires plain { query.now.barred ≡ None }
+    requires sought { IsFound query.now Claim.Illegal limits.depth limits.nodes sought }
+    ensures { IfOk result (λ finding. (own : List ℕ) × TellsPosition query.now limits.depth limits.nodes finding own × (text.new.items ≡ text.old.items ++ own)) }
+{
+    let seen = retractions(searchers, query, limits)?;
+    let finding = joined_up(query, None, sought, &seen, limits);
+    push_found(text, finding, &Claim::Illegal)?;
+    tell_behind(searchers, query, finding, &seen, limits, text)?;
+    Ok(finding)
+}
+
+/// Adds that the position is illegal, and what is found with the other side to move.
+fn tell_illegal(
+    searchers: &mut Searchers,
+    query: &Query,
+    finding: Finding,
+    limits: Limits,
+    text: &mut Vec<u8>,
+) -> Result<(), AllocError>
+    requires plain { query.now.barred ≡ None }
+    requires found { IsFound query.now Claim.Illegal limits.depth limits.nodes finding }
+    requires proved { IsTrue (is_proved finding) }
+    ensures { OnOk result ((own : List ℕ) × TellsPosition query.now limits.depth limits.nodes finding own × (text.new.items ≡ text.old.items ++ own)) }
+{
+    push_found(text, finding, &Claim::Illegal)?;
+    tell_other(searchers, query, limits, text)
 }
 
 /// Adds what is found of the position: whether it is illegal, and what follows.
@@ -104,10 +150,12 @@ fn tell_position(
     requires plain { query.now.barred ≡ None }
     ensures { IfOk result (λ finding. (own : List ℕ) × TellsPosition query.now limits.depth limits.nodes finding own × (text.new.items ≡ text.old.items ++ own)) }
 {
-    let finding = seek(searchers, query, &Claim::Illegal, limits)?;
-    push_found(text, finding, &Claim::Illegal)?;
-    tell_behind(searchers, query, finding, limits, text)?;
-    Ok(finding)
+    let sought = seek(searchers, query, &Claim::Illegal, limits)?;
+    if !sought.is_proved() {
+        return tell_seen(searchers, query, sought, limits, text);
+    }
+    tell_illegal(searchers, query, sought, limits, text)?;
+    Ok(sought)
 }
 
 /// The query demands a right, a last move or a clock.
@@ -172,12 +220,15 @@ fn tell_again(
 }
 
 /// The study of the position: its text has a line for each fact. For each claim `most` moves are taken back at most, 0 to 64, and each
-/// search visits at most `nodes` queries, 1 to 500,000: by rule lines, and, where these settle nothing, by the balance of captures too, as
-/// far as eight moves back. The query bars no move of its own.
+/// search visits at most `nodes` queries, 1 to 500,000: by rule lines, and, where these settle nothing, by the balance of captures too. The
+/// query bars no move of its own.
 ///
-/// - `proved D` before a claim says that it holds of every game, and that D is the least depth at which the search proves it; `open`
-///   that rule lines don't refute its target at `most` nor at any lower depth; `spent` that a search with so many nodes can't tell.
-/// - First comes what was found of the claim `illegal`. Where that is proved, every claim about the position holds, so nothing more is
+/// - `proved D` before a claim says that it holds of every game, and that D is the least depth at which the search proves it, 0 where
+///   flat prices support its target; `open` that rule lines don't refute its target at `most` nor at any lower depth; `spent` that the
+///   whole search is larger than the nodes.
+/// - First comes what was found of the claim `illegal`. Where the search alone leaves that open, but refutes what is before each retraction,
+///   it is proved all the same, at one more than the greatest depth there; but not with no move taken back, nor of the array. So is the
+///   claim that a move was the last, where no other is left. Where `illegal` is proved, every claim about the position holds, so nothing more is
 ///   told of it but what was found of the same board with the other side to move. Where it makes demands, it is studied once more
 ///   without them, behind a line that says so.
 /// - Else come the castlings that it seems to give and doesn't demand; each two of them of which neither is proved to be lost; the
@@ -187,7 +238,8 @@ fn tell_again(
 pub fn study(alloc: Global, query: &Query, most: u8, nodes: u32) -> Result<Vec<u8>, AllocError>
     requires plain { query.now.barred ≡ None }
     requires budget { IsBudget most nodes }
-    ensures { IfOk result (λ text. IsStudy query.now most nodes text.items) }
+    ensures study { IfOk result (λ text. IsStudy query.now most nodes text.items) }
+    ensures true_ { IfOk result (λ text. SaysTrue query.now text.items) }
 {
     let limits = Limits { depth: most, nodes };
     let mut searchers = Searchers::new(alloc);

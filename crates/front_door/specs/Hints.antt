@@ -50,14 +50,14 @@ status_of (Fen advice) = BadInput
 status_of (Moves advice) = Refused
 status_of (Texts advice) = Refused
 
--- What the advice tells of the words is so.
+-- What three kinds of advice tell of the words is so; what the others tell isn't said here.
 abbrev pub TellsWords : WordAdvice → List (String Global) → Type 0
 TellsWords StandsAlone words = Begin words (codes "--help") ⊎ Begin words (codes "--version")
 TellsWords NoCommand words = NameCommand words → ⊥
 TellsWords NearestCommand words = NameCommand words → ⊥
 TellsWords advice words = Unit {0}
 
--- What the advice tells of the lines of an input is so.
+-- What the advice on an empty input tells is so; what the others tell of the lines isn't said here.
 abbrev pub TellsLines : LineAdvice → List ℕ → Type 0
 TellsLines Empty input = input ≡ []
 TellsLines advice input = Unit {0}
@@ -77,8 +77,8 @@ TellsText CarriageReturns input = HasReturns input
 TellsText ReturnsToExplain input = HasReturns input
 TellsText PositionToExplain input = Unit {0}
 
--- What the advice tells is so. Of a FEN line advice comes only where the answer names a field of it, of a refused text only where it
--- refuses a word or a ply of a game, or the first line of a certificate.
+-- What the advice takes the run for. Of words and of lines it says what stands above. Of a FEN line advice comes only where the answer
+-- names a field of it, of a refused text only where it refuses a word or a ply of a game, or the first line of a certificate.
 abbrev pub Concerns : Advice → List (String Global) → List ℕ → List ℕ → Type 0
 Concerns (Words advice) words input answer = TellsWords advice words
 Concerns (Lines advice) words input answer = TellsLines advice input

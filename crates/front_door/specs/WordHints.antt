@@ -8,7 +8,7 @@ use Rattle.front_door.specs.declared.advice.WordAdvice.{WordAdvice}
 use Rattle.front_door.specs.declared.advice.WordAdvice.TheVariants.{NearestCommand}
 use Rattle.front_door.specs.declared.hints.Hint.{Hint}
 
--- the hint is one on words, and what it tells of these is so
+-- the hint is one on words, and fits these
 abbrev pub IsOfWords : Hint → List (String Global) → Type 0
 IsOfWords hint words = (advice : WordAdvice) × (hint.advice ≡ Words advice) × TellsWords advice words
 

@@ -157,7 +157,8 @@ pub fn advise(
     status: Status,
     answer: &[u8],
 ) -> Option<Hint>
-    // What a hint tells goes with the run, and is so.
+    // A hint goes with the run's status and with the words, the input or the answer that it takes the run for. What its text tells of
+    // them is so of three kinds of advice on words, and of an empty input; of the other kinds this says nothing.
     ensures fits { IfSome result (λ hint. GoesWith hint.advice words.now input.now status answer.now) }
 
     // One comes at all bad words and all bad input, and is one on the FEN line exactly where the answer names a field of this.

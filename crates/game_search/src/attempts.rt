@@ -284,8 +284,8 @@ impl Search {
     }
 
     /// How many queries the attempt looked at.
-    pub fn looked_at(&self) -> usize {
-        self.visited.len()
+    pub fn looked_at(&self) -> u32 {
+        self.visited.len().min(NONE as usize) as u32
     }
 }
 

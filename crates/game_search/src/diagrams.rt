@@ -152,7 +152,7 @@ fn demands_key(query: &Query) -> u64 {
 pub fn query_key(query: &Query, diagram: &Diagram) -> u64 {
     let mut key = diagram.white.key();
     for part in [diagram.black.key(), demands_key(query)] {
-        key = (key ^ part).wrapping_mul(0xbf58_476d_1ce4_e5b9);
+        key = (key.rotate_left(27) ^ part).wrapping_mul(0xbf58_476d_1ce4_e5b9);
         key ^= key >> 31;
     }
     key.wrapping_mul(0x94d0_49bb_1331_11eb)

@@ -18,4 +18,4 @@ mod valuing;
 mod walls;
 mod wants;
 
-pub use finding::{FEW_QUERIES, MOST_QUERIES, find_game};
+pub use finding::{FEW_QUERIES, Hunt, MOST_QUERIES, find_game};

@@ -27,6 +27,9 @@ pub const KING_BARRED: u32 = 10;
 /// From how many buckets one is drawn.
 pub const SPAN: usize = 96;
 
+/// Of how many shares the attempts have theirs.
+pub const SHARES: u32 = 20;
+
 /// The prices of an attempt, and how it goes about.
 #[derive(Clone, Copy)]
 pub struct Setting {
@@ -51,7 +54,7 @@ pub struct Setting {
     pub explores: u32,
     /// What the numbers begin with that are drawn.
     pub seed: u64,
-    /// How many twentieths of all queries the attempt may look at.
+    /// How many shares of all queries the attempt may look at.
     pub share: u32,
 }
 

@@ -1,11 +1,11 @@
 -- A figure's man who comes to a square comes by an entry that is empty afterwards; by a plain one where he is rightly marked.
-use Rattle.std.proofs.Common.{◌≡◌, ◌≢◌, ℕ, ◌<◌, ◌==◌, ◌⊎◌, inl, inr, Bool, true, false, not, List, [], ◌∷◌, ◌++◌, refl, ap, sym, ◌∙◌, subst, arith}
+use Rattle.std.proofs.Common.{◌≡◌, ◌≢◌, ℕ, ◌<◌, ◌==◌, ◌⊎◌, inl, inr, Bool, true, false, not, List, [], ◌∷◌, ◌++◌, refl, ap, sym, ◌∙◌, subst}
 use Rattle.std.proofs.lemmas.Bool.{and_parts, both_ways, cases_Bool, cond-true, cond-false, eqb-true, false_from_ne_true, not-true, or_cases, or_left, or_right}
 use Rattle.std.proofs.lemmas.List.{append-nil, append_assoc}
 use Rattle.std.specs.Prelude.{Option, Some, None}
 use Rattle.std.specs.List.{list_any}
 use Rattle.board_base.specs.Board.{Places, array_of, at, file, is_a, is_empty, is_of, rank, same_kind}
-use Rattle.board_base.specs.Attacks.{attacks_from, distance, files_apart, kind_attacks}
+use Rattle.board_base.specs.Attacks.{attacks_from, kind_attacks}
 use Rattle.board_base.specs.Play.{castling, promoted}
 use Rattle.board_base.specs.Legal.{castles_as, king_castles, last_rank, man_moves, pawn_captures, pawn_captures_en_passant, pawn_doubles, pawn_steps}
 use Rattle.board_base.specs.Game.{IsGame, board_after, turn_after, last_move, unmoved}
@@ -36,6 +36,7 @@ use Rattle.men_fates.proofs.Treads.{Tread, capture, double, one-trodden, single}
 use Rattle.men_ledger.proofs.Facing.{straight-both}
 use Rattle.past_sketches.specs.Figures.{Figure, may_be}
 use Rattle.past_sketches.specs.Fits.{is_plain}
+use Rattle.past_sketches.proofs.Quiet.{files-differ, promoted-colour}
 use Rattle.past_account.specs.Frozen.{enters_as, figure_enters}
 
 -- one of the figure's kinds
@@ -70,10 +71,6 @@ promoted-as : (promo : Option Kind) (man : Man) → promoted promo (Some man) �
 promoted-as None man = refl
 promoted-as (Some k) man = refl
 
-pub keeps-colour : (promo : Option Kind) (man : Man) → (promoted_man promo man).colour ≡ man.colour
-keeps-colour None man = refl
-keeps-colour (Some k) man = refl
-
 any-access : (board : Places) (f : Figure) (m : Move) (man : Man) → f.marked ≡ false → (promoted_man m.promo man).colour ≡ f.colour → may_be f (promoted_man m.promo man).kind ≡ true → Entry board (promoted m.promo (Some man)) m.from m.to → Access board f m.from m.to
 any-access board f m man unmarked colour kind way =
     let n : Man = promoted_man m.promo man in
@@ -102,16 +99,12 @@ inner-last : (c : Colour) (s : ℕ) → is_end s ≡ false → (rank s == last_r
 inner-last White s inner = false_from_ne_true (rank s == 7) (λ last. both_ways (is_end s) inner (or_right (rank s == 0) (rank s == 7) last))
 inner-last Black s inner = false_from_ne_true (rank s == 0) (λ last. both_ways (is_end s) inner (or_left (rank s == 0) (rank s == 7) last))
 
-aslant : (s t : ℕ) → files_apart s t ≡ 1 → file s ≡ file t → ⊥
-unfolding distance
-aslant s t one same = omega arith
-
 -- a pawn who treads straight on comes by the square behind
 tread-enters : (board : Places) (c : Colour) (m : Move) → m.from < 64 → m.to < 64 → is_end m.from ≡ false → is_end m.to ≡ false → is_straight m.from (squares_trodden m) ≡ true → Tread board c m → PlainWay board c Pawn m.from m.to
 tread-enters board c m f t inner outer straight (single one ahead same free) = step-enters board c m.from m.to f t ahead same inner (inner-last c m.to outer)
 tread-enters board c m f t inner outer straight (double two home same crossed free) = double-enters-plain board c m.from m.to t home same two crossed
 tread-enters board c m f t inner outer straight (capture one ahead aside enemy) =
-    absurd (aslant m.from m.to aside (eqb-true (file m.from) (file m.to) (and_parts (file m.from == file m.to) (is_straight m.to []) (ap (is_straight m.from) (sym (one-trodden m one)) ∙ straight)).0))
+    absurd (files-differ m.from m.to aside (eqb-true (file m.from) (file m.to) (and_parts (file m.from == file m.to) (is_straight m.to []) (ap (is_straight m.from) (sym (one-trodden m one)) ∙ straight)).0))
 
 -- a straight way began straight
 pub straight-begins : (o : List Bool) (l : ℕ) (after k : List Move) → is_straight l (way_of o (k ++ after) l) ≡ true → is_straight l (way_of o k l) ≡ true
@@ -145,7 +138,7 @@ module _ (o : List Bool) (k : List Move) (m : Move) (f : Figure) (l : ℕ) (man 
   side = colour_is c man.colour (sym (ap (is_of c) there) ∙ legal.mover)
 
   side-figure : c ≡ f.colour
-  side-figure = side ∙ sym (keeps-colour m.promo man) ∙ colour
+  side-figure = side ∙ sym (promoted-colour m.promo man) ∙ colour
 
   pawn-access : f.marked ≡ true → same_kind Pawn n.kind ≡ true → is_straight l (way_of o (k ++ m ∷ []) l) ≡ true → Access board f m.from m.to
   pawn-access marked pawn straight =

@@ -1,4 +1,5 @@
 -- Small sketches that an account closes, or in which it forces a mark.
+use Rattle.std.specs.Prelude.{replicate}
 use Rattle.std.proofs.Common.{◌≡◌, ℕ, ◌==◌, Bool, true, false, ◌||◌, not, List, [], ◌∷◌, refl, arith}
 use Rattle.std.proofs.lemmas.Bool.{both_ways}
 use Rattle.general_lemmas.proofs.Lists.{contains-none}
@@ -12,10 +13,10 @@ use Rattle.board_base.specs.declared.men.Kind.TheVariants.{Pawn, King}
 use Rattle.board_base.specs.declared.moves.Move.{Move}
 use Rattle.board_base.proofs.Without.{in-none}
 use Rattle.assignment.specs.Assignments.{injections, least_cost}
+use Rattle.capture_prices.specs.Prices.{PriceList, priced}
 use Rattle.cage_rules.specs.Sets.{squares_that}
 use Rattle.balance_rule.specs.Balance.{most_cost}
 use Rattle.balance_rule.specs.Costs.{ways_from, ways_with_len}
-use Rattle.balance_rule.specs.EqualPrices.{equal_prices}
 use Rattle.past_sketches.specs.Figures.{Figure, Sketch}
 use Rattle.past_sketches.specs.Moments.{FitsGame}
 use Rattle.past_account.specs.Account.{against, by_marks, figure_comes, figure_row, figure_table, figures_cost, lost_row}
@@ -23,6 +24,10 @@ use Rattle.past_account.specs.Closes.{Forces, costs}
 use Rattle.past_account.specs.Limits.{pawn_comes}
 use Rattle.past_account.specs.Zones.{room_past}
 use Rattle.past_account.proofs.Closed.{closed-unfit}
+
+-- each capture by a pawn has the price 24, and there are no gates
+abbrev equal_prices : PriceList
+equal_prices = priced (replicate 16 24) (replicate 16 24) []
 
 -- the array without all men but the kings and the white pawn of a2
 one_pawn : List Bool

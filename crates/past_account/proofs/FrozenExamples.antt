@@ -7,11 +7,11 @@ use Rattle.std.specs.List.{list_all, range_with_len}
 use Rattle.general_lemmas.proofs.Ranges.{all_in_range}
 use Rattle.board_base.specs.Board.{array_of, at, initial_array, is_in, man, no_odds}
 use Rattle.board_base.specs.Attacks.{distance, kind_attacks, king_distance, on_the_way, toward}
-use Rattle.board_base.specs.Rights.{no_rights}
+use Rattle.board_base.specs.Rights.{Rights, no_rights}
 use Rattle.board_base.specs.declared.men.Colour.TheVariants.{White, Black}
-use Rattle.board_base.specs.declared.men.Kind.TheVariants.{Pawn, Bishop, Rook}
+use Rattle.board_base.specs.declared.men.Kind.TheVariants.{Pawn, Bishop, Rook, King}
 use Rattle.board_base.specs.declared.men.Man.{Man}
-use Rattle.cage_rules.specs.Frozen.{is_entry, is_plain_entry}
+use Rattle.cage_rules.specs.Frozen.{is_entry, is_held_home, is_plain_entry}
 use Rattle.cage_rules.specs.Regions.{walls}
 use Rattle.cage_rules.specs.Sets.{squares_that}
 use Rattle.cage_rules.proofs.Filling.{in-that, is_in-that}
@@ -78,6 +78,24 @@ in-corner = refl
 rook-begins : at (array_of no_odds) 0 ≡ man White Rook
 unfolding array_of initial_array
 rook-begins = refl
+
+-- a king at home whose right is held is frozen by himself
+king_e1 : Figure
+king_e1 = record { colour = White; kinds = King ∷ []; squares = only_on 4; marked = false; place = 0 }
+
+may_castle : Rights
+may_castle = record { white_short = true; white_long = false; black_short = false; black_long = false }
+
+fixed_on-e1 : is_fixed_on 4 king_e1 ≡ true
+unfolding king_e1 squares_that
+fixed_on-e1 = refl
+
+held-e1 : is_held_home may_castle 4 ≡ true
+unfolding may_castle
+held-e1 = refl
+
+king-frozen : IsFrozenIn may_castle (king_e1 ∷ []) (only_on 4)
+king-frozen s member = subst (IsBarred may_castle (king_e1 ∷ []) (only_on 4)) (sym (eqb-true s 4 (in-that (λ t. t == 4) s member).1)) (record { number = 0; figure = king_e1; there = refl; fixed = fixed_on-e1; barred = inl held-e1 })
 
 white-black : White ≡ Black → ⊥
 white-black e = cc

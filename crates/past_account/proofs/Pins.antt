@@ -35,7 +35,8 @@ use Rattle.balance_rule.proofs.OnBoard.{labelled-inside}
 use Rattle.men_fates.proofs.Brought.{piece-keeps}
 use Rattle.past_sketches.specs.Figures.{Figure, Sketch, is_fixed_on, may_be}
 use Rattle.past_sketches.specs.Fits.{Fits, IsManOf, is_plain}
-use Rattle.past_account.specs.Frozen.{AreBegun, AreHeld, IsFrozenIn, enters_as, figure_enters}
+use Rattle.past_sketches.specs.Moments.{AreHeld}
+use Rattle.past_account.specs.Frozen.{AreBegun, IsFrozenIn, enters_as, figure_enters}
 use Rattle.past_account.proofs.Accesses.{Access, access, figure-enters, plain-begins}
 
 -- the man of a fixed figure of the set, on his square at the end

@@ -32,10 +32,6 @@ pub record IsBarred (held : Rights) (S : Sketch) (set : List Bool) (s : ℕ) : T
 abbrev pub IsFrozenIn : Rights → Sketch → List Bool → Type 0
 IsFrozenIn held S set = (s : ℕ) → IsTrue (is_in set s) → IsBarred held S set s
 
--- Article 3.8: the rights are held after these moves
-abbrev pub AreHeld : List Bool → List Move → Rights → Type 0
-AreHeld o g held = (x : Castle) → IsTrue (holds held x) → IsTrue (unmoved o g x)
-
 -- the array has on s a man whom this figure may stand for
 abbrev pub IsBegun : List Bool → ℕ → Figure → Type 0
 IsBegun o s f = (m : Man) × (at (array_of o) s ≡ Some m) × (m.colour ≡ f.colour) × IsTrue (may_be f m.kind)

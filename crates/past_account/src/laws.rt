@@ -1,6 +1,5 @@
 ghost use Rattle.std.specs.Prelude.{ℕ, ◌≡◌, ◌<◌, Bool, IsTrue, List, Option, []};
 ghost use Rattle.board_base.specs.Board.{is_in};
-ghost use Rattle.board_base.specs.Game.{IsGame};
 ghost use Rattle.board_base.specs.Rights.{Rights};
 ghost use Rattle.board_base.specs.declared.men.Man.{Man as AMan};
 ghost use Rattle.board_base.specs.declared.moves.Move.{Move};
@@ -14,7 +13,7 @@ ghost use Rattle.past_sketches.specs.Fits.{Fits, MayBeMarked};
 ghost use Rattle.past_sketches.specs.Moments.{FitsGame};
 ghost use Rattle.past_account.specs.Account.{IsClosedBy, IsForcedBy};
 ghost use Rattle.past_account.specs.Closes.{Closes, Forces};
-ghost use Rattle.past_account.specs.Frozen.{AreBegun, AreHeld, IsFrozenIn};
+ghost use Rattle.past_account.specs.Frozen.{AreBegun, IsFrozenIn};
 ghost use Rattle.past_account.specs.Refuted.{Refuted};
 ghost use Rattle.past_account.specs.Zones.{room_past};
 
@@ -30,7 +29,7 @@ pub fn accounts_hold()
 /// a home of a right that is held, or shut in by the set as far as his mark lets him come, is one where men stay (`stay`); and where the
 /// men of squares of fixed figures stay, the array had them there (`begun`).
 pub fn frozen_figures_stay()
-    ensures stay { (o : List Bool) (g : List Move) (S : Sketch) (held : Rights) (set : List Bool) → IsGame o g → Fits o g S → AreHeld o g held → IsFrozenIn held S set → Walled o g set }
+    ensures stay { (o : List Bool) (g : List Move) (S : Sketch) (held : Rights) (set : List Bool) → FitsGame o g held S → IsFrozenIn held S set → Walled o g set }
     ensures begun { (o : List Bool) (g : List Move) (S : Sketch) (set : List Bool) → Fits o g S → Walled o g set → AreBegun o S set }
 {}
 

@@ -24,7 +24,7 @@ use Rattle.men_account.proofs.Moved.{moved_from}
 use Rattle.men_account.proofs.Origins.{Came, moved_here, promoted_man, stayed, with_the_king}
 use Rattle.cage_rules.specs.Regions.{walls}
 use Rattle.cage_rules.proofs.Goings.{IsPiece, went}
-use Rattle.cage_rules.proofs.Stays.{castle-from, rook-comes, whence}
+use Rattle.cage_rules.proofs.Stays.{castle-from, crossed-away, rook-comes, whence}
 use Rattle.past_sketches.specs.Closed.{is_loose, is_quiet_way, is_unguarded}
 use Rattle.past_sketches.specs.Figures.{Figure, Sketch, figure_at, fixed_squares, is_fixed_on, may_be}
 use Rattle.past_sketches.specs.Touching.{touched_squares}
@@ -32,7 +32,6 @@ use Rattle.past_sketches.specs.Fits.{IsManOf}
 use Rattle.past_sketches.proofs.Sketches.{fixed-there}
 use Rattle.past_sketches.proofs.Between.{past-walls}
 use Rattle.past_sketches.proofs.Touching.{king-attacks, king-by, touched-attacked, touched-next}
-use Rattle.past_sketches.proofs.Homes.{crossed-away}
 use Rattle.past_sketches.proofs.Moments.{Moment, fixed-man, legal}
 use Rattle.past_sketches.proofs.Quiet.{from-free, king-apart, king-untouched, loose-target, mover-colour, next-back, there-before, unguarded}
 

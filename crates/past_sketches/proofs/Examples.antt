@@ -215,7 +215,7 @@ unfolding cornered fixed_squares squares_that kind_attacks distance king_distanc
 cornered-never = stuck-never (squares_that (is_spot (0 ∷ 9 ∷ []))) cornered refl refl refl refl
 
 -- White's king on g1 or h1 behind a bishop on f1 and pawns on e2 to h2 can't have passed them: he has only been on g1 and h1.
-past_pawns : List Drawn
+abbrev pub past_pawns : List Drawn
 past_pawns =
     record { colour = White; kind = Bishop; spots = Some (5 ∷ []); place = 0 } ∷
     record { colour = White; kind = King; spots = Some (6 ∷ 7 ∷ []); place = 0 } ∷
@@ -226,5 +226,5 @@ past_pawns =
     record { colour = Black; kind = King; spots = None; place = 7 } ∷ []
 
 past_pawns-never : (p : List Move) → FitsGame no_odds p no_rights (drawn past_pawns) → ⊥
-unfolding past_pawns fixed_squares squares_that kind_attacks distance king_distance on_the_way toward walls may_be_array array_of initial_array
+unfolding fixed_squares squares_that kind_attacks distance king_distance on_the_way toward walls may_be_array array_of initial_array
 past_pawns-never = stuck-never (squares_that (is_spot (5 ∷ 12 ∷ 13 ∷ 14 ∷ 15 ∷ []))) past_pawns refl refl refl refl

@@ -1,4 +1,3 @@
-mod Examples
 pub mod Sketches
 pub mod Wider
 pub mod Wanted
@@ -24,3 +23,4 @@ pub mod Knowing
 pub mod Queries
 pub mod Listed
 pub mod Drawn
+pub mod Examples

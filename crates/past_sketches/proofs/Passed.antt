@@ -3,7 +3,7 @@ use Rattle.std.proofs.Common.{◌≡◌, ◌≢◌, ℕ, ◌+◌, ◌<◌, inl, 
 use Rattle.play_rules.proofs.Ends.{no_pawn_on_ends}
 use Rattle.play_rules.specs.Laws.{is_end}
 use Rattle.past_sketches.proofs.Order.{other-rank}
-use Rattle.past_sketches.proofs.Homes.{inner}
+use Rattle.cage_rules.proofs.PawnEntries.{inner}
 use Rattle.past_sketches.proofs.Quiet.{calm-now, files-differ}
 use Rattle.std.proofs.lemmas.Bool.{and_left, and_parts, and_from, and_right, both_ways, eqb-true, eq-eqb, cases_eq, false_from_ne_true, ne_eqb}
 use Rattle.std.proofs.lemmas.Option.{none-some, same_Some}

@@ -30,7 +30,7 @@ use Rattle.men_account.proofs.Captured.{opponent-differs}
 use Rattle.men_account.proofs.Origins.{Came, moved_here, promoted_man, stayed, with_the_king}
 use Rattle.cage_rules.specs.Frozen.{is_next, is_past_home}
 use Rattle.cage_rules.specs.Regions.{walls}
-use Rattle.cage_rules.proofs.Stays.{Untouched}
+use Rattle.cage_rules.proofs.Stays.{Untouched, target-away}
 use Rattle.men_fates.proofs.Treads.{Tread, capture, crosses-ahead, double, single, tread}
 use Rattle.past_sketches.specs.Closed.{goes_past, has_room, is_loose, is_quiet_way, is_unguarded, pawn_goes}
 use Rattle.past_sketches.specs.Figures.{Figure, Sketch, figure_at, fixed_squares, may_be}
@@ -41,7 +41,7 @@ use Rattle.past_sketches.proofs.Sketches.{each-figure, each-kind, fixed-there}
 use Rattle.past_sketches.proofs.Between.{past-walls}
 use Rattle.past_sketches.proofs.Touching.{AreThere, ManThere, king-attacks, king-by, king-in-check, near-hit, touched-attacked, touched-next}
 use Rattle.past_sketches.proofs.Order.{Sides, other-rank, room-by, step-sides, then-sides}
-use Rattle.past_sketches.proofs.Homes.{pawn-past, target-away, two-steps}
+use Rattle.past_sketches.proofs.Homes.{pawn-past, two-steps}
 use Rattle.past_sketches.proofs.Moments.{LastMan, Moment, earlier, fixed-man, from-not-to, from-within, inside, legal, man-of, size}
 use Rattle.past_sketches.proofs.Wider.{man-inside}
 use Rattle.past_sketches.specs.Moments.{IsCalm}
@@ -66,7 +66,7 @@ officer-hits board c rights last m man there piece none (takes h) = absurd (both
 officer-hits board c rights last m man there piece none (passes h) = absurd (both_ways _ (ap (is_a Pawn) there ∙ piece) (and_parts _ _ (and_parts _ _ h).0).0)
 officer-hits board c rights last m man there piece none (castles h) = absurd (both_ways false refl (subst (λ (x : Option Castle). castles_as board c rights x ≡ true) none h))
 
-promoted-colour : (promo : Option Kind) (man : Man) → (promoted_man promo man).colour ≡ man.colour
+pub promoted-colour : (promo : Option Kind) (man : Man) → (promoted_man promo man).colour ≡ man.colour
 promoted-colour None man = refl
 promoted-colour (Some k) man = refl
 

@@ -58,9 +58,6 @@ only-kind j k e = or_left _ _ (ap (λ (i : Kind). same_kind i k) e ∙ same_kind
 pub only-on : (s t : ℕ) → t < 64 → s ≡ t → is_in (only_on s) t ≡ true
 only-on s t inside e = is_in-that (λ u. u == s) t inside ∙ eq-eqb t s (sym e)
 
-pub on-only : (s t : ℕ) → is_in (only_on s) t ≡ true → t ≡ s
-on-only s t h = eqb-true t s (in-that (λ u. u == s) t h).1
-
 -- who is fixed on a square has no other
 pub fixed-there : (s t : ℕ) (f : Figure) → is_fixed_on s f ≡ true → t < 64 → is_in f.squares t ≡ true → t ≡ s
 fixed-there s t f fixed inside member =

@@ -13,10 +13,14 @@ use Rattle.past_sketches.specs.Fits.{Fits}
 use Rattle.past_sketches.specs.Touching.{touches}
 use Rattle.past_sketches.specs.Steps.{Step, is_step, taken_back}
 
+-- Article 3.8: the rights are held after these moves
+abbrev pub AreHeld : List Bool → List Move → Rights → Type 0
+AreHeld o p held = (x : Castle) → IsTrue (holds held x) → IsTrue (unmoved o p x)
+
 -- the sketch fits after these moves of a game, in which these rights are held
 pub record FitsGame (o : List Bool) (p : List Move) (held : Rights) (T : Sketch) : Type 0 where
   pub game : IsGame o p
-  pub rights : (x : Castle) → IsTrue (holds held x) → IsTrue (unmoved o p x)
+  pub rights : AreHeld o p held
   pub fits : Fits o p T
 
 -- on this board no man of this colour touches the square of the enemy king, as it is where his side is to move (article 3.9)

@@ -72,11 +72,12 @@ abbrev pub may_have_gone : List Bool → Sketch → Figure → Step → Bool
 may_have_gone exact T f x =
     is_in exact (file x.from) && has_squares T f x && may_be f Pawn && not (rank x.to == last_rank f.colour) && goes_straight f.colour x.from x.to && keeps_place T f x
 
+-- the figure, if there is one, has made it or gone so
 abbrev pub made_by : List Bool → Sketch → Option Figure → Step → Bool
 made_by exact T None x = false
 made_by exact T (Some f) x = may_have_made T f x || may_have_gone exact T f x
 
--- it is a step of the sketch, where these files are exact
+-- it is a step of the sketch, if these files are exact
 unfoldable pub is_step : List Bool → Sketch → Step → Bool
 is_step exact T x = made_by exact T (figure_at T x.by) x
 
@@ -93,6 +94,7 @@ abbrev pub steps_between : Sketch → ℕ → ℕ → ℕ → List Step
 steps_between T i s t =
     flat_map (λ k. flat_map (λ passing. map (λ n. record { by = i; from = s; to = t; taken = k; passing = passing; place = n }) (all_places T)) (true ∷ false ∷ [])) all_taken
 
+-- what each figure may have done as a pawn between any two squares
 abbrev pub all_steps : Sketch → List Step
 all_steps T = flat_map (λ i. flat_map (λ s. flat_map (steps_between T i s) (range_with_len 0 64)) (range_with_len 0 64)) (range_with_len 0 (length T))
 
@@ -100,8 +102,8 @@ all_steps T = flat_map (λ i. flat_map (λ s. flat_map (steps_between T i s) (ra
 unfoldable pub steps_of : List Bool → Sketch → List Step
 steps_of exact T = filter (is_step exact T) (all_steps T)
 
--- Nobody else stood on these squares before the step: its origin, its target and what a double step crosses; and where it was en passant,
--- those to which and from which the other pawn had gone.
+-- Nobody else stood on these squares before the step: its origin, its target, what a double step crosses; and, if it was en passant, those
+-- to which and from which the other pawn had gone.
 abbrev pub is_cleared : Colour → Step → ℕ → Bool
 is_cleared c x s = (s == x.from) || (s == x.to) || ((ranks_apart x.from x.to == 2) && (s == on_the_way x.from x.to 1)) || (x.passing && ((s == behind c x.to) || (s == ahead c x.to)))
 
@@ -113,6 +115,7 @@ bystander c x f = record f { squares = squares_that (λ s. is_in f.squares s && 
 abbrev pub pawn_before : Step → Figure → Figure
 pawn_before x f = record { colour = f.colour; kinds = Pawn ∷ []; squares = only_on x.from; marked = f.marked; place = 2 * x.place }
 
+-- the enemy of this kind on s, next in place to the one who took him
 abbrev pub victim_on : Figure → Kind → ℕ → Figure
 victim_on f k s = record { colour = opponent f.colour; kinds = k ∷ []; squares = only_on s; marked = false; place = 2 * f.place + 1 }
 
@@ -125,6 +128,7 @@ victims f x = cond x.passing (victim_on f Pawn (ahead f.colour x.to) ∷ []) (ta
     taken_man None = []
     taken_man (Some k) = victim_on f k x.to ∷ []
 
+-- each figure before the step, by his number
 abbrev pub changed_by : Colour → Step → ℕ → Figure → Figure
 changed_by c x i f = cond (i == x.by) (pawn_before x f) (bystander c x f)
 
@@ -133,6 +137,7 @@ abbrev pub onto : List Figure → Sketch → Sketch
 onto [] T = T
 onto (f ∷ S) T = f ∷ onto S T
 
+-- the victim, if there was one, and then the figures as they were, if somebody made the step
 abbrev pub back_by : Sketch → Option Figure → Step → Sketch
 back_by T None x = T
 back_by T (Some f) x = onto (victims f x) (each_changed (changed_by f.colour x) 0 T)

@@ -1,6 +1,6 @@
 -- A certificate has one text: the same is said of each node.
 use Rattle.std.proofs.Common.{◌≡◌, ℕ, Bool, inl, inr, List, [], ◌∷◌, ◌++◌, map, refl, sym, ap, ◌∙◌, subst}
-use Rattle.std.specs.Prelude.{Option}
+use Rattle.std.specs.Prelude.{Option, is_none}
 use Rattle.std.specs.List.{All}
 use Rattle.std.proofs.lemmas.Bool.{both_ways, cases_order}
 use Rattle.std.proofs.lemmas.List.Elements.{All-head, All-tail}
@@ -54,41 +54,41 @@ one-way q c a b (n, files, e, first) (m, others, f, also) h k =
 one-adds : (q : Asked) (ss ts : List Sentence) (o a b : List ℕ) → ss ≡ ts → Adds q ss o a → Adds q ts o b → a ≡ b
 one-adds q ss ts o a b same h k = h.1 ∙ ap (λ (l : List Sentence). o ++ all_words l q) same ∙ sym k.1
 
-one-rule : (q : Asked) (r : RuleLine) (o a b : List ℕ) → TellsRule q r o a → TellsRule q r o b → a ≡ b
-one-rule q rule.Kings o a b h k = h.1 ∙ sym k.1
-one-rule q rule.Ranks o a b (s, first, h) (t, also, k) =
+one-rule : (first : Bool) (q : Asked) (r : RuleLine) (o a b : List ℕ) → TellsRule first q r o a → TellsRule first q r o b → a ≡ b
+one-rule now q rule.Kings o a b h k = h.1 ∙ sym k.1
+one-rule now q rule.Ranks o a b (s, first, h) (t, also, k) =
     let same : s ≡ t = one-first (is_pawn_on_end q.board) s t first also in
     one-adds q (Ranks s ∷ []) (Ranks t ∷ []) o a b (ap (λ (x : ℕ). Ranks x ∷ []) same) h k
-one-rule q rule.Check o a b (s, first, h) (t, also, k) =
+one-rule now q rule.Check o a b (s, first, h) (t, also, k) =
     let c : Colour = opponent q.turn in
     let same : s ≡ t = one-first (is_king_attacked q.board c) s t first also in
     one-adds q (Check c s ∷ []) (Check c t ∷ []) o a b (ap (λ (x : ℕ). Check c x ∷ []) same) h k
-one-rule q rule.Rights o a b (x, first, h) (y, also, k) =
+one-rule now q rule.Rights o a b (x, first, h) (y, also, k) =
     let same : x ≡ y = same_Some x y (sym first ∙ also) in
     one-adds q (Rights x ∷ []) (Rights y ∷ []) o a b (ap (λ (z : Castle). Rights z ∷ []) same) h k
-one-rule q (rule.Count c) o a b (pawns, together, began, h) (men, sum, start, k) =
+one-rule now q (rule.Count c) o a b (pawns, together, began, h) (men, sum, start, k) =
     let p : pawns ≡ men = h.0.0.0 ∙ sym k.0.0.0 in
     let t : together ≡ sum = h.0.0.1 ∙ sym k.0.0.1 in
     let s : began ≡ start = h.0.0.2 ∙ sym k.0.0.2 in
-    let same : Count c pawns together began ∷ [] ≡ Count c men sum start ∷ [] = cc in
-    one-adds q (Count c pawns together began ∷ []) (Count c men sum start ∷ []) o a b same h k
-one-rule q (rule.Frozen set) o a b (s, first, h) (t, also, k) =
+    let same : Count c pawns together began now ∷ [] ≡ Count c men sum start now ∷ [] = cc in
+    one-adds q (Count c pawns together began now ∷ []) (Count c men sum start now ∷ []) o a b same h k
+one-rule now q (rule.Frozen set) o a b (s, first, h) (t, also, k) =
     let same : s ≡ t = one-first (is_changed q.odds q.board set) s t first also in
     one-adds q (Caged set ∷ Changed set s ∷ []) (Caged set ∷ Changed set t ∷ []) o a b (ap (λ (x : ℕ). Caged set ∷ Changed set x ∷ []) same) h k
-one-rule q (rule.Caps c set p) o a b (way, missing, is, h) (other, lacking, was, k) =
+one-rule now q (rule.Caps c set p) o a b (way, missing, is, h) (other, lacking, was, k) =
     let w : way ≡ other = one-way q c way other is was h.0.1.0 k.0.1.0 in
     let m : missing ≡ lacking = h.0.1.1.0.1 ∙ sym k.0.1.1.0.1 in
-    let same : Settled set ∷ way ∷ Lacks (opponent c) set missing ∷ [] ≡ Settled set ∷ other ∷ Lacks (opponent c) set lacking ∷ [] = cc in
-    one-adds q (Settled set ∷ way ∷ Lacks (opponent c) set missing ∷ []) (Settled set ∷ other ∷ Lacks (opponent c) set lacking ∷ []) o a b same h k
-one-rule q (rule.Promo c set) o a b (pawns, began, h) (men, start, k) =
+    let same : Settled set ∷ way ∷ Lacks (opponent c) set missing now ∷ [] ≡ Settled set ∷ other ∷ Lacks (opponent c) set lacking now ∷ [] = cc in
+    one-adds q (Settled set ∷ way ∷ Lacks (opponent c) set missing now ∷ []) (Settled set ∷ other ∷ Lacks (opponent c) set lacking now ∷ []) o a b same h k
+one-rule now q (rule.Promo c set) o a b (pawns, began, h) (men, start, k) =
     let p : pawns ≡ men = h.0.1.1.0.0 ∙ sym k.0.1.1.0.0 in
     let s : began ≡ start = h.0.1.1.0.1 ∙ sym k.0.1.1.0.1 in
-    let same : Settled set ∷ Gone c set ∷ Promoted c set pawns began ∷ [] ≡ Settled set ∷ Gone c set ∷ Promoted c set men start ∷ [] = cc in
-    one-adds q (Settled set ∷ Gone c set ∷ Promoted c set pawns began ∷ []) (Settled set ∷ Gone c set ∷ Promoted c set men start ∷ []) o a b same h k
+    let same : Settled set ∷ Gone c set ∷ Promoted c set pawns began now ∷ [] ≡ Settled set ∷ Gone c set ∷ Promoted c set men start now ∷ [] = cc in
+    one-adds q (Settled set ∷ Gone c set ∷ Promoted c set pawns began now ∷ []) (Settled set ∷ Gone c set ∷ Promoted c set men start now ∷ []) o a b same h k
 
-one-reason : (q : Asked) (r : Reason) (o a b : List ℕ) → TellsReason q r o a → TellsReason q r o b → a ≡ b
-one-reason q (Line r) o a b h k = one-rule q r o a b h k
-one-reason q (Balance set p) o a b (white, black, h) (bright, dark, k) =
+one-reason : (first : Bool) (q : Asked) (r : Reason) (o a b : List ℕ) → TellsReason first q r o a → TellsReason first q r o b → a ≡ b
+one-reason now q (Line r) o a b h k = one-rule now q r o a b h k
+one-reason now q (Balance set p) o a b (white, black, h) (bright, dark, k) =
     let w : white ≡ bright = h.0.1.1.0.1 ∙ sym k.0.1.1.0.1 in
     let d : black ≡ dark = h.0.1.1.0.2 ∙ sym k.0.1.1.0.2 in
     let same : Settled set ∷ Priced set p ∷ Balanced set p white black ∷ [] ≡ Settled set ∷ Priced set p ∷ Balanced set p bright dark ∷ [] = cc in
@@ -96,7 +96,7 @@ one-reason q (Balance set p) o a b (white, black, h) (bright, dark, k) =
 
 one-line : (label : Option Unmove) (l : OwnLine) (q : Asked) (o a b : List ℕ) → AddsLine label l q o a → AddsLine label l q o b → a ≡ b
 one-line label (line.Because r) q o a b (least, is, h) (other, was, k) =
-    one-reason q other o a b (subst (λ (x : Reason). TellsReason q x o a) (one-least q r least other is was) h) k
+    one-reason (is_none label) q other o a b (subst (λ (x : Reason). TellsReason (is_none label) q x o a) (one-least q r least other is was) h) k
 one-line label (line.Back n) q o a b h k = h.1 ∙ sym k.1
 one-line label (line.Moves n) q o a b h k = h.1 ∙ sym k.1
 

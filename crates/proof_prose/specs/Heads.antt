@@ -1,5 +1,5 @@
 -- The diagram, the claim and what is supposed.
-use Rattle.std.specs.Prelude.{ℕ, ◌+◌, ◌*◌, Bool, cond, List, [], ◌∷◌, ◌++◌, codes, Option, Some, None}
+use Rattle.std.specs.Prelude.{ℕ, ◌+◌, ◌*◌, ◌==◌, Bool, cond, ◌||◌, not, List, [], ◌∷◌, ◌++◌, codes, length, Option, Some, None, is_some}
 use Rattle.std.specs.List.{flat_map, range_with_len}
 use Rattle.std.specs.Fmt.{decimal}
 use Rattle.board_base.specs.Board.{Places, at, is_in}
@@ -19,7 +19,7 @@ use Rattle.query_base.specs.Asked.{Asked}
 use Rattle.query_base.specs.declared.claims.Claim.{Claim}
 use Rattle.query_base.specs.declared.claims.Claim.TheVariants.{Illegal, Last, Lost, Ep}
 use Rattle.proof_prose.specs.Rows.{rows_of}
-use Rattle.prose_words.specs.Words.{initial, place_initial, place_letter, side_word, squares_words, wing_word}
+use Rattle.prose_words.specs.Words.{initial, kind_word, place_initial, place_letter, side_word, squares_words, wing_word}
 
 -- a place of the diagram after a space
 abbrev pub place_text : Places → ℕ → List ℕ
@@ -46,9 +46,13 @@ lower_text board turn =
 unfoldable pub diagram_text : Places → Colour → List ℕ
 diagram_text board turn = ended (codes "  a b c d e f g h") ++ upper_text board ++ lower_text board turn
 
+-- that the men of these squares were left out, or the man of one
+abbrev pub left_out : List ℕ → List ℕ
+left_out list = codes "The game began without the " ++ cond (length list == 3) (codes "man of") (codes "men of") ++ list ++ ended (codes ".")
+
 -- the squares whose men were left out
 abbrev pub odds_line : List Bool → List ℕ
-odds_line odds = codes "The game began without the men of" ++ squares_words (is_in odds) ++ ended (codes ".")
+odds_line odds = left_out (squares_words (is_in odds))
 
 -- the same in rows
 abbrev pub odds_words : List Bool → List ℕ
@@ -76,11 +80,12 @@ abbrev pub only_given : Option Move → List ℕ
 only_given None = []
 only_given (Some m) = last_words m
 
--- that the king and the rook of these squares never moved
+-- that the king and the rook of these squares are what they were
 unfoldable pub stayed_words : ℕ → ℕ → List ℕ
-stayed_words king rook = codes "the king of " ++ square_text king ++ codes " and the rook of " ++ square_text rook ++ codes " never moved"
+stayed_words king rook =
+    codes "the king of " ++ square_text king ++ codes " and the rook of " ++ square_text rook ++ codes " never moved, and the rook was never taken"
 
--- that the king and the rook of a castling never moved
+-- that the king and the rook of a castling are what they were
 abbrev pub unmoved_words : Castle → List ℕ
 unmoved_words x = stayed_words (king_home x) (rook_home x)
 
@@ -97,6 +102,18 @@ abbrev pub givens_text : Asked → List ℕ
 givens_text q =
     odds_given q.odds ++ clock_given q.clock ++ only_given q.only ++ right_given (holds q.held WhiteShort) WhiteShort ++ right_given (holds q.held WhiteLong) WhiteLong ++ right_given (holds q.held BlackShort) BlackShort ++ right_given (holds q.held BlackLong) BlackLong
 
+-- some castling is held
+abbrev pub has_rights : Asked → Bool
+has_rights q = holds q.held WhiteShort || holds q.held WhiteLong || holds q.held BlackShort || holds q.held BlackLong
+
+-- something is given beside the diagram
+abbrev pub has_givens : Asked → Bool
+has_givens q = not (is_no_odds q.odds) || is_some q.clock || is_some q.only || has_rights q
+
+-- the diagram with what is given
+abbrev pub given_words : Asked → List ℕ
+given_words q = cond (has_givens q) (codes " with what is given below it") []
+
 -- the letter of the man who made the move that ends on this place; a pawn that was promoted has none
 abbrev pub mover_initial : Option Man → Option Kind → List ℕ
 mover_initial place None = place_initial place
@@ -111,6 +128,15 @@ became (Some k) = codes "=" ++ initial k
 abbrev pub move_words : Places → Move → ℕ → List ℕ
 move_words board m sign = mover_initial (at board m.to) m.promo ++ square_text m.from ++ sign ∷ square_text m.to ++ became m.promo
 
+-- that a pawn was promoted
+abbrev pub promotion_words : Option Kind → List ℕ
+promotion_words None = []
+promotion_words (Some k) = codes ", becoming a " ++ kind_word k
+
+-- a move whose captured man, if there is one, isn't told
+abbrev pub going_words : Move → List ℕ
+going_words m = codes "went from " ++ square_text m.from ++ codes " to " ++ square_text m.to ++ promotion_words m.promo ++ codes ", capturing or not"
+
 -- that a castling is lost
 abbrev pub lost_words : Castle → List ℕ
 lost_words x = side_word (side x) ++ codes " has lost the right to castle on the " ++ wing_word x ++ codes " side"
@@ -121,8 +147,8 @@ legal_words m = codes "the capture " ++ square_text m.from ++ codes "x" ++ squar
 
 -- what is claimed, in words
 abbrev pub claim_words : Claim → Asked → List ℕ
-claim_words Illegal q = codes "no game leads to this diagram"
-claim_words (Last m) q = codes "the last move was " ++ move_words q.board m 45
+claim_words Illegal q = codes "no game leads to this diagram" ++ given_words q
+claim_words (Last m) q = codes "the last move " ++ going_words m
 claim_words (Lost x) q = lost_words x
 claim_words (Ep m) q = legal_words m
 
@@ -130,17 +156,25 @@ claim_words (Ep m) q = legal_words m
 abbrev pub not_words : Move → List ℕ
 not_words d = codes "the last move was not " ++ square_text d.from ++ codes "-" ++ square_text d.to
 
+-- that some game leads to the diagram with what is given
+abbrev pub reached_words : Asked → List ℕ
+reached_words q = codes "a game leads to this diagram" ++ given_words q
+
 -- that the last move wasn't the double step that a capture en passant answers
-abbrev pub other_words : Option Move → List ℕ
-other_words None = codes "a game leads to the diagram"
-other_words (Some d) = not_words d
+abbrev pub other_words : Option Move → Asked → List ℕ
+other_words None q = reached_words q
+other_words (Some d) q = not_words d
+
+-- that the king and the rook of a castling are what they were
+abbrev pub kept_words : Castle → List ℕ
+kept_words x = side_word (side x) ++ codes " still has the right: king and rook never moved, and the rook was never taken"
 
 -- what is supposed against the claim, in words
 abbrev pub supposed_words : Claim → Asked → List ℕ
-supposed_words Illegal q = codes "a game leads to it"
+supposed_words Illegal q = cond (has_givens q) (codes "one does") (codes "a game leads to it")
 supposed_words (Last m) q = codes "the last move was another"
-supposed_words (Lost x) q = unmoved_words x
-supposed_words (Ep m) q = cond (ep_fits q.board q.turn m) (other_words (double_of m q.turn)) (codes "a game leads to the diagram")
+supposed_words (Lost x) q = kept_words x
+supposed_words (Ep m) q = cond (ep_fits q.board q.turn m) (other_words (double_of m q.turn) q) (reached_words q)
 
 -- the diagram, what is given, the claim and what is supposed
 abbrev pub opening_text : Claim → Asked → List ℕ

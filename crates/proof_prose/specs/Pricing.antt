@@ -3,7 +3,7 @@ use Rattle.std.specs.Prelude.{ℕ, ◌+◌, ◌*◌, ◌==◌, cond, List, [], �
 use Rattle.std.specs.List.{flat_map, range_with_len}
 use Rattle.std.specs.Fmt.{decimal}
 use Rattle.board_base.specs.Texts.{square_text}
-use Rattle.capture_prices.specs.Prices.{PriceList}
+use Rattle.capture_prices.specs.Prices.{PriceList, all_gates}
 use Rattle.capture_prices.specs.declared.prices.Gate.{Gate}
 
 -- nothing where there is no list, else the list with what stands around it
@@ -49,16 +49,21 @@ abbrev pub prices_words : ℕ → List ℕ → List ℕ
 prices_words usual prices =
     codes " " ++ decimal usual ++ around (codes " (") (shades_words (shade_words usual prices 0) (shade_words usual prices 1)) (codes ")")
 
--- the toll of a gate
+-- the toll of a gate, after a comma
 abbrev pub gate_words : Gate → List ℕ
-gate_words g = codes " " ++ decimal g.toll ++ codes " on " ++ square_text g.square
+gate_words g = codes ", " ++ decimal g.toll ++ codes " on " ++ square_text g.square
 
--- the tolls of all gates
-abbrev pub gates_words : List Gate → List ℕ
-gates_words gates =
-    around (codes "A pawn that never captures pays for treading a square, as only one of the two pawns of a file can have:") (flat_map gate_words gates) (codes ". ")
+-- what is paid at gates with these tolls at most
+abbrev pub gates_end : ℕ → List ℕ
+gates_end most =
+    codes ". Of the two pawns that began on a file at most one paid for a square, or they would have passed each other: all pay at most " ++ decimal most ++ codes " for squares. "
+
+-- the tolls of all gates, who pays them, and what they are together
+abbrev pub gates_words : List Gate → ℕ → List ℕ
+gates_words gates most =
+    around (codes "A pawn that neither captured nor was taken as a pawn pays for each of these squares that it stood on or crossed:") (drop 1 (flat_map gate_words gates)) (gates_end most)
 
 -- what captures cost; what a side usually pays is what it pays on the light squares of file h
 abbrev pub priced_words : PriceList → List ℕ
 priced_words p =
-    codes "Let a capture by a white pawn cost" ++ prices_words (slice_index p.white 15) p.white ++ codes ", and one by a black pawn" ++ prices_words (slice_index p.black 15) p.black ++ codes ": the side that captures pays it, and the man who is taken earns it. " ++ gates_words p.gates
+    codes "Let a capture by a white pawn cost" ++ prices_words (slice_index p.white 15) p.white ++ codes ", and one by a black pawn" ++ prices_words (slice_index p.black 15) p.black ++ codes ": the side that captures pays it, and the man who is taken earns it. " ++ gates_words p.gates (all_gates p)

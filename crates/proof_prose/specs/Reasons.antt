@@ -41,33 +41,33 @@ IsWayOf q c s =
 abbrev pub Adds : Asked → List Sentence → List ℕ → List ℕ → Type 0
 Adds q ss old new = AllSay ss q × (new ≡ old ++ all_words ss q)
 
--- The rule line is told: by what it says in one sentence; by who shut each other in, and the first square of theirs that doesn't hold
+-- Whether the query is the first that is told decides some words. The rule line is told: by what it says in one sentence; by who shut each other in, and the first square of theirs that doesn't hold
 -- what it held in the array; by who never moved, how many captures the side's pawns made, and how many men the other side lacks; or by
 -- who never moved, whose officers were captured meanwhile, and how many men must have been promoted.
-abbrev pub TellsRule : Asked → RuleLine → List ℕ → List ℕ → Type 0
-TellsRule q rule.Kings old new = Adds q (Kings ∷ []) old new
-TellsRule q rule.Ranks old new = (s : ℕ) × IsFirst (is_pawn_on_end q.board) s × Adds q (Ranks s ∷ []) old new
-TellsRule q rule.Check old new =
+abbrev pub TellsRule : Bool → Asked → RuleLine → List ℕ → List ℕ → Type 0
+TellsRule first q rule.Kings old new = Adds q (Kings ∷ []) old new
+TellsRule first q rule.Ranks old new = (s : ℕ) × IsFirst (is_pawn_on_end q.board) s × Adds q (Ranks s ∷ []) old new
+TellsRule first q rule.Check old new =
     (s : ℕ) × IsFirst (is_king_attacked q.board (opponent q.turn)) s × Adds q (Check (opponent q.turn) s ∷ []) old new
-TellsRule q rule.Rights old new = (x : Castle) × (find (is_astray q) all_castles ≡ Some x) × Adds q (Rights x ∷ []) old new
-TellsRule q (rule.Count c) old new =
-    (pawns : ℕ) × (together : ℕ) × (began : ℕ) × Adds q (Count c pawns together began ∷ []) old new
-TellsRule q (rule.Frozen set) old new =
+TellsRule first q rule.Rights old new = (x : Castle) × (find (is_astray q) all_castles ≡ Some x) × Adds q (Rights x ∷ []) old new
+TellsRule first q (rule.Count c) old new =
+    (pawns : ℕ) × (together : ℕ) × (began : ℕ) × Adds q (Count c pawns together began first ∷ []) old new
+TellsRule first q (rule.Frozen set) old new =
     (odd : ℕ) × IsFirst (is_changed q.odds q.board set) odd × Adds q (Caged set ∷ Changed set odd ∷ []) old new
-TellsRule q (rule.Caps c set p) old new =
-    (way : Sentence) × (missing : ℕ) × IsWayOf q c way × Adds q (Settled set ∷ way ∷ Lacks (opponent c) set missing ∷ []) old new
-TellsRule q (rule.Promo c set) old new =
-    (pawns : ℕ) × (began : ℕ) × Adds q (Settled set ∷ Gone c set ∷ Promoted c set pawns began ∷ []) old new
+TellsRule first q (rule.Caps c set p) old new =
+    (way : Sentence) × (missing : ℕ) × IsWayOf q c way × Adds q (Settled set ∷ way ∷ Lacks (opponent c) set missing first ∷ []) old new
+TellsRule first q (rule.Promo c set) old new =
+    (pawns : ℕ) × (began : ℕ) × Adds q (Settled set ∷ Gone c set ∷ Promoted c set pawns began first ∷ []) old new
 
 -- The reason is told; the balance by who never moved, what captures cost, and what the men of both sides cost.
-abbrev pub TellsReason : Asked → Reason → List ℕ → List ℕ → Type 0
-TellsReason q (Line r) old new = TellsRule q r old new
-TellsReason q (Balance set p) old new =
+abbrev pub TellsReason : Bool → Asked → Reason → List ℕ → List ℕ → Type 0
+TellsReason first q (Line r) old new = TellsRule first q r old new
+TellsReason first q (Balance set p) old new =
     (white : ℕ) × (black : ℕ) × Adds q (Settled set ∷ Priced set p ∷ Balanced set p white black ∷ []) old new
 
 -- the reason is told of the least of its set that it needs
-abbrev pub AddsReason : Asked → Reason → List ℕ → List ℕ → Type 0
-AddsReason q r old new = (least : Reason) × IsLeast q r least × TellsReason q least old new
+abbrev pub AddsReason : Bool → Asked → Reason → List ℕ → List ℕ → Type 0
+AddsReason first q r old new = (least : Reason) × IsLeast q r least × TellsReason first q least old new
 
 -- whether there are retractions; of the first node other words are used
 abbrev pub moves_sentence : ℕ → Bool → Sentence
@@ -75,6 +75,6 @@ moves_sentence n first = cond (n == 0) (Still first) (Moved first)
 
 -- the own line of a node is told: its reason; that the position stands later again; or whether there are retractions
 abbrev pub AddsLine : Option Unmove → OwnLine → Asked → List ℕ → List ℕ → Type 0
-AddsLine label (line.Because r) q old new = AddsReason q r old new
+AddsLine label (line.Because r) q old new = AddsReason (is_none label) q r old new
 AddsLine label (line.Back k) q old new = Adds q (Back k ∷ []) old new
 AddsLine label (line.Moves n) q old new = Adds q (moves_sentence n (is_none label) ∷ []) old new

@@ -1,5 +1,5 @@
 -- The sentences that tell why no game reaches a query: what each says, and its words.
-use Rattle.std.specs.Prelude.{ℕ, ◌≡◌, ◌≤◌, ◌+◌, ◌-◌, ◌*◌, ◌<◌, nat_lt, nat_le, ◌==◌, Bool, cond, ◌&&◌, IsTrue, length, List, [], ◌++◌, codes, drop, slice_index}
+use Rattle.std.specs.Prelude.{ℕ, ◌≡◌, ◌≤◌, ◌+◌, ◌-◌, ◌*◌, ◌<◌, nat_lt, nat_le, ◌==◌, Bool, cond, ◌&&◌, IsTrue, length, List, [], ◌++◌, codes, drop, replicate, slice_index}
 use Rattle.std.specs.List.{flat_map, range_with_len}
 use Rattle.std.specs.Fmt.{decimal}
 use Rattle.board_base.specs.Board.{array_of, at, is_a, is_in, is_of, is_the, opponent}
@@ -14,13 +14,15 @@ use Rattle.board_base.specs.declared.men.Kind.TheVariants.{King, Pawn}
 use Rattle.assignment.specs.Assignments.{IsInjection, assignment_cost, least_cost}
 use Rattle.assignment.specs.Tables.{cost_at}
 use Rattle.balance_rule.specs.Balance.{men_on, most_cost, side_cost}
+use Rattle.balance_rule.specs.Costs.{never}
+use Rattle.capture_prices.specs.Prices.{PriceList, all_gates, priced}
 use Rattle.pawn_assign.specs.PawnCosts.{pawn_costs, pawn_home, pawn_squares}
 use Rattle.men_account.specs.Account.{accounts_for, allowance_of, counts_of, excess_of, is_any, men}
 use Rattle.men_account.specs.Homes.{men_of}
 use Rattle.play_rules.specs.Kings.{HasOneKingEach}
 use Rattle.play_rules.specs.Laws.{is_end}
 use Rattle.query_base.specs.Asked.{Asked}
-use Rattle.cage_rules.specs.Frozen.{IsAsArray, IsFrozen}
+use Rattle.cage_rules.specs.Frozen.{IsAsArray, IsFrozen, is_held_home}
 use Rattle.cage_rules.specs.Refuted.{HasTooMany, NeedTooMany, is_spent}
 use Rattle.cage_rules.specs.Regions.{is_dead, is_officer_home}
 use Rattle.unmove_gen.specs.Listed.{unmoves}
@@ -44,6 +46,10 @@ is_safe q c set h = is_of c (at (array_of q.odds) h) && is_spent q.board set h
 abbrev pub NeverMoved : Asked → List Bool → Type 0
 NeverMoved q set = IsFrozen q set × IsAsArray q.odds q.board set
 
+-- a side has no more men than it began with
+abbrev pub HasNoMore : Asked → Colour → Type 0
+HasNoMore q c = men_on c q.board ≤ men_on c (array_of q.odds)
+
 -- What a sentence says of a query. Not each side has one king; a pawn stands on this square of rank 1 or 8; a king of the side that isn't
 -- to move stands on this square in check; this right is held, and its king or its rook was left out or isn't at home. The side has so
 -- many pawns, with the men who must have been promoted so many, and began with so many, which is fewer. The men on the set shut each other
@@ -59,21 +65,21 @@ Says Kings q = HasOneKingEach q.board → ⊥
 Says (Ranks s) q = IsTrue (is_end s && is_a Pawn (at q.board s))
 Says (Check c s) q = (c ≡ opponent q.turn) × IsTrue (is_the c King (at q.board s) && attacks q.board s (opponent c))
 Says (Rights x) q = IsTrue (is_astray q x)
-Says (Count c pawns together began) q =
+Says (Count c pawns together began first) q =
     (pawns ≡ men c Pawn is_any q.board) × (together ≡ excess_of (counts_of c q.board) (allowance_of c is_any (array_of q.odds))) × (began ≡ men c Pawn is_any (array_of q.odds)) × (IsTrue (accounts_for q.odds q.board c) → ⊥)
 Says (Caged set) q = IsFrozen q set
 Says (Changed set s) q = IsTrue (is_in set s) × (at q.board s ≡ at (array_of q.odds) s → ⊥)
 Says (Settled set) q = NeverMoved q set
 Says (Gone c set) q = NeverMoved q set
-Says (Promoted c set pawns began) q =
+Says (Promoted c set pawns began first) q =
     (pawns ≡ men c Pawn is_any q.board) × (began ≡ men c Pawn is_any (array_of q.odds)) × HasTooMany q.odds q set c
 Says (Way c captures files) q =
     (length (pawn_squares c q.board) ≤ 8) × IsInjection 8 (length (pawn_squares c q.board)) files.items × (captures ≡ assignment_cost (pawn_costs q.odds c q.board) files.items) × (captures ≡ least_cost 8 (pawn_costs q.odds c q.board))
-Says (Lacks c set missing) q =
+Says (Lacks c set missing first) q =
     NeverMoved q set × (missing ≡ men_of c is_any (array_of q.odds) - men_of c is_any q.board) × ((p : Duals) × NeedTooMany q.odds q set (opponent c) p.u p.v)
 Says (Priced set p) q = NeverMoved q set
 Says (Balanced set p white black) q =
-    NeverMoved q set × (white ≡ side_cost q.odds q.board p set White) × (black ≡ side_cost q.odds q.board p set Black) × (most_cost q.odds p < white + black)
+    NeverMoved q set × (white ≡ side_cost q.odds q.board p set White) × (black ≡ side_cost q.odds q.board p set Black) × (most_cost q.odds p < white + black) × HasNoMore q White × HasNoMore q Black
 Says (Back k) q = Unit {0}
 Says (Still first) q = unmoves q ≡ []
 Says (Moved first) q = 0 < length (unmoves q)
@@ -99,10 +105,15 @@ nth_way q c files k =
 unfoldable pub ways_words : Asked → Colour → List ℕ → List ℕ
 ways_words q c files = flat_map (nth_way q c files) (range_with_len 0 (length (pawn_squares c q.board)))
 
+-- What a side does now, or did then: of the first query that is told it is said as of now, and of each other as of before the move that
+-- leads to it, since other men stand there than in the diagram.
+abbrev pub at_time : Bool → Colour → List ℕ → List ℕ → List ℕ
+at_time first c now before = cond first [] (codes "Before this move ") ++ side_word c ++ cond first now before
+
 -- that a side has pawns and promoted men, and began with so many pawns
-abbrev pub count_words : Colour → ℕ → ℕ → ℕ → List ℕ
-count_words c pawns promoted began =
-    side_word c ++ codes " has " ++ counted pawns (codes " pawn") (codes " pawns") ++ codes " and at least " ++ counted promoted (codes " promoted man") (codes " promoted men") ++ codes ", but began with " ++ counted began (codes " pawn") (codes " pawns") ++ codes "."
+abbrev pub count_words : Bool → Colour → ℕ → ℕ → ℕ → List ℕ
+count_words first c pawns promoted began =
+    at_time first c (codes " has ") (codes " had ") ++ counted pawns (codes " pawn") (codes " pawns") ++ codes " and at least " ++ counted promoted (codes " promoted man") (codes " promoted men") ++ codes ", but began with " ++ counted began (codes " pawn") (codes " pawns") ++ codes "."
 
 -- that a pawn stands on a square
 abbrev pub end_words : ℕ → List ℕ
@@ -117,14 +128,30 @@ abbrev pub rights_words : List Bool → Castle → List ℕ
 rights_words odds x =
     codes "It can't be that " ++ unmoved_words x ++ cond (lacks_home odds x) (codes ": the game began without the rook.") (codes ": they don't both stand there.")
 
--- that these men shut each other in, or that the one on one square is shut in
-abbrev pub shut_words : List ℕ → List ℕ
-shut_words list =
-    cond (length list == 3) (around (codes "The man on") list (codes " can't have come there. So he stood there from the beginning. ")) (around (codes "The men on") list (codes " shut each other in: none of them can have come to his square while the others stood. So they stood there from the beginning. "))
+-- a square of the set is a home of a right that is held
+abbrev pub is_kept : Asked → List Bool → ℕ → Bool
+is_kept q set s = is_in set s && is_held_home q.held s
+
+-- of whom it is so since a right to castle is held
+abbrev pub by_right : List ℕ → List ℕ
+by_right kept = around (codes " (by the right to castle:") kept (codes ")")
+
+-- that the man on one square is shut in
+abbrev pub one_shut : List ℕ → List ℕ → List ℕ
+one_shut list kept = codes "The man on" ++ list ++ codes " can't have come there" ++ by_right kept ++ codes ". So he stood there from the beginning. "
+
+-- that these men shut each other in
+abbrev pub many_shut : List ℕ → List ℕ → List ℕ
+many_shut list kept =
+    codes "The men on" ++ list ++ codes " shut each other in: none of them can have come to his square while the others stood" ++ by_right kept ++ codes ". So they stood there from the beginning. "
+
+-- that these men shut each other in, or that the one on one square is shut in, and for which of them this is by a right to castle
+abbrev pub shut_words : List ℕ → List ℕ → List ℕ
+shut_words list kept = cond (length list == 3) (one_shut list kept) (cond (length list == 0) [] (many_shut list kept))
 
 -- the same of the men on a set
-abbrev pub caged_words : List Bool → List ℕ
-caged_words set = shut_words (squares_words (is_in set))
+abbrev pub caged_words : Asked → List Bool → List ℕ
+caged_words q set = shut_words (squares_words (is_in set)) (squares_words (is_kept q set))
 
 -- who stood on a square at the beginning
 abbrev pub stood_words : List Bool → ℕ → List ℕ
@@ -151,16 +178,16 @@ some_words q c captures files =
 -- with how many captures the side's pawns came, where the least number is this one, and where they began on these files
 abbrev pub captures_words : Asked → Colour → ℕ → List ℕ → List ℕ
 captures_words q c captures files =
-    cond (captures == 0) (codes "'s pawns need not have captured. ") (cond (nat_lt captures 64) (some_words q c captures files) (codes "'s pawns can't have come there from different files, however much they captured. "))
+    cond (captures == 0) (codes "'s pawns have made at least 0 captures. ") (cond (nat_lt captures 64) (some_words q c captures files) (codes "'s pawns can't have come there from different files, however much they captured. "))
 
 -- how many men a side lacks
-abbrev pub missing_words : Colour → ℕ → List ℕ
-missing_words c missing = side_word c ++ codes " lacks " ++ cond (missing == 0) (codes "nobody") (counted missing (codes " man") (codes " men"))
+abbrev pub missing_words : Bool → Colour → ℕ → List ℕ
+missing_words first c missing = at_time first c (codes " lacks ") (codes " lacked ") ++ cond (missing == 0) (codes "nobody") (counted missing (codes " man") (codes " men"))
 
 -- how many men a side lacks, and whom no pawn took
-abbrev pub lacks_words : Asked → Colour → List Bool → ℕ → List ℕ
-lacks_words q c set missing =
-    missing_words c missing ++ around (codes ", but no pawn can have taken whoever began on") (squares_words (is_safe q c set)) [] ++ codes "."
+abbrev pub lacks_words : Bool → Asked → Colour → List Bool → ℕ → List ℕ
+lacks_words first q c set missing =
+    missing_words first c missing ++ around (codes ", but no pawn can have taken whoever began on") (squares_words (is_safe q c set)) [] ++ codes "."
 
 -- what men pay more than they earn, or the other way round
 abbrev pub difference_words : ℕ → ℕ → List ℕ
@@ -171,15 +198,38 @@ difference_words cost own =
 abbrev pub net_words : Colour → ℕ → ℕ → List ℕ
 net_words c cost began = side_word c ++ difference_words cost (96 * began)
 
--- what the men of both sides cost
-abbrev pub balanced_words : List Bool → ℕ → ℕ → List ℕ
-balanced_words odds white black =
-    net_words White white (men_on White (array_of odds)) ++ codes ", and " ++ net_words Black black (men_on Black (array_of odds)) ++ codes ". But what is paid is what is earned."
+-- no captures cost anything, and nothing is paid for squares
+abbrev pub free : PriceList
+free = priced (replicate 16 0) (replicate 16 0) []
+
+-- Where nothing has a price, the men of a side cost 96 each with homes of their own, and more than anything costs where some man can't
+-- have a home. Then they can't all have homes at any prices.
+abbrev pub is_homeless : Asked → List Bool → Colour → Bool
+is_homeless q set c = nat_le never (side_cost q.odds q.board free set c)
+
+-- that the men of a side can't all have homes
+abbrev pub homeless_words : Colour → List ℕ
+homeless_words c = side_word c ++ codes "'s men, with those who are gone, can't all have begun on homes of their own."
+
+-- why they can't pay more than they earn, or only what they pay for squares
+abbrev pub most_words : ℕ → List ℕ
+most_words gates =
+    cond (gates == 0) (codes ". But what is paid is what is earned.") (codes ". But what is paid for captures is what is earned, and for squares at most " ++ decimal gates ++ codes " is paid.")
+
+-- what the men of both sides cost, who have homes
+abbrev pub account_words : List Bool → ℕ → ℕ → ℕ → List ℕ
+account_words odds gates white black =
+    net_words White white (men_on White (array_of odds)) ++ codes ", and " ++ net_words Black black (men_on Black (array_of odds)) ++ most_words gates
+
+-- what the men of both sides cost, or that those of a side can't all have homes
+abbrev pub balanced_words : Asked → List Bool → PriceList → ℕ → ℕ → List ℕ
+balanced_words q set p white black =
+    cond (is_homeless q set White) (homeless_words White) (cond (is_homeless q set Black) (homeless_words Black) (account_words q.odds (all_gates p) white black))
 
 -- that the position stands later in the game too
 abbrev pub back_words : ℕ → List ℕ
 back_words k =
-    codes "This is the position of " ++ counted k (codes " move") (codes " moves") ++ codes " later again, with no fewer demands; a shortest game doesn't repeat it."
+    codes "This is the position of " ++ counted k (codes " half-move") (codes " half-moves") ++ codes " later again, with no fewer demands; a shortest game doesn't repeat it."
 
 -- that a side can't have moved last
 abbrev pub still_words : Colour → Bool → List ℕ
@@ -199,16 +249,16 @@ words_of Kings q = codes "Not each side has exactly one king."
 words_of (Ranks s) q = end_words s
 words_of (Check c s) q = check_words c s
 words_of (Rights x) q = rights_words q.odds x
-words_of (Count c pawns together began) q = count_words c pawns (together - pawns) began
-words_of (Caged set) q = caged_words set
+words_of (Count c pawns together began first) q = count_words first c pawns (together - pawns) began
+words_of (Caged set) q = caged_words q set
 words_of (Changed set s) q = stood_words q.odds s
 words_of (Settled set) q = settled_words set
 words_of (Gone c set) q = gone_words q c set
-words_of (Promoted c set pawns began) q = count_words c pawns (began + 1 - pawns) began
+words_of (Promoted c set pawns began first) q = count_words first c pawns (began + 1 - pawns) began
 words_of (Way c captures files) q = side_word c ++ captures_words q c captures files.items
-words_of (Lacks c set missing) q = lacks_words q c set missing
+words_of (Lacks c set missing first) q = lacks_words first q c set missing
 words_of (Priced set p) q = priced_words p
-words_of (Balanced set p white black) q = balanced_words q.odds white black
+words_of (Balanced set p white black) q = balanced_words q set p white black
 words_of (Back k) q = back_words k
 words_of (Still first) q = barred_words q first
 words_of (Moved first) q = moved_words (opponent q.turn) first

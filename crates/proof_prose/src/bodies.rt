@@ -38,7 +38,7 @@ fn push_line(alloc: Global, node: &Told, out: &mut Vec<u8>) -> Result<(), AllocE
 {
     let first = node.label.is_none();
     match &node.line {
-        Line::Because(reason) => push_reason(alloc, &node.query, reason, out),
+        Line::Because(reason) => push_reason(alloc, &node.query, first, reason, out),
         Line::Back(steps) => push_one(alloc, &node.query, &Sentence::Back(*steps), out),
         Line::Moves(count) => push_one(alloc, &node.query, &moves_sentence(*count, first), out),
     }

@@ -1,16 +1,19 @@
 //! The diagram, the claim and what is supposed.
 
-ghost use Rattle.std.specs.Prelude.{◌≡◌, ◌++◌, ◌<◌, IfOk, codes};
-ghost use Rattle.proof_prose.specs.Heads.{became, claim_words, clock_given, clock_words, closing_text, last_words, legal_words, lost_words, not_words, odds_line, odds_words, right_words, stayed_words, diagram_text, givens_text, lower_text, rank_line, upper_text, move_words, mover_initial, odds_given, only_given, opening_text, other_words, place_text, rank_text, right_given, supposed_words, unmoved_words};
-ghost use Rattle.board_base.specs.Board.{at};
+ghost use Rattle.std.specs.Prelude.{◌≡◌, ◌++◌, ◌<◌, ◌||◌, IfOk, codes, cond, not};
+ghost use Rattle.proof_prose.specs.Heads.{became, claim_words, clock_given, clock_words, closing_text, diagram_text, given_words, givens_text, going_words, has_givens, has_rights, kept_words, last_words, left_out, legal_words, lost_words, lower_text, move_words, mover_initial, not_words, odds_given, odds_line, odds_words, only_given, opening_text, other_words, place_text, promotion_words, rank_line, rank_text, reached_words, right_given, right_words, stayed_words, supposed_words, unmoved_words, upper_text};
+ghost use Rattle.board_base.specs.Board.{at, is_in};
+ghost use Rattle.fen_text.specs.OddsLines.{is_no_odds};
+ghost use Rattle.prose_words.specs.Words.{kind_word, squares_words};
 
+use crate::telling::push_either;
 use crate::wrapping::push_wrapped;
-use board_base::{Board, Castle, Colour, Kind, Man, Move, Odds, Square};
+use board_base::{Board, Castle, Colour, Kind, Man, Move, Odds, Square, SquareSet};
 use castle_history::home;
 use ep_history::{double_of, ep_fits};
 use prose_words::{
-    initial, place_initial, place_letter, push_number, push_square, push_squares, say, side_word,
-    wing_word,
+    initial, kind_word, place_initial, place_letter, push_number, push_square, push_squares, say,
+    side_word, wing_word,
 };
 use query_base::{Claim, Query};
 use std::alloc::{AllocError, Global};
@@ -80,7 +83,7 @@ fn push_diagram(board: &Board, turn: Colour, out: &mut Vec<u8>) -> Result<(), Al
     Ok(())
 }
 
-/// That the king and the rook of these squares never moved.
+/// That the king and the rook of these squares are what they were.
 #[tactic(auto, unfolding(crate::specs::Heads::stayed_words))]
 fn push_stayed(king: Square, rook: Square, out: &mut Vec<u8>) -> Result<(), AllocError>
     ensures { IfOk result (λ _. out.new.items ≡ out.old.items ++ stayed_words king rook) }
@@ -89,11 +92,11 @@ fn push_stayed(king: Square, rook: Square, out: &mut Vec<u8>) -> Result<(), Allo
     push_square(king, out)?;
     say(b" and the rook of ", out)?;
     push_square(rook, out)?;
-    say(b" never moved", out)?;
+    say(b" never moved, and the rook was never taken", out)?;
     Ok(())
 }
 
-/// That the king and the rook of a castling never moved.
+/// That the king and the rook of a castling are what they were.
 pub(crate) fn push_unmoved(castle: Castle, out: &mut Vec<u8>) -> Result<(), AllocError>
     ensures { IfOk result (λ _. out.new.items ≡ out.old.items ++ unmoved_words castle) }
 {
@@ -101,22 +104,41 @@ pub(crate) fn push_unmoved(castle: Castle, out: &mut Vec<u8>) -> Result<(), Allo
     push_stayed(king, rook, out)
 }
 
-/// The squares whose men were left out.
-fn push_odds_line(odds: Odds, out: &mut Vec<u8>) -> Result<(), AllocError>
-    ensures { IfOk result (λ _. out.new.items ≡ out.old.items ++ odds_line odds) }
+/// The squares of the set, each after a space.
+pub(crate) fn set_squares(alloc: Global, set: SquareSet) -> Result<Vec<u8>, AllocError>
+    ensures { IfOk result (λ v. v.items ≡ squares_words (is_in set)) }
 {
-    say(b"The game began without the men of", out)?;
-    push_squares(odds.set(), out)?;
+    let mut list = Vec::new(alloc);
+    push_squares(set, &mut list)?;
+    Ok(list)
+}
+
+/// That the men of these squares were left out, or the man of one.
+fn push_left_out(list: &[u8], out: &mut Vec<u8>) -> Result<(), AllocError>
+    ensures { IfOk result (λ _. out.new.items ≡ out.old.items ++ left_out list.now) }
+{
+    say(b"The game began without the ", out)?;
+    push_either(list.len() == 3, b"man of", b"men of", out)?;
+    say(list, out)?;
     say(b".\n", out)?;
     Ok(())
+}
+
+/// The squares whose men were left out.
+fn odds_line(alloc: Global, odds: Odds) -> Result<Vec<u8>, AllocError>
+    ensures { IfOk result (λ v. v.items ≡ odds_line odds) }
+{
+    let list = set_squares(alloc, odds.set())?;
+    let mut line = Vec::new(alloc);
+    push_left_out(list.as_slice(), &mut line)?;
+    Ok(line)
 }
 
 /// The same in rows.
 fn push_odds_words(alloc: Global, odds: Odds, out: &mut Vec<u8>) -> Result<(), AllocError>
     ensures { IfOk result (λ _. out.new.items ≡ out.old.items ++ odds_words odds) }
 {
-    let mut line = Vec::new(alloc);
-    push_odds_line(odds, &mut line)?;
+    let line = odds_line(alloc, odds)?;
     push_wrapped(line.as_slice(), out)?;
     Ok(())
 }
@@ -205,6 +227,45 @@ fn push_givens(alloc: Global, query: &Query, out: &mut Vec<u8>) -> Result<(), Al
     Ok(())
 }
 
+fn has_rights(query: &Query) -> bool
+    ensures { result ≡ has_rights query.now }
+{
+    query.held.has(Castle::WhiteShort)
+        || query.held.has(Castle::WhiteLong)
+        || query.held.has(Castle::BlackShort)
+        || query.held.has(Castle::BlackLong)
+}
+
+fn has_odds(odds: Odds) -> bool
+    ensures { result ≡ not (is_no_odds odds) }
+{
+    !odds.is_none()
+}
+
+fn is_any(odds: bool, clock: bool, only: bool, rights: bool) -> bool
+    ensures { result ≡ (odds || clock || only || rights) }
+{
+    odds || clock || only || rights
+}
+
+/// Something is given beside the diagram.
+fn has_givens(query: &Query) -> bool
+    ensures { result ≡ has_givens query.now }
+{
+    is_any(
+        has_odds(query.odds),
+        query.clock.is_some(),
+        query.only.is_some(),
+        has_rights(query),
+    )
+}
+
+fn push_given(query: &Query, out: &mut Vec<u8>) -> Result<(), AllocError>
+    ensures { IfOk result (λ _. out.new.items ≡ out.old.items ++ given_words query.now) }
+{
+    push_either(has_givens(query), b" with what is given below it", b"", out)
+}
+
 fn mover_initial(place: Option<Man>, promo: Option<Kind>) -> &'static [u8]
     ensures { result.now ≡ mover_initial place promo }
 {
@@ -241,11 +302,49 @@ pub(crate) fn push_move(
     Ok(())
 }
 
-fn push_last(board: &Board, m: &Move, out: &mut Vec<u8>) -> Result<(), AllocError>
-    ensures { IfOk result (λ _. out.new.items ≡ out.old.items ++ (codes "the last move was " ++ move_words board.now m.now 45)) }
+fn push_becoming(kind: Kind, out: &mut Vec<u8>) -> Result<(), AllocError>
+    ensures { IfOk result (λ _. out.new.items ≡ out.old.items ++ (codes ", becoming a " ++ kind_word kind)) }
 {
-    say(b"the last move was ", out)?;
-    push_move(board, m, b'-', out)?;
+    say(b", becoming a ", out)?;
+    say(kind_word(kind), out)?;
+    Ok(())
+}
+
+fn push_promotion(promo: Option<Kind>, out: &mut Vec<u8>) -> Result<(), AllocError>
+    ensures { IfOk result (λ _. out.new.items ≡ out.old.items ++ promotion_words promo) }
+{
+    match promo {
+        None => Ok(()),
+        Some(kind) => push_becoming(kind, out),
+    }
+}
+
+/// A move whose captured man, if there is one, isn't told.
+fn push_going(m: &Move, out: &mut Vec<u8>) -> Result<(), AllocError>
+    ensures { IfOk result (λ _. out.new.items ≡ out.old.items ++ going_words m.now) }
+{
+    say(b"went from ", out)?;
+    push_square(m.from, out)?;
+    say(b" to ", out)?;
+    push_square(m.to, out)?;
+    push_promotion(m.promo, out)?;
+    say(b", capturing or not", out)?;
+    Ok(())
+}
+
+fn push_last(m: &Move, out: &mut Vec<u8>) -> Result<(), AllocError>
+    ensures { IfOk result (λ _. out.new.items ≡ out.old.items ++ (codes "the last move " ++ going_words m.now)) }
+{
+    say(b"the last move ", out)?;
+    push_going(m, out)?;
+    Ok(())
+}
+
+fn push_illegal(query: &Query, out: &mut Vec<u8>) -> Result<(), AllocError>
+    ensures { IfOk result (λ _. out.new.items ≡ out.old.items ++ (codes "no game leads to this diagram" ++ given_words query.now)) }
+{
+    say(b"no game leads to this diagram", out)?;
+    push_given(query, out)?;
     Ok(())
 }
 
@@ -275,8 +374,8 @@ fn push_claim(claim: &Claim, query: &Query, out: &mut Vec<u8>) -> Result<(), All
     ensures { IfOk result (λ _. out.new.items ≡ out.old.items ++ claim_words claim.now query.now) }
 {
     match claim {
-        Claim::Illegal => say(b"no game leads to this diagram", out),
-        Claim::Last(m) => push_last(&query.board, m, out),
+        Claim::Illegal => push_illegal(query, out),
+        Claim::Last(m) => push_last(m, out),
         Claim::Lost(castle) => push_lost(*castle, out),
         Claim::Ep(m) => push_legal(m, out),
     }
@@ -292,11 +391,30 @@ fn push_not(d: &Move, out: &mut Vec<u8>) -> Result<(), AllocError>
     Ok(())
 }
 
-fn push_other(double: Option<Move>, out: &mut Vec<u8>) -> Result<(), AllocError>
-    ensures { IfOk result (λ _. out.new.items ≡ out.old.items ++ other_words double) }
+fn push_reached(query: &Query, out: &mut Vec<u8>) -> Result<(), AllocError>
+    ensures { IfOk result (λ _. out.new.items ≡ out.old.items ++ reached_words query.now) }
+{
+    say(b"a game leads to this diagram", out)?;
+    push_given(query, out)?;
+    Ok(())
+}
+
+fn push_kept(castle: Castle, out: &mut Vec<u8>) -> Result<(), AllocError>
+    ensures { IfOk result (λ _. out.new.items ≡ out.old.items ++ kept_words castle) }
+{
+    say(side_word(castle.side()), out)?;
+    say(
+        b" still has the right: king and rook never moved, and the rook was never taken",
+        out,
+    )?;
+    Ok(())
+}
+
+fn push_other(query: &Query, double: Option<Move>, out: &mut Vec<u8>) -> Result<(), AllocError>
+    ensures { IfOk result (λ _. out.new.items ≡ out.old.items ++ other_words double query.now) }
 {
     match double {
-        None => say(b"a game leads to the diagram", out),
+        None => push_reached(query, out),
         Some(d) => push_not(&d, out),
     }
 }
@@ -305,9 +423,9 @@ fn push_other_than(query: &Query, m: &Move, out: &mut Vec<u8>) -> Result<(), All
     ensures { IfOk result (λ _. out.new.items ≡ out.old.items ++ supposed_words (Claim.Ep m.now) query.now) }
 {
     if ep_fits(&query.board, query.turn, m) {
-        push_other(double_of(m, query.turn), out)
+        push_other(query, double_of(m, query.turn), out)
     } else {
-        say(b"a game leads to the diagram", out)
+        push_reached(query, out)
     }
 }
 
@@ -316,9 +434,9 @@ fn push_supposed(claim: &Claim, query: &Query, out: &mut Vec<u8>) -> Result<(), 
     ensures { IfOk result (λ _. out.new.items ≡ out.old.items ++ supposed_words claim.now query.now) }
 {
     match claim {
-        Claim::Illegal => say(b"a game leads to it", out),
+        Claim::Illegal => push_either(has_givens(query), b"one does", b"a game leads to it", out),
         Claim::Last(_) => say(b"the last move was another", out),
-        Claim::Lost(castle) => push_unmoved(*castle, out),
+        Claim::Lost(castle) => push_kept(*castle, out),
         Claim::Ep(m) => push_other_than(query, m, out),
     }
 }

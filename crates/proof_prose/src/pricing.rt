@@ -2,10 +2,12 @@
 
 ghost use Rattle.std.specs.Prelude.{◌≡◌, ◌++◌, ◌<◌, IfOk, slice_index};
 ghost use Rattle.std.specs.List.{All, flat_map};
-ghost use Rattle.proof_prose.specs.Pricing.{file_if, files_words, gate_words, gates_words, item_words, light_front, price_words, priced_words, prices_words, shade_words, shades_words};
+ghost use Rattle.capture_prices.specs.Prices.{all_gates};
+ghost use Rattle.proof_prose.specs.Pricing.{file_if, files_words, gate_words, gates_end, gates_words, item_words, light_front, price_words, priced_words, prices_words, shade_words, shades_words};
 
 use crate::telling::{push_around, rest_of};
-use board_base::{Colour, Square};
+use balance_rule::{begun_with, most_cost};
+use board_base::{Colour, Odds, Square};
 use capture_prices::{Gate, Prices};
 use prose_words::{push_number, push_square, say};
 use std::alloc::{AllocError, Global};
@@ -137,7 +139,7 @@ fn push_gate(gate: &Gate, out: &mut Vec<u8>) -> Result<(), AllocError>
     requires { gate.now.square < 64 }
     ensures { IfOk result (λ _. out.new.items ≡ out.old.items ++ gate_words gate.now) }
 {
-    say(b" ", out)?;
+    say(b", ", out)?;
     push_number(gate.toll as usize, out)?;
     say(b" on ", out)?;
     push_square(Square::known(gate.square), out)?;
@@ -156,15 +158,40 @@ fn tolls_of(alloc: Global, gates: &[Gate]) -> Result<Vec<u8>, AllocError>
     Ok(list)
 }
 
-/// What a pawn that never captures pays for the squares that it treads.
+/// What is paid at all gates at most: what true homes cost at most, but for 96 a man.
+pub(crate) fn all_gates(prices: &Prices) -> u32
+    ensures { result ≡ all_gates prices.now }
+{
+    let odds = Odds::none();
+    let men = u32::from(begun_with(Colour::White, odds))
+        + u32::from(begun_with(Colour::Black, odds));
+    most_cost(odds, prices) - 96 * men
+}
+
+/// What is paid at gates with these tolls at most, as a text of its own.
+fn gates_end(alloc: Global, most: u32) -> Result<Vec<u8>, AllocError>
+    ensures { IfOk result (λ v. v.items ≡ gates_end most) }
+{
+    let mut end = Vec::new(alloc);
+    say(
+        b". Of the two pawns that began on a file at most one paid for a square, or they would have passed each other: all pay at most ",
+        &mut end,
+    )?;
+    push_number(most as usize, &mut end)?;
+    say(b" for squares. ", &mut end)?;
+    Ok(end)
+}
+
+/// What a pawn that neither captured nor was taken as a pawn pays for squares.
 fn push_gates(alloc: Global, prices: &Prices, out: &mut Vec<u8>) -> Result<(), AllocError>
-    ensures { IfOk result (λ _. out.new.items ≡ out.old.items ++ gates_words prices.now.gates) }
+    ensures { IfOk result (λ _. out.new.items ≡ out.old.items ++ gates_words prices.now.gates (all_gates prices.now)) }
 {
     let list = tolls_of(alloc, prices.gates())?;
+    let end = gates_end(alloc, all_gates(prices))?;
     push_around(
-        b"A pawn that never captures pays for treading a square, as only one of the two pawns of a file can have:",
-        list.as_slice(),
-        b". ",
+        b"A pawn that neither captured nor was taken as a pawn pays for each of these squares that it stood on or crossed:",
+        rest_of(list.as_slice()),
+        end.as_slice(),
         out,
     )?;
     Ok(())

@@ -1,6 +1,6 @@
 //! The sentences of a reason that supports a query.
 
-ghost use Rattle.std.specs.Prelude.{◌≡◌, ◌-◌, ◌≤◌, ◌∷◌, [], length, IfOk, IfSome, IsSome, IsTrue, List};
+ghost use Rattle.std.specs.Prelude.{◌≡◌, ◌-◌, ◌≤◌, ◌∷◌, [], length, true, IfOk, IfSome, IsSome, IsTrue, List};
 ghost use Rattle.board_base.specs.Board.{array_of};
 ghost use Rattle.balance_rule.specs.Balance.{BalanceSupports};
 ghost use Rattle.cert_checker.specs.Reasons.{ReasonSupports};
@@ -81,7 +81,7 @@ fn push_frozen(
     out: &mut Vec<u8>,
 ) -> Result<(), AllocError>
     requires { FrozenSupports query.now.odds query.now set }
-    ensures { IfOk result (λ _. TellsRule query.now (RuleLine.Frozen set) out.old.items out.new.items) }
+    ensures { IfOk result (λ _. TellsRule true query.now (RuleLine.Frozen set) out.old.items out.new.items) }
 {
     let odd = changed_square(query, set).unwrap();
     push_sentence(alloc, query, &Sentence::Caged(set), out)?;
@@ -93,12 +93,13 @@ fn push_frozen(
 fn push_promo(
     alloc: Global,
     query: &Query,
+    first: bool,
     side: Colour,
     set: SquareSet,
     out: &mut Vec<u8>,
 ) -> Result<(), AllocError>
     requires { PromoSupports query.now.odds query.now side set }
-    ensures { IfOk result (λ _. TellsRule query.now (RuleLine.Promo side set) out.old.items out.new.items) }
+    ensures { IfOk result (λ _. TellsRule first query.now (RuleLine.Promo side set) out.old.items out.new.items) }
 {
     let pawns = counts(&query.board, side).pawns;
     let began = allowance(side, query.odds).pawns;
@@ -107,7 +108,7 @@ fn push_promo(
     push_sentence(
         alloc,
         query,
-        &Sentence::Promoted(side, set, pawns, began),
+        &Sentence::Promoted(side, set, pawns, began, first),
         out,
     )?;
     Ok(())
@@ -117,20 +118,26 @@ fn push_promo(
 fn push_caps(
     alloc: Global,
     query: &Query,
+    first: bool,
     side: Colour,
     set: SquareSet,
     p: &Potentials,
     out: &mut Vec<u8>,
 ) -> Result<(), AllocError>
     requires { CapsSupports query.now.odds query.now side set p.now.u p.now.v }
-    ensures { IfOk result (λ _. TellsRule query.now (RuleLine.Caps side set p.now) out.old.items out.new.items) }
+    ensures { IfOk result (λ _. TellsRule first query.now (RuleLine.Caps side set p.now) out.old.items out.new.items) }
 {
     let way = way_of(query, side).unwrap();
     let other = side.other();
     let missing = missing_of(query, other);
     push_sentence(alloc, query, &Sentence::Settled(set), out)?;
     push_sentence(alloc, query, &way, out)?;
-    push_sentence(alloc, query, &Sentence::Lacks(other, set, missing), out)?;
+    push_sentence(
+        alloc,
+        query,
+        &Sentence::Lacks(other, set, missing, first),
+        out,
+    )?;
     Ok(())
 }
 
@@ -143,7 +150,7 @@ fn push_balance(
     out: &mut Vec<u8>,
 ) -> Result<(), AllocError>
     requires { BalanceSupports query.now set prices.now }
-    ensures { IfOk result (λ _. TellsReason query.now (Reason.Balance set prices.now) out.old.items out.new.items) }
+    ensures { IfOk result (λ _. TellsReason true query.now (Reason.Balance set prices.now) out.old.items out.new.items) }
 {
     let white = side_cost(query, set, prices, Colour::White).unwrap();
     let black = side_cost(query, set, prices, Colour::Black).unwrap();
@@ -176,11 +183,12 @@ pub(crate) fn push_one(
 fn push_side(
     alloc: Global,
     query: &Query,
+    first: bool,
     side: Colour,
     out: &mut Vec<u8>,
 ) -> Result<(), AllocError>
     requires { Supports query.now (RuleLine.Count side) }
-    ensures { IfOk result (λ _. TellsRule query.now (RuleLine.Count side) out.old.items out.new.items) }
+    ensures { IfOk result (λ _. TellsRule first query.now (RuleLine.Count side) out.old.items out.new.items) }
 {
     let men = counts(&query.board, side);
     let allowed = allowance(side, query.odds);
@@ -188,7 +196,7 @@ fn push_side(
     push_sentence(
         alloc,
         query,
-        &Sentence::Count(side, men.pawns, together, allowed.pawns),
+        &Sentence::Count(side, men.pawns, together, allowed.pawns, first),
         out,
     )?;
     Ok(())
@@ -197,7 +205,7 @@ fn push_side(
 /// Where a pawn stands that can't stand there.
 fn push_ranks(alloc: Global, query: &Query, out: &mut Vec<u8>) -> Result<(), AllocError>
     requires { Supports query.now RuleLine.Ranks }
-    ensures { IfOk result (λ _. TellsRule query.now RuleLine.Ranks out.old.items out.new.items) }
+    ensures { IfOk result (λ _. TellsRule true query.now RuleLine.Ranks out.old.items out.new.items) }
 {
     let s = pawn_on_end(&query.board).unwrap();
     push_sentence(alloc, query, &Sentence::Ranks(s), out)?;
@@ -207,7 +215,7 @@ fn push_ranks(alloc: Global, query: &Query, out: &mut Vec<u8>) -> Result<(), All
 /// Which king stands in check.
 fn push_attacked(alloc: Global, query: &Query, out: &mut Vec<u8>) -> Result<(), AllocError>
     requires { Supports query.now RuleLine.Check }
-    ensures { IfOk result (λ _. TellsRule query.now RuleLine.Check out.old.items out.new.items) }
+    ensures { IfOk result (λ _. TellsRule true query.now RuleLine.Check out.old.items out.new.items) }
 {
     let side = query.turn.other();
     let s = king_in_check(&query.board, side).unwrap();
@@ -218,7 +226,7 @@ fn push_attacked(alloc: Global, query: &Query, out: &mut Vec<u8>) -> Result<(), 
 /// Which right to castle can't have been kept.
 fn push_rights(alloc: Global, query: &Query, out: &mut Vec<u8>) -> Result<(), AllocError>
     requires { Supports query.now RuleLine.Rights }
-    ensures { IfOk result (λ _. TellsRule query.now RuleLine.Rights out.old.items out.new.items) }
+    ensures { IfOk result (λ _. TellsRule true query.now RuleLine.Rights out.old.items out.new.items) }
 {
     let castle = astray_right(query).unwrap();
     push_sentence(alloc, query, &Sentence::Rights(castle), out)?;
@@ -229,21 +237,22 @@ fn push_rights(alloc: Global, query: &Query, out: &mut Vec<u8>) -> Result<(), Al
 fn push_rule(
     alloc: Global,
     query: &Query,
+    first: bool,
     rule: &RuleLine,
     out: &mut Vec<u8>,
 ) -> Result<(), AllocError>
     requires { Supports query.now rule.now }
-    ensures { IfOk result (λ _. TellsRule query.now rule.now out.old.items out.new.items) }
+    ensures { IfOk result (λ _. TellsRule first query.now rule.now out.old.items out.new.items) }
 {
     match rule {
         RuleLine::Kings => push_one(alloc, query, &Sentence::Kings, out),
         RuleLine::Ranks => push_ranks(alloc, query, out),
         RuleLine::Check => push_attacked(alloc, query, out),
         RuleLine::Rights => push_rights(alloc, query, out),
-        RuleLine::Count(side) => push_side(alloc, query, *side, out),
+        RuleLine::Count(side) => push_side(alloc, query, first, *side, out),
         RuleLine::Frozen(set) => push_frozen(alloc, query, *set, out),
-        RuleLine::Promo(side, set) => push_promo(alloc, query, *side, *set, out),
-        RuleLine::Caps(side, set, p) => push_caps(alloc, query, *side, *set, p, out),
+        RuleLine::Promo(side, set) => push_promo(alloc, query, first, *side, *set, out),
+        RuleLine::Caps(side, set, p) => push_caps(alloc, query, first, *side, *set, p, out),
     }
 }
 
@@ -251,14 +260,15 @@ fn push_rule(
 fn push_supported(
     alloc: Global,
     query: &Query,
+    first: bool,
     reason: &Reason,
     out: &mut Vec<u8>,
 ) -> Result<(), AllocError>
     requires { ReasonSupports query.now reason.now }
-    ensures { IfOk result (λ _. TellsReason query.now reason.now out.old.items out.new.items) }
+    ensures { IfOk result (λ _. TellsReason first query.now reason.now out.old.items out.new.items) }
 {
     match reason {
-        Reason::Line(rule) => push_rule(alloc, query, rule, out),
+        Reason::Line(rule) => push_rule(alloc, query, first, rule, out),
         Reason::Balance(set, prices) => push_balance(alloc, query, *set, prices, out),
     }
 }
@@ -267,13 +277,14 @@ fn push_supported(
 pub(crate) fn push_reason(
     alloc: Global,
     query: &Query,
+    first: bool,
     reason: &Reason,
     out: &mut Vec<u8>,
 ) -> Result<(), AllocError>
     requires { ReasonSupports query.now reason.now }
-    ensures { IfOk result (λ _. AddsReason query.now reason.now out.old.items out.new.items) }
+    ensures { IfOk result (λ _. AddsReason first query.now reason.now out.old.items out.new.items) }
 {
     let least = lessened(query, reason);
-    push_supported(alloc, query, &least, out)?;
+    push_supported(alloc, query, first, &least, out)?;
     Ok(())
 }

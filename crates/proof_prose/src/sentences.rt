@@ -13,8 +13,9 @@ pub enum Sentence {
     Check(Colour, Square),
     /// The king or the rook of this castling, which never moved, was left out or isn't at home.
     Rights(Castle),
-    /// The side has so many pawns, with the men who must have been promoted so many, and began with so many pawns.
-    Count(Colour, u8, u16, u8),
+    /// The side has so many pawns, with the men who must have been promoted so many, and began with so many pawns; whether the query is
+    /// the first that is told.
+    Count(Colour, u8, u16, u8, bool),
     /// The men on these squares shut each other in.
     Caged(SquareSet),
     /// The square of the set doesn't hold what it held in the beginning.
@@ -23,13 +24,14 @@ pub enum Sentence {
     Settled(SquareSet),
     /// While the men on these squares stood, some officers of the side were captured.
     Gone(Colour, SquareSet),
-    /// So the side has so many pawns, and with the promoted men more than the pawns with which it began.
-    Promoted(Colour, SquareSet, u8, u8),
+    /// So the side has so many pawns, and with the promoted men more than the pawns with which it began; whether the query is the first
+    /// that is told.
+    Promoted(Colour, SquareSet, u8, u8, bool),
     /// The side's pawns have made so many captures at least, as many as where they began on these files.
     Way(Colour, u16, ArrayVec<u8, 8>),
-    /// The side lacks so many men, and no pawn took some of them.
-    Lacks(Colour, SquareSet, u8),
-    /// What a capture by a pawn of the side costs, and a pawn that treads a square and never captures.
+    /// The side lacks so many men, and no pawn took some of them; whether the query is the first that is told.
+    Lacks(Colour, SquareSet, u8, bool),
+    /// What a capture by a pawn of the side costs, and what a pawn that neither captured nor was taken as a pawn pays for squares.
     Priced(SquareSet, Prices),
     /// At these prices, while the men on these squares stood, the men of both sides cost so much at least, 96 for each man included.
     Balanced(SquareSet, Prices, u32, u32),

@@ -3,25 +3,27 @@
 ghost use Rattle.std.specs.Prelude.{ℕ, ◌≡◌, [], ◌∷◌, ◌++◌, ◌-◌, ◌+◌, ◌*◌, ◌<◌, ◌≤◌, ◌^◌, IfOk, List, codes, cond, drop, length, slice_index, ◌==◌};
 ghost use Rattle.std.specs.List.{All, flat_map, range_with_len};
 ghost use Rattle.std.specs.Fmt.{decimal};
-ghost use Rattle.board_base.specs.Board.{array_of, is_in, opponent};
+ghost use Rattle.board_base.specs.Board.{is_in, opponent};
+ghost use Rattle.board_base.specs.declared.men.Colour.TheVariants.{White, Black};
 ghost use Rattle.assignment.specs.Assignments.{IsInjection};
 ghost use Rattle.pawn_assign.specs.PawnCosts.{pawn_costs, pawn_home, pawn_squares};
+ghost use Rattle.capture_prices.specs.Prices.{all_gates};
 ghost use Rattle.proof_prose.specs.Pricing.{around};
-ghost use Rattle.proof_prose.specs.Sentences.{Says, back_words, barred_words, balanced_words, caged_words, captures_words, check_words, count_words, counted, difference_words, end_words, gone_words, is_gone, is_safe, lacks_words, missing_words, moved_words, net_words, pawn_words, rights_words, settled_words, shut_words, some_words, still_words, stood_words, unmoved_men, way_words, ways_words, words_of};
+ghost use Rattle.proof_prose.specs.Sentences.{HasNoMore, Says, account_words, at_time, back_words, balanced_words, barred_words, by_right, caged_words, captures_words, check_words, count_words, counted, difference_words, end_words, gone_words, homeless_words, is_gone, is_homeless, is_kept, is_safe, lacks_words, many_shut, missing_words, most_words, moved_words, net_words, one_shut, pawn_words, rights_words, settled_words, shut_words, some_words, still_words, stood_words, unmoved_men, way_words, ways_words, words_of};
 ghost use Rattle.prose_words.specs.Words.{side_word, squares_words};
 
-use crate::heads::push_unmoved;
+use crate::heads::{push_unmoved, set_squares};
 use crate::pawns::pawn_squares;
-use crate::pricing::push_priced;
+use crate::pricing::{all_gates, push_priced};
+use crate::rights::is_held_home;
 use crate::sentences::Sentence;
-use balance_rule::begun_with;
+use balance_rule::{begun_with, side_cost};
 use board_base::{Castle, Colour, Odds, Square, SquareSet, array_of, is_of};
 use cage_rules::{is_dead, is_officer_home, is_shielded};
+use capture_prices::Prices;
 use pawn_assign::{Costs, costs};
 use play_rules::lacks_home;
-use prose_words::{
-    push_man, push_number, push_square, push_square_if, push_squares, say, side_word,
-};
+use prose_words::{push_man, push_number, push_square, push_square_if, say, side_word};
 use query_base::Query;
 use retraction_bars::push_bars;
 use std::alloc::{AllocError, Global};
@@ -93,7 +95,12 @@ fn safe_squares(
     Ok(list)
 }
 
-fn push_either(first: bool, one: &[u8], other: &[u8], out: &mut Vec<u8>) -> Result<(), AllocError>
+pub(crate) fn push_either(
+    first: bool,
+    one: &[u8],
+    other: &[u8],
+    out: &mut Vec<u8>,
+) -> Result<(), AllocError>
     ensures { IfOk result (λ _. out.new.items ≡ out.old.items ++ cond first one.now other.now) }
 {
     if first {
@@ -112,6 +119,22 @@ fn push_counted(n: usize, one: &[u8], several: &[u8], out: &mut Vec<u8>) -> Resu
     Ok(())
 }
 
+/// What a side does now, or did before the move that leads to the query, where this isn't the first that is told.
+fn push_at_time(
+    first: bool,
+    side: Colour,
+    now: &[u8],
+    before: &[u8],
+    out: &mut Vec<u8>,
+) -> Result<(), AllocError>
+    ensures { IfOk result (λ _. out.new.items ≡ out.old.items ++ at_time first side now.now before.now) }
+{
+    push_either(first, b"", b"Before this move ", out)?;
+    say(side_word(side), out)?;
+    push_either(first, now, before, out)?;
+    Ok(())
+}
+
 /// How many more the first is.
 fn less(n: u16, m: u8) -> u16
     ensures { result ≡ n - m }
@@ -120,16 +143,16 @@ fn less(n: u16, m: u8) -> u16
 }
 
 fn push_count(
+    first: bool,
     side: Colour,
     pawns: u8,
     promoted: u16,
     began: u8,
     out: &mut Vec<u8>,
 ) -> Result<(), AllocError>
-    ensures { IfOk result (λ _. out.new.items ≡ out.old.items ++ count_words side pawns promoted began) }
+    ensures { IfOk result (λ _. out.new.items ≡ out.old.items ++ count_words first side pawns promoted began) }
 {
-    say(side_word(side), out)?;
-    say(b" has ", out)?;
+    push_at_time(first, side, b" has ", b" had ", out)?;
     push_counted(pawns as usize, b" pawn", b" pawns", out)?;
     say(b" and at least ", out)?;
     push_counted(promoted as usize, b" promoted man", b" promoted men", out)?;
@@ -258,7 +281,7 @@ fn push_captures(
     ensures { IfOk result (λ _. out.new.items ≡ out.old.items ++ captures_words query.now side captures files.now) }
 {
     if captures == 0 {
-        say(b"'s pawns need not have captured. ", out)
+        say(b"'s pawns have made at least 0 captures. ", out)
     } else if captures < 64 {
         push_few(alloc, query, side, captures, files, out)
     } else {
@@ -333,42 +356,83 @@ fn push_astray(odds: Odds, castle: Castle, out: &mut Vec<u8>) -> Result<(), Allo
     Ok(())
 }
 
-/// That these men shut each other in.
-fn push_shut(list: &[u8], out: &mut Vec<u8>) -> Result<(), AllocError>
-    ensures { IfOk result (λ _. out.new.items ≡ out.old.items ++ shut_words list.now) }
+/// A square of the set is a home of a right that is held.
+fn is_kept(query: &Query, set: SquareSet, s: Square) -> bool
+    ensures { result ≡ is_kept query.now set s }
 {
-    if list.len() == 3 {
-        push_around(
-            b"The man on",
-            list,
-            b" can't have come there. So he stood there from the beginning. ",
-            out,
-        )
-    } else {
-        push_around(
-            b"The men on",
-            list,
-            b" shut each other in: none of them can have come to his square while the others stood. So they stood there from the beginning. ",
-            out,
-        )
-    }
+    set.has(s) && is_held_home(query.held, s)
 }
 
-fn push_caged(alloc: Global, set: SquareSet, out: &mut Vec<u8>) -> Result<(), AllocError>
-    ensures { IfOk result (λ _. out.new.items ≡ out.old.items ++ caged_words set) }
+/// The squares of the set that are homes of rights that are held.
+fn kept_squares(alloc: Global, query: &Query, set: SquareSet) -> Result<Vec<u8>, AllocError>
+    ensures { IfOk result (λ v. v.items ≡ squares_words (is_kept query.now set)) }
 {
-    let list = set_squares(alloc, set)?;
-    push_shut(list.as_slice(), out)?;
+    let mut list = Vec::new(alloc);
+    for i in 0..64 {
+        let s = Square::known(i);
+        push_square_if(is_kept(query, set, s), s, &mut list)?;
+    }
+    Ok(list)
+}
+
+fn push_by_right(kept: &[u8], out: &mut Vec<u8>) -> Result<(), AllocError>
+    ensures { IfOk result (λ _. out.new.items ≡ out.old.items ++ by_right kept.now) }
+{
+    push_around(b" (by the right to castle:", kept, b")", out)
+}
+
+/// That the man on one square is shut in.
+fn push_one_shut(list: &[u8], kept: &[u8], out: &mut Vec<u8>) -> Result<(), AllocError>
+    ensures { IfOk result (λ _. out.new.items ≡ out.old.items ++ one_shut list.now kept.now) }
+{
+    say(b"The man on", out)?;
+    say(list, out)?;
+    say(b" can't have come there", out)?;
+    push_by_right(kept, out)?;
+    say(b". So he stood there from the beginning. ", out)?;
     Ok(())
 }
 
-/// The squares of the set, each after a space.
-fn set_squares(alloc: Global, set: SquareSet) -> Result<Vec<u8>, AllocError>
-    ensures { IfOk result (λ v. v.items ≡ squares_words (is_in set)) }
+/// That the men on several squares shut each other in.
+fn push_many_shut(list: &[u8], kept: &[u8], out: &mut Vec<u8>) -> Result<(), AllocError>
+    ensures { IfOk result (λ _. out.new.items ≡ out.old.items ++ many_shut list.now kept.now) }
 {
-    let mut list = Vec::new(alloc);
-    push_squares(set, &mut list)?;
-    Ok(list)
+    say(b"The men on", out)?;
+    say(list, out)?;
+    say(
+        b" shut each other in: none of them can have come to his square while the others stood",
+        out,
+    )?;
+    push_by_right(kept, out)?;
+    say(b". So they stood there from the beginning. ", out)?;
+    Ok(())
+}
+
+/// That these men shut each other in, or the one is shut in, and for which of them this is by a right to castle.
+fn push_shut(list: &[u8], kept: &[u8], out: &mut Vec<u8>) -> Result<(), AllocError>
+    ensures { IfOk result (λ _. out.new.items ≡ out.old.items ++ shut_words list.now kept.now) }
+{
+    if list.len() == 3 {
+        push_one_shut(list, kept, out)
+    } else if list.len() == 0 {
+        Ok(())
+    } else {
+        push_many_shut(list, kept, out)
+    }
+}
+
+fn push_caged(
+    alloc: Global,
+    query: &Query,
+    set: SquareSet,
+    out: &mut Vec<u8>,
+) -> Result<(), AllocError>
+    ensures { IfOk result (λ _. out.new.items ≡ out.old.items ++ caged_words query.now set) }
+{
+    let list = set_squares(alloc, set)?;
+    let kept = kept_squares(alloc, query, set)?;
+    push_shut(list.as_slice(), kept.as_slice(), out)?;
+    Ok(())
 }
 
 /// That these men never moved.
@@ -419,11 +483,10 @@ fn push_men(n: u8, out: &mut Vec<u8>) -> Result<(), AllocError>
     }
 }
 
-fn push_missing(side: Colour, missing: u8, out: &mut Vec<u8>) -> Result<(), AllocError>
-    ensures { IfOk result (λ _. out.new.items ≡ out.old.items ++ missing_words side missing) }
+fn push_missing(first: bool, side: Colour, missing: u8, out: &mut Vec<u8>) -> Result<(), AllocError>
+    ensures { IfOk result (λ _. out.new.items ≡ out.old.items ++ missing_words first side missing) }
 {
-    say(side_word(side), out)?;
-    say(b" lacks ", out)?;
+    push_at_time(first, side, b" lacks ", b" lacked ", out)?;
     push_men(missing, out)?;
     Ok(())
 }
@@ -431,15 +494,16 @@ fn push_missing(side: Colour, missing: u8, out: &mut Vec<u8>) -> Result<(), Allo
 fn push_lacks(
     alloc: Global,
     query: &Query,
+    first: bool,
     side: Colour,
     set: SquareSet,
     missing: u8,
     out: &mut Vec<u8>,
 ) -> Result<(), AllocError>
-    ensures { IfOk result (λ _. out.new.items ≡ out.old.items ++ lacks_words query.now side set missing) }
+    ensures { IfOk result (λ _. out.new.items ≡ out.old.items ++ lacks_words first query.now side set missing) }
 {
     let list = safe_squares(alloc, query, side, set)?;
-    push_missing(side, missing, out)?;
+    push_missing(first, side, missing, out)?;
     push_around(
         b", but no pawn can have taken whoever began on",
         list.as_slice(),
@@ -488,21 +552,108 @@ fn push_net(side: Colour, cost: u32, men: u8, out: &mut Vec<u8>) -> Result<(), A
     Ok(())
 }
 
-fn push_balanced(odds: Odds, white: u32, black: u32, out: &mut Vec<u8>) -> Result<(), AllocError>
-    ensures { IfOk result (λ _. out.new.items ≡ out.old.items ++ balanced_words odds white black) }
+/// Where nothing has a price, the men of a side cost more with homes of their own than anything does: they can't all have homes. A side
+/// with more men than it began with isn't asked for.
+fn is_homeless(query: &Query, set: SquareSet, side: Colour) -> bool
+    requires { HasNoMore query.now side }
+    ensures { result ≡ is_homeless query.now set side }
+{
+    let free = Prices::known(&[0; 16], &[0; 16], &[]);
+    5000 <= side_cost(query, set, &free, side).unwrap()
+}
+
+fn push_homeless(side: Colour, out: &mut Vec<u8>) -> Result<(), AllocError>
+    ensures { IfOk result (λ _. out.new.items ≡ out.old.items ++ homeless_words side) }
+{
+    say(side_word(side), out)?;
+    say(
+        b"'s men, with those who are gone, can't all have begun on homes of their own.",
+        out,
+    )?;
+    Ok(())
+}
+
+fn push_gates_most(gates: u32, out: &mut Vec<u8>) -> Result<(), AllocError>
+    ensures { IfOk result (λ _. out.new.items ≡ out.old.items ++ (codes ". But what is paid for captures is what is earned, and for squares at most " ++ decimal gates ++ codes " is paid.")) }
+{
+    say(
+        b". But what is paid for captures is what is earned, and for squares at most ",
+        out,
+    )?;
+    push_number(gates as usize, out)?;
+    say(b" is paid.", out)?;
+    Ok(())
+}
+
+/// Why the men can't pay more than they earn, or only what they pay for squares.
+fn push_most(gates: u32, out: &mut Vec<u8>) -> Result<(), AllocError>
+    ensures { IfOk result (λ _. out.new.items ≡ out.old.items ++ most_words gates) }
+{
+    if gates == 0 {
+        say(b". But what is paid is what is earned.", out)
+    } else {
+        push_gates_most(gates, out)
+    }
+}
+
+/// What the men of both sides cost, who have homes.
+fn push_account(
+    odds: Odds,
+    gates: u32,
+    white: u32,
+    black: u32,
+    out: &mut Vec<u8>,
+) -> Result<(), AllocError>
+    ensures { IfOk result (λ _. out.new.items ≡ out.old.items ++ account_words odds gates white black) }
 {
     push_net(Colour::White, white, begun_with(Colour::White, odds), out)?;
     say(b", and ", out)?;
     push_net(Colour::Black, black, begun_with(Colour::Black, odds), out)?;
-    say(b". But what is paid is what is earned.", out)?;
+    push_most(gates, out)?;
     Ok(())
+}
+
+/// The same with all gates of the prices.
+fn push_accounts(
+    query: &Query,
+    prices: &Prices,
+    white: u32,
+    black: u32,
+    out: &mut Vec<u8>,
+) -> Result<(), AllocError>
+    ensures { IfOk result (λ _. out.new.items ≡ out.old.items ++ account_words query.now.odds (all_gates prices.now) white black) }
+{
+    let gates = all_gates(prices);
+    push_account(query.odds, gates, white, black, out)
+}
+
+/// What the men of both sides cost, or that those of a side can't all have homes.
+fn push_balanced(
+    query: &Query,
+    set: SquareSet,
+    prices: &Prices,
+    white: u32,
+    black: u32,
+    out: &mut Vec<u8>,
+) -> Result<(), AllocError>
+    requires white { HasNoMore query.now White }
+    requires black { HasNoMore query.now Black }
+    ensures { IfOk result (λ _. out.new.items ≡ out.old.items ++ balanced_words query.now set prices.now white black) }
+{
+    if is_homeless(query, set, Colour::White) {
+        push_homeless(Colour::White, out)
+    } else if is_homeless(query, set, Colour::Black) {
+        push_homeless(Colour::Black, out)
+    } else {
+        push_accounts(query, prices, white, black, out)
+    }
 }
 
 fn push_back(steps: u8, out: &mut Vec<u8>) -> Result<(), AllocError>
     ensures { IfOk result (λ _. out.new.items ≡ out.old.items ++ back_words steps) }
 {
     say(b"This is the position of ", out)?;
-    push_counted(steps as usize, b" move", b" moves", out)?;
+    push_counted(steps as usize, b" half-move", b" half-moves", out)?;
     say(
         b" later again, with no fewer demands; a shortest game doesn't repeat it.",
         out,
@@ -567,24 +718,36 @@ pub(crate) fn push_sentence(
         Sentence::Ranks(s) => push_end(*s, out),
         Sentence::Check(side, s) => push_check(*side, *s, out),
         Sentence::Rights(castle) => push_astray(query.odds, *castle, out),
-        Sentence::Count(side, pawns, together, began) => {
-            push_count(*side, *pawns, less(*together, *pawns), *began, out)
-        }
-        Sentence::Caged(set) => push_caged(alloc, *set, out),
+        Sentence::Count(side, pawns, together, began, first) => push_count(
+            *first,
+            *side,
+            *pawns,
+            less(*together, *pawns),
+            *began,
+            out,
+        ),
+        Sentence::Caged(set) => push_caged(alloc, query, *set, out),
         Sentence::Changed(_, odd) => push_stood(query.odds, *odd, out),
         Sentence::Settled(set) => push_settled(alloc, *set, out),
         Sentence::Gone(side, set) => push_gone(alloc, query, *side, *set, out),
-        Sentence::Promoted(side, _, pawns, began) => {
-            push_count(*side, *pawns, less(*began as u16 + 1, *pawns), *began, out)
-        }
+        Sentence::Promoted(side, _, pawns, began, first) => push_count(
+            *first,
+            *side,
+            *pawns,
+            less(*began as u16 + 1, *pawns),
+            *began,
+            out,
+        ),
         Sentence::Way(side, captures, files) => {
             push_pawns_came(alloc, query, *side, *captures, files.as_slice(), out)
         }
-        Sentence::Lacks(side, set, missing) => {
-            push_lacks(alloc, query, *side, *set, *missing, out)
+        Sentence::Lacks(side, set, missing, first) => {
+            push_lacks(alloc, query, *first, *side, *set, *missing, out)
         }
         Sentence::Priced(_, prices) => push_priced(alloc, prices, out),
-        Sentence::Balanced(_, _, white, black) => push_balanced(query.odds, *white, *black, out),
+        Sentence::Balanced(set, prices, white, black) => {
+            push_balanced(query, *set, prices, *white, *black, out)
+        }
         Sentence::Back(steps) => push_back(*steps, out),
         Sentence::Still(first) => push_barred(alloc, query, *first, out),
         Sentence::Moved(first) => push_moved(query.turn.other(), *first, out),

@@ -14,11 +14,11 @@ loop-least-smaller c =
 
 pub returns-in-Open : goal.returns-in-Open
 returns-in-Open c =
-    least_by_open c.deeper_searches_refute_more.ensures.refutable c.args.query.now c.args.claim.now c.args.limits.depth c.args.limits.nodes c.loop-least.least c.loop-least.invariant (rw c.in-Open.is at c.in_ok-outcome.ensures).0
+    least_by_open c.deeper_searches_refute_more.ensures.refutable c.args.query.now c.args.claim.now c.args.limits.depth c.args.limits.nodes c.loop-least.least c.loop-least.invariant (rw c.in-Open.is at c.in_ok-outcome.ensures).0 (rw c.in-Open.is at c.in_ok-outcome.ensures).1
 
 pub returns-in-Spent : goal.returns-in-Spent
 returns-in-Spent c =
-    least_by_spent c.args.query.now c.args.claim.now c.args.limits.depth c.args.limits.nodes c.loop-least.least c.loop-least.invariant (rw c.in-Spent.is at c.in_ok-outcome.ensures).0
+    least_by_spent c.args.query.now c.args.claim.now c.args.limits.depth c.args.limits.nodes c.loop-least.least c.loop-least.invariant (rw c.in-Spent.is at c.in_ok-outcome.ensures).0 (rw c.in-Spent.is at c.in_ok-outcome.ensures).1
 
 pub returns : goal.returns
 returns c = least_by_none c.args.query.now c.args.claim.now c.args.limits.depth c.args.limits.nodes c.loop-least.least c.loop-least.invariant (omega arith)

@@ -17,11 +17,12 @@ tell_captures-requires c =
 pub returns : goal.returns
 returns c =
     ok_then c.tell_length.result _ _
-    (more_told c.args.query.now c.args.limits.depth c.args.limits.nodes c.in_ok-found.found.items c.open_castlings-kept.result c.in_ok-retractions.retractions.left c.in_ok-retractions.retractions.all _ _ _ _ _ _ _ _
+    (more_told c.args.query.now c.args.limits.depth c.args.limits.nodes c.in_ok-found.found.items c.open_castlings-kept.result c.args.seen.now.left c.args.seen.now.all _ _ _ _ _ _ _ _
     c.in_ok-found.ensures
     (c.open_castlings-kept.ensures ∙ ap (λ (l : List RightFound). open_castlings l) c.as_slice.ensures.value)
-    c.in_ok-retractions.ensures.left
-    c.in_ok-retractions.ensures.all
+    c.requires.seen.left
+    c.requires.array
+    c.requires.seen.all
     (c.in_ok-tell_castlings.ensures ∙ ap (λ (l : List RightFound). c.args.text.now.items ++ castling_lines l) c.as_slice-2.ensures.value)
     c.in_ok-tell_pairs.ensures
     (c.in_ok-tell_captures.ensures ∙ ap (λ (l : List RightFound). c.tell_pairs.new.text.items ++ capture_lines l) c.as_slice-3.ensures.value)

@@ -1,8 +1,11 @@
+use Rattle.std.proofs.Common.{◌++◌}
+use Rattle.std.specs.Prelude.{codes}
 use Rattle.prose_words.proofs.Squares.{thence}
+use Rattle.proof_prose.specs.Heads.{going_words}
 use Rattle.proof_prose.proofs.heads.push_last.Goals as goal
 
 pub returns : goal.returns
 returns c =
     let h0 = c.in_ok-say.ensures in
-    let h1 = thence _ _ _ _ _ h0 c.in_ok-push_move.ensures in
+    let h1 = thence c.args.out.now.items _ _ (codes "the last move ") (going_words c.args.m.now) h0 (c.in_ok-push_going.ensures) in
     h1

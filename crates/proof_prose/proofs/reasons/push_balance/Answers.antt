@@ -15,7 +15,7 @@ pub push_sentence-requires-3 : goal.push_sentence-requires-3
 push_sentence-requires-3 c =
     let white = (rw c.unwrap-white.ensures at c.side_cost.ensures.value).1 in
     let black = (rw c.unwrap-black.ensures at c.side_cost-2.ensures.value).1 in
-    ((c.requires.settled.frozen, c.requires.settled.as_array), white, black, rw (white, black) c.requires.above)
+    ((c.requires.settled.frozen, c.requires.settled.as_array), white, black, rw (white, black) c.requires.above, c.requires.white, c.requires.black)
 
 pub returns : goal.returns
 returns c =
@@ -26,5 +26,5 @@ returns c =
       c.unwrap-white.result,
       c.unwrap-black.result,
       adds-three c.args.query.now (Settled c.args.set) (Priced c.args.set c.args.prices.now) (Balanced c.args.set c.args.prices.now c.unwrap-white.result c.unwrap-black.result) c.args.out.now.items _ _ _ never never
-          (never, white, black, above) c.in_ok-push_sentence.ensures c.in_ok-push_sentence-2.ensures c.in_ok-push_sentence-3.ensures,
+          (never, white, black, above, c.requires.white, c.requires.black) c.in_ok-push_sentence.ensures c.in_ok-push_sentence-2.ensures c.in_ok-push_sentence-3.ensures,
     )

@@ -26,10 +26,10 @@ returns c =
     let needs : NeedTooMany c.args.query.now.odds c.args.query.now c.args.set (opponent c.other-other.result) c.args.p.now.u c.args.p.now.v =
     rw c.other-other.ensures (needs-back c.args.query.now.odds c.args.query.now c.args.set c.args.side c.args.p.now.u c.args.p.now.v c.requires.above.needs) in
     let says = rw c.unwrap-way.ensures at c.way_of.ensures.says in
-    let all = adds-three c.args.query.now (Settled c.args.set) c.unwrap-way.result (Lacks c.other-other.result c.args.set c.missing_of-missing.result) c.args.out.now.items _ _ c.push_sentence-3.new.out.items never says
+    let all = adds-three c.args.query.now (Settled c.args.set) c.unwrap-way.result (Lacks c.other-other.result c.args.set c.missing_of-missing.result c.args.first) c.args.out.now.items _ _ c.push_sentence-3.new.out.items never says
     (never, c.missing_of-missing.ensures, (c.args.p.now, needs)) c.in_ok-push_sentence.ensures c.in_ok-push_sentence-2.ensures c.in_ok-push_sentence-3.ensures in (
       c.unwrap-way.result,
       c.missing_of-missing.result,
       rw c.unwrap-way.ensures at c.way_of.ensures.shape,
-      subst (λ (d : Colour). Adds c.args.query.now (Settled c.args.set ∷ c.unwrap-way.result ∷ Lacks d c.args.set c.missing_of-missing.result ∷ []) c.args.out.now.items c.push_sentence-3.new.out.items) c.other-other.ensures all,
+      subst (λ (d : Colour). Adds c.args.query.now (Settled c.args.set ∷ c.unwrap-way.result ∷ Lacks d c.args.set c.missing_of-missing.result c.args.first ∷ []) c.args.out.now.items c.push_sentence-3.new.out.items) c.other-other.ensures all,
     )

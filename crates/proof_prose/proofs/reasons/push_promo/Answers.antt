@@ -27,7 +27,7 @@ returns c =
     ap (λ (n : Allowance). n.pawns) c.allowance-began.ensures ∙ ap (λ (q : Asked). men c.args.side Pawn is_any (array_of q.odds)) c.query.view_is in (
       c.counts-pawns.result.pawns,
       c.allowance-began.result.pawns,
-      adds-three c.args.query.now (Settled c.args.set) (Gone c.args.side c.args.set) (Promoted c.args.side c.args.set c.counts-pawns.result.pawns c.allowance-began.result.pawns) c.args.out.now.items _ _ _ never never
+      adds-three c.args.query.now (Settled c.args.set) (Gone c.args.side c.args.set) (Promoted c.args.side c.args.set c.counts-pawns.result.pawns c.allowance-began.result.pawns c.args.first) c.args.out.now.items _ _ _ never never
           (pawns, began, c.requires.more)
           c.in_ok-push_sentence.ensures c.in_ok-push_sentence-2.ensures c.in_ok-push_sentence-3.ensures,
     )

@@ -8,5 +8,5 @@ returns c = (
   c.counts-men.result.pawns,
   c.excess-together.result,
   c.allowance-allowed.result.pawns,
-  adds-one c.args.query.now (Count c.args.side c.counts-men.result.pawns c.excess-together.result c.allowance-allowed.result.pawns) c.args.out.now.items _ (search rules) c.in_ok-push_sentence.ensures,
+  adds-one c.args.query.now (Count c.args.side c.counts-men.result.pawns c.excess-together.result c.allowance-allowed.result.pawns c.args.first) c.args.out.now.items _ (search rules) c.in_ok-push_sentence.ensures,
 )

@@ -1,16 +1,10 @@
-use Rattle.std.proofs.Common.{◌++◌}
-use Rattle.std.specs.Prelude.{codes}
-use Rattle.prose_words.proofs.Squares.{thence}
-use Rattle.board_base.specs.Board.{array_of}
+use Rattle.std.proofs.Common.{◌≡◌, false, sym, ◌∙◌}
 use Rattle.board_base.specs.declared.men.Colour.TheVariants.{White, Black}
-use Rattle.balance_rule.specs.Balance.{men_on}
-use Rattle.proof_prose.specs.Sentences.{net_words}
+use Rattle.proof_prose.specs.Sentences.{is_homeless}
 use Rattle.proof_prose.proofs.telling.push_balanced.Goals as goal
 
-pub returns : goal.returns
-returns c =
-    let h0 = rw (c.begun_with.ensures.number) at c.in_ok-push_net.ensures in
-    let h1 = thence c.args.out.now.items _ _ (net_words White c.args.white (men_on White (array_of c.args.odds))) (codes ", and ") h0 (c.in_ok-say.ensures) in
-    let h2 = thence c.args.out.now.items _ _ ((net_words White c.args.white (men_on White (array_of c.args.odds))) ++ (codes ", and ")) (net_words Black c.args.black (men_on Black (array_of c.args.odds))) h1 (rw (c.begun_with-2.ensures.number) at c.in_ok-push_net-2.ensures) in
-    let h3 = thence c.args.out.now.items _ _ (((net_words White c.args.white (men_on White (array_of c.args.odds))) ++ (codes ", and ")) ++ (net_words Black c.args.black (men_on Black (array_of c.args.odds)))) (codes ". But what is paid is what is earned.") h2 (c.in_ok-say-2.ensures) in
-    h3
+pub returns-else-is_homeless-2 : goal.returns-else-is_homeless-2
+returns-else-is_homeless-2 c =
+    let white : is_homeless c.args.query.now c.args.set White ≡ false = sym c.is_homeless.ensures ∙ c.if-is_homeless.false in
+    let black : is_homeless c.args.query.now c.args.set Black ≡ false = sym c.is_homeless-else-is_homeless.ensures ∙ c.if-is_homeless-2.false in
+    rw (white, black) c.push_accounts.ensures

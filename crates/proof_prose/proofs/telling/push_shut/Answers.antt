@@ -3,9 +3,4 @@ use Rattle.std.proofs.lemmas.Bool.{ne_eqb}
 use Rattle.proof_prose.proofs.telling.push_shut.Goals as goal
 
 pub returns-then-list-eq3 : goal.returns-then-list-eq3
-returns-then-list-eq3 c = rw c.if-list-eq3.true c.push_around.ensures
-
-pub returns-else-list-eq3 : goal.returns-else-list-eq3
-returns-else-list-eq3 c =
-    let other = ne_eqb (length c.args.list.now) 3 c.if-list-eq3.false in
-    rw other c.push_around-else-list-eq3.ensures
+returns-then-list-eq3 c = rw c.if-list-eq3.true c.push_one_shut.ensures

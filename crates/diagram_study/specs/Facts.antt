@@ -1,0 +1,48 @@
+-- What a study says of a position, line by line, and that it is so.
+use Rattle.std.specs.Prelude.{ℕ, ◌≡◌, ◌≤◌, ◌⊎◌, IsTrue, List, [], ◌++◌, length}
+use Rattle.std.specs.List.{All, flat_map}
+use Rattle.board_base.specs.declared.moves.Move.{Move}
+use Rattle.board_base.specs.declared.unmoves.Unmove.{Unmove}
+use Rattle.query_base.specs.Asked.{Asked}
+use Rattle.query_base.specs.Reach.{Holds, Reaches}
+use Rattle.query_base.specs.declared.claims.Claim.{Claim}
+use Rattle.query_base.specs.declared.claims.Claim.TheVariants.{Illegal}
+use Rattle.line_claims.specs.Holding.{HoldsLine}
+use Rattle.line_claims.specs.declared.claims.LineClaim.{LineClaim}
+use Rattle.diagram_study.specs.Findings.{is_proved}
+use Rattle.diagram_study.specs.Studies.{other_side}
+use Rattle.diagram_study.specs.Texts.{found_line, left_line, length_line, other_line, plain_line, steps_line}
+use Rattle.diagram_study.specs.declared.findings.Finding.{Finding}
+
+-- what a line says: what was found of a claim, or of a claim of several steps; which unmoves are left; how long games are at least; what
+-- was found with the other side to move
+pub data Fact : Type 0 where
+  found : Finding → Claim → Fact
+  steps : Finding → LineClaim → Fact
+  left : List Unmove → ℕ → Fact
+  at_least : ℕ → Fact
+  other : Finding → Fact
+
+-- its line
+abbrev pub line_of : Fact → List ℕ
+line_of (found finding claim) = found_line finding claim
+line_of (steps finding claim) = steps_line finding claim
+line_of (left us all) = left_line us all
+line_of (at_least n) = length_line n
+line_of (other finding) = other_line finding
+
+-- what is proved holds of every game, and each game that reaches the query has at least so many half-moves
+abbrev pub IsTrueOf : Asked → Fact → Type 0
+IsTrueOf q (found finding claim) = IsTrue (is_proved finding) → Holds claim q
+IsTrueOf q (steps finding claim) = IsTrue (is_proved finding) → HoldsLine claim q
+IsTrueOf q (left us all) = Unit {0}
+IsTrueOf q (at_least n) = (g : List Move) → Reaches g q → n ≤ length g
+IsTrueOf q (other finding) = IsTrue (is_proved finding) → Holds Illegal (other_side q)
+
+-- The text is the lines of facts, each of which is true of the query; and behind them nothing, or what was found without demands.
+pub record SaysTrue (q : Asked) (text : List ℕ) : Type 0 where
+  pub facts : List Fact
+  pub true_ : All (IsTrueOf q) facts
+  pub behind : List ℕ
+  pub text_is : text ≡ flat_map line_of facts ++ behind
+  pub plain : (behind ≡ []) ⊎ ((more : List ℕ) × (behind ≡ plain_line ++ more))

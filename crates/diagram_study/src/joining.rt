@@ -1,0 +1,74 @@
+ghost use Rattle.std.specs.Prelude.{◌≡◌, ◌-◌, ◌≤◌, [], IfSome, IsTrue, None, false};
+ghost use Rattle.std.specs.List.{All, Contains};
+ghost use Rattle.board_base.specs.Legal.{is_move};
+ghost use Rattle.query_base.specs.Reach.{Reaches};
+ghost use Rattle.retro_search.specs.Outcomes.{HasProof};
+ghost use Rattle.diagram_study.specs.Findings.{IsFound, is_proved, is_refuted};
+ghost use Rattle.diagram_study.specs.Looks.{AreHeights, AreLooked, claim_but};
+ghost use Rattle.diagram_study.specs.declared.retractions.Looked.{Looked as ALooked};
+
+use crate::findings::Finding;
+use crate::retractions::{Counted, Looked};
+use board_base::{Move, is_move};
+use query_base::{Query, is_array};
+use retro_search::{Limits, Outcome};
+
+/// The greatest height of the trees that refute what is before these unmoves, but those of the move, if one is given. None where the
+/// search didn't refute one of them.
+fn greatest_height(looked: &[Looked], but: &Option<Move>) -> Option<u8>
+    ensures heights { IfSome result (λ height. AreHeights but.now looked.now height) }
+    ensures left { result ≡ None → (l : ALooked) × Contains looked.now l × (is_move but.now l.unmove.mv ≡ false) × (is_refuted l.outcome ≡ false) }
+{
+    let mut greatest: u8 = 0;
+    for seen in looked {
+        if !is_move(but, &seen.unmove.mv) {
+            match seen.outcome {
+                Outcome::Refuted { height } => greatest = greatest.max(height),
+                Outcome::Open => return None,
+                Outcome::Spent => return None,
+            }
+        }
+    }
+    Some(greatest)
+}
+
+/// The height of a tree for the query with this move barred, if one is given, that is joined of those for what is before its unmoves: one
+/// more than the greatest of theirs.
+fn joined_height(query: &Query, but: &Option<Move>, seen: &Counted, limits: Limits) -> Option<u8>
+    requires plain { query.now.barred ≡ None }
+    requires looked { AreLooked query.now (limits.depth - 1) limits.nodes [] seen.now.left seen.now.looked.items }
+    ensures proof { IfSome result (λ height. HasProof (record query.now { barred = but.now }) height limits.depth) }
+    ensures sure { result ≡ None → 1 ≤ limits.depth → (Reaches [] query.now → ⊥) → All (λ u. IsTrue (is_move but.now u.mv)) seen.now.left → ⊥ }
+{
+    if limits.depth == 0 || is_array(query) {
+        return None;
+    }
+    match greatest_height(seen.looked.as_slice(), but) {
+        Some(height) => Some(height + 1),
+        None => None,
+    }
+}
+
+/// What is found of the claim that the move was the last, or without one that the position is illegal, where the search alone came to
+/// this: where it came to no proof, one may be joined of those that refute what is before the unmoves.
+pub(crate) fn joined_up(
+    query: &Query,
+    but: Option<Move>,
+    sought: Finding,
+    seen: &Counted,
+    limits: Limits,
+) -> Finding
+    requires plain { query.now.barred ≡ None }
+    requires looked { AreLooked query.now (limits.depth - 1) limits.nodes [] seen.now.left seen.now.looked.items }
+    requires sought { IsFound query.now (claim_but but) limits.depth limits.nodes sought }
+    ensures found { IsFound query.now (claim_but but) limits.depth limits.nodes result }
+    ensures sure { 1 ≤ limits.depth → (Reaches [] query.now → ⊥) → All (λ u. IsTrue (is_move but u.mv)) seen.now.left → IsTrue (is_proved result) }
+{
+    if sought.is_proved() {
+        return sought;
+    }
+    match joined_height(query, &but, seen, limits) {
+        Some(height) => Finding::Proved(height),
+        None => sought,
+    }
+}

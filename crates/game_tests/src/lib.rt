@@ -1,0 +1,7 @@
+//! Tests of the search for games: to which positions one is found, and with which last moves.
+#![tactic(auto)]
+
+#[cfg(test)]
+mod finding;
+#[cfg(test)]
+mod wishes;
