@@ -67,6 +67,12 @@ const A_KNIGHT: &str = "1KRqb3/p2krpp1/2ppp3/PN6/BrPPP3/1p1P4/2p1P3/Q7 b - -";
 /// The array.
 const ARRAY: &str = "rnbqkbnr/pppppppp/8/8/8/8/PPPPPPPP/RNBQKBNR w - -";
 
+/// White's pawn of a2 took a man on b3, and Black has all of his. White is without a knight, whom a pawn may have taken.
+const WHITE_TOOK: &str = "rnbqkbnr/pppppppp/8/8/8/1P6/1PPPPPPP/R1BQKBNR w - -";
+
+/// The same of Black.
+const BLACK_TOOK: &str = "r1bqkbnr/1ppppppp/1p6/8/8/8/PPPPPPPP/RNBQKBNR b - -";
+
 /// Whether equal prices support the position with the greatest set that is as in the array, and whether some prices are found. None where
 /// it can't be read.
 fn is_found(alloc: Global, position: &str) -> Option<(bool, bool)> {
@@ -80,9 +86,11 @@ fn is_found(alloc: Global, position: &str) -> Option<(bool, bool)> {
 /// Position, whether equal prices support it, and whether some prices are found.
 #[test]
 fn finds_prices(rt: HostRuntime) {
-    let rows: [(&str, (bool, bool)); 3] = [
+    let rows: [(&str, (bool, bool)); 5] = [
         (TWO_BISHOPS, (true, true)),
         (A_KNIGHT, (false, true)),
+        (WHITE_TOOK, (false, true)),
+        (BLACK_TOOK, (false, true)),
         (ARRAY, (false, false)),
     ];
     for (position, found) in rows {
