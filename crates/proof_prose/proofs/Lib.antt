@@ -6,6 +6,7 @@ pub mod Astray
 pub mod Endings
 pub mod Finding
 pub mod Runs
+pub mod Movers
 pub mod Trees
 pub mod Wraps
 pub mod OneLeast

@@ -97,7 +97,7 @@ one-reason now q (Balance set p) o a b (white, black, h) (bright, dark, k) =
 one-line : (label : Option Unmove) (l : OwnLine) (q : Asked) (o a b : List ℕ) → AddsLine label l q o a → AddsLine label l q o b → a ≡ b
 one-line label (line.Because r) q o a b (least, is, h) (other, was, k) =
     one-reason (is_none label) q other o a b (subst (λ (x : Reason). TellsReason (is_none label) q x o a) (one-least q r least other is was) h) k
-one-line label (line.Back n) q o a b h k = h.1 ∙ sym k.1
+one-line label (line.Back n above) q o a b h k = h.1 ∙ sym k.1
 one-line label (line.Moves n) q o a b h k = h.1 ∙ sym k.1
 
 abbrev said_of_node : Told → List ℕ → Spoken

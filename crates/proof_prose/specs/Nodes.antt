@@ -2,6 +2,7 @@
 use Rattle.std.specs.Prelude.{ℕ, ◌+◌, List, [], ◌∷◌, ◌++◌, codes, Some, None}
 use Rattle.std.specs.Fmt.{decimal}
 use Rattle.board_base.specs.declared.unmoves.Unmove.{Unmove}
+use Rattle.query_base.specs.Ancestors.{ancestor}
 use Rattle.query_base.specs.Asked.{Asked}
 use Rattle.cert_checker.specs.Proving.{target_of}
 use Rattle.cert_text.specs.Certificate.{Certificate}
@@ -11,38 +12,42 @@ use Rattle.proof_prose.specs.declared.nodes.Line.{Line}
 use Rattle.proof_prose.specs.declared.nodes.Line.TheVariants.{Because, Back, Moves}
 use Rattle.proof_prose.specs.declared.nodes.Told.{Told}
 
--- why no game reaches the query of a node, without its children
-abbrev pub line_of : Tree → Line
-line_of (rule r) = Because r
-line_of (back k) = Back k
-line_of (expand kids) = Moves (count kids)
+-- the query of the ancestor so many steps above, or this one where there is none
+abbrev pub earlier : Asked → List Asked → ℕ → Asked
+earlier q above k = elim (ancestor above k) [ None ↦ q | Some a ↦ a ]
+
+-- why no game reaches the query of a node below these ancestors, the parent first, without its children
+abbrev pub line_of : Asked → List Asked → Tree → Line
+line_of q above (rule r) = Because r
+line_of q above (back k) = Back k (earlier q above k)
+line_of q above (expand kids) = Moves (count kids)
 
 -- what stands before the numbers of the children of the node with this number: `1.2.` for those of the second child of the first
 abbrev pub prefix_below : List ℕ → ℕ → List ℕ
 prefix_below prefix place = prefix ++ decimal place ++ codes "."
 
 -- a child, to which this retraction leads
-abbrev pub own_node : List ℕ → ℕ → Unmove → Asked → Asked → Tree → Told
-own_node prefix place label whence q tree =
-    record { prefix = prefix; place = place; label = Some label; whence = whence; query = q; line = line_of tree }
+abbrev pub own_node : List ℕ → ℕ → Unmove → Asked → Asked → List Asked → Tree → Told
+own_node prefix place label whence q above tree =
+    record { prefix = prefix; place = place; label = Some label; whence = whence; query = q; line = line_of q above tree }
 
 abbrev mutual
-  -- the nodes below a node whose children's numbers begin so
-  pub below : List ℕ → Asked → Tree → List Told
-  below prefix q (rule r) = []
-  below prefix q (back k) = []
-  below prefix q (expand kids) = kid_nodes prefix q 1 kids
+  -- the nodes below a node that has these ancestors, whose children's numbers begin so
+  pub below : List ℕ → Asked → List Asked → Tree → List Told
+  below prefix q above (rule r) = []
+  below prefix q above (back k) = []
+  below prefix q above (expand kids) = kid_nodes prefix q above 1 kids
 
   -- children from this place on, each with the nodes below it
-  pub kid_nodes : List ℕ → Asked → ℕ → Forest → List Told
-  kid_nodes prefix q i none = []
-  kid_nodes prefix q i (more label tree rest) =
-      own_node prefix i label q (predecessor q label) tree ∷ (below (prefix_below prefix i) (predecessor q label) tree ++ kid_nodes prefix q (i + 1) rest)
+  pub kid_nodes : List ℕ → Asked → List Asked → ℕ → Forest → List Told
+  kid_nodes prefix q above i none = []
+  kid_nodes prefix q above i (more label tree rest) =
+      own_node prefix i label q (predecessor q label) (q ∷ above) tree ∷ (below (prefix_below prefix i) (predecessor q label) (q ∷ above) tree ++ kid_nodes prefix q above (i + 1) rest)
 
 -- the root, which speaks of this query, and the nodes below it
 abbrev pub nodes_from : Asked → Tree → List Told
 nodes_from q tree =
-    record { prefix = []; place = 0; label = None; whence = q; query = q; line = line_of tree } ∷ below [] q tree
+    record { prefix = []; place = 0; label = None; whence = q; query = q; line = line_of q [] tree } ∷ below [] q [] tree
 
 -- the nodes of a certificate's tree
 abbrev pub nodes_of : Certificate → List Told

@@ -76,5 +76,5 @@ moves_sentence n first = cond (n == 0) (Still first) (Moved first)
 -- the own line of a node is told: its reason; that the position stands later again; or whether there are retractions
 abbrev pub AddsLine : Option Unmove → OwnLine → Asked → List ℕ → List ℕ → Type 0
 AddsLine label (line.Because r) q old new = AddsReason (is_none label) q r old new
-AddsLine label (line.Back k) q old new = Adds q (Back k ∷ []) old new
+AddsLine label (line.Back k above) q old new = Adds q (Back k above ∷ []) old new
 AddsLine label (line.Moves n) q old new = Adds q (moves_sentence n (is_none label) ∷ []) old new

@@ -22,11 +22,13 @@ use Rattle.men_account.specs.Homes.{men_of}
 use Rattle.play_rules.specs.Kings.{HasOneKingEach}
 use Rattle.play_rules.specs.Laws.{is_end}
 use Rattle.query_base.specs.Asked.{Asked}
+use Rattle.query_base.specs.Targets.{Covers}
 use Rattle.cage_rules.specs.Frozen.{IsAsArray, IsFrozen, is_held_home}
 use Rattle.cage_rules.specs.Refuted.{HasTooMany, NeedTooMany, is_spent}
 use Rattle.cage_rules.specs.Regions.{is_dead, is_officer_home}
 use Rattle.unmove_gen.specs.Listed.{unmoves}
 use Rattle.retraction_bars.specs.Lines.{bars_text}
+use Rattle.retraction_bars.specs.Told.{NobodyMoved}
 use Rattle.prose_words.specs.Words.{man_words, side_word, squares_words}
 use Rattle.proof_prose.specs.Firsts.{is_astray}
 use Rattle.proof_prose.specs.Heads.{unmoved_words}
@@ -57,9 +59,8 @@ HasNoMore q c = men_on c q.board ≤ men_on c (array_of q.odds)
 -- began on the homes that are named; so the side has more pawns and promoted men than it had pawns; its pawns have made at least so many
 -- captures, as many as where they began on these files; the side lacks so many men, of whom no pawn took those of the homes that are
 -- named, and the enemy's pawns need more than the others. Captures have these prices, and at these prices the men of both sides cost so
--- much at least, which is more than the gates make up for. The side that isn't to move has no retraction, or has some. Of one that sends
--- the reader so many moves back, nothing is said of the query by itself: that the position there asks no more is what `Proves` says of a
--- `back` in the tree, and `explain` asks for a certificate that proves its claim.
+-- much at least, which is more than the gates make up for. The query above, which speaks of the position so many half-moves later, has the
+-- same position and asks no more. The side that isn't to move has no retraction, and what is told of its men is so; or it has some.
 abbrev pub Says : Sentence → Asked → Type 0
 Says Kings q = HasOneKingEach q.board → ⊥
 Says (Ranks s) q = IsTrue (is_end s && is_a Pawn (at q.board s))
@@ -80,8 +81,8 @@ Says (Lacks c set missing first) q =
 Says (Priced set p) q = NeverMoved q set
 Says (Balanced set p white black) q =
     NeverMoved q set × (white ≡ side_cost q.odds q.board p set White) × (black ≡ side_cost q.odds q.board p set Black) × (most_cost q.odds p < white + black) × HasNoMore q White × HasNoMore q Black
-Says (Back k) q = Unit {0}
-Says (Still first) q = unmoves q ≡ []
+Says (Back k above) q = Covers above q
+Says (Still first) q = NobodyMoved q
 Says (Moved first) q = 0 < length (unmoves q)
 
 -- a number of things, with the word for one or for several
@@ -259,6 +260,6 @@ words_of (Way c captures files) q = side_word c ++ captures_words q c captures f
 words_of (Lacks c set missing first) q = lacks_words first q c set missing
 words_of (Priced set p) q = priced_words p
 words_of (Balanced set p white black) q = balanced_words q set p white black
-words_of (Back k) q = back_words k
+words_of (Back k above) q = back_words k
 words_of (Still first) q = barred_words q first
 words_of (Moved first) q = moved_words (opponent q.turn) first

@@ -1,15 +1,18 @@
 //! What is said of nodes.
 
-ghost use Rattle.std.specs.Prelude.{◌≡◌, IfOk, is_none};
+ghost use Rattle.std.specs.Prelude.{◌≡◌, ◌∷◌, [], IfOk, is_none, length};
 ghost use Rattle.std.specs.List.{All};
 ghost use Rattle.proof_prose.specs.Bodies.{AreSpoken, IsBody};
-ghost use Rattle.proof_prose.specs.Reasons.{AddsLine, moves_sentence};
+ghost use Rattle.proof_prose.specs.Reasons.{Adds, AddsLine, moves_sentence};
+ghost use Rattle.unmove_gen.specs.Listed.{unmoves};
 ghost use Rattle.proof_prose.specs.Standing.{Stands};
 
 use crate::letters::{Letters, kept};
 use crate::nodes::{Line, Told};
 use crate::reasons::{push_one, push_reason};
 use crate::sentences::Sentence;
+use query_base::Query;
+use retraction_bars::{bars_hold, pairs_hold, ways_are_told};
 use std::alloc::{AllocError, Global};
 
 /// A node of a certificate's tree, and what is said of it.
@@ -31,6 +34,23 @@ fn moves_sentence(count: usize, first: bool) -> Sentence
     }
 }
 
+/// Whether there are retractions; where there are none, what is told of each man is so.
+fn push_moves(
+    alloc: Global,
+    query: &Query,
+    count: usize,
+    first: bool,
+    out: &mut Vec<u8>,
+) -> Result<(), AllocError>
+    requires { length (unmoves query.now) ≡ count }
+    ensures { IfOk result (λ _. Adds query.now (moves_sentence count first ∷ []) out.old.items out.new.items) }
+{
+    bars_hold();
+    pairs_hold();
+    ways_are_told();
+    push_one(alloc, query, &moves_sentence(count, first), out)
+}
+
 /// Why no game reaches the query of a node.
 fn push_line(alloc: Global, node: &Told, out: &mut Vec<u8>) -> Result<(), AllocError>
     requires { Stands node.now }
@@ -39,8 +59,10 @@ fn push_line(alloc: Global, node: &Told, out: &mut Vec<u8>) -> Result<(), AllocE
     let first = node.label.is_none();
     match &node.line {
         Line::Because(reason) => push_reason(alloc, &node.query, first, reason, out),
-        Line::Back(steps) => push_one(alloc, &node.query, &Sentence::Back(*steps), out),
-        Line::Moves(count) => push_one(alloc, &node.query, &moves_sentence(*count, first), out),
+        Line::Back(steps, above) => {
+            push_one(alloc, &node.query, &Sentence::Back(*steps, *above), out)
+        }
+        Line::Moves(count) => push_moves(alloc, &node.query, *count, first, out),
     }
 }
 

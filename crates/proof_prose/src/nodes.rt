@@ -1,13 +1,13 @@
 //! The nodes of a certificate's tree, one after another.
 
-ghost use Rattle.std.specs.Prelude.{List, [], ◌≡◌, ◌++◌, ◌∷◌, IfOk};
+ghost use Rattle.std.specs.Prelude.{List, [], ◌≡◌, ◌++◌, ◌∷◌, IfOk, reverse};
 ghost use Rattle.std.specs.List.{All};
 ghost use Rattle.cert_checker.specs.Proving.{Proves, ProvesClaim, ProvesEach};
 ghost use Rattle.cert_text.specs.Seen.{tree_of};
 ghost use Rattle.cert_text.specs.SeenCert.{cert_of};
 ghost use Rattle.query_base.specs.Asked.{Asked};
 ghost use Rattle.query_base.specs.Targets.{target};
-ghost use Rattle.proof_prose.specs.Nodes.{below, kid_nodes, line_of, nodes_from, nodes_of, own_node, prefix_below};
+ghost use Rattle.proof_prose.specs.Nodes.{below, earlier, kid_nodes, line_of, nodes_from, nodes_of, own_node, prefix_below};
 ghost use Rattle.proof_prose.specs.Standing.{Stands};
 ghost use Rattle.unmove_gen.specs.Listed.{unmoves};
 
@@ -25,8 +25,8 @@ use unmove_gen::pred;
 pub enum Line {
     /// The reason supports it.
     Because(Reason),
-    /// The query so many nodes above asks no more.
-    Back(u8),
+    /// The query so many nodes above, which is this one, asks no more.
+    Back(u8, Query),
     /// It has so many retractions.
     Moves(usize),
 }
@@ -48,12 +48,23 @@ pub struct Told {
     pub line: Line,
 }
 
-fn line_of(node: &Node) -> Line
-    ensures { result ≡ line_of (tree_of node.now) }
+/// The query of the ancestor so many steps above, of which the parent comes last; or this one, where there is none.
+fn earlier(query: &Query, ancestors: &[Query], steps: u8) -> Query
+    ensures { result ≡ earlier query.now (reverse ancestors.now) steps }
+{
+    let steps = usize::from(steps);
+    if steps == 0 || ancestors.len() < steps {
+        return *query;
+    }
+    ancestors[ancestors.len() - steps]
+}
+
+fn line_of(query: &Query, ancestors: &[Query], node: &Node) -> Line
+    ensures { result ≡ line_of query.now (reverse ancestors.now) (tree_of node.now) }
 {
     match &node.body {
         Body::Rule(reason) => Line::Because(*reason),
-        Body::Back(steps) => Line::Back(*steps),
+        Body::Back(steps) => Line::Back(*steps, earlier(query, ancestors, *steps)),
         Body::Expand(kids) => Line::Moves(kids.len()),
     }
 }
@@ -78,9 +89,10 @@ fn push_own(
     label: &Unmove,
     prefix: &[u8],
     place: usize,
+    ancestors: &[Query],
     out: &mut Vec<Told>,
 ) -> Result<(), AllocError>
-    ensures { IfOk result (λ _. out.new.items ≡ out.old.items ++ own_node prefix.now place label.now whence.now query.now (tree_of node.now) ∷ []) }
+    ensures { IfOk result (λ _. out.new.items ≡ out.old.items ++ own_node prefix.now place label.now whence.now query.now (reverse ancestors.now) (tree_of node.now) ∷ []) }
 {
     let told = Told {
         prefix: copied(alloc, prefix)?,
@@ -88,7 +100,7 @@ fn push_own(
         label: Some(*label),
         whence: *whence,
         query: *query,
-        line: line_of(node),
+        line: line_of(query, ancestors, node),
     };
     out.push(told)?;
     Ok(())
@@ -101,14 +113,16 @@ fn push_below(
     query: &Query,
     node: &Node,
     prefix: &[u8],
+    ancestors: &mut Vec<Query>,
     out: &mut Vec<Told>,
 ) -> Result<(), AllocError>
     requires { (above : List Asked) × Proves (tree_of node.now) query.now above }
-    ensures { IfOk result (λ _. out.new.items ≡ out.old.items ++ below prefix.now query.now (tree_of node.now)) }
+    ensures nodes { IfOk result (λ _. out.new.items ≡ out.old.items ++ below prefix.now query.now (reverse ancestors.old.items) (tree_of node.now)) }
+    ensures kept { IfOk result (λ _. ancestors.new.items ≡ ancestors.old.items) }
 {
     match &node.body {
         Body::Rule(_) | Body::Back(_) => Ok(()),
-        Body::Expand(kids) => push_kids(alloc, query, kids, prefix, out),
+        Body::Expand(kids) => push_kids(alloc, query, kids, prefix, ancestors, out),
     }
 }
 
@@ -119,11 +133,14 @@ fn push_kids(
     query: &Query,
     kids: &Kids,
     prefix: &[u8],
+    ancestors: &mut Vec<Query>,
     out: &mut Vec<Told>,
 ) -> Result<(), AllocError>
     requires { (above : List Asked) × ProvesEach kids.now query.now (unmoves query.now) above }
-    ensures { IfOk result (λ _. out.new.items ≡ out.old.items ++ kid_nodes prefix.now query.now 1 kids.now) }
+    ensures nodes { IfOk result (λ _. out.new.items ≡ out.old.items ++ kid_nodes prefix.now query.now (reverse ancestors.old.items) 1 kids.now) }
+    ensures kept { IfOk result (λ _. ancestors.new.items ≡ ancestors.old.items) }
 {
+    ancestors.push(*query)?;
     for i in 0..kids.len() {
         let kid = kids.get(i).unwrap();
         let next = pred(query, &kid.label);
@@ -135,11 +152,13 @@ fn push_kids(
             &kid.label,
             prefix,
             i + 1,
+            ancestors.as_slice(),
             out,
         )?;
         let own = prefix_below(alloc, prefix, i + 1)?;
-        push_below(alloc, &next, &kid.node, own.as_slice(), out)?;
+        push_below(alloc, &next, &kid.node, own.as_slice(), ancestors, out)?;
     }
+    let _ = ancestors.pop();
     Ok(())
 }
 
@@ -173,10 +192,11 @@ fn listed(alloc: Global, query: &Query, root: &Node) -> Result<Vec<Told>, AllocE
         label: None,
         whence: *query,
         query: *query,
-        line: line_of(root),
+        line: line_of(query, &[], root),
     };
     nodes.push(told)?;
-    push_below(alloc, query, root, b"", &mut nodes)?;
+    let mut ancestors = Vec::new(alloc);
+    push_below(alloc, query, root, b"", &mut ancestors, &mut nodes)?;
     Ok(nodes)
 }
 

@@ -1,6 +1,7 @@
 use arrayvec::ArrayVec;
 use board_base::{Castle, Colour, Square, SquareSet};
 use capture_prices::Prices;
+use query_base::Query;
 
 /// A sentence that tells why no game reaches a query, or a part of that.
 #[derive(Drop)]
@@ -35,8 +36,8 @@ pub enum Sentence {
     Priced(SquareSet, Prices),
     /// At these prices, while the men on these squares stood, the men of both sides cost so much at least, 96 for each man included.
     Balanced(SquareSet, Prices, u32, u32),
-    /// The position stood so many half-moves later too, with no more demands.
-    Back(u8),
+    /// The position stood so many half-moves later too, where this query asks no more.
+    Back(u8, Query),
     /// The side that moved last has no move that can have been the last; whether the query is the first that is told.
     Still(bool),
     /// The side that moved last has several; whether the query is the first that is told.

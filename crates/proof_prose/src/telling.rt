@@ -748,7 +748,7 @@ pub(crate) fn push_sentence(
         Sentence::Balanced(set, prices, white, black) => {
             push_balanced(query, *set, prices, *white, *black, out)
         }
-        Sentence::Back(steps) => push_back(*steps, out),
+        Sentence::Back(steps, _) => push_back(*steps, out),
         Sentence::Still(first) => push_barred(alloc, query, *first, out),
         Sentence::Moved(first) => push_moved(query.turn.other(), *first, out),
     }

@@ -1,13 +1,13 @@
 -- What the clauses say.
-use Rattle.std.specs.Prelude.{◌≡◌, IsTrue}
+use Rattle.std.specs.Prelude.{◌≡◌, [], IsTrue, Some}
 use Rattle.std.specs.List.{Contains}
 use Rattle.board_base.specs.declared.unmoves.Unmove.{Unmove}
 use Rattle.query_base.specs.Asked.{Asked}
-use Rattle.unmove_gen.specs.Listed.{candidates, mover}
+use Rattle.unmove_gen.specs.Listed.{candidates, mover, unmoves}
 use Rattle.retraction_bars.specs.Bars.{bars, gives_check}
 use Rattle.retraction_bars.specs.Clauses.{clauses}
 use Rattle.retraction_bars.specs.Numbers.{bar_at}
-use Rattle.retraction_bars.specs.Pairs.{bars_twice}
+use Rattle.retraction_bars.specs.Pairs.{bars_twice, pair_of}
 use Rattle.retraction_bars.specs.Scopes.{is_within}
 use Rattle.retraction_bars.specs.Ways.{is_way}
 use Rattle.retraction_bars.specs.declared.gathering.Clause.{Clause}
@@ -30,3 +30,11 @@ IsTold q u = (c : Clause) × Contains (clauses q) c × Covers c u
 abbrev pub AreUnexplained : Asked → Pair → Type 0
 AreUnexplained q p =
     IsTrue (gives_check q.board (mover q) p.first) × IsTrue (gives_check q.board (mover q) p.second) × ((u : Unmove) → Contains candidates u → IsTrue (is_way q u) → IsTrue (bars_twice q p.first p.second u))
+
+-- Nobody can have moved last. What is told of that is so: of the two men who give check at once, and of each way of each man; and no way
+-- of a man is left untold.
+pub record NobodyMoved (q : Asked) : Type 0 where
+  pub none : unmoves q ≡ []
+  pub pair : (p : Pair) → pair_of q ≡ Some p → AreUnexplained q p
+  pub each : (c : Clause) → Contains (clauses q) c → Holds q c
+  pub all : (u : Unmove) → Contains candidates u → IsTrue (is_way q u) → IsTold q u

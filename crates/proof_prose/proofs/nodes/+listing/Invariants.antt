@@ -1,4 +1,4 @@
-use Rattle.std.proofs.Common.{◌≡◌, ◌++◌, ◌+◌}
+use Rattle.std.proofs.Common.{◌≡◌, [], ◌∷◌, ◌++◌, ◌+◌, reverse}
 use Rattle.cert_text.specs.Sizes.{rest_of, size, size_all}
 use Rattle.cert_text.specs.Seen.{tree_of}
 use Rattle.proof_prose.specs.Nodes.{kid_nodes}
@@ -11,5 +11,7 @@ abbrev pub decreases-push_kids : goal.decreases-push_kids
 decreases-push_kids l = size_all l.kids.now
 
 abbrev pub invariant-push_kids-loop-i : goal.invariant-push_kids-loop-i
-invariant-push_kids-loop-i l =
-    l.out.items ++ kid_nodes l.prefix l.query (l.i + 1) (rest_of l.kids l.i) ≡ l.fn.out.items ++ kid_nodes l.prefix l.query 1 l.kids
+invariant-push_kids-loop-i l = record {
+  nodes : l.out.items ++ kid_nodes l.prefix l.query (reverse l.fn.ancestors.items) (l.i + 1) (rest_of l.kids l.i) ≡ l.fn.out.items ++ kid_nodes l.prefix l.query (reverse l.fn.ancestors.items) 1 l.kids;
+  kept : l.ancestors.items ≡ l.fn.ancestors.items ++ l.query ∷ [];
+}
