@@ -106,11 +106,14 @@ ProvesSome input = (cert : Certificate) × IsTextOf input cert × ProvesClaim ce
 abbrev pub ProvesNothing : List ℕ → Type 0
 ProvesNothing input = ProvesSome input → ⊥
 
--- What was taken grew by the proof in plain words of the certificate whose text the input is. The certificate proves its claim, and no
--- game contradicts it.
+-- the bytes are the text of a certificate whose claim no game contradicts
+abbrev pub ProvesTrue : List ℕ → Type 0
+ProvesTrue input = (cert : Certificate) × IsTextOf input cert × Holds cert.claim cert.query
+
+-- what was taken grew by the proof in plain words of the certificate whose text the input is, and which proves its claim
 abbrev pub WritesExplanation : List ℕ → Option (List ℕ) → Option (List ℕ) → Type 0
 WritesExplanation input old new =
-    (cert : Certificate) × (text : List ℕ) × IsTextOf input cert × ProvesClaim cert × Explains cert text × Appends old new text × Holds cert.claim cert.query
+    (cert : Certificate) × (text : List ℕ) × IsTextOf input cert × ProvesClaim cert × Explains cert text × Appends old new text
 
 -- the bytes are the text of no certificate that proves its claim, and what was taken grew by the line with which `check` refuses them
 abbrev pub WritesRefusal : List ℕ → Option (List ℕ) → Option (List ℕ) → Type 0
