@@ -17,7 +17,7 @@ use Rattle.retro_top.proofs.Input.{of_left}
 use Rattle.retro_top.proofs.Asking.{done-alone, said-alone}
 use Rattle.retro_top.proofs.Searching.{OneTextEach, cheap-done, few-done}
 use Rattle.retro_top.proofs.Solving.{cheap-unspent, done-refutable, refutable-done}
-use Rattle.retro_top.proofs.Settling.{done-provable-claim, settle-done}
+use Rattle.retro_top.proofs.Settling.{done-provable-claim, settle-done, settle-unspent}
 use Rattle.retro_top.proofs.LineProofs.{AcceptedAreDossiers, OneDossier, done-line, done-provable, line-done, dossier-done, dossier-unspent}
 use Rattle.retro_top.proofs.Lengthy.{OneLength, done-length, done-shown, length-done, shown-done}
 use Rattle.retro_top.proofs.Explaining.{explain-done}
@@ -45,7 +45,7 @@ succeeds-done law length dossier accepted one game sound (Sample start games pli
 -- where the nodes suffice, no search is spent
 pub suffices-unspent : OneTextEach → (command : Command) (input : List ℕ) (ending : Status) (text : List ℕ) → AnswersAs command input ending text → Suffices command input → IsUnspent ending
 suffices-unspent one (Solve depth nodes) input ending text answers enough = cheap-unspent depth nodes input ending text answers enough
-suffices-unspent one (Settle depth nodes) input ending text answers enough = subst IsUnspent (sym (settle-done depth nodes input ending text answers enough)) tt
+suffices-unspent one (Settle depth nodes) input ending text answers enough = settle-unspent depth nodes input ending text answers enough
 suffices-unspent one (Verdict depth nodes) input ending text answers enough = subst IsUnspent (sym (cheap-done depth nodes input ending text answers enough)) tt
 suffices-unspent one (Study depth nodes) input ending text answers enough = subst IsUnspent (sym (study-done depth nodes input ending text answers enough)) tt
 suffices-unspent one (Tree depth nodes) input ending text answers enough = subst IsUnspent (sym (few-done one depth nodes input ending text answers enough)) tt

@@ -1,5 +1,5 @@
 -- Which status `settle` answers, and what it says.
-use Rattle.std.proofs.Common.{◌≡◌, ◌⊎◌, inl, inr, ℕ, List, [], refl, arith}
+use Rattle.std.proofs.Common.{◌≡◌, ◌⊎◌, inl, inr, ℕ, List, [], refl, sym, subst, arith}
 use Rattle.query_base.specs.Asked.{Asked}
 use Rattle.query_base.specs.Reach.{Holds}
 use Rattle.query_base.specs.Targets.{target}
@@ -10,7 +10,8 @@ use Rattle.balance_rule.proofs.Sound.{balance-unreached}
 use Rattle.cert_checker.specs.Proving.{ProvesClaim}
 use Rattle.cert_checker.proofs.Contradicted.{contradiction-reaches}
 use Rattle.retro_search.specs.Refutable.{IsRefutable}
-use Rattle.retro_top.specs.Answers.{StatesCheap, StatesPriced, StatesProved, StatesRefutable}
+use Rattle.retro_search.specs.SearchSizes.{IsSmallSearch}
+use Rattle.retro_top.specs.Answers.{IsUnspent, StatesCheap, StatesPriced, StatesProved, StatesRefutable, StatesSmall}
 use Rattle.command_answers.specs.Settles.{AnswersSettle, AnswersSettling}
 use Rattle.command_answers.specs.Solves.{IsCheap}
 use Rattle.command_answers.specs.declared.statuses.Status.{Status}
@@ -54,6 +55,29 @@ pub settle-done : (depth nodes : ℕ) (input : List ℕ) (ending : Status) (text
 settle-done depth nodes input ending text answers good = elim good [
   | inl enough ↦ settle-refuted depth nodes input ending text answers enough.0 enough.1
   | inr priced ↦ settle-priced depth nodes input ending text answers priced
+]
+
+-- where the whole search is no larger than the nodes, it comes to its end
+settling-small : (depth nodes : ℕ) (claim : Claim) (q : Asked) (ending : Status) (text : List ℕ) → AnswersSettling depth nodes claim q ending text → IsSmallSearch (target q claim) depth nodes → IsUnspent ending
+settling-small depth nodes claim q Done text answers small = tt
+settling-small depth nodes claim q Undecided text answers small = tt
+settling-small depth nodes claim q Countered text answers small = tt
+settling-small depth nodes claim q Spent text answers small = absurd (omega (arith, answers.large small.0 small.1, small.2))
+settling-small depth nodes claim q _ text answers small = absurd answers
+
+settle-small : (depth nodes : ℕ) (input : List ℕ) (ending : Status) (text : List ℕ) → AnswersSettle depth nodes input ending text → StatesSmall depth nodes input → IsUnspent ending
+settle-small depth nodes input ending text answers good = elim answers [
+  | inl said ↦ settling-small depth nodes said.0 said.1 ending text said.3 (stated (λ claim q. IsSmallSearch (target q claim) depth nodes) input good.0 said.0 good.1 said.1 good.2 said.2 good.3)
+  | inr none ↦ absurd (states-some input good.0 good.1 none.0 good.2 none.1)
+]
+
+pub settle-unspent : (depth nodes : ℕ) (input : List ℕ) (ending : Status) (text : List ℕ) → AnswersSettle depth nodes input ending text → (StatesRefutable depth input × StatesCheap depth nodes input) ⊎ StatesPriced input ⊎ StatesSmall depth nodes input → IsUnspent ending
+settle-unspent depth nodes input ending text answers good = elim good [
+  | inl enough ↦ subst IsUnspent (sym (settle-refuted depth nodes input ending text answers enough.0 enough.1)) tt
+  | inr others ↦ elim others [
+    | inl priced ↦ subst IsUnspent (sym (settle-priced depth nodes input ending text answers priced)) tt
+    | inr small ↦ settle-small depth nodes input ending text answers small
+  ]
 ]
 
 -- a certificate is found only where one proves the claim

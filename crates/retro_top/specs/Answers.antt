@@ -20,6 +20,7 @@ use Rattle.proof_prose.specs.Prose.{Explains}
 use Rattle.price_search.specs.FlatPrices.{FlatPricesSupport}
 use Rattle.retro_search.specs.Answers.{IsProofOf}
 use Rattle.retro_search.specs.Refutable.{IsRefutable}
+use Rattle.retro_search.specs.SearchSizes.{IsSmallSearch}
 use Rattle.codex_verdict.specs.Rights.{AreRights, claim_of}
 use Rattle.codex_verdict.specs.declared.kinds.Right.{Right}
 use Rattle.retro_top.specs.Commands.{Call, TakesMemory}
@@ -47,6 +48,7 @@ use Rattle.command_answers.specs.Dossiers.{AnswersDossier, StatesCheapLine, Stat
 use Rattle.command_answers.specs.Lines.{AnswersLine, ProvesLine, accepted_steps_line}
 use Rattle.command_answers.specs.AtLeasts.{AnswersAtLeast, ShowsLength, bound_line}
 use Rattle.command_answers.specs.Studies.{AnswersStudy}
+use Rattle.diagram_study.specs.Facts.{SaysTrue}
 use Rattle.diagram_study.specs.Studies.{IsStudy}
 use Rattle.command_answers.specs.Verdicts.{AnswersVerdict, AsksForCheap, Each, verdicts_text}
 use Rattle.command_answers.specs.declared.statuses.Status.{Status}
@@ -156,6 +158,11 @@ StatesCheap depth nodes input =
 abbrev pub StatesPriced : List ℕ → Type 0
 StatesPriced input = (claim : Claim) × (q : Asked) × States input claim q × FlatPricesSupport (target q claim)
 
+-- the input states a claim whose target has a whole search, to the depth, of at most so many nodes
+abbrev pub StatesSmall : ℕ → ℕ → List ℕ → Type 0
+StatesSmall depth nodes input =
+    (claim : Claim) × (q : Asked) × States input claim q × IsSmallSearch (target q claim) depth nodes
+
 -- the input states a claim that a certificate proves, of at most 500,000 nodes, which goes back no further than the depth
 abbrev pub StatesProved : ℕ → List ℕ → Type 0
 StatesProved depth input = (claim : Claim) × (q : Asked) × (cert : Certificate) × States input claim q × IsProofOf depth cert claim q
@@ -211,6 +218,10 @@ WritesVerdicts depth input old new =
 abbrev pub WritesStudy : ℕ → ℕ → List ℕ → Option (List ℕ) → Option (List ℕ) → Type 0
 WritesStudy depth nodes input old new = (q : Asked) × (text : List ℕ) × AsksAlone input q × IsStudy q depth nodes text × Appends old new text
 
+-- What was taken grew by a text whose lines say what is so of the query that the input asks, up to what was found without its demands.
+abbrev pub WritesTruths : List ℕ → Option (List ℕ) → Option (List ℕ) → Type 0
+WritesTruths input old new = (q : Asked) × (text : List ℕ) × AsksAlone input q × SaysTrue q text × Appends old new text
+
 -- each game that reaches the query has at least so many half-moves
 abbrev pub BoundsGames : Asked → ℕ → Type 0
 BoundsGames q n = (g : List Move) → Reaches g q → n ≤ length g
@@ -237,7 +248,7 @@ StatesTrueLine input = (claim : LineClaim) × (q : Asked) × StatesLine input cl
 -- the nodes suffice for what the command searches with this input
 abbrev pub Suffices : Command → List ℕ → Type 0
 Suffices (Solve depth nodes) input = StatesCheap depth nodes input
-Suffices (Settle depth nodes) input = (StatesRefutable depth input × StatesCheap depth nodes input) ⊎ StatesPriced input
+Suffices (Settle depth nodes) input = (StatesRefutable depth input × StatesCheap depth nodes input) ⊎ StatesPriced input ⊎ StatesSmall depth nodes input
 Suffices (Verdict depth nodes) input = AsksForCheap depth nodes input
 Suffices (Dossier depth nodes) input = StatesCheapLine depth nodes input
 Suffices (Study depth nodes) input = AsksForOne input
