@@ -11,11 +11,13 @@ measure.py moves            `legal_moves` on four middle-game positions: builds 
 measure.py pawns            `least` and `bound` on eight pawns, in machine instructions, by valgrind: builds pawns.program likewise
 measure.py unmoves          lists of retractions of eight positions, in machine instructions: builds unmoves.program likewise
 measure.py cages            a greatest frozen set and seven regions beside it, in machine instructions: builds cages.program likewise
+measure.py games FENS       the search for games to the positions of a file, a FEN of four fields a line: builds games.program likewise
 measure.py balance          the balance of captures at equal prices, and the search for prices, likewise: builds balance.program
 """
 import contextlib
 import pathlib
 import re
+import resource
 import shutil
 import subprocess
 import sys
@@ -219,6 +221,25 @@ def balance():
             print(f"{each:.0f} instructions to weigh, {'under' if each < limit else 'NOT UNDER'} {limit}; {found - none} to look for prices: {fen}")
 
 
+def games(path):
+    fens = [" ".join(line.split()[:4]) for line in pathlib.Path(path).read_text().splitlines() if line.strip()]
+    with built("games", "board_base fen_text query_base unmove_gen game_search", ["--", "0"]) as program:
+        found, times, lengths, looked = 0, [], [], []
+        for fen in fens:
+            begun = resource.getrusage(resource.RUSAGE_CHILDREN).ru_utime
+            answer = subprocess.run([program, "20000"], input=fen + "\n", capture_output=True, text=True, check=True).stdout.split()
+            times.append(resource.getrusage(resource.RUSAGE_CHILDREN).ru_utime - begun)
+            looked.append(int(answer[2]))
+            if answer[0] == "found":
+                found += 1
+                lengths.append(int(answer[1]))
+            else:
+                print("open:", fen)
+        middle = lambda numbers: sorted(numbers)[len(numbers) // 2] if numbers else 0
+        print(f"found {found} of {len(fens)}, {middle(lengths)} moves in the median, {max(lengths, default=0)} at most")
+        print(f"{middle(looked)} queries in the median; {1000 * sum(times) / len(times):.0f} ms of processor time in the mean, {1000 * middle(times):.0f} in the median, {1000 * max(times):.0f} at most")
+
+
 def unmoves():
     with built("unmoves", "board_base fen_text query_base unmove_gen", ["--", RETRACTED[0], "0"]) as program:
         for fen in RETRACTED:
@@ -249,6 +270,8 @@ def main():
         cages()
     elif sys.argv[1:] == ["balance"]:
         balance()
+    elif sys.argv[1:2] == ["games"] and len(sys.argv) == 3:
+        games(sys.argv[2])
     else:
         sys.exit(__doc__)
 

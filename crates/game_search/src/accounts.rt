@@ -60,6 +60,11 @@ pub struct Closed {
     pub regions: [u64; 8],
 }
 
+const NONE_CLOSED: Closed = Closed {
+    hard: 0,
+    regions: [0; 8],
+};
+
 /// What an account is made of.
 #[derive(Drop)]
 pub struct Books<'a> {
@@ -157,14 +162,35 @@ struct Officers {
 }
 
 impl Officers {
-    fn all(&self) -> [Assigned; 5] {
-        [
+    /// What they cost together, who of all was promoted, and which homes nobody goes to.
+    fn together(&self) -> Assigned {
+        let mut sum = Assigned {
+            cost: 0,
+            promoted: 0,
+            missing: 0,
+        };
+        for part in [
             self.queens,
             self.rooks,
             self.knights,
             self.dark_bishops,
             self.light_bishops,
-        ]
+        ] {
+            sum.cost = sum.cost.saturating_add(part.cost);
+            sum.promoted = sum.promoted.saturating_add(part.promoted);
+            sum.missing |= part.missing;
+        }
+        sum
+    }
+
+    /// What may come back.
+    fn wants(&self, has_room: bool) -> Wants {
+        Wants {
+            missing: self.kinds(has_room, Test::AreMissing),
+            promoted: self.kinds(false, Test::WerePromoted),
+            victims: false,
+            has_room,
+        }
     }
 
     /// The kinds that pass a test.
@@ -196,49 +222,44 @@ impl Test {
     }
 }
 
+/// Who of a side's officers goes where.
+fn officers_of(books: &mut Books, force: &Force, closed: &mut Closed) -> Officers {
+    Officers {
+        queens: assign_kind(books, force.queens, &[1], closed),
+        rooks: assign_kind(books, force.rooks, &[2, 3], closed),
+        knights: assign_kind(books, force.knights, &[4, 5], closed),
+        dark_bishops: assign_kind(books, force.bishops & DARK, &[6], closed),
+        light_bishops: assign_kind(books, force.bishops & !DARK, &[7], closed),
+    }
+}
+
 /// The account of a side; None where it has too many men, or one of them can't come home.
 pub fn account_of(books: &mut Books, force: &Force) -> Option<Account> {
-    let mut closed = Closed {
-        hard: 0,
-        regions: [0; 8],
-    };
-    let officers = Officers {
-        queens: assign_kind(books, force.queens, &[1], &mut closed),
-        rooks: assign_kind(books, force.rooks, &[2, 3], &mut closed),
-        knights: assign_kind(books, force.knights, &[4, 5], &mut closed),
-        dark_bishops: assign_kind(books, force.bishops & DARK, &[6], &mut closed),
-        light_bishops: assign_kind(books, force.bishops & !DARK, &[7], &mut closed),
-    };
+    let mut closed = NONE_CLOSED;
+    let officers = officers_of(books, force, &mut closed);
+    let all = officers.together();
     let king_moves = king_moves(books, force.king)?;
-    let mut cost = books.setting.king_move.saturating_mul(king_moves);
-    let mut promoted: u32 = 0;
-    let mut missing: u8 = 0;
-    for part in officers.all() {
-        cost = cost.saturating_add(part.cost);
-        promoted = promoted.saturating_add(u32::from(part.promoted));
-        missing |= part.missing;
-    }
     let files = books.origins.files;
-    let used = promoted.saturating_add(force.pawns.count_ones());
+    let used = u32::from(all.promoted).saturating_add(force.pawns.count_ones());
     let room = files.count_ones();
+    let moved = books.setting.king_move.saturating_mul(king_moves);
+    let cost = all.cost.saturating_add(moved);
     if cost >= NEVER || used > room {
         return None;
     }
     let pawns_lost = (room - used).min(8) as u8;
-    let lost_cost = books.setting.missing_pawn.saturating_mul(u32::from(pawns_lost));
+    let lost_cost = books
+        .setting
+        .missing_pawn
+        .saturating_mul(u32::from(pawns_lost));
     Some(Account {
         cost: cost.saturating_add(lost_cost),
         king_moves,
-        missing,
+        missing: all.missing,
         closed,
-        promoted: promoted.min(8) as u8,
+        promoted: all.promoted,
         pawns_lost,
-        wants: Wants {
-            missing: officers.kinds(pawns_lost > 0, Test::AreMissing),
-            promoted: officers.kinds(false, Test::WerePromoted),
-            victims: false,
-            has_room: pawns_lost > 0,
-        },
+        wants: officers.wants(pawns_lost > 0),
         pawns: force.pawns,
         files,
     })

@@ -1,7 +1,8 @@
 use crate::settings::{NEVER, OFFICER_MOVE, PROMOTED};
 use home_ways::{FAR, Way, bit, count, squares_of};
 
-/// A home that men may go to: how far they are from it, what it costs if nobody goes, and its bit among the homes. No home costs nothing if nobody goes.
+/// A home that men may go to: how far they are from it, what it costs if nobody goes, and its bit among the homes. A home that isn't
+/// asked for has no way, and costs nothing if nobody goes.
 #[derive(Clone, Copy)]
 pub struct Home {
     pub way: Option<Way>,

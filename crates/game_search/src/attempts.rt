@@ -154,7 +154,12 @@ impl Search {
     }
 
     /// The retractions of a query by which the search goes on.
-    fn list_unmoves(&mut self, query: &Query, wants: &BothWants, wish: Option<&Wish>) -> Result<BothWants, Memory> {
+    fn list_unmoves(
+        &mut self,
+        query: &Query,
+        wants: &BothWants,
+        wish: Option<&Wish>,
+    ) -> Result<BothWants, Memory> {
         self.list.clear();
         let mut unmoves = Unmoves::new(query);
         let mut allowed: usize = 0;
@@ -172,7 +177,14 @@ impl Search {
     }
 
     /// Puts by what comes before a query.
-    fn expand(&mut self, setting: &Setting, query: &Query, wants: &BothWants, depth: u32, wish: Option<&Wish>) -> Result<(), Memory> {
+    fn expand(
+        &mut self,
+        setting: &Setting,
+        query: &Query,
+        wants: &BothWants,
+        depth: u32,
+        wish: Option<&Wish>,
+    ) -> Result<(), Memory> {
         let after = self.visited.len().saturating_sub(1).min(NONE as usize) as u32;
         let wants = self.list_unmoves(query, wants, wish)?;
         for k in 0..self.list.len() {
@@ -194,7 +206,14 @@ impl Search {
     }
 
     /// Puts a state back whose value rose; whether it did.
-    fn rises(&mut self, setting: &Setting, number: u32, state: &State, worth: &Worth, value: usize) -> Result<bool, Memory> {
+    fn rises(
+        &mut self,
+        setting: &Setting,
+        number: u32,
+        state: &State,
+        worth: &Worth,
+        value: usize,
+    ) -> Result<bool, Memory> {
         let now = bucket(worth.value, state.depth, setting);
         if state.is_planned || now <= value {
             return Ok(false);
@@ -207,7 +226,14 @@ impl Search {
     }
 
     /// Looks at a state that was taken from a bucket.
-    fn visit(&mut self, setting: &Setting, first: &Query, wish: &Wish, number: u32, value: usize) -> Result<Outcome, Memory> {
+    fn visit(
+        &mut self,
+        setting: &Setting,
+        first: &Query,
+        wish: &Wish,
+        number: u32,
+        value: usize,
+    ) -> Result<Outcome, Memory> {
         let Some(state) = self.states.get(number as usize).copied() else {
             return Ok(Outcome::Passed);
         };
@@ -229,7 +255,8 @@ impl Search {
         if is_array(&query) {
             return Ok(Outcome::Home);
         }
-        let is_bound = state.unmove.is_none() && (wish.last.is_some() || first.only.is_some() || first.barred.is_some());
+        let is_bound = state.unmove.is_none()
+            && (wish.last.is_some() || first.only.is_some() || first.barred.is_some());
         let wish = if is_bound { Some(wish) } else { None };
         self.expand(setting, &query, &worth.wants, state.depth, wish)?;
         Ok(Outcome::Expanded)
@@ -255,8 +282,16 @@ impl Search {
         Ok(moves)
     }
 
-    /// Goes back from the first query, looking at no more than so many queries. If the array is reached, the moves from there are told.
-    pub fn attempt(&mut self, alloc: Global, setting: &Setting, first: &Query, wish: &Wish, most: u32) -> Result<Option<Vec<Move>>, Memory> {
+    /// Goes back from the first query, looking at no more than so many queries. If the array is reached, the moves from there are
+    /// told.
+    pub fn attempt(
+        &mut self,
+        alloc: Global,
+        setting: &Setting,
+        first: &Query,
+        wish: &Wish,
+        most: u32,
+    ) -> Result<Option<Vec<Move>>, Memory> {
         self.clear(setting);
         let root = State {
             after: NONE,

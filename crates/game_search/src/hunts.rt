@@ -77,8 +77,8 @@ fn pawn_squares(free: u8, bars: u64) -> u64 {
     set
 }
 
-/// How far the other side's men are from where they may have captured those who are missing: a pawn on these files, and each officer whose
-/// home is shut in.
+/// How far the other side's men are from where they may have captured those who are missing: a pawn on these files, and each officer
+/// whose home is shut in.
 pub fn hunt_moves(account: &Account, own: &Force, other: &Force, free: u8) -> u32 {
     let hunters = other.turned();
     let all = own.all() | hunters.all();

@@ -12,6 +12,7 @@ pub const OFFICER_MOVE: u32 = 4;
 
 /// What a missing officer costs more whose home is shut in for good, and by men who can move.
 pub const SHUT_HARD: u32 = 16;
+
 pub const SHUT_SOFTLY: u32 = 8;
 
 /// What it costs that no plan of the pawns was found, though there may be one.
@@ -22,6 +23,7 @@ pub const HUNT: u32 = 6;
 
 /// What a move costs that a king makes because of men who bar his way, and what it costs that they bar every way.
 pub const KING_DETOUR: u32 = 2;
+
 pub const KING_BARRED: u32 = 10;
 
 /// From how many buckets one is drawn.

@@ -103,7 +103,11 @@ fn pawn_cost(setting: &Setting, camps: &Camps, pawns: &PawnCount) -> u32 {
     let captures = u32::from(pawns.own.saturating_add(pawns.other));
     CAPTURE
         .saturating_mul(captures)
-        .saturating_add(setting.short.saturating_mul(u32::from(shortage(camps, pawns))))
+        .saturating_add(
+            setting
+                .short
+                .saturating_mul(u32::from(shortage(camps, pawns))),
+        )
         .saturating_add(setting.pawn_step.saturating_mul(u32::from(pawns.steps)))
 }
 
@@ -119,21 +123,19 @@ fn plan_cost(setting: &Setting, camps: &Camps, pawns: &PawnCount, captures: u8, 
 /// What it costs that men are far from where they may have captured those who are missing.
 fn hunt_cost(accounts: &Accounts, diagram: &Diagram, pawns: &PawnCount) -> u32 {
     let (white, black) = (&diagram.white, &diagram.black);
-    HUNT.saturating_mul(
-        hunt_moves(&accounts.white, white, black, pawns.own_free).saturating_add(hunt_moves(
-            &accounts.black,
-            black,
-            white,
-            pawns.other_free,
-        )),
-    )
+    HUNT.saturating_mul(hunt_moves(&accounts.white, white, black, pawns.own_free).saturating_add(
+        hunt_moves(&accounts.black, black, white, pawns.other_free),
+    ))
 }
 
 /// What it costs that men bar the kings' ways.
 fn king_cost(setting: &Setting, accounts: &Accounts, diagram: &Diagram) -> u32 {
     if setting.king_ways {
-        bar_cost(&accounts.white, &diagram.white, &diagram.black)
-            .saturating_add(bar_cost(&accounts.black, &diagram.black, &diagram.white))
+        bar_cost(&accounts.white, &diagram.white, &diagram.black).saturating_add(bar_cost(
+            &accounts.black,
+            &diagram.black,
+            &diagram.white,
+        ))
     } else {
         0
     }
@@ -158,7 +160,12 @@ impl Valuer {
         }
     }
 
-    fn accounts(&mut self, setting: &Setting, query: &Query, diagram: &Diagram) -> Option<Accounts> {
+    fn accounts(
+        &mut self,
+        setting: &Setting,
+        query: &Query,
+        diagram: &Diagram,
+    ) -> Option<Accounts> {
         let ground = ground_of(query, diagram);
         let mut books = Books {
             ways: &mut self.ways,
@@ -175,8 +182,9 @@ impl Valuer {
 
     /// What it costs that pawns are at home before officers who aren't.
     fn order_cost(&self, setting: &Setting, diagram: &Diagram) -> u32 {
-        let before = pawns_before(&diagram.white, &self.beginning.white)
-            .saturating_add(pawns_before(&diagram.black, &self.beginning.black));
+        let before = pawns_before(&diagram.white, &self.beginning.white).saturating_add(
+            pawns_before(&diagram.black, &self.beginning.black),
+        );
         setting.order.saturating_mul(before)
     }
 
@@ -200,7 +208,12 @@ impl Valuer {
     }
 
     /// What the plan of the pawns costs more than its captures must; None where there is no plan.
-    fn plan(&mut self, setting: &Setting, accounts: &Accounts, pawns: &PawnCount) -> Result<Option<Planned>, Memory> {
+    fn plan(
+        &mut self,
+        setting: &Setting,
+        accounts: &Accounts,
+        pawns: &PawnCount,
+    ) -> Result<Option<Planned>, Memory> {
         match self.planner.plan(&accounts.open_camps())? {
             Plan::Impossible => Ok(None),
             Plan::Open => Ok(Some(Planned {
@@ -222,7 +235,13 @@ impl Valuer {
     }
 
     /// What the query is worth; with a plan of its pawns, if it is told so. None where there is no hope.
-    pub fn value(&mut self, setting: &Setting, query: &Query, diagram: &Diagram, planned: bool) -> Result<Option<Worth>, Memory> {
+    pub fn value(
+        &mut self,
+        setting: &Setting,
+        query: &Query,
+        diagram: &Diagram,
+        planned: bool,
+    ) -> Result<Option<Worth>, Memory> {
         let Some(accounts) = self.accounts(setting, query, diagram) else {
             return Ok(None);
         };

@@ -35,7 +35,10 @@ const DIAGRAMS: [&str; 18] = [
 /// Positions at odds: the squares that are left out of the array, as bits from a1 on.
 const AT_ODDS: [(u64, &str); 3] = [
     (8, "rnbqkbnr/pppppppp/8/8/8/5N2/PPPPPPPP/RNB1KB1R b KQkq -"),
-    (0x0100_0000_0000_0001, "1nbqkbnr/1p1ppppp/8/2p5/8/2N5/PPPPPPPP/2BQKBNR w Kk -"),
+    (
+        0x0100_0000_0000_0001,
+        "1nbqkbnr/1p1ppppp/8/2p5/8/2N5/PPPPPPPP/2BQKBNR w Kk -",
+    ),
     (0x0020_0000_0000_0000, "3qk3/8/8/8/8/8/4P3/4K3 w - -"),
 ];
 
@@ -85,7 +88,10 @@ fn games_at_odds_are_found(rt: HostRuntime) {
         let query = read_four_fields(text.as_bytes()).expect(&rt, "a FEN");
         let odds = Odds::new(SquareSet::from_bits(bits)).expect(&rt, "homes");
         let at_odds = Query { odds, ..query };
-        assert!(rt; length_found(rt.alloc(), &at_odds, None).is_some(), "{text}");
+        assert!(rt;
+            length_found(rt.alloc(), &at_odds, None).is_some(),
+            "{text}"
+        );
     }
 }
 

@@ -6,7 +6,6 @@ use fen_text::read_four_fields;
 use query_base::Query;
 use std::process::Abort;
 
-
 fn demanded(rt: &impl Abort, text: &str) -> Move {
     read_move(text.as_bytes()).expect(rt, "a move")
 }
@@ -17,7 +16,10 @@ fn last_moves_are_found(rt: HostRuntime) {
     let query = read_four_fields(b"4k3/8/8/3p4/8/2K5/8/8 w - -").expect(&rt, "a FEN");
     for text in ["d7d5", "d6d5", "e6d5", "c6d5", "d8e8", "f7e8"] {
         let last = demanded(&rt, text);
-        assert!(rt; length_found(rt.alloc(), &query, Some(last)).is_some(), "{text}");
+        assert!(rt;
+            length_found(rt.alloc(), &query, Some(last)).is_some(),
+            "{text}"
+        );
     }
     let wrong = demanded(&rt, "a7a8q");
     assert_eq!(rt; length_found(rt.alloc(), &query, Some(wrong)), None);

@@ -10,8 +10,11 @@ pub const FAR: u8 = 200;
 const NOT_A: u64 = 0xfefe_fefe_fefe_fefe;
 /// All squares but those of the h-file, where a step to the left ends.
 const NOT_H: u64 = 0x7f7f_7f7f_7f7f_7f7f;
+
 const NOT_AB: u64 = 0xfcfc_fcfc_fcfc_fcfc;
+
 const NOT_GH: u64 = 0x3f3f_3f3f_3f3f_3f3f;
+
 const EVERY: u64 = u64::MAX;
 
 /// The squares that a line man reaches by steps of so many squares on, past empty ones.

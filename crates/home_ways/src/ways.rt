@@ -1,10 +1,9 @@
 use crate::bits::bit;
+pub use crate::floods::FAR;
 use crate::floods::{flood, guarded};
 use crate::homes::{HOMES, Slot};
 use board_base::{Kind, Memory};
 use std::alloc::Global;
-
-pub use crate::floods::FAR;
 
 /// What a way costs more that leads past men who can still move.
 const DETOUR: u8 = 8;
@@ -112,7 +111,10 @@ fn way_home(scene: &Scene) -> Way {
 
 fn place_of(scene: &Scene) -> usize {
     let mixed = scene.walls.wrapping_mul(0x9e37_79b9_7f4a_7c15)
-        ^ scene.soft.rotate_left(23).wrapping_mul(0xc2b2_ae3d_27d4_eb4f)
+        ^ scene
+            .soft
+            .rotate_left(23)
+            .wrapping_mul(0xc2b2_ae3d_27d4_eb4f)
         ^ (scene.slot as u64).wrapping_mul(0x1656_67b1_9e37_79f9);
     ((mixed ^ mixed >> 29).wrapping_mul(0xbf58_476d_1ce4_e5b9) >> 51) as usize
 }

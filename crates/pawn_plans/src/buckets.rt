@@ -39,8 +39,8 @@ impl Buckets {
         self.lowest = 0;
     }
 
-    /// Puts the number on top of the bucket of this value, or of the last one. Numbers are first put in as they ascend from 0; one that was taken out may
-    /// be put in again.
+    /// Puts the number on top of the bucket of this value, or of the last one. Numbers are first put in as they ascend from 0; one that
+    /// was taken out may be put in again.
     pub fn put(&mut self, value: usize, number: u32) -> Result<(), Memory> {
         let value = value.min(self.tops.len().saturating_sub(1));
         let Some(top) = self.tops.get_mut(value) else {

@@ -83,7 +83,13 @@ fn add(found: Option<Step>, out: &mut Vec<Step>) -> Result<(), Memory> {
 }
 
 /// The pawn on a square, come to another straight, captured there.
-fn add_captures(step: &Step, from: usize, on: usize, cost: u32, out: &mut Vec<Step>) -> Result<(), Memory> {
+fn add_captures(
+    step: &Step,
+    from: usize,
+    on: usize,
+    cost: u32,
+    out: &mut Vec<Step>,
+) -> Result<(), Memory> {
     for to in squares_of(behind(on) & !step.camps.pawns()) {
         let camps = moved(&step.camps, from, to);
         add(with_officer(step, &camps, on, cost), out)?;

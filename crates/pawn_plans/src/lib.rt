@@ -12,7 +12,7 @@ mod seen;
 
 pub use buckets::Buckets;
 pub use camps::{Camp, Camps};
-pub use matchings::{NONE, Fewest, fewest_captures};
+pub use matchings::{Fewest, NONE, fewest_captures};
 pub use passings::{PawnCount, passing};
 pub use planning::{Plan, Planner};
 pub use seen::Seen;

@@ -36,7 +36,11 @@ fn who_leaves(camps: &Camps, choice: u32) -> Leaving {
     for file in 0..8 {
         let files = file_set(file);
         let (ours, foes) = (camps.own.pawns & files, theirs & files);
-        if ours == 0 || foes == 0 || highest(ours) <= foes.trailing_zeros() || place >= MOST_CROSSED {
+        if ours == 0
+            || foes == 0
+            || highest(ours) <= foes.trailing_zeros()
+            || place >= MOST_CROSSED
+        {
             continue;
         }
         if has(u64::from(choice), place) {

@@ -13,6 +13,7 @@ const MOST_STEPS: u32 = 40;
 const VALUES: usize = 1024;
 
 const KEPT_PLANS: usize = 1 << 14;
+
 const KEPT_CAPTURES: usize = 1 << 14;
 
 /// Whether there is a plan by which all pawns come home.

@@ -1,4 +1,4 @@
-use Rattle.std.proofs.Common.{◌≡◌, List, [], ◌∷◌, ◌++◌, Some, subst, sym}
+use Rattle.std.proofs.Common.{◌≡◌, List, Some, subst, sym}
 use Rattle.board_base.specs.Game.{IsGame, last_move}
 use Rattle.board_base.specs.declared.moves.Move.{Move}
 use Rattle.play_rules.proofs.Doubles.{last_move-more}
