@@ -8,6 +8,7 @@ use Rattle.query_base.specs.declared.claims.Claim.{Claim}
 use Rattle.cert_text.specs.Certificate.{Certificate, IsTextOf}
 use Rattle.balance_rule.specs.EqualPrices.{EqualPricesSupport}
 use Rattle.retro_search.specs.Answers.{IsProofOf}
+use Rattle.retro_search.specs.SearchSizes.{IsLargeSearch}
 use Rattle.retro_search.specs.Unsettled.{IsAgainst, IsUnpriced, StaysUnsettled, WhereRefutable}
 use Rattle.command_answers.specs.Limits.{most_bytes}
 use Rattle.command_answers.specs.Questions.{fault_line}
@@ -44,9 +45,10 @@ pub record TellsGame (depth nodes : ℕ) (claim : Claim) (q : Asked) (text : Lis
   pub few : length game < nodes
   pub text_is : text ≡ countered_line game
 
--- Where the claim's target is refutable by rule lines at some depth up to this one, it costs more than the nodes, and equal prices don't
--- support it. The text says that the nodes are spent.
+-- The whole search of the claim's target to the depth is larger than the nodes. Where the target is refutable by rule lines at some depth
+-- up to this one, it costs more than the nodes, and equal prices don't support it. The text says that the nodes are spent.
 pub record TellsSpentThere (depth nodes : ℕ) (claim : Claim) (q : Asked) (text : List ℕ) : Type 0 where
+  pub large : IsLargeSearch (target q claim) depth nodes
   pub dear : WhereRefutable (target q claim) depth (λ n. nodes < n)
   pub unpriced : EqualPricesSupport (target q claim) → ⊥
   pub text_is : text ≡ spent_line nodes

@@ -35,7 +35,7 @@ returns-in-Ok-settle c =
           record { cert = cert_of cert; is_proof = rw is at of.answer.proved; is_text = whole; short = (rw is at of.short) _ whole })
           (λ line is text. record { line = line; unsettled = rw is at of.undecided; few = rw is at of.answer.short_line; unpriced = λ e. rw is at of.priced c.new-searcher.ensures c.requires.limits.some_nodes e; line_unpriced = rw is at of.unpriced c.new-searcher.ensures; text_is = text })
           (λ game is text. record { game = game; against = rw is at of.countered; few = rw is at of.answer.short_game; text_is = text })
-          (λ n is text. record { dear = rw is at of.spent; unpriced = λ e. rw is at of.priced c.new-searcher.ensures c.requires.limits.some_nodes e; text_is = text ∙ ap (λ (k : ℕ). spent_line k) (rw is at of.answer.visited) })
+          (λ n is text. record { large = rw is at of.large; dear = rw is at of.spent; unpriced = λ e. rw is at of.priced c.new-searcher.ensures c.requires.limits.some_nodes e; text_is = text ∙ ap (λ (k : ℕ). spent_line k) (rw is at of.answer.visited) })
           told,
     ))
     c.write_found.ensures
