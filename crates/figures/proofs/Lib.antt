@@ -1,0 +1,4 @@
+pub mod Singles
+pub mod Numbered
+pub mod OfMen
+pub mod EachKind

@@ -1,0 +1,11 @@
+use Rattle.std.proofs.Common.{◌≡◌, Bool, ◌&&◌, List, ap, ◌∙◌}
+use Rattle.std.specs.List.{list_all}
+use Rattle.board_base.specs.declared.men.Kind.{Kind}
+use Rattle.figures.proofs.EachKind.{all-kinds}
+use Rattle.figures.proofs.kinds.KindSet.all.Goals as goal
+
+six : (a b c d e f a' b' c' d' e' f' : Bool) → a ≡ a' → b ≡ b' → c ≡ c' → d ≡ d' → e ≡ e' → f ≡ f' → (a && (b && (c && (d && (e && f))))) ≡ (a' && (b' && (c' && (d' && (e' && f')))))
+six a b c d e f a' b' c' d' e' f' p q r s t u = cc
+
+pub returns : goal.returns
+returns g c = λ p agrees. six _ _ _ _ _ _ _ _ _ _ _ _ (c.is_spared-pawn.ensures p agrees) (c.is_spared-knight.ensures p agrees) (c.is_spared-bishop.ensures p agrees) (c.is_spared-rook.ensures p agrees) (c.is_spared-queen.ensures p agrees) (c.is_spared-king.ensures p agrees) ∙ all-kinds p c.self.inside.pawn c.self.inside.knight c.self.inside.bishop c.self.inside.rook c.self.inside.queen c.self.inside.king ∙ ap (λ (l : List Kind). list_all p l) c.self.view_is

@@ -1,0 +1,9 @@
+use Rattle.std.proofs.Common.{List, Bool, ap, ◌∙◌}
+use Rattle.cage_rules.specs.Steps.{both}
+use Rattle.board_base.specs.Squares.{squares_of}
+use Rattle.cage_rules.proofs.SetAlgebra.{both-bits}
+use Rattle.figures.proofs.sets.both.Goals as goal
+
+pub returns : goal.returns
+unfolding both
+returns c = c.from_bits.ensures.squares ∙ both-bits c.bits.result c.bits-2.result ∙ ap (λ (l : List Bool). both l (squares_of c.bits-2.result)) c.bits.ensures.squares ∙ ap (both c.args.a) c.bits-2.ensures.squares
