@@ -1,0 +1,12 @@
+pub mod Sets
+pub mod Rooms
+pub mod Made
+pub mod Trimming
+pub mod Sizes
+pub mod Under
+pub mod Closing
+pub mod Touched
+pub mod Wayside
+pub mod Clashing
+pub mod Lodging
+pub mod Before

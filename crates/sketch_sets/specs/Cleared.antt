@@ -1,0 +1,18 @@
+-- Inner: no public clause cites this file.
+-- Names for what stood before a step, which computation would write out.
+use Rattle.std.specs.Prelude.{ℕ, Bool}
+use Rattle.board_base.specs.declared.men.Colour.{Colour}
+use Rattle.past_sketches.specs.Figures.{Figure}
+use Rattle.past_sketches.specs.Steps.{Step, bystander, changed_by, is_cleared, pawn_before}
+
+unfoldable pub clears : Colour → Step → ℕ → Bool
+clears c x s = is_cleared c x s
+
+unfoldable pub bystander_of : Colour → Step → Figure → Figure
+bystander_of c x f = bystander c x f
+
+unfoldable pub pawn_of : Step → Figure → Figure
+pawn_of x f = pawn_before x f
+
+unfoldable pub changed_of : Colour → Step → ℕ → Figure → Figure
+changed_of c x i f = changed_by c x i f

@@ -1,0 +1,11 @@
+pub mod Leasts
+pub mod Tests
+pub mod Remade
+pub mod Origins
+pub mod Grounds
+pub mod Quiet
+pub mod Wide
+pub mod Clashes
+pub mod Homes
+pub mod Cleared
+pub mod Crowds

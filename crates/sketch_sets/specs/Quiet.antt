@@ -1,0 +1,36 @@
+-- Inner: no public clause cites this file.
+-- Quiet ways, as the ground tells them.
+use Rattle.std.specs.Prelude.{ℕ, Bool, ◌&&◌, ◌||◌, not}
+use Rattle.std.specs.List.{list_any, range_with_len}
+use Rattle.board_base.specs.Board.{is_in, opponent}
+use Rattle.board_base.specs.Attacks.{kind_attacks, on_the_way, one_ahead}
+use Rattle.board_base.specs.declared.men.Colour.{Colour}
+use Rattle.board_base.specs.declared.men.Kind.{Kind}
+use Rattle.board_base.specs.declared.men.Kind.TheVariants.{Pawn, Knight, Bishop, Rook, Queen, King}
+use Rattle.cage_rules.specs.Frozen.{is_past_home}
+use Rattle.past_sketches.specs.Closed.{goes_straight}
+use Rattle.past_sketches.specs.Touching.{touches}
+use Rattle.sketch_sets.specs.declared.ground.Ground.{Ground}
+use Rattle.sketch_sets.specs.Grounds.{kings, touched}
+
+-- from e a man of this colour and kind touches the square of a fixed enemy king
+unfoldable pub guards_on : Ground → Colour → Kind → ℕ → Bool
+guards_on g c k e = list_any (λ q. is_in (kings g (opponent c)) q && touches c k e q) (range_with_len 0 64)
+
+-- a pawn goes one square straight on, or two; and so over a square on which nobody is fixed
+unfoldable pub straight : Colour → ℕ → ℕ → Bool
+straight c e s = goes_straight c e s
+
+unfoldable pub pawn_on : Ground → Colour → ℕ → ℕ → Bool
+pawn_on g c e s = straight c e s && (one_ahead c e s || not (is_in g.fixed (on_the_way e s 1)))
+
+unfoldable pub goes_on : Ground → Colour → Kind → ℕ → ℕ → Bool
+goes_on g c Pawn e s = is_past_home c s && pawn_on g c e s
+goes_on g c King e s = kind_attacks g.walls c King e s && not (is_in (touched g (opponent c)) s)
+goes_on g c Knight e s = kind_attacks g.walls c Knight e s
+goes_on g c Bishop e s = kind_attacks g.walls c Bishop e s
+goes_on g c Rook e s = kind_attacks g.walls c Rook e s
+goes_on g c Queen e s = kind_attacks g.walls c Queen e s
+
+unfoldable pub quiet_on : Ground → Colour → Kind → ℕ → ℕ → Bool
+quiet_on g c k e s = not (is_in g.fixed e) && (not (is_in g.held s) && (not (guards_on g c k e) && goes_on g c k e s))

@@ -1,0 +1,122 @@
+ghost use Rattle.std.specs.Prelude.{◌≡◌, ◌<◌, ◌==◌, ◌&&◌, ℕ, Bool, nat_lt, true};
+ghost use Rattle.board_base.specs.Board.{file, is_in, rank};
+ghost use Rattle.cage_rules.specs.Sets.{squares_that};
+ghost use Rattle.sketch_sets.specs.Tests.{is_inside, meets, some_that};
+
+use board_base::{Square, SquareSet};
+use figures::{both, is_whole, outside, with_if};
+
+/// Whether each square of the first set is in the second.
+pub(crate) fn is_within(a: SquareSet, b: SquareSet) -> bool
+    ensures { result ≡ is_inside a b }
+{
+    both(a, outside(b)).bits() == 0
+}
+
+/// Whether some square is in both sets.
+pub(crate) fn meets(a: SquareSet, b: SquareSet) -> bool
+    ensures { result ≡ meets a b }
+{
+    both(a, b).bits() != 0
+}
+
+/// The squares of this file, counted from 0.
+pub(crate) fn file_squares(n: u8) -> SquareSet
+    requires { n < 8 }
+    ensures { result ≡ squares_that (λ q. file q == n) }
+{
+    match n {
+        0 => SquareSet::from_bits(0x0101_0101_0101_0101),
+        1 => SquareSet::from_bits(0x0202_0202_0202_0202),
+        2 => SquareSet::from_bits(0x0404_0404_0404_0404),
+        3 => SquareSet::from_bits(0x0808_0808_0808_0808),
+        4 => SquareSet::from_bits(0x1010_1010_1010_1010),
+        5 => SquareSet::from_bits(0x2020_2020_2020_2020),
+        6 => SquareSet::from_bits(0x4040_4040_4040_4040),
+        _ => SquareSet::from_bits(0x8080_8080_8080_8080),
+    }
+}
+
+/// The squares of the ranks below this one, counted from 0.
+pub(crate) fn ranks_below(n: u8) -> SquareSet
+    requires { n < 8 }
+    ensures { result ≡ squares_that (λ q. nat_lt (rank q) n) }
+{
+    match n {
+        0 => SquareSet::from_bits(0),
+        1 => SquareSet::from_bits(0xff),
+        2 => SquareSet::from_bits(0xffff),
+        3 => SquareSet::from_bits(0xff_ffff),
+        4 => SquareSet::from_bits(0xffff_ffff),
+        5 => SquareSet::from_bits(0xff_ffff_ffff),
+        6 => SquareSet::from_bits(0xffff_ffff_ffff),
+        _ => SquareSet::from_bits(0xff_ffff_ffff_ffff),
+    }
+}
+
+/// The squares of the ranks above this one, counted from 0.
+pub(crate) fn ranks_above(n: u8) -> SquareSet
+    requires { n < 8 }
+    ensures { result ≡ squares_that (λ q. nat_lt n (rank q)) }
+{
+    match n {
+        0 => SquareSet::from_bits(0xffff_ffff_ffff_ff00),
+        1 => SquareSet::from_bits(0xffff_ffff_ffff_0000),
+        2 => SquareSet::from_bits(0xffff_ffff_ff00_0000),
+        3 => SquareSet::from_bits(0xffff_ffff_0000_0000),
+        4 => SquareSet::from_bits(0xffff_ff00_0000_0000),
+        5 => SquareSet::from_bits(0xffff_0000_0000_0000),
+        6 => SquareSet::from_bits(0xff00_0000_0000_0000),
+        _ => SquareSet::from_bits(0),
+    }
+}
+
+/// The squares of the set that pass the test.
+pub(crate) fn those_that<F: Fn(Square) -> bool>(set: SquareSet, test: F) -> SquareSet
+    requires { F.IsAlwaysCallable test }
+    ensures { (p : ℕ → Bool) → ((s : ℕ) (b : Bool) → s < 64 → is_in set s ≡ true → F.post test s b → b ≡ p s) → result ≡ squares_that (λ s. is_in set s && p s) }
+{
+    let mut those = SquareSet::from_bits(0);
+    for i in 0..64 {
+        let s = Square::known(i);
+        if set.has(s) {
+            those = with_if(those, s, test(s));
+        }
+    }
+    those
+}
+
+/// Whether the square with this number is in the set; none above 63 is.
+pub(crate) fn has_number(set: SquareSet, n: u8) -> bool
+    ensures { result ≡ is_in set n }
+{
+    is_whole(set);
+    match Square::new(n) {
+        Some(s) => set.has(s),
+        None => false,
+    }
+}
+
+/// Whether the square is in the set and passes the test.
+fn passes<F: Fn(Square) -> bool>(set: SquareSet, test: &F, s: Square) -> bool
+    requires { F.IsAlwaysCallable test.now }
+    ensures { (p : ℕ → Bool) → ((t : ℕ) (b : Bool) → t < 64 → F.post test.now t b → b ≡ p t) → result ≡ (is_in set s && p s) }
+{
+    if set.has(s) {
+        return test(s);
+    }
+    false
+}
+
+/// Whether some square of the set passes the test.
+pub(crate) fn any_of<F: Fn(Square) -> bool>(set: SquareSet, test: F) -> bool
+    requires { F.IsAlwaysCallable test }
+    ensures { (p : ℕ → Bool) → ((s : ℕ) (b : Bool) → s < 64 → F.post test s b → b ≡ p s) → result ≡ some_that set p }
+{
+    for i in 0..64 {
+        if passes(set, &test, Square::known(i)) {
+            return true;
+        }
+    }
+    false
+}
