@@ -9,4 +9,5 @@ pub mod Touched
 pub mod Wayside
 pub mod Clashing
 pub mod Lodging
+pub mod Rearranging
 pub mod Before

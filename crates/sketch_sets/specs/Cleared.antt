@@ -1,6 +1,6 @@
 -- Inner: no public clause cites this file.
 -- Names for what stood before a step, which computation would write out.
-use Rattle.std.specs.Prelude.{ℕ, Bool}
+use Rattle.std.specs.Prelude.{ℕ, Bool, List, [], ◌∷◌, Option, Some, None}
 use Rattle.board_base.specs.declared.men.Colour.{Colour}
 use Rattle.past_sketches.specs.Figures.{Figure}
 use Rattle.past_sketches.specs.Steps.{Step, bystander, changed_by, is_cleared, pawn_before}
@@ -16,3 +16,8 @@ pawn_of x f = pawn_before x f
 
 unfoldable pub changed_of : Colour → Step → ℕ → Figure → Figure
 changed_of c x i f = changed_by c x i f
+
+-- the figure, if there is one, as a list
+abbrev pub listed : Option Figure → List Figure
+listed None = []
+listed (Some f) = f ∷ []

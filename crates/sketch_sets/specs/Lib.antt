@@ -1,4 +1,5 @@
 pub mod Leasts
+pub mod Places
 pub mod Tests
 pub mod Remade
 pub mod Origins

@@ -1,33 +1,17 @@
-ghost use Rattle.std.specs.Prelude.{◌≡◌, ◌*◌, ◌+◌, ◌∷◌, [], IfSome};
+ghost use Rattle.std.specs.Prelude.{◌≡◌, ◌<◌, ◌≤◌, IfSome, IsTrue, SomeIff, length};
+ghost use Rattle.std.specs.List.{list_all};
 ghost use Rattle.board_base.specs.Play.{ahead, behind};
+ghost use Rattle.past_sketches.specs.Figures.{Figure as AFigure, IsRearranged};
 ghost use Rattle.past_sketches.specs.Steps.{taken_back, victim_on, victims};
-ghost use Rattle.sketch_sets.specs.Cleared.{bystander_of, changed_of, clears, pawn_of};
+ghost use Rattle.sketch_sets.specs.Cleared.{bystander_of, changed_of, clears, listed, pawn_of};
+ghost use Rattle.sketch_sets.specs.Places.{before_step, can_go_back, fits_before, has_home, has_low_place, others_first};
 
 use crate::masks::those_that;
+use crate::places::recounted;
 use crate::steps::Step;
 use crate::ways::on_the_way;
 use board_base::{Colour, Kind, Square, ranks_between};
 use figures::{Figure, KindSet, Sketch, only_on};
-
-/// Twice the place, where that is a place.
-fn doubled(place: u8) -> Option<u8>
-    ensures { IfSome result (λ n. n ≡ 2 * place) }
-{
-    if place < 128 {
-        return Some(2 * place);
-    }
-    None
-}
-
-/// The place between twice this one and the next, where that is a place.
-fn after_doubled(place: u8) -> Option<u8>
-    ensures { IfSome result (λ n. n ≡ 2 * place + 1) }
-{
-    if place < 127 {
-        return Some(2 * place + 1);
-    }
-    None
-}
 
 /// The number of the square ahead of `s`, as pawns of this colour go.
 fn ahead(colour: Colour, s: Square) -> u8
@@ -60,50 +44,52 @@ fn clears(colour: Colour, step: &Step, s: Square) -> bool
 }
 
 /// The figure before a step that he didn't make.
-fn bystander(colour: Colour, step: &Step, figure: &Figure) -> Option<Figure>
-    ensures { IfSome result (λ before. before ≡ bystander_of colour step.now figure.now) }
+fn bystander(colour: Colour, step: &Step, figure: &Figure) -> Figure
+    requires { figure.now.place < 127 }
+    ensures { result ≡ bystander_of colour step.now figure.now }
 {
-    let place = after_doubled(figure.place)?;
-    Some(Figure {
+    Figure {
         colour: figure.colour,
         kinds: figure.kinds,
         squares: those_that(figure.squares, |s| !clears(colour, step, s)),
         marked: figure.marked,
-        place,
-    })
+        place: 2 * figure.place + 1,
+    }
 }
 
 /// The figure before the step that he made.
-fn pawn_before(step: &Step, figure: &Figure) -> Option<Figure>
-    ensures { IfSome result (λ before. before ≡ pawn_of step.now figure.now) }
+fn pawn_before(step: &Step, figure: &Figure) -> Figure
+    requires { step.now.place < 128 }
+    ensures { result ≡ pawn_of step.now figure.now }
 {
-    let place = doubled(step.place)?;
-    Some(Figure {
+    Figure {
         colour: figure.colour,
         kinds: KindSet::one(Kind::Pawn),
         squares: only_on(step.from),
         marked: figure.marked,
-        place,
-    })
+        place: 2 * step.place,
+    }
 }
 
 /// The man of this kind whom the figure took on a square.
-fn victim_on(figure: &Figure, kind: Kind, s: Square) -> Option<Figure>
-    ensures { IfSome result (λ victim. victim ≡ victim_on figure.now kind s) }
+fn victim_on(figure: &Figure, kind: Kind, s: Square) -> Figure
+    requires { figure.now.place < 127 }
+    ensures { result ≡ victim_on figure.now kind s }
 {
-    let place = after_doubled(figure.place)?;
-    Some(Figure {
+    Figure {
         colour: figure.colour.other(),
         kinds: KindSet::one(kind),
         squares: only_on(s),
         marked: false,
-        place,
-    })
+        place: 2 * figure.place + 1,
+    }
 }
 
 /// The figure with this number before the step.
-fn changed(colour: Colour, step: &Step, i: usize, figure: &Figure) -> Option<Figure>
-    ensures { IfSome result (λ before. before ≡ changed_of colour step.now i figure.now) }
+fn changed(colour: Colour, step: &Step, i: usize, figure: &Figure) -> Figure
+    requires step { step.now.place < 128 }
+    requires figure { figure.now.place < 127 }
+    ensures { result ≡ changed_of colour step.now i figure.now }
 {
     if i == step.by as usize {
         return pawn_before(step, figure);
@@ -111,46 +97,94 @@ fn changed(colour: Colour, step: &Step, i: usize, figure: &Figure) -> Option<Fig
     bystander(colour, step, figure)
 }
 
-/// The sketch of one figure.
-fn one(figure: Figure) -> Sketch
-    ensures { result ≡ figure ∷ [] }
-{
-    let mut sketch = Sketch::new();
-    sketch.push(figure);
-    sketch
-}
-
 /// The man whom the figure took with the step, if there is one.
-fn taken_man(mover: &Figure, step: &Step) -> Option<Sketch>
-    ensures { IfSome result (λ taken. taken ≡ victims mover.now step.now) }
+fn victim(mover: &Figure, step: &Step) -> Option<Figure>
+    requires place { mover.now.place < 127 }
+    requires home { IsTrue (has_home mover.now step.now) }
+    ensures { listed result ≡ victims mover.now step.now }
 {
     if step.passing {
-        let home = Square::new(ahead(mover.colour, step.to))?;
-        let victim = victim_on(mover, Kind::Pawn, home)?;
-        return Some(one(victim));
+        let home = Square::known(ahead(mover.colour, step.to));
+        return Some(victim_on(mover, Kind::Pawn, home));
     }
     match step.taken {
-        Some(kind) => {
-            let victim = victim_on(mover, kind, step.to)?;
-            Some(one(victim))
-        }
-        None => Some(Sketch::new()),
+        Some(kind) => Some(victim_on(mover, kind, step.to)),
+        None => None,
     }
 }
 
-/// The sketch before the step; None only where it can't be told: the figure with the step's number is missing, a place would be above
-/// 255, there would be more than 32 figures, or a pawn taken en passant would have come from off the board.
+/// How many men a step took.
+fn taken_count(step: &Step) -> usize
+    ensures value { (f : AFigure) → result ≡ length (victims f step.now) }
+    ensures few { result ≤ 1 }
+{
+    if step.passing {
+        return 1;
+    }
+    match step.taken {
+        Some(_) => 1,
+        None => 0,
+    }
+}
+
+/// Whether the pawn that the figure took en passant, if he did, came from a square of the board.
+fn has_home(mover: &Figure, step: &Step) -> bool
+    ensures { result ≡ has_home mover.now step.now }
+{
+    !step.passing | (ahead(mover.colour, step.to) < 64)
+}
+
+/// Whether the figure's place can be doubled.
+fn has_low_place(figure: &Figure) -> bool
+    ensures { result ≡ has_low_place figure.now }
+{
+    figure.place < 127
+}
+
+/// Whether all places can be doubled.
+fn has_low_places(sketch: &Sketch) -> bool
+    ensures { result ≡ list_all has_low_place sketch.now }
+{
+    sketch.figures().iter().all(|figure| has_low_place(figure))
+}
+
+/// Whether the sketch before the figure's step has values for its places, and at most 32 figures.
+fn fits(sketch: &Sketch, mover: &Figure, step: &Step) -> bool
+    ensures { result ≡ fits_before sketch.now mover.now step.now }
+{
+    let few = sketch.len() + taken_count(step) < 33;
+    let low = has_low_places(sketch);
+    few & (step.place < 128) & has_home(mover, step) & low
+}
+
+/// Each figure before the step that this one made, and then the victim, if there was one.
+fn others_first(sketch: &Sketch, mover: &Figure, step: &Step) -> Sketch
+    requires fits { IsTrue (fits_before sketch.now mover.now step.now) }
+    requires place { mover.now.place < 127 }
+    ensures { result ≡ others_first sketch.now mover.now step.now }
+{
+    let colour = mover.colour;
+    let mut before = Sketch::new();
+    for (i, figure) in sketch.figures().iter().enumerate() {
+        before.push(changed(colour, step, i, figure));
+    }
+    if let Some(man) = victim(mover, step) {
+        before.push(man);
+    }
+    before
+}
+
+/// The sketch before the step, with the victim last and the places counted anew: the one of the laws, rearranged. None if and only if
+/// nobody made the step, a place is too large to be doubled, there would be more than 32 figures, or a pawn taken en passant would have
+/// come from off the board.
 pub fn taken_back(sketch: &Sketch, step: &Step) -> Option<Sketch>
-    ensures { IfSome result (λ before. before ≡ taken_back sketch.now step.now) }
+    ensures value { SomeIff result (IsTrue (can_go_back sketch.now step.now)) (before_step sketch.now step.now) }
+    ensures rearranged { IfSome result (λ before. IsRearranged (taken_back sketch.now step.now) before) }
 {
     let mover = sketch.get(step.by as usize)?;
-    let colour = mover.colour;
-    let mut before = taken_man(&mover, step)?;
-    for (i, figure) in sketch.figures().iter().enumerate() {
-        if before.len() == 32 {
-            return None;
-        }
-        before.push(changed(colour, step, i, figure)?);
+    if !fits(sketch, &mover, step) {
+        return None;
     }
-    Some(before)
+    let before = others_first(sketch, &mover, step);
+    Some(recounted(&before))
 }

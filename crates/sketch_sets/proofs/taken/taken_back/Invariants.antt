@@ -1,7 +1,0 @@
-use Rattle.std.proofs.Common.{◌≡◌, ◌++◌, take}
-use Rattle.past_sketches.specs.Figures.{each_changed}
-use Rattle.sketch_sets.specs.Cleared.{changed_of}
-use Rattle.sketch_sets.proofs.taken.taken_back.Given as goal
-
-abbrev pub invariant-loop-i : goal.invariant-loop-i
-invariant-loop-i l = l.before ≡ l.initial.before ++ each_changed (changed_of l.colour l.step) 0 (take l.i l.figure-items)
