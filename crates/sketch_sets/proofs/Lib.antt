@@ -11,3 +11,4 @@ pub mod Clashing
 pub mod Lodging
 pub mod Rearranging
 pub mod Before
+pub mod Telling

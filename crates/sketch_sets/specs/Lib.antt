@@ -10,3 +10,4 @@ pub mod Clashes
 pub mod Homes
 pub mod Cleared
 pub mod Crowds
+pub mod Stepping

@@ -8,21 +8,21 @@ use board_base::{Kind, Square, SquareSet};
 use figures::{Figure, Sketch, fixed_squares};
 
 /// Whether the figure is a pawn on this square's file.
-fn is_pawn_beside(e: Square, figure: &Figure) -> bool
+pub(crate) fn is_pawn_beside(e: Square, figure: &Figure) -> bool
     ensures { result ≡ is_beside e figure.now }
 {
     figure.kinds.is_only(Kind::Pawn) & is_within(figure.squares, file_squares(e.file()))
 }
 
 /// Whether the figure may stand on a lower rank than `e`.
-fn stands_below(e: Square, figure: &Figure) -> bool
+pub(crate) fn stands_below(e: Square, figure: &Figure) -> bool
     ensures { result ≡ is_below e figure.now }
 {
     meets(figure.squares, ranks_below(e.rank()))
 }
 
 /// Whether the figure may stand on a higher rank than `e`.
-fn stands_above(e: Square, figure: &Figure) -> bool
+pub(crate) fn stands_above(e: Square, figure: &Figure) -> bool
     ensures { result ≡ is_above e figure.now }
 {
     meets(figure.squares, ranks_above(e.rank()))
