@@ -9,6 +9,3 @@ pub mod Touched
 pub mod Wayside
 pub mod Clashing
 pub mod Lodging
-pub mod Rearranging
-pub mod Before
-pub mod Telling

@@ -7,7 +7,8 @@ use Rattle.board_base.specs.declared.men.Kind.TheVariants.{Pawn}
 use Rattle.cage_rules.proofs.SetAlgebra.{same-that}
 use Rattle.past_sketches.specs.Figures.{Figure, Sketch, each_changed, fixed_squares, is_fixed_on}
 use Rattle.past_sketches.specs.Trimmed.{is_in_order, is_left_to, trimmed, trimmed_figure}
-use Rattle.sketch_sets.specs.Tests.{gives_room, has_all_room, is_kept, kept_squares}
+use Rattle.sketch_sets.specs.Files.{gives_room, has_all_room}
+use Rattle.sketch_sets.specs.Tests.{is_kept, kept_squares}
 use Rattle.sketch_sets.specs.Remade.{with_set}
 
 pub kept-out : (T : Sketch) (fixed : List Bool) (f : Figure) (s : ℕ) → (not (is_in fixed s) || is_fixed_on s f) ≡ false → false ≡ is_kept T fixed f s

@@ -19,9 +19,10 @@ use Rattle.past_sketches.specs.Figures.{Figure, Sketch, fixed_squares}
 use Rattle.past_sketches.specs.Touching.{guarded_squares, kings_of, touched_squares, touches}
 use Rattle.sketch_sets.specs.declared.ground.Ground.{Ground}
 use Rattle.sketch_sets.specs.Grounds.{ground_of, kings, touched}
-use Rattle.sketch_sets.specs.Tests.{gives_room, has_all_room, some_that}
+use Rattle.sketch_sets.specs.Files.{gives_room, has_all_room, straight}
+use Rattle.sketch_sets.specs.Tests.{some_that}
 use Rattle.sketch_sets.specs.Origins.{comes_from, is_origin, widened, widened_set}
-use Rattle.sketch_sets.specs.Quiet.{goes_on, guards_on, pawn_on, quiet_on, straight}
+use Rattle.sketch_sets.specs.Quiet.{goes_on, guards_on, pawn_on, quiet_on}
 use Rattle.sketch_sets.specs.Remade.{with_set}
 use Rattle.sketch_sets.specs.Wide.{from_on, origin_on, room_on, wide_on, wide_set_on}
 use Rattle.sketch_sets.proofs.Sets.{any-same}

@@ -1,5 +1,5 @@
 pub mod Leasts
-pub mod Places
+pub mod Files
 pub mod Tests
 pub mod Remade
 pub mod Origins
@@ -8,6 +8,4 @@ pub mod Quiet
 pub mod Wide
 pub mod Clashes
 pub mod Homes
-pub mod Cleared
 pub mod Crowds
-pub mod Stepping

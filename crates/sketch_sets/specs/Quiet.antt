@@ -8,19 +8,16 @@ use Rattle.board_base.specs.declared.men.Colour.{Colour}
 use Rattle.board_base.specs.declared.men.Kind.{Kind}
 use Rattle.board_base.specs.declared.men.Kind.TheVariants.{Pawn, Knight, Bishop, Rook, Queen, King}
 use Rattle.cage_rules.specs.Frozen.{is_past_home}
-use Rattle.past_sketches.specs.Closed.{goes_straight}
 use Rattle.past_sketches.specs.Touching.{touches}
 use Rattle.sketch_sets.specs.declared.ground.Ground.{Ground}
+use Rattle.sketch_sets.specs.Files.{straight}
 use Rattle.sketch_sets.specs.Grounds.{kings, touched}
 
 -- from e a man of this colour and kind touches the square of a fixed enemy king
 unfoldable pub guards_on : Ground → Colour → Kind → ℕ → Bool
 guards_on g c k e = list_any (λ q. is_in (kings g (opponent c)) q && touches c k e q) (range_with_len 0 64)
 
--- a pawn goes one square straight on, or two; and so over a square on which nobody is fixed
-unfoldable pub straight : Colour → ℕ → ℕ → Bool
-straight c e s = goes_straight c e s
-
+-- a pawn goes straight on, over a square on which nobody is fixed if it goes two
 unfoldable pub pawn_on : Ground → Colour → ℕ → ℕ → Bool
 pawn_on g c e s = straight c e s && (one_ahead c e s || not (is_in g.fixed (on_the_way e s 1)))
 

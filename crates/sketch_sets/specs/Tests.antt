@@ -2,11 +2,11 @@
 -- Names for tests of all squares, which computation would write out.
 use Rattle.std.specs.Prelude.{ℕ, Bool, ◌&&◌, ◌||◌, not, List}
 use Rattle.std.specs.List.{list_all, list_any, range_with_len}
-use Rattle.board_base.specs.Board.{file, is_in, same_kind}
+use Rattle.board_base.specs.Board.{is_in, same_kind}
 use Rattle.board_base.specs.declared.men.Kind.TheVariants.{Pawn}
 use Rattle.cage_rules.specs.Sets.{squares_that}
 use Rattle.past_sketches.specs.Figures.{Figure, Sketch, is_fixed_on}
-use Rattle.past_sketches.specs.FileOrder.{is_pawn_on, leaves_room, stands_above, stands_below}
+use Rattle.sketch_sets.specs.Files.{has_all_room}
 
 -- each square of the first set is in the second
 unfoldable pub is_inside : List Bool → List Bool → Bool
@@ -15,23 +15,6 @@ is_inside a b = list_all (λ q. not (is_in a q) || is_in b q) (range_with_len 0 
 -- some square is in both
 unfoldable pub meets : List Bool → List Bool → Bool
 meets a b = list_any (λ q. is_in a q && is_in b q) (range_with_len 0 64)
-
--- the figure is a pawn on the file of e; it may stand on a lower rank, on a higher one
-unfoldable pub is_beside : ℕ → Figure → Bool
-is_beside e g = is_pawn_on (file e) g
-
-unfoldable pub is_below : ℕ → Figure → Bool
-is_below e g = stands_below e g
-
-unfoldable pub is_above : ℕ → Figure → Bool
-is_above e g = stands_above e g
-
--- the second figure leaves the first room on e, and all figures do
-unfoldable pub gives_room : Figure → ℕ → Figure → Bool
-gives_room f e g = leaves_room f e g
-
-abbrev pub has_all_room : Sketch → Figure → ℕ → Bool
-has_all_room T f e = list_all (gives_room f e) T
 
 -- the squares of the figure on which nobody of these is fixed, unless it is himself, and on which all leave him room if he is a pawn
 unfoldable pub is_kept : Sketch → List Bool → Figure → ℕ → Bool

@@ -8,7 +8,8 @@ use Rattle.board_base.specs.declared.men.Kind.TheVariants.{Pawn}
 use Rattle.cage_rules.specs.Sets.{squares_that}
 use Rattle.past_sketches.specs.Figures.{Figure, Sketch}
 use Rattle.sketch_sets.specs.declared.ground.Ground.{Ground}
-use Rattle.sketch_sets.specs.Tests.{has_all_room, some_that}
+use Rattle.sketch_sets.specs.Files.{has_all_room}
+use Rattle.sketch_sets.specs.Tests.{some_that}
 use Rattle.sketch_sets.specs.Quiet.{quiet_on}
 
 unfoldable pub room_on : List Bool → Sketch → Figure → Kind → ℕ → Bool

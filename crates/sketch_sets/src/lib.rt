@@ -1,5 +1,5 @@
-//! Sets of sketches: what a moment of a game leaves of them, where their figures may have come from, and the steps that are taken back.
-//! It takes no memory.
+//! Sets of sketches: what a moment of a game leaves of them, where their figures may have come from, and whether they can be. It takes no
+//! memory.
 //!
 //! Articles are those of the FIDE Laws of Chess, in force from 1 January 2023.
 #![tactic(auto)]
@@ -11,11 +11,7 @@ mod ground;
 mod homes;
 mod masks;
 mod origins;
-mod places;
 mod remade;
-mod stepping;
-mod steps;
-mod taken;
 mod terrain;
 mod touching;
 mod trims;
@@ -25,8 +21,6 @@ pub use checks::{gives_check, is_clash, side_checks};
 pub use closed::least_closed;
 pub use crowds::is_crowded;
 pub use homes::may_be_array;
-pub use places::recounted;
-pub use stepping::is_step;
-pub use steps::Step;
-pub use taken::taken_back;
-pub use trims::trim;
+pub use masks::those_that;
+pub use trims::{all_leave_room, is_pawn_beside, stands_above, stands_below, trim};
+pub use ways::{goes_straight, is_pawn, on_the_way};

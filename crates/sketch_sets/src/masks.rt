@@ -72,7 +72,7 @@ pub(crate) fn ranks_above(n: u8) -> SquareSet
 }
 
 /// The squares of the set that pass the test.
-pub(crate) fn those_that<F: Fn(Square) -> bool>(set: SquareSet, test: F) -> SquareSet
+pub fn those_that<F: Fn(Square) -> bool>(set: SquareSet, test: F) -> SquareSet
     requires { F.IsAlwaysCallable test }
     ensures { (p : ℕ → Bool) → ((s : ℕ) (b : Bool) → s < 64 → is_in set s ≡ true → F.post test s b → b ≡ p s) → result ≡ squares_that (λ s. is_in set s && p s) }
 {

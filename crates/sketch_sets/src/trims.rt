@@ -1,6 +1,7 @@
 ghost use Rattle.std.specs.Prelude.{◌≡◌, ℕ};
 ghost use Rattle.past_sketches.specs.Trimmed.{trimmed, trims};
-ghost use Rattle.sketch_sets.specs.Tests.{is_kept, kept_squares, gives_room, has_all_room, is_above, is_below, is_beside};
+ghost use Rattle.sketch_sets.specs.Files.{gives_room, has_all_room, is_above, is_below, is_beside};
+ghost use Rattle.sketch_sets.specs.Tests.{is_kept, kept_squares};
 
 use crate::masks::{file_squares, is_within, meets, ranks_above, ranks_below, those_that};
 use crate::remade::{has_same_sets, with_sets};
@@ -8,21 +9,21 @@ use board_base::{Kind, Square, SquareSet};
 use figures::{Figure, Sketch, fixed_squares};
 
 /// Whether the figure is a pawn on this square's file.
-pub(crate) fn is_pawn_beside(e: Square, figure: &Figure) -> bool
+pub fn is_pawn_beside(e: Square, figure: &Figure) -> bool
     ensures { result ≡ is_beside e figure.now }
 {
     figure.kinds.is_only(Kind::Pawn) & is_within(figure.squares, file_squares(e.file()))
 }
 
 /// Whether the figure may stand on a lower rank than `e`.
-pub(crate) fn stands_below(e: Square, figure: &Figure) -> bool
+pub fn stands_below(e: Square, figure: &Figure) -> bool
     ensures { result ≡ is_below e figure.now }
 {
     meets(figure.squares, ranks_below(e.rank()))
 }
 
 /// Whether the figure may stand on a higher rank than `e`.
-pub(crate) fn stands_above(e: Square, figure: &Figure) -> bool
+pub fn stands_above(e: Square, figure: &Figure) -> bool
     ensures { result ≡ is_above e figure.now }
 {
     meets(figure.squares, ranks_above(e.rank()))
@@ -41,7 +42,7 @@ pub(crate) fn leaves_room(figure: &Figure, e: Square, other: &Figure) -> bool
 }
 
 /// Whether all figures leave him room on `e`.
-pub(crate) fn all_leave_room(sketch: &Sketch, figure: &Figure, e: Square) -> bool
+pub fn all_leave_room(sketch: &Sketch, figure: &Figure, e: Square) -> bool
     ensures { result ≡ has_all_room sketch.now figure.now e }
 {
     sketch

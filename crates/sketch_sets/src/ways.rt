@@ -3,7 +3,8 @@ ghost use Rattle.board_base.specs.Attacks.{on_the_way, toward};
 ghost use Rattle.board_base.specs.Board.{same_kind};
 ghost use Rattle.board_base.specs.declared.men.Kind.TheVariants.{Pawn as APawn};
 ghost use Rattle.cage_rules.specs.Frozen.{is_past_home};
-ghost use Rattle.sketch_sets.specs.Quiet.{goes_on, guards_on, pawn_on, quiet_on, straight};
+ghost use Rattle.sketch_sets.specs.Files.{straight};
+ghost use Rattle.sketch_sets.specs.Quiet.{goes_on, guards_on, pawn_on, quiet_on};
 
 use crate::ground::Ground;
 use crate::masks::{any_of, has_number};
@@ -28,7 +29,7 @@ fn step_toward(a: u8, b: u8, k: u8) -> u8
 }
 
 /// Whether it is a pawn.
-pub(crate) fn is_pawn(kind: Kind) -> bool
+pub fn is_pawn(kind: Kind) -> bool
     ensures { result ≡ same_kind APawn kind }
 {
     match kind {
@@ -58,7 +59,7 @@ fn guards(ground: &Ground, colour: Colour, kind: Kind, e: Square) -> bool
 }
 
 /// The number of the square `n` steps on the way from `e` to `s`.
-pub(crate) fn on_the_way(e: Square, s: Square, n: u8) -> u8
+pub fn on_the_way(e: Square, s: Square, n: u8) -> u8
     requires { n < 8 }
     ensures { result ≡ on_the_way e s n }
 {
@@ -66,7 +67,7 @@ pub(crate) fn on_the_way(e: Square, s: Square, n: u8) -> u8
 }
 
 /// Whether a pawn of this colour goes from `e` straight on to `s`: one square, or two if it begins there.
-pub(crate) fn goes_straight(colour: Colour, e: Square, s: Square) -> bool
+pub fn goes_straight(colour: Colour, e: Square, s: Square) -> bool
     ensures { result ≡ straight colour e s }
 {
     let two = (e.rank() == pawn_rank(colour)) & (ranks_between(e, s) == 2);

@@ -1,5 +1,0 @@
-use Rattle.sketch_sets.proofs.Rearranging.{placed-made}
-use Rattle.sketch_sets.proofs.places.placed.Goals as goal
-
-pub returns : goal.returns
-returns c = placed-made c.args.sketch.now (record { colour = c.figure.inside.colour; kinds = c.figure.inside.kinds; squares = c.figure.inside.squares; marked = c.figure.inside.marked; place = c.figure.inside.place }) c.args.figure.now c.lower_pawns.result c.lower_pawns.ensures.value c.figure.view_is

@@ -1,5 +1,0 @@
-use Rattle.sketch_sets.proofs.Telling.{has-next-made}
-use Rattle.sketch_sets.proofs.stepping.has_next.Goals as goal
-
-pub returns : goal.returns
-returns c = has-next-made c.args.sketch.now c.args.place c.is_next-next.result c.is_next-next.ensures

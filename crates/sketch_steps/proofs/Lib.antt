@@ -1,0 +1,3 @@
+pub mod Rearranging
+pub mod Before
+pub mod Telling

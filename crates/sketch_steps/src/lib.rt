@@ -1,0 +1,14 @@
+//! Steps of sketches: which captures by pawns and promotions a sketch may have come by, and what stood before each. It takes no memory.
+//!
+//! Articles are those of the FIDE Laws of Chess, in force from 1 January 2023.
+#![tactic(auto)]
+
+mod places;
+mod stepping;
+mod steps;
+mod taken;
+
+pub use places::recounted;
+pub use stepping::is_step;
+pub use steps::Step;
+pub use taken::taken_back;
