@@ -3,6 +3,7 @@ pub mod Inputs
 pub mod Retracting
 pub mod Pieces
 pub mod OpenTexts
+pub mod GameTexts
 pub mod Settled
 pub mod LegalGames
 pub mod Finding

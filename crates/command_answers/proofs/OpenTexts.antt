@@ -14,7 +14,7 @@ use Rattle.query_base.specs.declared.claims.Claim.{Claim}
 use Rattle.unmove_gen.specs.Listed.{unmoves}
 use Rattle.unmove_gen.specs.Predecessor.{predecessor}
 use Rattle.retro_search.specs.Lines.{IsFirstNot, IsFirstOpen, forwards}
-use Rattle.retro_search.specs.Unsettled.{IsAgainst, IsOpenLine, StaysUnsettled}
+use Rattle.retro_search.specs.Unsettled.{IsOpenLine, StaysUnsettled}
 use Rattle.command_answers.specs.Told.{IsSpelled}
 
 -- each unmove of a query has a text
@@ -51,7 +51,3 @@ forwards-spelled line all =
 
 pub unsettled-spelled : AreSpelled → (line : List Unmove) (q : Asked) (depth : ℕ) → StaysUnsettled line q depth → All IsSpelled line
 unsettled-spelled law line q depth h = open_line-spelled law line q depth [] h.open_line
-
-pub against-spelled : AreSpelled → (game : List Move) (claim : Claim) (q : Asked) (depth : ℕ) → IsAgainst game claim q depth → All (λ m. IsTrue (can_promote m.promo)) game
-against-spelled law game claim q depth h =
-    subst (All (λ (m : Move). IsTrue (can_promote m.promo))) (sym h.forwards_is) (forwards-spelled h.line (open_line-spelled law h.line (target q claim) depth [] h.open_line))

@@ -3,13 +3,14 @@ use Rattle.std.specs.Prelude.{ℕ, ◌≡◌, ◌<◌, ◌≤◌, ◌⊎◌, Lis
 use Rattle.board_base.specs.declared.moves.Move.{Move}
 use Rattle.board_base.specs.declared.unmoves.Unmove.{Unmove}
 use Rattle.query_base.specs.Asked.{Asked}
+use Rattle.query_base.specs.Reach.{Contradicts}
 use Rattle.query_base.specs.Targets.{target}
 use Rattle.query_base.specs.declared.claims.Claim.{Claim}
 use Rattle.cert_text.specs.Certificate.{Certificate, IsTextOf}
 use Rattle.price_search.specs.FlatPrices.{FlatPricesSupport}
 use Rattle.retro_search.specs.Answers.{IsProofOf}
 use Rattle.retro_search.specs.SearchSizes.{IsLargeSearch}
-use Rattle.retro_search.specs.Unsettled.{IsAgainst, IsUnpriced, StaysUnsettled, WhereRefutable}
+use Rattle.retro_search.specs.Unsettled.{IsUnpriced, StaysUnsettled, WhereRefutable}
 use Rattle.command_answers.specs.Limits.{most_bytes}
 use Rattle.command_answers.specs.Questions.{fault_line}
 use Rattle.command_answers.specs.Solves.{countered_line, spent_line, undecided_line}
@@ -38,11 +39,10 @@ pub record TellsUnsettledLine (depth nodes : ℕ) (claim : Claim) (q : Asked) (t
   pub line_unpriced : nodes ≤ 250000 → IsUnpriced (target q claim) line
   pub text_is : text ≡ undecided_line line
 
--- The text tells a game that contradicts the claim, and has no more moves than the depth and fewer than the nodes.
-pub record TellsGame (depth nodes : ℕ) (claim : Claim) (q : Asked) (text : List ℕ) : Type 0 where
+-- the text tells a game that contradicts the claim, of any length
+pub record TellsGame (claim : Claim) (q : Asked) (text : List ℕ) : Type 0 where
   pub game : List Move
-  pub against : IsAgainst game claim q depth
-  pub few : length game < nodes
+  pub contradicts : Contradicts game claim q
   pub text_is : text ≡ countered_line game
 
 -- The whole search of the claim's target to the depth is larger than the nodes. Where the target is refutable by rule lines at some depth
@@ -57,7 +57,7 @@ pub record TellsSpentThere (depth nodes : ℕ) (claim : Claim) (q : Asked) (text
 abbrev pub AnswersSettling : ℕ → ℕ → Claim → Asked → Status → List ℕ → Type 0
 AnswersSettling depth nodes claim q status.Done text = TellsSettlingProof depth claim q text
 AnswersSettling depth nodes claim q status.Undecided text = TellsUnsettledLine depth nodes claim q text
-AnswersSettling depth nodes claim q status.Countered text = TellsGame depth nodes claim q text
+AnswersSettling depth nodes claim q status.Countered text = TellsGame claim q text
 AnswersSettling depth nodes claim q status.Spent text = TellsSpentThere depth nodes claim q text
 AnswersSettling depth nodes claim q _ text = ⊥
 

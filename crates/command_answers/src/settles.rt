@@ -7,12 +7,13 @@ use crate::solves::write_found;
 use crate::statements::read_statement;
 use crate::statuses::Status;
 use crate::texts::Text;
-use retro_search::{Limits, Reasons, Searcher};
+use claim_search::settle;
+use retro_search::Limits;
 use std::alloc::{AllocError, Global};
 use unmove_gen::unmoves_have_texts;
 
-/// The status and the text with which `settle` answers these bytes: it goes back at most `depth` moves, from 0 to 64, and visits at most
-/// `nodes` queries, from 1 to 500,000.
+/// The status and the text with which `settle` answers these bytes: for a certificate it goes back at most `depth` moves, from 0 to 64,
+/// and visits at most `nodes` queries, from 1 to 500,000; for a game it looks at no more.
 pub fn answer_settle(
     alloc: Global,
     depth: u8,
@@ -28,8 +29,12 @@ pub fn answer_settle(
         Err(why) => return Ok((Status::BadInput, Text::of_lines(write_fault(alloc, why)?))),
     };
     unmoves_have_texts();
-    let mut searcher = Searcher::new(alloc, Reasons::All);
-    match searcher.settle(&statement.query, &statement.claim, Limits { depth, nodes }) {
+    match settle(
+        alloc,
+        &statement.query,
+        &statement.claim,
+        Limits { depth, nodes },
+    ) {
         Ok(found) => write_found(alloc, found),
         Err(_) => Err(AllocError),
     }

@@ -11,6 +11,7 @@ use Rattle.cert_checker.specs.Proving.{ProvesClaim}
 use Rattle.cert_checker.proofs.Contradicted.{contradiction-reaches}
 use Rattle.retro_search.specs.Refutable.{IsRefutable}
 use Rattle.retro_search.specs.SearchSizes.{IsSmallSearch}
+use Rattle.claim_search.proofs.Unreached.{refutable-unreached}
 use Rattle.retro_top.specs.Answers.{IsUnspent, StatesCheap, StatesPriced, StatesProved, StatesRefutable, StatesSmall}
 use Rattle.command_answers.specs.Settles.{AnswersSettle, AnswersSettling}
 use Rattle.command_answers.specs.Solves.{IsCheap}
@@ -22,7 +23,8 @@ use Rattle.retro_top.proofs.Stated.{stated, states-some}
 settling-done : (depth nodes : ℕ) (claim : Claim) (q : Asked) (ending : Status) (text : List ℕ) → AnswersSettling depth nodes claim q ending text → IsRefutable (target q claim) depth [] → IsCheap depth nodes claim q → ending ≡ Done
 settling-done depth nodes claim q Done text answers ref cheap = refl
 settling-done depth nodes claim q Undecided text answers ref cheap = absurd (answers.unsettled.unrefuted ref)
-settling-done depth nodes claim q Countered text answers ref cheap = absurd (answers.against.unrefuted depth ref)
+settling-done depth nodes claim q Countered text answers ref cheap =
+    absurd (refutable-unreached depth (target q claim) ref answers.game (contradiction-reaches answers.game claim q answers.contradicts))
 settling-done depth nodes claim q Spent text answers ref cheap = absurd (omega (arith, answers.dear depth cheap.0 (omega arith) ref cheap.1, cheap.2))
 settling-done depth nodes claim q _ text answers ref cheap = absurd answers
 
@@ -31,7 +33,7 @@ settling-priced : (depth nodes : ℕ) (claim : Claim) (q : Asked) (ending : Stat
 settling-priced depth nodes claim q Done text answers e = refl
 settling-priced depth nodes claim q Undecided text answers e = absurd (answers.unpriced e)
 settling-priced depth nodes claim q Countered text answers e =
-    absurd (balance-unreached (target q claim) e.set (flat_prices e.payers) e.supports answers.game (contradiction-reaches answers.game claim q answers.against.contradicts))
+    absurd (balance-unreached (target q claim) e.set (flat_prices e.payers) e.supports answers.game (contradiction-reaches answers.game claim q answers.contradicts))
 settling-priced depth nodes claim q Spent text answers e = absurd (answers.unpriced e)
 settling-priced depth nodes claim q _ text answers e = absurd answers
 
@@ -101,7 +103,7 @@ unsettled-by depth nodes input text answers = elim answers [
     query = said.1;
     game = said.3.game;
     states = said.2;
-    contradicts = said.3.against.contradicts;
+    contradicts = said.3.contradicts;
     line = said.3.text_is;
   }
   | inr none ↦ let e = none.2 in cc

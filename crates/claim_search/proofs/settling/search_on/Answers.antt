@@ -1,0 +1,5 @@
+use Rattle.claim_search.proofs.Deciding.{by_game}
+use Rattle.claim_search.proofs.settling.search_on.Goals as goal
+
+pub returns-in-Some : goal.returns-in-Some
+returns-in-Some c = by_game c.args.limits.depth c.args.limits.nodes c.args.claim.now c.args.query.now c.in-Some.game (rw c.in-Some.is at c.in_ok-game.ensures)
