@@ -2,11 +2,12 @@
 use Rattle.std.specs.Prelude.{ℕ, ◌≡◌, ◌⊎◌, List, codes}
 use Rattle.std.specs.List.{All}
 use Rattle.query_base.specs.Asked.{Asked}
+use Rattle.query_base.specs.declared.claims.Claim.{Claim}
 use Rattle.line_claims.specs.Due.{parts_due}
 use Rattle.line_claims.specs.Listing.{HasParts, LacksStep}
 use Rattle.line_claims.specs.declared.claims.LineClaim.{LineClaim}
 use Rattle.dossier_text.specs.Proving.{IsDossier}
-use Rattle.dossier_search.specs.ReachedParts.{IsDearPart, IsFirstOpenPart, IsPartAfforded, IsPartRefutable}
+use Rattle.dossier_search.specs.ReachedParts.{IsDearPart, IsFirstOpenPart, IsPartAfforded, IsPartPriced, IsPartProved, IsPartRefutable}
 use Rattle.question_text.specs.declared.faults.InputFault.{InputFault}
 use Rattle.command_answers.specs.Lines.{step_line}
 use Rattle.command_answers.specs.Plays.{number_line}
@@ -17,19 +18,31 @@ use Rattle.command_answers.specs.declared.statuses.Status.{Status}
 use Rattle.command_answers.specs.declared.statuses.Status.TheVariants.{BadInput}
 use Rattle.command_answers.specs.declared.statuses.Status.TheVariants as status
 
--- the target of each part due is refutable at the depth
-abbrev pub AreRefutable : ℕ → LineClaim → Asked → Type 0
-AreRefutable depth claim q = All (IsPartRefutable depth) (parts_due claim q)
+-- a certificate of at most 500,000 nodes, which goes back no further than the depth, proves each part due
+abbrev pub AreProved : ℕ → LineClaim → Asked → Type 0
+AreProved depth claim q = All (IsPartProved depth) (parts_due claim q)
 
--- the target of each part due has a cost of at most so many nodes
+-- the part's target has a cost of at most so many nodes, or flat prices support it
+abbrev pub IsCheapPart : ℕ → ℕ → Claim × Asked → Type 0
+IsCheapPart depth nodes part = IsCheap depth nodes part.0 part.1 ⊎ IsPartPriced part
+
+-- so it is of the target of each part due
 abbrev pub AreCheapParts : ℕ → ℕ → LineClaim → Asked → Type 0
-AreCheapParts depth nodes claim q = All (λ part. IsCheap depth nodes part.0 part.1) (parts_due claim q)
+AreCheapParts depth nodes claim q = All (IsCheapPart depth nodes) (parts_due claim q)
 
--- the text is a dossier of the claim about the query, the targets of its parts are refutable at the depth, and the proof of each part is
--- afforded by the nodes
+-- rule lines refute the part's target at the depth, or flat prices support it
+abbrev pub IsClearPart : ℕ → Claim × Asked → Type 0
+IsClearPart depth part = IsPartRefutable depth part ⊎ IsPartPriced part
+
+-- so it is of the target of each part due
+abbrev pub AreClearParts : ℕ → LineClaim → Asked → Type 0
+AreClearParts depth claim q = All (IsClearPart depth) (parts_due claim q)
+
+-- the text is a dossier of the claim about the query, each of its parts is proved within the depth, and the proof of each is afforded by
+-- the nodes
 pub record TellsProofs (depth nodes : ℕ) (claim : LineClaim) (q : Asked) (text : List ℕ) : Type 0 where
   pub is_dossier : IsDossier text claim q
-  pub refutable : AreRefutable depth claim q
+  pub proved : AreProved depth claim q
   pub afforded : All (IsPartAfforded depth nodes) (parts_due claim q)
 
 -- what is said of a claim of several steps about a query
@@ -46,10 +59,16 @@ AnswersDossier depth nodes input ending text =
     ((claim : LineClaim) × (q : Asked) × StatesLine input claim q × AnswersLineClaim depth nodes claim q ending text)
     ⊎ ((why : InputFault) × IsNoLineStatement input why × (ending ≡ BadInput) × (text ≡ fault_line why))
 
--- the input states a claim of several steps whose parts are defined, and their targets are refutable at the depth
-abbrev pub StatesProvable : ℕ → List ℕ → Type 0
-StatesProvable depth input = (claim : LineClaim) × (q : Asked) × StatesLine input claim q × HasParts claim q × AreRefutable depth claim q
+-- the input states a claim of several steps whose parts are defined, and each is proved within the depth
+abbrev pub StatesProvedLine : ℕ → List ℕ → Type 0
+StatesProvedLine depth input = (claim : LineClaim) × (q : Asked) × StatesLine input claim q × HasParts claim q × AreProved depth claim q
 
--- the input states a claim of several steps whose parts are defined, and their targets have costs of at most so many nodes
+-- The input states a claim of several steps whose parts are defined. Rule lines refute the target of each at the depth, or flat prices
+-- support it.
+abbrev pub StatesClearLine : ℕ → List ℕ → Type 0
+StatesClearLine depth input = (claim : LineClaim) × (q : Asked) × StatesLine input claim q × HasParts claim q × AreClearParts depth claim q
+
+-- The input states a claim of several steps whose parts are defined. The target of each has a cost of at most so many nodes, or flat prices
+-- support it.
 abbrev pub StatesCheapLine : ℕ → ℕ → List ℕ → Type 0
 StatesCheapLine depth nodes input = (claim : LineClaim) × (q : Asked) × StatesLine input claim q × HasParts claim q × AreCheapParts depth nodes claim q

@@ -52,7 +52,8 @@ fn answer_line_claim(
 }
 
 /// The status and the text with which `dossier` answers these bytes: each part is searched as by `solve`, going back at most `depth`
-/// moves, from 0 to 64, and visiting at most `nodes` queries, from 1 to 500,000.
+/// moves, from 0 to 64, and visiting at most `nodes` queries, from 1 to 500,000. A part that this leaves open is searched as by
+/// `settle` too, and one that is too dear with nothing taken back.
 pub fn answer_dossier(
     alloc: Global,
     depth: u8,

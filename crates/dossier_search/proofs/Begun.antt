@@ -10,7 +10,7 @@ use Rattle.line_claims.specs.declared.claims.LineClaim.{LineClaim}
 use Rattle.dossier_text.specs.Dossiers.{part_text}
 use Rattle.dossier_text.specs.Proving.{AreProofs, IsDossier}
 use Rattle.dossier_search.specs.Begun.{IsBegun}
-use Rattle.dossier_search.specs.ReachedParts.{IsPartAfforded, IsPartRefutable}
+use Rattle.dossier_search.specs.ReachedParts.{IsPartAfforded, IsPartProved}
 use Rattle.dossier_search.specs.PartAnswers.{IsPartProof}
 
 -- one more part
@@ -20,7 +20,7 @@ with_part depth nodes claim q old bytes new left rest part number b next proof l
   whole = b.whole ∙ ap (λ (l : List (Claim × Asked)). b.done ++ l) next ∙ sym (append_assoc b.done (part ∷ []) rest);
   place = omega (arith, b.place, length-append b.done (part ∷ []));
   few = omega (arith, b.few, ap length next);
-  refuted = All-push (IsPartRefutable depth) b.done part b.refuted proof.refuted;
+  proved = All-push (IsPartProved depth) b.done part b.proved proof.proved;
   afforded = All-push (IsPartAfforded depth nodes) b.done part b.afforded proof.afforded;
   ends = λ tail proofs.
       subst (λ (l : List ℕ). IsDossier l claim q) (sym (append_assoc old (part_text bytes) tail) ∙ ap (λ (l : List ℕ). l ++ tail) (sym longer))
@@ -36,6 +36,11 @@ all_there depth nodes claim q text left number b none =
 pub all_afforded : (depth nodes : ℕ) (claim : LineClaim) (q : Asked) (text : List ℕ) (left : List (Claim × Asked)) (number : ℕ) → IsBegun depth nodes claim q text left number → left ≡ [] → All (IsPartAfforded depth nodes) (parts_due claim q)
 all_afforded depth nodes claim q text left number b none =
     All-same (IsPartAfforded depth nodes) (parts_due claim q) b.done (b.whole ∙ ap (λ (l : List (Claim × Asked)). b.done ++ l) none ∙ append-nil b.done) b.afforded
+
+-- each part is proved
+pub all_proved : (depth nodes : ℕ) (claim : LineClaim) (q : Asked) (text : List ℕ) (left : List (Claim × Asked)) (number : ℕ) → IsBegun depth nodes claim q text left number → left ≡ [] → All (IsPartProved depth) (parts_due claim q)
+all_proved depth nodes claim q text left number b none =
+    All-same (IsPartProved depth) (parts_due claim q) b.done (b.whole ∙ ap (λ (l : List (Claim × Asked)). b.done ++ l) none ∙ append-nil b.done) b.proved
 
 -- what all parts due have, the next one has
 pub at_next : (P : Claim × Asked → Type 0) (depth nodes : ℕ) (claim : LineClaim) (q : Asked) (text : List ℕ) (left rest : List (Claim × Asked)) (part : Claim × Asked) (number : ℕ) → IsBegun depth nodes claim q text left number → left ≡ part ∷ rest → All P (parts_due claim q) → P part

@@ -2,13 +2,14 @@
 use Rattle.std.proofs.Common.{ℕ, ◌≤◌, List, [], ◌∷◌, length, ap, arith, length-append}
 use Rattle.cert_text.specs.Certificate.{Certificate, IsTextOf}
 use Rattle.retro_search.specs.RuleLines.{IsByRuleLines}
+use Rattle.retro_search.specs.Answers.{IsShort}
 use Rattle.retro_search.specs.Sizes.{nodes_in}
 use Rattle.retro_search.proofs.TextSizes as sizes
 use Rattle.retro_search.proofs.Trees.LineCounts.{lined_counts}
 
--- a certificate with at most 500,000 nodes, whose reasons are rule lines, has a text of at most 64 MiB
-pub few_bytes : (bytes : List ℕ) (cert : Certificate) → IsTextOf bytes cert → IsByRuleLines cert.root → nodes_in cert.root ≤ 500000 → length bytes ≤ 67108864
-few_bytes bytes cert text lined few = sizes.few_bytes bytes cert text (omega (arith, lined_counts cert.root lined))
+-- a certificate with at most 500,000 nodes, whose reasons are rule lines, has no text of more than 64 MiB
+pub few_bytes : (cert : Certificate) → IsByRuleLines cert.root → nodes_in cert.root ≤ 500000 → IsShort cert
+few_bytes cert lined few = λ bytes text. sizes.few_bytes bytes cert text (omega (arith, lined_counts cert.root lined))
 
 -- no certificate has an empty text
 pub some_bytes : (bytes : List ℕ) (cert : Certificate) → IsTextOf bytes cert → 1 ≤ length bytes

@@ -7,7 +7,7 @@ use Rattle.query_base.specs.declared.claims.Claim.{Claim}
 use Rattle.line_claims.specs.Due.{parts_due}
 use Rattle.line_claims.specs.declared.claims.LineClaim.{LineClaim}
 use Rattle.dossier_text.specs.Proving.{AreProofs, IsDossier}
-use Rattle.dossier_search.specs.ReachedParts.{IsPartAfforded, IsPartRefutable}
+use Rattle.dossier_search.specs.ReachedParts.{IsPartAfforded, IsPartProved}
 
 -- The text is a dossier up to the part with this number. These parts are left, and with proofs of them it becomes the dossier.
 pub record IsBegun (depth nodes : ℕ) (claim : LineClaim) (q : Asked) (text : List ℕ) (left : List (Claim × Asked)) (number : ℕ) : Type 0 where
@@ -15,6 +15,6 @@ pub record IsBegun (depth nodes : ℕ) (claim : LineClaim) (q : Asked) (text : L
   pub whole : parts_due claim q ≡ done ++ left
   pub place : number ≡ length done + 1
   pub few : number + length left ≤ 113
-  pub refuted : All (IsPartRefutable depth) done
+  pub proved : All (IsPartProved depth) done
   pub afforded : All (IsPartAfforded depth nodes) done
   pub ends : (rest : List ℕ) → AreProofs rest left → IsDossier (text ++ rest) claim q

@@ -5,8 +5,9 @@ pub enum Dossier {
     Written(Vec<u8>),
     /// This step is the first that isn't listed, so no parts are due.
     Unlisted { step: u8 },
-    /// The target of this part isn't refutable at the depth; each part before it is proved.
+    /// Rule lines don't refute the target of this part at the depth, and no prices were found; each part before it is proved.
     Undecided { part: u32 },
-    /// The search of this part visited as many queries as it was allowed to, and its target costs more; each part before it is proved.
+    /// The search of this part by rule lines visited as many queries as it was allowed to, its target costs more, and no prices were
+    /// found; each part before it is proved.
     Spent { part: u32 },
 }

@@ -1,17 +1,15 @@
-ghost use Rattle.std.specs.Prelude.{◌≡◌, ◌≤◌, IfOk, IsTrue, None, length};
+ghost use Rattle.std.specs.Prelude.{◌≡◌, ◌≤◌, IfOk, IfSome, IsTrue, None, length};
 ghost use Rattle.cert_text.specs.Certificate.{HasText, IsTextOf};
 ghost use Rattle.cert_text.specs.ClaimLines.{promotes_well};
 ghost use Rattle.cert_text.specs.SeenCert.{cert_of};
-ghost use Rattle.retro_search.specs.Sizes.{nodes_in};
-ghost use Rattle.retro_search.specs.RuleLines.{IsByRuleLines};
-ghost use Rattle.retro_search.specs.Lone.{IsDear};
-ghost use Rattle.dossier_search.specs.ReachedParts.{IsPartRefutable};
-ghost use Rattle.dossier_search.specs.PartAnswers.{IfDear, IfOpen, IfProof, IsPartProof};
+ghost use Rattle.retro_search.specs.Answers.{IsShort};
+ghost use Rattle.dossier_search.specs.ReachedParts.{IsPartDear, IsPartOpen, IsPartPriced};
+ghost use Rattle.dossier_search.specs.PartAnswers.{IfDear, IfOpen, IfProof, IsPartProof, IsPartText};
 
 use board_base::Memory;
 use cert_text::{Cert, write_cert};
 use query_base::{Claim, Query};
-use retro_search::{Found, Limits, solve};
+use retro_search::{Found, Limits, Reasons, Searcher, solve};
 use std::alloc::Global;
 
 /// What the search of one part comes to.
@@ -19,17 +17,16 @@ use std::alloc::Global;
 pub(crate) enum PartAnswer {
     /// The text of a certificate that proves it.
     Proved(Vec<u8>),
-    /// Its target isn't refutable at the depth.
+    /// Rule lines don't refute its target at the depth, and no prices were found.
     Open,
-    /// To prove it more queries would have to be visited than were allowed.
+    /// To prove it by rule lines more queries would have to be visited than were allowed, and no prices were found.
     Dear,
 }
 
-/// The text of a certificate with few nodes, whose reasons are rule lines. It may stand in a dossier.
-fn few_bytes(alloc: Global, cert: &Cert) -> Result<Vec<u8>, Memory>
+/// The text of a certificate, which may stand in a dossier.
+fn cert_bytes(alloc: Global, cert: &Cert) -> Result<Vec<u8>, Memory>
     requires text { HasText (cert_of cert.now) }
-    requires lined { IsByRuleLines (cert_of cert.now).root }
-    requires few { nodes_in (cert_of cert.now).root ≤ 500000 }
+    requires short { IsShort (cert_of cert.now) }
     ensures text { IfOk result (λ text. IsTextOf text.items (cert_of cert.now)) }
     ensures some { IfOk result (λ text. 1 ≤ length text.items) }
     ensures few { IfOk result (λ text. length text.items ≤ 67108864) }
@@ -38,7 +35,28 @@ fn few_bytes(alloc: Global, cert: &Cert) -> Result<Vec<u8>, Memory>
     Ok(text)
 }
 
-/// Searches for a certificate of the part, which claims this about the query, within the whole limits.
+/// Searches for a certificate of the part by all reasons within these limits. None comes only where flat prices don't support its target.
+fn solve_by_all(
+    alloc: Global,
+    query: &Query,
+    claim: &Claim,
+    limits: Limits,
+) -> Result<Option<Vec<u8>>, Memory>
+    requires unbarred { query.now.barred ≡ None }
+    requires promotion { IsTrue (promotes_well claim.now) }
+    requires some_nodes { 1 ≤ limits.nodes }
+    ensures proof { IfOk result (λ found. IfSome found (λ text. IsPartText limits.depth text.items (claim.now, query.now))) }
+    ensures unpriced { IfOk result (λ found. found ≡ None → IsPartPriced (claim.now, query.now) → ⊥) }
+{
+    let mut searcher = Searcher::new(alloc, Reasons::All);
+    match searcher.settle(query, claim, limits)? {
+        Found::Proved(cert) => Ok(Some(cert_bytes(alloc, &cert)?)),
+        Found::Undecided(_) | Found::Countered(_) | Found::Spent { .. } => Ok(None),
+    }
+}
+
+/// Searches for a certificate of the part, which claims this about the query, within the whole limits: by rule lines; where these leave
+/// it open, by all reasons; and where it is too dear for them, by all reasons without taking anything back.
 pub(crate) fn solve_part(
     alloc: Global,
     query: &Query,
@@ -49,12 +67,23 @@ pub(crate) fn solve_part(
     requires promotion { IsTrue (promotes_well claim.now) }
     requires some_nodes { 1 ≤ limits.nodes }
     ensures proof { IfOk result (λ part. IfProof part (λ text. IsPartProof limits.depth limits.nodes text.items (claim.now, query.now))) }
-    ensures open { IfOk result (λ part. IfOpen part (IsPartRefutable limits.depth (claim.now, query.now) → ⊥)) }
-    ensures dear { IfOk result (λ part. IfDear part (IsDear limits.depth limits.nodes claim.now query.now)) }
+    ensures open { IfOk result (λ part. IfOpen part (IsPartOpen limits.depth (claim.now, query.now))) }
+    ensures dear { IfOk result (λ part. IfDear part (IsPartDear limits.depth limits.nodes (claim.now, query.now))) }
 {
     match solve(alloc, query, claim, limits.depth, limits.nodes)? {
-        Found::Proved(cert) => Ok(PartAnswer::Proved(few_bytes(alloc, &cert)?)),
-        Found::Undecided(_) | Found::Countered(_) => Ok(PartAnswer::Open),
-        Found::Spent { .. } => Ok(PartAnswer::Dear),
+        Found::Proved(cert) => Ok(PartAnswer::Proved(cert_bytes(alloc, &cert)?)),
+        Found::Undecided(_) | Found::Countered(_) => {
+            match solve_by_all(alloc, query, claim, limits)? {
+                Some(text) => Ok(PartAnswer::Proved(text)),
+                None => Ok(PartAnswer::Open),
+            }
+        }
+        Found::Spent { .. } => {
+            let nodes = limits.nodes;
+            match solve_by_all(alloc, query, claim, Limits { depth: 0, nodes })? {
+                Some(text) => Ok(PartAnswer::Proved(text)),
+                None => Ok(PartAnswer::Dear),
+            }
+        }
     }
 }

@@ -7,7 +7,7 @@ ghost use Rattle.line_claims.specs.Listing.{LacksStep};
 ghost use Rattle.dossier_text.specs.Dossiers.{IsHead, part_text};
 ghost use Rattle.dossier_text.specs.Proving.{IsDossier};
 ghost use Rattle.dossier_search.specs.Answers.{IfSpent, IfUndecided, IfUnlisted, IfWritten};
-ghost use Rattle.dossier_search.specs.ReachedParts.{IsDearPart, IsFirstOpenPart, IsPartAfforded, IsPartRefutable};
+ghost use Rattle.dossier_search.specs.ReachedParts.{IsDearPart, IsFirstOpenPart, IsPartAfforded, IsPartProved};
 
 use crate::dossiers::Dossier;
 use crate::parts::{PartAnswer, solve_part};
@@ -55,16 +55,19 @@ fn push_part(proof: &[u8], out: &mut Vec<u8>) -> Result<(), Memory>
 }
 
 /// Searches for a dossier of the claim about the query: solves each part due in turn, as `solve` does, each with moves taken back to
-/// `depth`, 0 to 64, and with at most `nodes` queries visited, 1 to 500,000. The query bars no move of its own, and the claim has a
+/// `depth`, 0 to 64, and with at most `nodes` queries visited, 1 to 500,000. A part that this leaves open is searched once more, by all
+/// reasons; and one that costs more than `nodes` too, with nothing taken back. The query bars no move of its own, and the claim has a
 /// line: two castlings stand in the order `K`, `Q`, `k`, `q`, and each step has a text.
 ///
 /// - `Unlisted` comes exactly where some step isn't among the unmoves of what the steps before it leave, with the first of them; no
 ///   part is then due.
-/// - `Written` comes only where the target of each part is refutable at the depth and `solve` may prove it with `nodes`, with the text
-///   of a dossier: its parts prove exactly the parts due. No game of any length contradicts the claim.
-/// - `Undecided` comes only where the target of some part isn't refutable at the depth, with the first such part. Each part before it
-///   was proved.
-/// - `Spent` comes only where a part costs more than `nodes`, in the ways that `solve` says. Each part before it was proved.
+/// - `Written` comes with the text of a dossier: its parts prove exactly the parts due, each goes back no further than `depth`, and has at
+///   most 500,000 nodes. No game of any length contradicts the claim. It comes only where `solve` may prove each part with `nodes` or
+///   doesn't refute its target, or the part is proved with nothing taken back.
+/// - `Undecided` comes only where the target of some part isn't refutable at the depth by rule lines, nor do flat prices support it, with
+///   the first such part. Each part before it was proved.
+/// - `Spent` comes only where a part costs more than `nodes`, in the ways that `solve` says, and flat prices don't support its target.
+///   Each part before it was proved.
 ///
 /// Want of memory is a free answer: `Memory` may take the place of each of these.
 pub fn solve_line(
@@ -81,7 +84,7 @@ pub fn solve_line(
     requires few_nodes { nodes ≤ 500_000 }
     ensures written { IfOk result (λ dossier. IfWritten dossier (λ text. IsDossier text.items claim.now query.now)) }
     ensures holds { IfOk result (λ dossier. IfWritten dossier (λ text. HoldsLine claim.now query.now)) }
-    ensures refutable { IfOk result (λ dossier. IfWritten dossier (λ text. All (IsPartRefutable depth) (parts_due claim.now query.now))) }
+    ensures proved { IfOk result (λ dossier. IfWritten dossier (λ text. All (IsPartProved depth) (parts_due claim.now query.now))) }
     ensures afforded { IfOk result (λ dossier. IfWritten dossier (λ text. All (IsPartAfforded depth nodes) (parts_due claim.now query.now))) }
     ensures unlisted { IfOk result (λ dossier. IfUnlisted dossier (λ step. LacksStep claim.now query.now step)) }
     ensures undecided { IfOk result (λ dossier. IfUndecided dossier (λ part. IsFirstOpenPart depth claim.now query.now part)) }

@@ -18,7 +18,7 @@ use Rattle.retro_top.proofs.Asking.{done-alone, said-alone}
 use Rattle.retro_top.proofs.Searching.{OneTextEach, cheap-done, few-done}
 use Rattle.retro_top.proofs.Solving.{cheap-unspent, done-refutable, refutable-done}
 use Rattle.retro_top.proofs.Settling.{done-provable-claim, settle-done, settle-unspent}
-use Rattle.retro_top.proofs.LineProofs.{AcceptedAreDossiers, OneDossier, done-line, done-provable, line-done, dossier-done, dossier-unspent}
+use Rattle.retro_top.proofs.LineProofs.{AcceptedAreDossiers, OneDossier, done-line, done-proved-line, line-done, dossier-done, dossier-unspent}
 use Rattle.retro_top.proofs.Lengthy.{OneLength, done-length, done-shown, length-done, shown-done}
 use Rattle.retro_top.proofs.Explaining.{explain-done}
 use Rattle.retro_top.proofs.Headline.{OneAnswer, CertificatesProve, done-proved, proves-done}
@@ -68,7 +68,7 @@ done-succeeds law accepted (Tree depth nodes) input text answers = let alone = d
 done-succeeds law accepted Length input text answers = done-length input text answers
 done-succeeds law accepted AtLeast input text answers = done-shown input text answers
 done-succeeds law accepted Line input text answers = done-line accepted input text answers
-done-succeeds law accepted (Dossier depth nodes) input text answers = done-provable depth nodes input text answers
+done-succeeds law accepted (Dossier depth nodes) input text answers = done-proved-line depth nodes input text answers
 done-succeeds law accepted (Sample start games plies) input text answers = tt
 
 whatever : (left : Option (List ℕ)) → IfSome left (λ input. Unit {0})

@@ -11,11 +11,9 @@ use Rattle.line_claims.specs.declared.claims.LineClaim.{LineClaim}
 use Rattle.dossier_text.specs.Proving.{IsDossier}
 use Rattle.dossier_checker.specs.DossierAnswers.{DossierAnswer, bad_text_in, fault_in, line_accepted, no_head, no_part, other_part, unlisted_step}
 use Rattle.dossier_checker.specs.DossierAnswers as dossiers
-use Rattle.dossier_search.specs.ReachedParts.{IsPartRefutable}
 use Rattle.retro_top.specs.Answers.{IsUnspent}
-use Rattle.command_answers.specs.Dossiers.{AnswersDossier, AnswersLineClaim, AreCheapParts, AreRefutable, StatesCheapLine, StatesProvable}
+use Rattle.command_answers.specs.Dossiers.{AnswersDossier, AnswersLineClaim, AreCheapParts, AreClearParts, IsCheapPart, IsClearPart, StatesCheapLine, StatesClearLine, StatesProvedLine}
 use Rattle.command_answers.specs.Lines.{AnswersLine, ProvesLine, TellsDossier, accepted_steps_line}
-use Rattle.command_answers.specs.Solves.{IsCheap}
 use Rattle.command_answers.specs.Statements.{StatesLine}
 use Rattle.command_answers.specs.declared.statuses.Status.{Status}
 use Rattle.command_answers.specs.declared.statuses.Status.TheVariants.{Done, Refused, Undecided, Spent}
@@ -82,19 +80,25 @@ line_claim-unspent depth nodes claim q Refused text answers has cheap = absurd (
 line_claim-unspent depth nodes claim q Undecided text answers has cheap = tt
 line_claim-unspent depth nodes claim q Spent text answers has cheap =
     let first = answers.1 in
-    let enough = of_one (λ part. IsCheap depth nodes part.0 part.1) first.before first.part first.after (subst (All (λ part. IsCheap depth nodes part.0 part.1)) first.whole cheap) in
-    absurd (omega (arith, first.here.cost enough.0 enough.1, enough.2))
+    elim (of_one (IsCheapPart depth nodes) first.before first.part first.after (subst (All (IsCheapPart depth nodes)) first.whole cheap)) [
+      | inl enough ↦ absurd (omega (arith, first.here.dear.cost enough.0 enough.1, enough.2))
+      | inr priced ↦ absurd (first.here.unpriced priced)
+    ]
 line_claim-unspent depth nodes claim q _ text answers has cheap = absurd answers
 
-line_claim-done : (depth nodes : ℕ) (claim : LineClaim) (q : Asked) (ending : Status) (text : List ℕ) → AnswersLineClaim depth nodes claim q ending text → IsUnspent ending → AreRefutable depth claim q → ending ≡ Done
-line_claim-done depth nodes claim q Done text answers unspent refutable = refl
-line_claim-done depth nodes claim q Undecided text answers unspent refutable =
-    let first = answers.1 in absurd (first.here (of_one (IsPartRefutable depth) first.before first.part first.after (subst (All (IsPartRefutable depth)) first.whole refutable)))
-line_claim-done depth nodes claim q Refused text answers unspent refutable = absurd unspent
-line_claim-done depth nodes claim q Spent text answers unspent refutable = absurd unspent
-line_claim-done depth nodes claim q _ text answers unspent refutable = absurd answers
+line_claim-done : (depth nodes : ℕ) (claim : LineClaim) (q : Asked) (ending : Status) (text : List ℕ) → AnswersLineClaim depth nodes claim q ending text → IsUnspent ending → AreClearParts depth claim q → ending ≡ Done
+line_claim-done depth nodes claim q Done text answers unspent clear = refl
+line_claim-done depth nodes claim q Undecided text answers unspent clear =
+    let first = answers.1 in
+    elim (of_one (IsClearPart depth) first.before first.part first.after (subst (All (IsClearPart depth)) first.whole clear)) [
+      | inl refutable ↦ absurd (first.here.unrefuted refutable)
+      | inr priced ↦ absurd (first.here.unpriced priced)
+    ]
+line_claim-done depth nodes claim q Refused text answers unspent clear = absurd unspent
+line_claim-done depth nodes claim q Spent text answers unspent clear = absurd unspent
+line_claim-done depth nodes claim q _ text answers unspent clear = absurd answers
 
--- a claim of several steps whose parts are defined, and cheap
+-- a claim of several steps whose parts are defined, and cheap or supported by flat prices
 abbrev IsCheapLine : ℕ → ℕ → LineClaim → Asked → Type 0
 IsCheapLine depth nodes claim q = HasParts claim q × AreCheapParts depth nodes claim q
 
@@ -107,19 +111,19 @@ dossier-unspent depth nodes input ending text answers cheap = elim answers [
   | inr none ↦ absurd (states-some-by line_claim_of input cheap.0 cheap.1 none.0 cheap.2 none.1)
 ]
 
--- where the targets are refutable and the nodes suffice, a dossier is written
-pub dossier-done : (depth nodes : ℕ) (input : List ℕ) (ending : Status) (text : List ℕ) → AnswersDossier depth nodes input ending text → StatesProvable depth input → StatesCheapLine depth nodes input → ending ≡ Done
+-- where each part is clear and the nodes suffice, a dossier is written
+pub dossier-done : (depth nodes : ℕ) (input : List ℕ) (ending : Status) (text : List ℕ) → AnswersDossier depth nodes input ending text → StatesClearLine depth input → StatesCheapLine depth nodes input → ending ≡ Done
 dossier-done depth nodes input ending text answers good cheap =
     let unspent = dossier-unspent depth nodes input ending text answers cheap in
     elim answers [
-      | inl said ↦ line_claim-done depth nodes said.0 said.1 ending text said.3 unspent (stated-by line_claim_of (AreRefutable depth) input good.0 said.0 good.1 said.1 good.2 said.2 good.4)
+      | inl said ↦ line_claim-done depth nodes said.0 said.1 ending text said.3 unspent (stated-by line_claim_of (AreClearParts depth) input good.0 said.0 good.1 said.1 good.2 said.2 good.4)
       | inr none ↦ absurd (states-some-by line_claim_of input good.0 good.1 none.0 good.2 none.1)
     ]
 
--- a dossier is written only where the targets are refutable
-pub done-provable : (depth nodes : ℕ) (input text : List ℕ) → AnswersDossier depth nodes input Done text → StatesProvable depth input
-done-provable depth nodes input text answers = elim answers [
-  | inl said ↦ (said.0, said.1, said.2, said.3.is_dossier.listed, said.3.refutable)
+-- a dossier is written only where each part is proved within the depth
+pub done-proved-line : (depth nodes : ℕ) (input text : List ℕ) → AnswersDossier depth nodes input Done text → StatesProvedLine depth input
+done-proved-line depth nodes input text answers = elim answers [
+  | inl said ↦ (said.0, said.1, said.2, said.3.is_dossier.listed, said.3.proved)
   | inr none ↦ let e = none.2 in cc
 ]
 

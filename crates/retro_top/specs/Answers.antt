@@ -44,7 +44,7 @@ use Rattle.command_answers.specs.Solves.{AnswersSolve, IsCheap, countered_line}
 use Rattle.command_answers.specs.Trees.{AnswersTree, AsksForFewLines}
 use Rattle.command_answers.specs.Lengths.{AnswersLength, AsksForLength, TellsLength}
 use Rattle.command_answers.specs.Explains.{AnswersExplain}
-use Rattle.command_answers.specs.Dossiers.{AnswersDossier, StatesCheapLine, StatesProvable}
+use Rattle.command_answers.specs.Dossiers.{AnswersDossier, StatesCheapLine, StatesClearLine, StatesProvedLine}
 use Rattle.command_answers.specs.Lines.{AnswersLine, ProvesLine, accepted_steps_line}
 use Rattle.command_answers.specs.AtLeasts.{AnswersAtLeast, ShowsLength, bound_line}
 use Rattle.command_answers.specs.Studies.{AnswersStudy}
@@ -183,14 +183,15 @@ Succeeds (Tree depth nodes) input = AsksForFewLines depth nodes input
 Succeeds Length input = AsksForLength input
 Succeeds AtLeast input = ShowsLength input
 Succeeds Line input = ProvesLine input
-Succeeds (Dossier depth nodes) input = StatesProvable depth input
+Succeeds (Dossier depth nodes) input = StatesProvedLine depth input
 Succeeds (Sample start games plies) input = Unit {0}
 
--- with such an input the command succeeds: a search, where the nodes suffice; `settle` also where flat prices support the target
+-- with such an input the command succeeds: a search, where the nodes suffice; `settle` and `dossier` also where flat prices support the
+-- target
 abbrev pub MustSucceed : Command → List ℕ → Type 0
 MustSucceed (Solve depth nodes) input = StatesRefutable depth input × StatesCheap depth nodes input
 MustSucceed (Settle depth nodes) input = (StatesRefutable depth input × StatesCheap depth nodes input) ⊎ StatesPriced input
-MustSucceed (Dossier depth nodes) input = StatesProvable depth input × StatesCheapLine depth nodes input
+MustSucceed (Dossier depth nodes) input = StatesClearLine depth input × StatesCheapLine depth nodes input
 MustSucceed (Verdict depth nodes) input = AsksForCheap depth nodes input
 MustSucceed command input = Succeeds command input
 

@@ -2,7 +2,7 @@ use Rattle.std.proofs.Common.{◌≡◌, None, true}
 use Rattle.query_base.specs.Asked.{Asked}
 use Rattle.query_base.specs.declared.claims.Claim.{Claim}
 use Rattle.cert_text.specs.ClaimLines.{promotes_well}
-use Rattle.dossier_search.proofs.Begun.{all_afforded, all_there, at_next, with_part}
+use Rattle.dossier_search.proofs.Begun.{all_afforded, all_proved, all_there, at_next, with_part}
 use Rattle.dossier_search.proofs.Claims.{parts_promote}
 use Rattle.dossier_search.proofs.solving.solve_line.Goals as goal
 
@@ -21,6 +21,9 @@ loop-claimed-preserved c =
 
 pub returns-clause-written : goal.returns-clause-written
 returns-clause-written c = all_there c.args.depth c.args.nodes c.args.claim.now c.args.query.now c.loop-claimed.text.items _ _ c.loop-claimed.invariant c.in_default-next.ensures.0
+
+pub returns-clause-proved : goal.returns-clause-proved
+returns-clause-proved c = all_proved c.args.depth c.args.nodes c.args.claim.now c.args.query.now c.loop-claimed.text.items _ _ c.loop-claimed.invariant c.in_default-next.ensures.0
 
 pub returns-clause-afforded : goal.returns-clause-afforded
 returns-clause-afforded c = all_afforded c.args.depth c.args.nodes c.args.claim.now c.args.query.now c.loop-claimed.text.items _ _ c.loop-claimed.invariant c.in_default-next.ensures.0
