@@ -16,7 +16,7 @@ use Rattle.past_sketches.proofs.Sketches.{figure-any}
 use Rattle.past_account.specs.Frozen.{IsFrozenIn}
 use Rattle.past_account.specs.Zones.{AreZones, IsZone}
 use Rattle.sketch_grounds.specs.LeastZones.{has_pair, least_zone, pair_zones}
-use Rattle.sketch_grounds.specs.Paces.{AreWide}
+use Rattle.sketch_grounds.specs.Wide.{AreWide}
 use Rattle.sketch_grounds.proofs.Filtered.{mapped-more, skipped, taken}
 use Rattle.sketch_grounds.proofs.Freezing.{last-is, number-of}
 

@@ -11,7 +11,8 @@ use Rattle.cage_rules.specs.Sets.{squares_that, union}
 use Rattle.cage_rules.proofs.Filling.{is_in-that, length-that, none-in-zero}
 use Rattle.cage_rules.proofs.SetAlgebra.{is_in-both, is_in-outside, is_in-union, length-union, that-is}
 use Rattle.sketch_grounds.specs.LeastZones.{is_only}
-use Rattle.sketch_grounds.specs.Paces.{AreWide, is_barred, is_pace, is_paced, paced}
+use Rattle.sketch_grounds.specs.Paces.{is_barred, is_pace, is_paced, paced}
+use Rattle.sketch_grounds.specs.Wide.{AreWide}
 use Rattle.sketch_grounds.proofs.Near.{is_in-near, near-tells, near-told}
 use Rattle.board_base.specs.Squares.{squares_of}
 use Rattle.sketch_grounds.proofs.Entering.{member-there, only-member}

@@ -1,5 +1,6 @@
 pub mod FrozenSets
 pub mod LeastZones
+pub mod Wide
 pub mod Entries
 pub mod Paces
 pub mod Pins

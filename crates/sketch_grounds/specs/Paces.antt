@@ -1,10 +1,9 @@
 -- Inner: no public clause cites this file.
 -- Single steps of officers past zones.
-use Rattle.std.specs.Prelude.{ℕ, ◌≡◌, ◌<◌, Bool, ◌&&◌, ◌||◌, not, IsTrue, List}
-use Rattle.std.specs.List.{Contains, list_any}
+use Rattle.std.specs.Prelude.{ℕ, Bool, ◌&&◌, ◌||◌, not, List}
+use Rattle.std.specs.List.{list_any}
 use Rattle.board_base.specs.Board.{is_in}
 use Rattle.board_base.specs.declared.men.Kind.{Kind}
-use Rattle.play_rules.specs.Reach.{IsWithin}
 use Rattle.cage_rules.specs.Sets.{squares_that}
 use Rattle.cage_rules.specs.Steps.{is_near, is_step}
 use Rattle.sketch_grounds.specs.LeastZones.{is_only}
@@ -23,8 +22,3 @@ is_paced k wall zones within s = is_in within s || is_near (is_pace k zones) wit
 
 unfoldable pub paced : Kind → List Bool → List (List Bool) → List Bool → List Bool
 paced k wall zones within = squares_that (is_paced k wall zones within)
-
--- each zone has more than one square, and all of its squares are in the set
-pub record AreWide (zones : List (List Bool)) (squares : List Bool) : Type 0 where
-  pub wide : (zone : List Bool) → Contains zones zone → (u : ℕ) → ((t : ℕ) → t < 64 → IsTrue (is_in zone t) → t ≡ u) → ⊥
-  pub covered : (zone : List Bool) → Contains zones zone → IsWithin zone squares

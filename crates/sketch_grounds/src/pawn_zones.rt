@@ -1,4 +1,4 @@
-ghost use Rattle.std.specs.Prelude.{◌≡◌, ◌↔◌, IsTrue};
+ghost use Rattle.std.specs.Prelude.{◌≡◌, ◌↔◌, IsTrue, []};
 
 use arrayvec::ArrayVec;
 use board_base::SquareSet;
@@ -55,7 +55,7 @@ pub struct Zones {
 
 impl Model for Zones {
     ghost use Rattle.std.specs.Prelude.{List, Bool};
-    ghost use Rattle.sketch_grounds.specs.Paces.{AreWide};
+    ghost use Rattle.sketch_grounds.specs.Wide.{AreWide};
 
     ghost Value = { List (List Bool) };
 
@@ -65,6 +65,13 @@ impl Model for Zones {
 }
 
 impl Zones {
+    /// Whether there is no zone.
+    pub fn is_empty(&self) -> bool
+        ensures { IsTrue result ↔ (self.now ≡ []) }
+    {
+        self.sets.len() == 0
+    }
+
     /// The same zones.
     pub fn copied(&self) -> Zones
         ensures { result ≡ self.now }

@@ -4,7 +4,8 @@ use Rattle.std.proofs.lemmas.List.{get_or-set_other, get_or-set_same, length-set
 use Rattle.board_base.specs.Board.{is_in}
 use Rattle.cage_rules.specs.Steps.{is_near, spread}
 use Rattle.cage_rules.proofs.SetAlgebra.{is_in-both, is_in-outside}
-use Rattle.sketch_grounds.specs.Paces.{AreWide, is_pace}
+use Rattle.sketch_grounds.specs.Paces.{is_pace}
+use Rattle.sketch_grounds.specs.Wide.{AreWide}
 use Rattle.sketch_grounds.proofs.Pruning.{pruned-end, pruned-next, pruned-start}
 use Rattle.sketch_grounds.proofs.rooms.paced.Goals as goal
 use Rattle.sketch_grounds.proofs.rooms.paced.Goals.{then-not-comes, else-not-comes}

@@ -7,7 +7,7 @@ use Rattle.cage_rules.specs.Sets.{union}
 use Rattle.past_sketches.specs.Figures.{Figure, Sketch}
 use Rattle.past_account.specs.Zones.{AreZones}
 use Rattle.sketch_grounds.specs.LeastZones.{is_pair, pair_zones}
-use Rattle.sketch_grounds.specs.Paces.{AreWide}
+use Rattle.sketch_grounds.specs.Wide.{AreWide}
 use Rattle.sketch_grounds.proofs.Joining.{are-more, are-none, wide-more, wide-none, zones-more, zones-same}
 use Rattle.sketch_grounds.proofs.Pairs.{pair-wide}
 use Rattle.sketch_grounds.proofs.zones.zones_of.Goals as goal

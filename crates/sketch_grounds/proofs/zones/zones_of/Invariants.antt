@@ -1,7 +1,7 @@
 use Rattle.std.proofs.Common.{◌≡◌, ◌≤◌, length, take}
 use Rattle.past_account.specs.Zones.{AreZones}
 use Rattle.sketch_grounds.specs.LeastZones.{pair_zones}
-use Rattle.sketch_grounds.specs.Paces.{AreWide}
+use Rattle.sketch_grounds.specs.Wide.{AreWide}
 use Rattle.sketch_grounds.proofs.zones.zones_of.Given as goal
 
 abbrev pub invariant-loop-figure : goal.invariant-loop-figure
