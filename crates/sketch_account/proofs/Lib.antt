@@ -9,3 +9,4 @@ mod Tabled
 mod Repriced
 mod Weighed
 mod Plain
+mod Opened

@@ -65,7 +65,7 @@ not-on : (s i : ℕ) → (i ≡ s → ⊥) → is_in (only_on s) i ≡ false
 not-on s i other = false_from_ne_true (is_in (only_on s) i) (λ member. let here = in-that (λ t. t == s) i member in other (eqb-true i s here.1))
 
 -- who stands on a square of the array begins there
-begun-is : (o : List Bool) (h : ℕ) (m : Man) → at (array_of o) h ≡ Some m → beginner h ≡ Some m
+pub begun-is : (o : List Bool) (h : ℕ) (m : Man) → at (array_of o) h ≡ Some m → beginner h ≡ Some m
 unfolding array_of beginner
 begun-is o h m there = elim (cases_Bool (is_in o h)) [
   | inl out ↦ absurd (none-some m (sym (ap (λ (b : Bool). cond b None (at initial_array h)) out) ∙ sym (at-without o initial_array h) ∙ there))

@@ -3,6 +3,7 @@ ghost use Rattle.board_base.specs.Board.{at, is_in, man};
 ghost use Rattle.board_base.specs.Legal.{is_officer};
 ghost use Rattle.board_base.specs.declared.men.Man.{Man as AMan};
 ghost use Rattle.capture_prices.specs.Prices.{PriceList};
+ghost use Rattle.balance_rule.specs.Grounds.{IsGround as IsOpenGround};
 ghost use Rattle.balance_rule.specs.LeastWays.{seen_by};
 ghost use Rattle.past_account.specs.Zones.{Room, reached_from, roams_past, room_past};
 ghost use Rattle.sketch_account.specs.Grounds.{IsGround};
@@ -115,19 +116,37 @@ fn query_at(odds: Odds) -> Query
     }
 }
 
-/// What is known of a side beside a wall and zones, at these prices.
-pub(crate) fn ground_of(
-    odds: Odds,
-    wall: SquareSet,
-    zones: &Zones,
-    prices: &Prices,
-    side: Colour,
-) -> Ground
-    ensures side { result.base.side ≡ side }
-    ensures wall { result.base.frozen ≡ wall }
-    ensures ground { IsGround odds prices.now (room_past wall zones.now) result }
+/// What is known of a side if no zone bars a way: then rooms are regions.
+fn open_ground(base: balance_rule::Ground) -> Ground
+    ensures base { result.base ≡ base }
+    ensures ground { (o : List Bool) (p : PriceList) → IsOpenGround o p base → IsGround o p (room_past base.frozen []) result }
 {
-    let base = balance_rule::ground_of(&query_at(odds), wall, prices, side);
+    let rooms = base.regions;
+    let knights = base.knights;
+    let bishops = base.bishops;
+    let rooks = base.rooks;
+    let queens = base.queens;
+    let promoted = base.promoted;
+    let most_at_home = base.most_at_home;
+    let most_promoted = base.most_promoted;
+    Ground {
+        base,
+        rooms,
+        knights,
+        bishops,
+        rooks,
+        queens,
+        promoted,
+        most_at_home,
+        most_promoted,
+    }
+}
+
+/// The same past zones, at these prices.
+fn zoned_ground(base: balance_rule::Ground, zones: &Zones, prices: &Prices) -> Ground
+    ensures base { result.base ≡ base }
+    ensures ground { (o : List Bool) → IsOpenGround o prices.now base → IsGround o prices.now (room_past base.frozen zones.now) result }
+{
     let enemy = prices.takes(base.side.other());
     let rooms = rooms_of(base.side, base.frozen, zones, &base.first);
     let knights = promoted_of(base.side, base.frozen, zones, Kind::Knight);
@@ -147,6 +166,26 @@ pub(crate) fn ground_of(
         promoted,
         most_at_home,
         most_promoted,
+    }
+}
+
+/// What is known of a side beside a wall and zones, at these prices.
+pub(crate) fn ground_of(
+    odds: Odds,
+    wall: SquareSet,
+    zones: &Zones,
+    prices: &Prices,
+    side: Colour,
+) -> Ground
+    ensures side { result.base.side ≡ side }
+    ensures wall { result.base.frozen ≡ wall }
+    ensures ground { IsGround odds prices.now (room_past wall zones.now) result }
+{
+    let base = balance_rule::ground_of(&query_at(odds), wall, prices, side);
+    if zones.is_empty() {
+        open_ground(base)
+    } else {
+        zoned_ground(base, zones, prices)
     }
 }
 

@@ -1,42 +1,35 @@
-use Rattle.std.proofs.Common.{◌≡◌, ℕ, ◌+◌, ◌||◌, Bool, List, [], slice_index_or, ap, subst, ◌∙◌, arith}
-use Rattle.board_base.specs.Board.{Places, at, is_in, opponent}
-use Rattle.capture_prices.specs.Prices.{PriceList, takes}
-use Rattle.balance_rule.specs.Costs.{most_earned}
+use Rattle.std.proofs.Common.{◌≡◌, Bool, List, [], ap, sym, subst, ◌∙◌}
+use Rattle.capture_prices.specs.Prices.{PriceList}
 use Rattle.balance_rule.specs.Grounds.{IsGround as IsOpenGround}
-use Rattle.balance_rule.specs.LeastWays.{seen_by}
-use Rattle.balance_rule.proofs.Earned.{greatest-same}
-use Rattle.balance_rule.proofs.Filled.{any-default}
-use Rattle.past_account.specs.Zones.{Room, room_past}
-use Rattle.sketch_account.specs.Grounds.{IsGround, comes_promoted}
+use Rattle.balance_rule.specs.declared.grounds.Ground.{Ground as OpenGround}
+use Rattle.past_account.specs.Zones.{room_past}
+use Rattle.sketch_account.specs.Grounds.{IsGround}
 use Rattle.sketch_account.proofs.grounds.ground_of.Goals as goal
 
-four : (a b x d a' b' x' d' : List Bool) (s : ℕ) → a ≡ a' → b ≡ b' → x ≡ x' → d ≡ d' → (is_in a s || is_in b s || is_in x s || is_in d s) ≡ (is_in a' s || is_in b' s || is_in x' s || is_in d' s)
-four a b x d a' b' x' d' s ea eb ex ed =
-    ap (λ (l : List Bool). is_in l s || is_in b s || is_in x s || is_in d s) ea ∙ ap (λ (l : List Bool). is_in a' s || is_in l s || is_in x s || is_in d s) eb
-    ∙ ap (λ (l : List Bool). is_in a' s || is_in b' s || is_in l s || is_in d s) ex ∙ ap (λ (l : List Bool). is_in a' s || is_in b' s || is_in x' s || is_in l s) ed
-
-pub returns-clause-ground : goal.returns-clause-ground
-returns-clause-ground c =
+pub returns-then-is_empty-clause-ground : goal.returns-then-is_empty-clause-ground
+returns-then-is_empty-clause-ground c =
     let b = c.ground_of-base.result in
     let p : PriceList = c.args.prices.now in
-    let R : Room = room_past b.frozen c.args.zones.now in
     let base : IsOpenGround c.args.odds p b = subst (λ (o : List Bool). IsOpenGround o p b) c.query_at.ensures c.ground_of-base.ensures.ground in
-    let enemy : c.takes-enemy.result.now ≡ takes p (opponent b.side) = c.takes-enemy.ensures.value ∙ ap (takes p) c.other.ensures in
-    let first = λ (f : ℕ). ap (λ (places : Places). at places (seen_by b.side f)) base.first in
-    subst (λ (wall : List Bool). IsGround c.args.odds p (room_past wall c.args.zones.now) (record { base = b; rooms = c.rooms_of-rooms.result; knights = c.promoted_of-knights.result; bishops = c.promoted_of-bishops.result; rooks = c.promoted_of-rooks.result; queens = c.promoted_of-queens.result; promoted = c.some_of-promoted.result; most_at_home = c.earned_in_each-most_at_home.result; most_promoted = c.earned_in_each-most_promoted.result })) c.ground_of-base.ensures.frozen
-    (record {
-      base = base;
-      rooms = λ f s none m low inside there officer. ap (λ (l : List Bool). is_in l s) (any-default c.rooms_of-rooms.result f none [] (omega (arith, c.rooms_of-rooms.ensures.size)) ∙ c.rooms_of-rooms.ensures.rooms f m low (first f ∙ there) officer);
-      knights = λ f s none low inside. ap (λ (l : List Bool). is_in l s) (any-default c.promoted_of-knights.result f none [] (omega (arith, c.promoted_of-knights.ensures.size)) ∙ c.promoted_of-knights.ensures.rooms f low);
-      bishops = λ f s none low inside. ap (λ (l : List Bool). is_in l s) (any-default c.promoted_of-bishops.result f none [] (omega (arith, c.promoted_of-bishops.ensures.size)) ∙ c.promoted_of-bishops.ensures.rooms f low);
-      rooks = λ f s none low inside. ap (λ (l : List Bool). is_in l s) (any-default c.promoted_of-rooks.result f none [] (omega (arith, c.promoted_of-rooks.ensures.size)) ∙ c.promoted_of-rooks.ensures.rooms f low);
-      queens = λ f s none low inside. ap (λ (l : List Bool). is_in l s) (any-default c.promoted_of-queens.result f none [] (omega (arith, c.promoted_of-queens.ensures.size)) ∙ c.promoted_of-queens.ensures.rooms f low);
-      promoted = λ f s low inside. c.some_of-promoted.ensures f s low inside ∙ four _ _ _ _ _ _ _ _ s (c.promoted_of-knights.ensures.rooms f low) (c.promoted_of-bishops.ensures.rooms f low) (c.promoted_of-rooks.ensures.rooms f low) (c.promoted_of-queens.ensures.rooms f low);
-      most_at_home = λ f m low there officer.
-          c.earned_in_each-most_at_home.ensures p b.frozen b.side base.exposed enemy f low
-          ∙ ap (λ (l : List Bool). most_earned p b.frozen b.side (is_in l)) (c.rooms_of-rooms.ensures.rooms f m low (first f ∙ there) officer);
-      most_promoted = λ f low.
-          c.earned_in_each-most_promoted.ensures p b.frozen b.side base.exposed enemy f low
-          ∙ greatest-same (is_in (slice_index_or c.some_of-promoted.result f [])) (comes_promoted R b.side (seen_by b.side (56 + f))) _
-          (λ s inside. c.some_of-promoted.ensures f s low inside ∙ four _ _ _ _ _ _ _ _ s (c.promoted_of-knights.ensures.rooms f low) (c.promoted_of-bishops.ensures.rooms f low) (c.promoted_of-rooks.ensures.rooms f low) (c.promoted_of-queens.ensures.rooms f low));
-    })
+    let none : c.args.zones.now ≡ [] = c.is_empty.ensures.0 c.if-is_empty.true in
+    subst (λ (zones : List (List Bool)). IsGround c.args.odds p (room_past c.args.wall zones) c.open_ground.result) (sym none)
+    (subst (λ (wall : List Bool). IsGround c.args.odds p (room_past wall []) c.open_ground.result) c.ground_of-base.ensures.frozen (c.open_ground.ensures.ground c.args.odds p base))
+
+pub returns-else-is_empty-clause-ground : goal.returns-else-is_empty-clause-ground
+returns-else-is_empty-clause-ground c =
+    let b = c.ground_of-base.result in
+    let p : PriceList = c.args.prices.now in
+    let base : IsOpenGround c.args.odds p b = subst (λ (o : List Bool). IsOpenGround o p b) c.query_at.ensures c.ground_of-base.ensures.ground in
+    subst (λ (wall : List Bool). IsGround c.args.odds p (room_past wall c.args.zones.now) c.zoned_ground.result) c.ground_of-base.ensures.frozen (c.zoned_ground.ensures.ground c.args.odds base)
+
+pub returns-then-is_empty-clause-side : goal.returns-then-is_empty-clause-side
+returns-then-is_empty-clause-side c = ap (λ (g : OpenGround). g.side) c.open_ground.ensures.base ∙ c.ground_of-base.ensures.side
+
+pub returns-then-is_empty-clause-wall : goal.returns-then-is_empty-clause-wall
+returns-then-is_empty-clause-wall c = ap (λ (g : OpenGround). g.frozen) c.open_ground.ensures.base ∙ c.ground_of-base.ensures.frozen
+
+pub returns-else-is_empty-clause-side : goal.returns-else-is_empty-clause-side
+returns-else-is_empty-clause-side c = ap (λ (g : OpenGround). g.side) c.zoned_ground.ensures.base ∙ c.ground_of-base.ensures.side
+
+pub returns-else-is_empty-clause-wall : goal.returns-else-is_empty-clause-wall
+returns-else-is_empty-clause-wall c = ap (λ (g : OpenGround). g.frozen) c.zoned_ground.ensures.base ∙ c.ground_of-base.ensures.frozen
