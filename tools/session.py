@@ -18,7 +18,7 @@ import sys
 import tempfile
 
 TOP = pathlib.Path(__file__).resolve().parent.parent
-LEFT_OUT = ("rt ", "cd ", "apt-get ", "install ", "export ", "python3 tools/collection.py /usr/")
+LEFT_OUT = ("rt ", "cd ", "retractor() ", "unset ", "apt-get ", "install ", "export ", "python3 tools/collection.py /usr/")
 
 
 def pages():
