@@ -26,9 +26,9 @@ def pages():
 
 
 def run(command, folder):
-    """Status and output of a command of the shell that finds the program, as `retractor`, in this folder."""
+    """Status and output of a command of the shell that finds the program, as `retractor`, in this folder, which is its home too."""
     path = f"{folder}{os.pathsep}{os.environ['PATH']}"
-    done = subprocess.run(command, shell=True, cwd=TOP, env={**os.environ, "PATH": path}, stdin=subprocess.DEVNULL, stdout=subprocess.PIPE, stderr=subprocess.STDOUT, text=True)
+    done = subprocess.run(command, shell=True, cwd=TOP, env={**os.environ, "PATH": path, "HOME": folder}, stdin=subprocess.DEVNULL, stdout=subprocess.PIPE, stderr=subprocess.STDOUT, text=True)
     return done.returncode, done.stdout
 
 
