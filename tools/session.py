@@ -7,7 +7,8 @@ session.py [--write] PROGRAM
 
 The pages are README.md, CHANGELOG.md, bench/README.md and those of docs/. In a plain block each line that begins with `$ ` is a
 command, and the lines after it are what it writes. In a block of `sh` each line is a command, and all that counts is that the block
-ends with status 0. Lines that begin with one of LEFT_OUT are named and not run: they take long, or change the machine.
+ends with status 0; lines that begin with one of LEFT_OUT are named and not run: they take long, or change the machine. Of a call in
+the text that reads an example, as `solve 1 100 < examples/loyd-1859.claim`, only the status counts too.
 """
 import os
 import pathlib
@@ -17,7 +18,7 @@ import sys
 import tempfile
 
 TOP = pathlib.Path(__file__).resolve().parent.parent
-LEFT_OUT = ("rt ", "cd ", "apt-get ", "install ", "export ", "python3 tools/collection.py /usr/")
+LEFT_OUT = ("rt ", "cd ", "retractor() ", "unset ", "apt-get ", "install ", "export ", "python3 tools/collection.py /usr/")
 
 
 def pages():
@@ -25,9 +26,9 @@ def pages():
 
 
 def run(command, folder):
-    """Status and output of a command of the shell that finds the program, as `retractor`, in this folder."""
+    """Status and output of a command of the shell that finds the program, as `retractor`, in this folder, which is its home too."""
     path = f"{folder}{os.pathsep}{os.environ['PATH']}"
-    done = subprocess.run(command, shell=True, cwd=TOP, env={**os.environ, "PATH": path}, stdin=subprocess.DEVNULL, stdout=subprocess.PIPE, stderr=subprocess.STDOUT, text=True)
+    done = subprocess.run(command, shell=True, cwd=TOP, env={**os.environ, "PATH": path, "HOME": folder}, stdin=subprocess.DEVNULL, stdout=subprocess.PIPE, stderr=subprocess.STDOUT, text=True)
     return done.returncode, done.stdout
 
 
@@ -62,6 +63,17 @@ def try_script(page, block, folder, counts):
         print(f"status {status}: {page.name}: {'; '.join(tried)}\n{output}")
 
 
+def try_calls(page, text, folder, counts):
+    """Runs the calls in the text, outside of its blocks, that read an example."""
+    prose = re.sub(r"```.*?```", "", text, flags=re.S)
+    for call in re.findall(r"`([a-z]+(?: \d+)* < examples/[\w.-]+)`", prose):
+        counts["commands"] += 1
+        status, output = run(f"retractor {call}", folder)
+        if status:
+            counts["differ"] += 1
+            print(f"status {status}: {page.name}: {call}\n{output}")
+
+
 def main():
     words = sys.argv[1:]
     write = "--write" in words
@@ -76,6 +88,7 @@ def main():
             new = re.sub(r"```\n(\$.*?)```", lambda found: f"```\n{try_shown(page, found[1], folder, counts)}```", text, flags=re.S)
             for block in re.findall(r"```sh\n(.*?)```", text, re.S):
                 try_script(page, block, folder, counts)
+            try_calls(page, text, folder, counts)
             if write and new != text:
                 page.write_text(new)
     print(f"{counts['commands']} commands, {counts['differ']} differ")

@@ -16,4 +16,6 @@ mod lines;
 #[cfg(test)]
 mod notation;
 #[cfg(test)]
+mod sketch_lines;
+#[cfg(test)]
 mod written_certificates;

@@ -1,0 +1,9 @@
+pub mod InRange
+pub mod LabelTexts
+pub mod NodeTexts
+pub mod MarkTexts
+pub mod FiguresRead
+pub mod HeadTexts
+pub mod OneText
+pub mod Parted
+pub mod Written

@@ -1,0 +1,4 @@
+pub mod Labels
+pub mod Nodes
+pub mod Marks
+pub mod Heads
