@@ -12,6 +12,7 @@ measure.py pawns            `least` and `bound` on eight pawns, in machine instr
 measure.py unmoves          lists of retractions of eight positions, in machine instructions: builds unmoves.program likewise
 measure.py cages            a greatest frozen set and seven regions beside it, in machine instructions: builds cages.program likewise
 measure.py games FENS       the search for games to the positions of a file, a FEN of four fields a line: builds games.program likewise
+measure.py accounts         accounts of sketches at equal prices, anew, at other prices and again, likewise: builds accounts.program
 measure.py balance          the balance of captures at equal prices, and the search for prices, likewise: builds balance.program
 """
 import contextlib
@@ -53,6 +54,11 @@ RETRACTED = [
     "r1bqkb1r/pp3ppp/2n1pn2/2pp4/3P1B2/2PBPN2/PP1N1PPP/R2QK2R b KQkq -",
     "r2q1rk1/pp2bppp/2npbn2/4p3/4P3/1NN1BP2/PPPQ2PP/2KR1B1R w - -",
     "2r2rk1/1b3ppp/p2qpn2/1p6/3P4/1BN1Q3/PP3PPP/3R1RK1 b - -",
+]
+# Diagrams whose sketches are refuted.
+SKETCHED = [
+    "8/5p2/5p2/2R5/k5P1/P2PpP2/1PP1P2P/4K2R w K -",
+    "8/pbp5/1b6/8/PPPPPPP1/pprprpp1/2N1PR1n/R3K2k w Q -",
 ]
 # Claims of examples/, each with the depth that settles it.
 CLAIMS = {"loyd-1859": 1, "loyd-1891": 1, "dawson-1913": 2, "benko-1996": 2, "dawson-chess-magazine-1913": 4, "barred-kings": 9}
@@ -221,6 +227,14 @@ def balance():
             print(f"{each:.0f} instructions to weigh, {'under' if each < limit else 'NOT UNDER'} {limit}; {found - none} to look for prices: {fen}")
 
 
+def accounts():
+    with built("accounts", "query_base fen_text capture_prices figures sketch_account", ["--", CHAINS[0], "0", "0", "0"]) as program:
+        for fen in [*CHAINS, *SKETCHED]:
+            none, *many = (instructions([program, fen, *words]) for words in (("0", "0", "0"), ("20", "0", "0"), ("0", "20", "0"), ("0", "0", "20")))
+            anew, priced, same = ((each - none) / 20 for each in many)
+            print(f"{anew:.0f} instructions for an account, {priced:.0f} for one at other prices, {same:.0f} for one more: {fen}")
+
+
 def games(path):
     fens = [" ".join(line.split()[:4]) for line in pathlib.Path(path).read_text().splitlines() if line.strip()]
     with built("games", "board_base fen_text query_base unmove_gen game_search", ["--", "0"]) as program:
@@ -270,6 +284,8 @@ def main():
         cages()
     elif sys.argv[1:] == ["balance"]:
         balance()
+    elif sys.argv[1:] == ["accounts"]:
+        accounts()
     elif sys.argv[1:2] == ["games"] and len(sys.argv) == 3:
         games(sys.argv[2])
     else:

@@ -18,6 +18,7 @@ TOP = HERE.parent
 CASTLED = "r1bq1rk1/pp2npbp/3p1np1/2pPp3/2P1P3/2N2N2/PP2BPPP/R1BQ1RK1 w - -"
 # The words that each program is run with.
 WORDS = {
+    "accounts": [CASTLED, "1", "1", "1"],
     "balance": [CASTLED, "1", "0"],
     "cages": [CASTLED, "1"],
     "legal_moves": ["1"],

@@ -1,0 +1,17 @@
+use Rattle.std.proofs.Common.{◌≡◌, ◌<◌, ◌≤◌, ℕ, Bool, List, length, slice_index}
+use Rattle.board_base.specs.Board.{array_of, at, home_of}
+use Rattle.capture_prices.specs.Prices.{PriceList}
+use Rattle.balance_rule.specs.Costs.{never}
+use Rattle.past_account.specs.Account.{figure_comes}
+use Rattle.past_account.specs.Limits.{Limit}
+use Rattle.past_account.specs.Zones.{Room}
+use Rattle.sketch_account.specs.Grounds.{IsGround}
+use Rattle.sketch_account.specs.Rows.{IsComer, counted}
+use Rattle.sketch_account.proofs.rows.figure_row.Given as goal
+
+abbrev pub invariant-loop-j : goal.invariant-loop-j
+invariant-loop-j l = record {
+  size : length l.row ≡ 16;
+  small : (k : ℕ) → k < l.j → slice_index l.row k ≤ never;
+  done : (o : List Bool) (p : PriceList) (R : Room) (x : Limit) → IsGround o p R l.ground → IsComer R l.ground.base.side l.ground.base.frozen x l.x → (k : ℕ) → k < l.j → slice_index l.row k ≡ figure_comes p l.ground.base.frozen R (at (array_of o) (home_of l.ground.base.side k)) (home_of l.ground.base.side k) (counted l.x.figure x);
+}

@@ -1,0 +1,14 @@
+mod Rays
+mod Near
+mod Shifts
+mod Adjacent
+mod Entering
+mod Pacing
+mod Pruning
+pub mod Freezing
+mod Beginning
+mod Backing
+mod EachSet
+mod Pairs
+pub mod Filtered
+pub mod Joining

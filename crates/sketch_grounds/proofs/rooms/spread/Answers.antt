@@ -1,0 +1,10 @@
+use Rattle.std.proofs.Common.{◌≡◌, ◌∙◌}
+use Rattle.cage_rules.specs.Sets.{union}
+use Rattle.cage_rules.specs.Steps.{both, is_step, near, outside}
+use Rattle.sketch_grounds.proofs.Pruning.{spread-made}
+use Rattle.sketch_grounds.proofs.rooms.spread.Goals as goal
+
+pub returns : goal.returns
+returns c =
+    let made : c.either.result ≡ union c.args.within (both (near (is_step c.args.kind) c.args.within) (outside c.args.wall)) = cc in
+    made ∙ spread-made c.args.kind c.args.wall c.args.within
