@@ -1,5 +1,5 @@
 -- A tree refutes what it says.
-use Rattle.std.proofs.Common.{◌≡◌, ℕ, inl, inr, Bool, true, false, List, [], ◌∷◌, ap, ◌∙◌, subst}
+use Rattle.std.proofs.Common.{◌≡◌, ℕ, inl, inr, Bool, true, false, List, [], ◌∷◌, subst}
 use Rattle.std.proofs.lemmas.Bool.{both_ways}
 use Rattle.std.specs.List.{Contains, list_any}
 use Rattle.general_lemmas.proofs.Lists.{contains-cases, contains-none}
@@ -7,7 +7,7 @@ use Rattle.board_base.specs.Board.{same_kind}
 use Rattle.board_base.specs.Rights.{Rights}
 use Rattle.board_base.specs.declared.men.Kind.{Kind}
 use Rattle.board_base.specs.declared.men.Kind.TheVariants.{Pawn, Knight, Bishop, Rook, Queen, King}
-use Rattle.past_sketches.specs.Figures.{Sketch, may_be}
+use Rattle.past_sketches.specs.Figures.{Sketch}
 use Rattle.past_sketches.specs.Known.{known_at, marked_at}
 use Rattle.past_account.specs.Refuted.{Refuted, account, kinds, mark, wider}
 use Rattle.sketch_list.specs.Listed.{Earlier, earlier}
