@@ -24,3 +24,4 @@ pub mod Queries
 pub mod Listed
 pub mod Drawn
 pub mod Examples
+pub mod MomentExamples

@@ -84,7 +84,7 @@ moved-behind (v ∷ []) C few = turned v C
 moved-behind (v ∷ w ∷ V) C few = absurd (omega arith)
 
 -- places
-unmapped : (h : Figure → Figure) (T : Sketch) (j : ℕ) (g : Figure) → figure_at (map h T) j ≡ Some g → (f : Figure) × (figure_at T j ≡ Some f) × (h f ≡ g)
+pub unmapped : (h : Figure → Figure) (T : Sketch) (j : ℕ) (g : Figure) → figure_at (map h T) j ≡ Some g → (f : Figure) × (figure_at T j ≡ Some f) × (h f ≡ g)
 unmapped h [] j g e = cc
 unmapped h (f ∷ T) zero g e = (f, refl, same_Some (h f) g e)
 unmapped h (f ∷ T) (suc j) g e = unmapped h T j g e
@@ -97,7 +97,7 @@ one-more true true h = omega arith
 one-more true false h = cc (h refl)
 one-more false y h = omega arith
 
-count-more : (p q : Figure → Bool) (T : Sketch) → ((f : Figure) → p f ≡ true → q f ≡ true) → count_by p T ≤ count_by q T
+pub count-more : (p q : Figure → Bool) (T : Sketch) → ((f : Figure) → p f ≡ true → q f ≡ true) → count_by p T ≤ count_by q T
 count-more p q [] more = omega arith
 count-more p q (f ∷ T) more =
     let a = sum_by-cons (λ (x : Figure). unit (p x)) f T in
@@ -106,7 +106,7 @@ count-more p q (f ∷ T) more =
     let rest = count-more p q T more in
     omega (arith, a, b, here, rest)
 
-count-above : (p q : Figure → Bool) (T : Sketch) (i : ℕ) (a : Figure) → ((f : Figure) → p f ≡ true → q f ≡ true) → figure_at T i ≡ Some a → p a ≡ false → q a ≡ true → count_by p T < count_by q T
+pub count-above : (p q : Figure → Bool) (T : Sketch) (i : ℕ) (a : Figure) → ((f : Figure) → p f ≡ true → q f ≡ true) → figure_at T i ≡ Some a → p a ≡ false → q a ≡ true → count_by p T < count_by q T
 count-above p q [] i a more e out there = cc
 count-above p q (f ∷ T) zero a more e out there =
     let same : f ≡ a = same_Some f a e in
@@ -138,11 +138,11 @@ lower-there : (a b : Figure) → may_be a Pawn ≡ true → a.place < b.place �
 unfolding is_lower
 lower-there a b pawn low = and_from (may_be a Pawn) (nat_lt a.place b.place) pawn (lt-ltb a.place b.place low)
 
-places-kept : (T : Sketch) (i : ℕ) (a b : Figure) → figure_at T i ≡ Some a → may_be a Pawn ≡ true → a.place < b.place → (placed_in T a).place < (placed_in T b).place
+pub places-kept : (T : Sketch) (i : ℕ) (a b : Figure) → figure_at T i ≡ Some a → may_be a Pawn ≡ true → a.place < b.place → (placed_in T a).place < (placed_in T b).place
 unfolding placed_in
 places-kept T i a b found pawn low = count-above (is_lower a) (is_lower b) T i a (λ f h. lower-more a b f low h) found (lower-self a) (lower-there a b pawn low)
 
-placed-wider : (T : Sketch) (f : Figure) → IsWider f (placed_in T f)
+pub placed-wider : (T : Sketch) (f : Figure) → IsWider f (placed_in T f)
 unfolding placed_in
 placed-wider T f = record { colour = refl; kinds = λ k h. h; squares = λ s h. h; marked = λ h. h }
 

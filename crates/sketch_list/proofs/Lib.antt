@@ -1,0 +1,8 @@
+pub mod Respelled
+pub mod Narrowed
+pub mod Placing
+pub mod Listing
+pub mod Twins
+pub mod Before
+pub mod Refuting
+mod Examples
