@@ -47,18 +47,23 @@ impl PriceDesk {
         }
     }
 
-    /// The place of what is known at flat prices of the query with this set. It is kept from now on; where memory is wanting, the place
-    /// is past the last.
-    fn place_of(&mut self, query: &Query, set: SquareSet) -> usize {
-        if let Some(place) = self.kept.iter().position(|it| it.fits(set, query.odds)) {
-            return place;
-        }
+    /// Keeps what is known at flat prices of the query with this set, and gives its place; past the last where memory is wanting.
+    fn add_grounds(&mut self, query: &Query, set: SquareSet) -> usize {
         if self.kept.len() >= MOST_SETS {
             self.kept.clear();
         }
-        let place = self.kept.len();
         let _ = self.kept.push(FlatGrounds::new(query, set));
-        place
+        let place = self.kept.iter().position(|it| it.fits(set, query.odds));
+        place.unwrap_or(self.kept.len())
+    }
+
+    /// The place of what is known at flat prices of the query with this set. It is kept from now on; where memory is wanting, the place
+    /// is past the last.
+    fn place_of(&mut self, query: &Query, set: SquareSet) -> usize {
+        match self.kept.iter().position(|it| it.fits(set, query.odds)) {
+            Some(place) => place,
+            None => self.add_grounds(query, set),
+        }
     }
 }
 
@@ -194,6 +199,14 @@ fn prices_by(
     if_balanced(query, set, found.prices?)
 }
 
+/// The same, with nothing that is kept at flat prices.
+fn prices_anew(tried: &mut IndexMap<Key, Sought>, query: &Query, set: SquareSet) -> Option<Prices>
+    ensures supports { IfSome result (λ prices. BalanceSupports query.now set prices) }
+    ensures flat { (payers : APayers) → BalanceSupports query.now set (flat_prices payers) → IsSome result }
+{
+    prices_by(&FlatGrounds::new(query, set), tried, query, set)
+}
+
 /// The same, with what is on the desk.
 fn find_prices(query: &Query, set: SquareSet, desk: &mut PriceDesk) -> Option<Prices>
     ensures supports { IfSome result (λ prices. BalanceSupports query.now set prices) }
@@ -202,7 +215,7 @@ fn find_prices(query: &Query, set: SquareSet, desk: &mut PriceDesk) -> Option<Pr
     let place = desk.place_of(query, set);
     match desk.kept.get(place) {
         Some(kept) => prices_by(kept, &mut desk.tried, query, set),
-        None => prices_by(&FlatGrounds::new(query, set), &mut desk.tried, query, set),
+        None => prices_anew(&mut desk.tried, query, set),
     }
 }
 
