@@ -6,6 +6,7 @@ measure.py search PROGRAM   `PROGRAM solve` on examples/, in time and by valgrin
 measure.py visits PROGRAM   how many positions `PROGRAM solve` visits there, and how many it would visit if it kept no refutations
 measure.py settle PROGRAM   `PROGRAM settle` beside `PROGRAM solve` on published problems: visits, nodes, lines with prices, milliseconds
 measure.py texts PROGRAM    `PROGRAM length` and `PROGRAM dossier` on examples/, and the checks of what they write, in machine instructions
+measure.py study PROGRAM FENS   `PROGRAM study 8 2000` of the diagrams of a file, a FEN of four fields a line: machine instructions, and by which functions
 measure.py stream PROGRAM   `PROGRAM check` on certificates of stray labels: machine instructions a byte, time and memory on 64 MiB
 measure.py moves            `legal_moves` on four middle-game positions: builds legal_moves.program over a copy of the crates
 measure.py pawns            `least` and `bound` on eight pawns, in machine instructions, by valgrind: builds pawns.program likewise
@@ -15,6 +16,7 @@ measure.py games FENS       the search for games to the positions of a file, a F
 measure.py accounts         accounts of sketches at equal prices, anew, at other prices and again, likewise: builds accounts.program
 measure.py balance          the balance of captures at equal prices, and the search for prices, likewise: builds balance.program
 """
+import collections
 import contextlib
 import pathlib
 import re
@@ -164,6 +166,48 @@ def instructions(words, text=b""):
     return int(re.search(rb"Collected : (\d+)", done.stderr)[1])
 
 
+def profiled(words, text):
+    """The machine instructions of each function without those that it calls, those with them of each call, and the calls, by names."""
+    own, calls, inner, names = collections.Counter(), collections.Counter(), collections.Counter(), {}
+
+    def name_of(word):
+        number, name = re.match(r"\((\d+)\)(?: (.*))?", word).groups()
+        return names.setdefault(number, re.sub(r"'\d+$", "", name or ""))
+
+    with tempfile.NamedTemporaryFile() as out:
+        subprocess.run(["valgrind", "--tool=callgrind", f"--callgrind-out-file={out.name}", *words], input=text, capture_output=True, check=True)
+        here, called = None, None
+        for line in pathlib.Path(out.name).read_text(errors="replace").splitlines():
+            if line.startswith("fn="):
+                here = name_of(line[3:])
+            elif line.startswith("cfn="):
+                called = name_of(line[4:])
+            elif line.startswith("calls="):
+                calls[called] += int(line[6:].split()[0])
+            elif re.match(r"[\d+*-]\S* \d+$", line):
+                cost = int(line.split()[1])
+                if called is None:
+                    own[here] += cost
+                elif called != here:
+                    inner[called] += cost
+                called = None
+    return own, inner, calls
+
+
+def study(program, path):
+    own, inner, calls = collections.Counter(), collections.Counter(), collections.Counter()
+    fens = [line for line in pathlib.Path(path).read_text().splitlines() if line.strip()]
+    for fen in fens:
+        for total, more in zip((own, inner, calls), profiled([program, "study", "8", "2000"], fen.encode() + b"\n")):
+            total.update(more)
+    every = sum(own.values())
+    visited, asked = calls["static_rules::closing::close"], calls["price_search::keys::placed_men"] // 2
+    print(f"{len(fens)} diagrams, {every:,} instructions, {visited:,} positions visited, {asked:,} asked for prices, {every // max(asked, 1):,} instructions for each of these")
+    for title, counts in (("alone", own), ("with what they call", inner)):
+        for name, cost in counts.most_common(40):
+            print(f"{100 * cost / every:5.1f} of a hundred {title}: {name}, {calls[name]:,} calls")
+
+
 def texts(program):
     wheeler = (HERE.parent / "examples" / "wheeler-1887.game").read_bytes().splitlines(keepends=True)[0]
     three = (HERE.parent / "examples" / "loyd-1891-three-moves.claim").read_bytes()
@@ -272,6 +316,8 @@ def main():
         settle(sys.argv[2])
     elif sys.argv[1:2] == ["texts"] and len(sys.argv) == 3:
         texts(sys.argv[2])
+    elif sys.argv[1:2] == ["study"] and len(sys.argv) == 4:
+        study(sys.argv[2], sys.argv[3])
     elif sys.argv[1:2] == ["stream"] and len(sys.argv) == 3:
         stream(sys.argv[2])
     elif sys.argv[1:] == ["moves"]:

@@ -19,11 +19,14 @@ use std::alloc::Global;
 /// The most keys of which it is noted what was found.
 const MOST_TRIED: usize = 65_536;
 
+/// The most sets of which it is kept what is known at flat prices.
+const MOST_SETS: usize = 32;
+
 /// What is kept while prices are sought for one position after another.
 #[derive(Drop)]
 pub struct PriceDesk {
-    /// What is known at flat prices of the last set and odds.
-    kept: Option<FlatGrounds>,
+    /// What is known at flat prices of sets and odds.
+    kept: Vec<FlatGrounds>,
     /// What was found for each key, with homes in order of the men's traces.
     tried: IndexMap<Key, Sought>,
 }
@@ -39,8 +42,27 @@ impl PriceDesk {
     /// Nothing is kept.
     pub fn new(alloc: Global) -> PriceDesk {
         PriceDesk {
-            kept: None,
+            kept: Vec::new(alloc),
             tried: IndexMap::new(alloc),
+        }
+    }
+
+    /// Keeps what is known at flat prices of the query with this set, and gives its place; past the last where memory is wanting.
+    fn add_grounds(&mut self, query: &Query, set: SquareSet) -> usize {
+        if self.kept.len() >= MOST_SETS {
+            self.kept.clear();
+        }
+        let _ = self.kept.push(FlatGrounds::new(query, set));
+        let place = self.kept.iter().position(|it| it.fits(set, query.odds));
+        place.unwrap_or(self.kept.len())
+    }
+
+    /// The place of what is known at flat prices of the query with this set. It is kept from now on; where memory is wanting, the place
+    /// is past the last.
+    fn place_of(&mut self, query: &Query, set: SquareSet) -> usize {
+        match self.kept.iter().position(|it| it.fits(set, query.odds)) {
+            Some(place) => place,
+            None => self.add_grounds(query, set),
         }
     }
 }
@@ -102,18 +124,6 @@ fn sought(
     Some(found)
 }
 
-/// Keeps what is known at flat prices of the query with this set.
-fn keep(kept: &mut Option<FlatGrounds>, query: &Query, set: SquareSet)
-    ensures { IsSome kept.new }
-{
-    if let Some(grounds) = kept {
-        if grounds.fits(set, query.odds) {
-            return;
-        }
-    }
-    *kept = Some(FlatGrounds::new(query, set));
-}
-
 /// These prices, if they support the query with this set.
 fn if_balanced(query: &Query, set: SquareSet, prices: Prices) -> Option<Prices>
     ensures supports { IfSome result (λ found. BalanceSupports query.now set found) }
@@ -172,20 +182,41 @@ fn find_flat(kept: &FlatGrounds, query: &Query, set: SquareSet, found: &Sought) 
 }
 
 /// Prices that support the query with this set, if they are found: flat ones if some do.
-fn find_prices(query: &Query, set: SquareSet, desk: &mut PriceDesk) -> Option<Prices>
+fn prices_by(
+    kept: &FlatGrounds,
+    tried: &mut IndexMap<Key, Sought>,
+    query: &Query,
+    set: SquareSet,
+) -> Option<Prices>
     ensures supports { IfSome result (λ prices. BalanceSupports query.now set prices) }
     ensures flat { (payers : APayers) → BalanceSupports query.now set (flat_prices payers) → IsSome result }
 {
-    keep(&mut desk.kept, query, set);
-    let Some(kept) = &desk.kept else {
-        unreachable!()
-    };
-    let found = sought(kept, &mut desk.tried, query, set).unwrap_or(Sought::nothing());
+    let found = sought(kept, tried, query, set).unwrap_or(Sought::nothing());
     let flat = find_flat(kept, query, set, &found);
     if flat.is_some() {
         return flat;
     }
     if_balanced(query, set, found.prices?)
+}
+
+/// The same, with nothing that is kept at flat prices.
+fn prices_anew(tried: &mut IndexMap<Key, Sought>, query: &Query, set: SquareSet) -> Option<Prices>
+    ensures supports { IfSome result (λ prices. BalanceSupports query.now set prices) }
+    ensures flat { (payers : APayers) → BalanceSupports query.now set (flat_prices payers) → IsSome result }
+{
+    prices_by(&FlatGrounds::new(query, set), tried, query, set)
+}
+
+/// The same, with what is on the desk.
+fn find_prices(query: &Query, set: SquareSet, desk: &mut PriceDesk) -> Option<Prices>
+    ensures supports { IfSome result (λ prices. BalanceSupports query.now set prices) }
+    ensures flat { (payers : APayers) → BalanceSupports query.now set (flat_prices payers) → IsSome result }
+{
+    let place = desk.place_of(query, set);
+    match desk.kept.get(place) {
+        Some(kept) => prices_by(kept, &mut desk.tried, query, set),
+        None => prices_anew(&mut desk.tried, query, set),
+    }
 }
 
 /// A set and prices that support the query, if they are found. They are where flat prices support it; elsewhere none need be, even

@@ -35,8 +35,8 @@ struct Column {
 /// of Black comes to. So where these by their weights owe too little on all places together, low prices don't support the query.
 #[derive(Drop)]
 pub(crate) struct Weighing {
-    white: ArrayVec<Weighed, 16>,
-    black: ArrayVec<Weighed, 16>,
+    white: SideSeen,
+    black: SideSeen,
     /// The places on which something may be owed.
     columns: ArrayVec<Column, 96>,
 }
@@ -54,49 +54,86 @@ fn lightest(seen: &[Weighed]) -> usize {
     at
 }
 
-/// Adds a tally that isn't there. The first has the whole weight and the next have none; where there is no more room the lightest makes
-/// way, and leaves its weight.
-fn add_tally(seen: &mut ArrayVec<Weighed, 16>, tally: &Tally) {
-    if seen.iter().any(|x| x.tally == *tally) {
-        return;
-    }
-    let weight = if seen.is_empty() { WHOLE } else { 0 };
-    let tally = *tally;
-    if seen.try_push(Weighed { tally, weight }).is_err() {
-        let at = lightest(seen.as_slice());
-        if let Some(x) = seen.get_mut(at) {
-            x.tally = tally;
+/// What the tallies of a side say on a place, in their order, and the greatest of these numbers, at least 0.
+#[derive(Clone, Copy, Default)]
+struct Said {
+    each: [i8; 16],
+    most: i8,
+}
+
+/// The tallies of a side that were seen, and what they say by places.
+#[derive(Drop)]
+struct SideSeen {
+    tallies: ArrayVec<Weighed, 16>,
+    said: [Said; 96],
+}
+
+impl SideSeen {
+    /// No tallies were seen.
+    fn new() -> SideSeen {
+        SideSeen {
+            tallies: ArrayVec::new(),
+            said: [Said::default(); 96],
         }
     }
+
+    /// Adds a tally that isn't there. The first has the whole weight and the next have none; where there is no more room the lightest
+    /// makes way, and leaves its weight.
+    fn add(&mut self, tally: &Tally) {
+        if self.tallies.iter().any(|x| x.tally == *tally) {
+            return;
+        }
+        let at = self.tallies.len();
+        let weight = if at == 0 { WHOLE } else { 0 };
+        let tally = *tally;
+        if self.tallies.try_push(Weighed { tally, weight }).is_ok() {
+            for (said, times) in self.said.iter_mut().zip(&tally.times) {
+                said.say(at, *times);
+            }
+        } else {
+            self.replace_lightest(&tally);
+        }
+    }
+
+    /// Puts a tally where the lightest was.
+    fn replace_lightest(&mut self, tally: &Tally) {
+        let at = lightest(self.tallies.as_slice());
+        if let Some(x) = self.tallies.get_mut(at) {
+            x.tally = *tally;
+        }
+        for (said, times) in self.said.iter_mut().zip(&tally.times) {
+            said.say(at, *times);
+            said.most = peak(&said.each);
+        }
+    }
+
+    /// The sum of what the tallies say on a place, by their weights.
+    fn weighted(&self, place: usize) -> i32
+        requires { place < 96 }
+    {
+        let mut sum = 0i32;
+        for (x, times) in self.tallies.iter().zip(&self.said[place].each) {
+            sum = sum.wrapping_add(x.weight.wrapping_mul(i32::from(*times)));
+        }
+        sum
+    }
 }
 
-/// What the tallies say on a place.
-fn told(seen: &[Weighed], place: usize) -> [i8; 16]
-    requires { place < 96 }
-{
-    let mut all = [0; 16];
-    for (said, x) in all.iter_mut().zip(seen) {
-        *said = x.tally.times[place];
+impl Said {
+    /// Lets the tally that is so far in their order say this.
+    fn say(&mut self, at: usize, times: i8) {
+        if let Some(x) = self.each.get_mut(at) {
+            *x = times;
+        }
+        self.most = self.most.max(times);
     }
-    all
-}
-
-/// The sum of what the tallies say on a place, by their weights.
-fn weighted(seen: &[Weighed], place: usize) -> i32
-    requires { place < 96 }
-{
-    let mut sum = 0i32;
-    for x in seen {
-        sum = sum.wrapping_add(x.weight.wrapping_mul(i32::from(x.tally.times[place])));
-    }
-    sum
 }
 
 /// The greatest of these numbers, at least 0.
-fn peak(numbers: &[i8; 16]) -> i32 {
+fn peak(numbers: &[i8; 16]) -> i8 {
     let mut most = 0;
     for x in numbers {
-        most = i32::from(*x).max(most);
+        most = most.max(*x);
     }
     most
 }
@@ -129,12 +166,12 @@ impl Column {
     }
 }
 
-/// What each tally of a side owes on the places where anything is owed.
-fn dues(columns: &[Column], side: Colour) -> [i32; 16] {
+/// What each of the first tallies of a side owes on the places where anything is owed.
+fn dues(columns: &[Column], side: Colour, count: usize) -> [i32; 16] {
     let mut sums = [0i32; 16];
     for column in columns {
         if column.owed > 0 {
-            for (sum, x) in sums.iter_mut().zip(column.of(side)) {
+            for (sum, x) in sums.iter_mut().zip(column.of(side)).take(count) {
                 *sum = sum.wrapping_add(column.owed.wrapping_mul(i32::from(*x)));
             }
         }
@@ -208,7 +245,8 @@ fn shift_weight(
     columns: &mut ArrayVec<Column, 96>,
     side: Colour,
 ) -> bool {
-    let Some(shift) = best_shift(seen.as_slice(), &dues(columns.as_slice(), side)) else {
+    let Some(shift) = best_shift(seen.as_slice(), &dues(columns.as_slice(), side, seen.len()))
+    else {
         return false;
     };
     let squares = square_sum(columns.as_slice(), side, shift);
@@ -234,8 +272,8 @@ impl Weighing {
     /// No tallies were seen.
     pub(crate) fn new() -> Weighing {
         Weighing {
-            white: ArrayVec::new(),
-            black: ArrayVec::new(),
+            white: SideSeen::new(),
+            black: SideSeen::new(),
             columns: ArrayVec::new(),
         }
     }
@@ -245,26 +283,36 @@ impl Weighing {
         requires { place < 96 }
     {
         let at = place as usize;
-        let white = self.white.as_slice();
-        let black = self.black.as_slice();
+        let free = WHOLE.wrapping_mul(free_on(at));
+        let paid = self
+            .white
+            .weighted(at)
+            .wrapping_add(self.black.weighted(at));
         Column {
             place,
-            white: told(white, at),
-            black: told(black, at),
-            owed: weighted(white, at)
-                .wrapping_add(weighted(black, at))
-                .wrapping_sub(WHOLE.wrapping_mul(free_on(at))),
+            white: self.white.said[at].each,
+            black: self.black.said[at].each,
+            owed: paid.wrapping_sub(free),
         }
+    }
+
+    /// Whether something may be owed on a place.
+    fn may_owe(&self, place: usize) -> bool
+        requires { place < 96 }
+    {
+        let white = i32::from(self.white.said[place].most);
+        let black = i32::from(self.black.said[place].most);
+        white.wrapping_add(black) > free_on(place)
     }
 
     /// Adds a tally of each side.
     pub(crate) fn add(&mut self, white: &Tally, black: &Tally) {
-        add_tally(&mut self.white, white);
-        add_tally(&mut self.black, black);
+        self.white.add(white);
+        self.black.add(black);
         self.columns.clear();
         for place in 0..96 {
-            let column = self.column_at(place);
-            if peak(&column.white).wrapping_add(peak(&column.black)) > free_on(place as usize) {
+            if self.may_owe(place as usize) {
+                let column = self.column_at(place);
                 let _ = self.columns.try_push(column);
             }
         }
@@ -295,8 +343,8 @@ impl Weighing {
                 return true;
             }
             let shifted = match side {
-                Colour::White => shift_weight(&mut self.white, &mut self.columns, side),
-                Colour::Black => shift_weight(&mut self.black, &mut self.columns, side),
+                Colour::White => shift_weight(&mut self.white.tallies, &mut self.columns, side),
+                Colour::Black => shift_weight(&mut self.black.tallies, &mut self.columns, side),
             };
             if !shifted && idle {
                 return false;
