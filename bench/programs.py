@@ -20,10 +20,13 @@ CASTLED = "r1bq1rk1/pp2npbp/3p1np1/2pPp3/2P1P3/2N2N2/PP2BPPP/R1BQ1RK1 w - -"
 WORDS = {
     "balance": [CASTLED, "1", "0"],
     "cages": [CASTLED, "1"],
+    "games": ["100"],
     "legal_moves": ["1"],
     "pawns": ["least", "a2b2c2d2e2f2g2h2", "1"],
     "unmoves": [CASTLED, "1"],
 }
+# What some read.
+INPUTS = {"games": f"{CASTLED}\n"}
 
 
 def copied(top):
@@ -47,7 +50,7 @@ def main():
     failed = 0
     with tempfile.TemporaryDirectory() as folder:
         for name, bench in copied(pathlib.Path(folder)).items():
-            done = subprocess.run(["rt", "try", "--", *WORDS.get(name, [])], cwd=bench, capture_output=True, text=True)
+            done = subprocess.run(["rt", "try", "--", *WORDS.get(name, [])], cwd=bench, input=INPUTS.get(name, ""), capture_output=True, text=True)
             good = done.returncode == 0 and done.stdout.strip() != ""
             failed += not good
             print(f"{name}: {done.stdout.strip()}" if good else f"{name} FAILED:\n{done.stdout}{done.stderr}")
