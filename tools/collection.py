@@ -18,6 +18,7 @@ import argparse
 import collections
 import concurrent.futures
 import csv
+import itertools
 import json
 import os
 import pathlib
@@ -141,12 +142,14 @@ def study_all(tasks, depth, nodes, journal, args, program):
 
 
 def settle_all(rows, journal, args, program):
-    """Has `settle` decide the claims that are left open, and give the games that counter others where they are kept."""
-    for depth, nodes in SETTLED:
+    """Has `settle` decide the claims that are left open, and give the games that counter others where they are kept; first those of `illegal`,
+    since nothing else is asked of a diagram that is."""
+    for (depth, nodes), is_first in itertools.product(SETTLED, (True, False)):
         asked = {}
         for row in rows:
             for fact in row.facts:
-                if fact.word == "open" or (args.certificates and fact.is_mere):
+                is_asked = fact.word == "open" or (args.certificates and fact.is_mere)
+                if is_asked and (fact.claim == "illegal") == is_first:
                     asked.setdefault(("settle", claim_text(fact), depth, nodes), []).append((row, fact))
         failed = ask_all(lambda key: program.settle(*key[1:]), list(asked), journal, args.jobs)
         for key, some in asked.items():
@@ -163,6 +166,8 @@ def learn(row, fact, answer, why):
         fact.learn(answer)
     except Failed as both:
         row.why = str(both)
+    if row.legality == "proved":
+        row.facts = [it for it in row.facts if it.claim == "illegal"]
 
 
 def rows_of(tasks, journal, args, program):
@@ -175,10 +180,10 @@ def rows_of(tasks, journal, args, program):
     deep = study_all([tasks[at] for at in unsettled], max(args.depth, DEEPER[0]), max(args.nodes, DEEPER[1]), journal, args, program)
     settle(deep)
     for at, row in zip(unsettled, deep):
-        if row.why:
-            rows[at].remarks.append(f"not studied deeper: {row.why}")
-        else:
+        if row.facts:
             rows[at] = row
+        else:
+            rows[at].remarks.append(f"not studied deeper: {row.why}")
     return rows
 
 

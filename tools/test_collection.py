@@ -11,6 +11,7 @@ import sys
 import tempfile
 import unittest
 
+import collection
 import collection_records as records
 import collection_studies as studies
 
@@ -248,6 +249,12 @@ class Solutions(unittest.TestCase):
         self.assertEqual((facts[2].text, facts[2].is_mere, facts[0].is_mere), ("lost Q (3)", False, True))
         self.assertEqual(studies.game_text(facts[2]), "8/8/8/8/8/8/k7/R3K2R w Q -\ng1f3 g8f6 f3g1\n")
         self.assertRaises(studies.Failed, facts[0].learn, "proved 3")
+
+    def test_settled_to_be_illegal(self):
+        row = collection.Row(None, "4k3/8/8/8/8/8/8/4K2R w - -", "open illegal\nopen lost K\nleft 5 of 5\n", None)
+        collection.learn(row, row.facts[0], "proved 5", None)
+        self.assertEqual([(fact.claim, fact.text) for fact in row.facts], [("illegal", "illegal (5)")])
+        self.assertEqual(row.legality, "proved")
 
     def test_height(self):
         head = "retro 1\nclaim lost K\nfen 4k3/8/8/8/8/8/8/4K2R w - -\n"
