@@ -16,6 +16,11 @@ def name(s):
     return "abcdefgh"[s % 8] + str(s // 8 + 1)
 
 
+def place(text):
+    """The square that a text begins with."""
+    return "abcdefgh".index(text[0]) + 8 * (int(text[1]) - 1)
+
+
 def step(s, files, ranks):
     """The square so many files and ranks away, or None off the board."""
     file, rank = s % 8 + files, s // 8 + ranks
@@ -125,16 +130,45 @@ class Position:
                 if not any(self.is_attacked(s, not self.white) for s in crossed):
                     yield Move(king, beyond)
 
+    def moves_from(self, s):
+        """The moves of the man there, but for castling and his king's safety."""
+        if not self.is_own(s):
+            return []
+        if self.board[s] in "Pp":
+            return list(self.pawn_moves(s))
+        return [Move(s, t, "", self.board[t].lower().strip(".")) for t in self.reached(s)]
+
+    def safe(self, moves):
+        """Those of the moves that leave the king out of check."""
+        return [move for move in moves if not self.after(move).in_check(self.white)]
+
     def moves(self):
         """The legal moves."""
-        found = list(self.castlings())
-        for s in range(64):
-            if self.is_own(s):
-                if self.board[s] in "Pp":
-                    found += self.pawn_moves(s)
-                else:
-                    found += [Move(s, t, "", self.board[t].lower().strip(".")) for t in self.reached(s)]
-        return [move for move in found if not self.after(move).in_check(self.white)]
+        return self.safe([*self.castlings(), *(move for s in range(64) for move in self.moves_from(s))])
+
+    def named(self, text):
+        """The legal move that is written so, or None."""
+        origin = place(text)
+        found = [move for move in (*self.castlings(), *self.moves_from(origin)) if move.text() == text]
+        return next(iter(self.safe(found)), None)
+
+    @staticmethod
+    def replayed(words):
+        """The position after a game, and its moves; None where one isn't legal."""
+        position, moves = Position.array(), []
+        for word in words:
+            move = position.named(word)
+            if move is None:
+                return None
+            position, moves = position.after(move), [*moves, move]
+        return position, moves
+
+    def meets(self, fen):
+        """Whether it is the diagram of a FEN of four fields, with the rights and the double step that it demands."""
+        men, side, rights, square = fen.split(" ")
+        held = set(rights.replace("-", "")) <= set(self.rights)
+        crossed = square == "-" or self.crossed is not None and name(self.crossed) == square
+        return self.board == placed(men) and side == ("w" if self.white else "b") and held and crossed
 
     def after(self, move):
         """The position after a move."""

@@ -21,10 +21,13 @@ WORDS = {
     "accounts": [CASTLED, "1", "1", "1"],
     "balance": [CASTLED, "1", "0"],
     "cages": [CASTLED, "1"],
+    "games": ["100"],
     "legal_moves": ["1"],
     "pawns": ["least", "a2b2c2d2e2f2g2h2", "1"],
     "unmoves": [CASTLED, "1"],
 }
+# What some read.
+INPUTS = {"games": f"{CASTLED}\n"}
 
 
 def copied(top):
@@ -48,7 +51,7 @@ def main():
     failed = 0
     with tempfile.TemporaryDirectory() as folder:
         for name, bench in copied(pathlib.Path(folder)).items():
-            done = subprocess.run(["rt", "try", "--", *WORDS.get(name, [])], cwd=bench, capture_output=True, text=True)
+            done = subprocess.run(["rt", "try", "--", *WORDS.get(name, [])], cwd=bench, input=INPUTS.get(name, ""), capture_output=True, text=True)
             good = done.returncode == 0 and done.stdout.strip() != ""
             failed += not good
             print(f"{name}: {done.stdout.strip()}" if good else f"{name} FAILED:\n{done.stdout}{done.stderr}")

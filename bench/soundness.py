@@ -1,9 +1,11 @@
 #!/usr/bin/env python3
-"""Plays games, and asks the program at each ply to prove what the game contradicts, outside the gate.
+"""Tries whether the program proves what isn't so, outside the gate: on the plies of games, and on diagrams, for which it looks for a proof and
+for a game.
 
 soundness.py PROGRAM [--positions N] [--jobs N] [--seed N] [--games FILE.pgn ..]
+soundness.py PROGRAM --diagrams FILE .. [--changed N] [--minutes N] [--finder PATH] [--jobs N] [--seed N]
 
-The games are random ones, and those from the array in the files named; `chess_rules.py` makes them, which is a second reading of the Laws.
+**Games.** They are random ones, and those from the array in the files named; `chess_rules.py` makes them, which is a second reading of the Laws.
 At each ply the position demands, by turns, the rights that the game still has and the double step that came last. Of it the program is
 asked:
 
@@ -12,7 +14,14 @@ asked:
   lost, that a capture en passant is legal which isn't. None may be proved, and none answered by a game that isn't legal;
 - `study`, at one ply of ten: no line may say what the game contradicts.
 
-Without a number it goes through 2,000 positions. It prints each finding with the game's moves, and ends with status 1 where there is one.
+Without a number it goes through 2,000 positions.
+
+**Diagrams.** Of each diagram of the files, as tools/collection.py reads them, and of so many changed ones (10,000 where no number is named: a
+man more, less or elsewhere, the other side to move, with rights and a double step demanded by chance) both a proof that no game leads there and
+a game are looked for (`two_answers.py`). No position has both. It ends after so many minutes where a number is named. PATH is games.program,
+built, which looks for games alone.
+
+It prints each finding, with the game's moves, and ends with status 1 where there is one.
 """
 import argparse
 import collections
@@ -20,10 +29,15 @@ import concurrent.futures
 import pathlib
 import random
 import re
-import subprocess
 import sys
+import time
 
 from chess_rules import Position, name
+from two_answers import changed, run
+from two_answers import tried as tried_diagram
+
+sys.path.insert(0, str(pathlib.Path(__file__).resolve().parent.parent / "tools"))
+from collection_records import Diagram, read
 
 DEPTHS, NODES, PLIES, STUDIED = (1, 2, 3, 4), 300, 120, 10
 
@@ -82,11 +96,6 @@ def printed_games(path):
             position = position.after(move)
         if moves:
             yield moves
-
-
-def run(program, words, text):
-    done = subprocess.run([program, *words], input=text.encode(), stdout=subprocess.PIPE, stderr=subprocess.DEVNULL, timeout=120)
-    return done.returncode, done.stdout.decode()
 
 
 def passings(position):
@@ -185,6 +194,60 @@ def tasks(args):
         left -= len(moves) + 1
 
 
+def through(pool, work, rest, jobs):
+    """What comes of each of the tasks, in order, a few ahead of those that are asked for."""
+    waiting = collections.deque()
+    while True:
+        while len(waiting) < 4 * jobs and (task := next(rest, None)):
+            waiting.append(pool.submit(work, task))
+        if not waiting:
+            return
+        yield waiting.popleft().result()
+
+
+def play_games(args, pool):
+    """Asks at each ply of games, and says how many findings there are."""
+    positions, found = 0, 0
+    for count, told in through(pool, tried, tasks(args), args.jobs):
+        positions, found = positions + count, found + len(told)
+        print(*told, sep="\n", end="\n" * bool(told), flush=True)
+    print(f"{positions} positions; {found} findings")
+    return found
+
+
+def asked_on_the_way(program, position, moves, rng):
+    """What the program says of a position on the way of a game that the game contradicts."""
+    return list(findings(program, position, moves, rng, True)) if rng.randrange(4) == 0 else []
+
+
+def diagrams_of(files):
+    """The diagrams of collections, each once, with each side that may be to move."""
+    return list(dict.fromkeys(fen for file in files for it in read(file) if isinstance(it, Diagram) for fen in it.fens))
+
+
+def changed_ones(diagrams, proved, args, rng):
+    """Changed diagrams, one of three made of a diagram that is proved to be illegal."""
+    for _ in range(args.changed):
+        yield args.program, args.finder, changed(rng.choice(proved if proved and rng.randrange(3) == 0 else diagrams), rng), rng.randrange(2**32), asked_on_the_way
+
+
+def try_diagrams(args, pool):
+    """Looks for both answers of diagrams and of changed ones, and says how many findings there are."""
+    rng, diagrams, proved, found = random.Random(args.seed), diagrams_of(args.diagrams), [], 0
+    end = time.monotonic() + 60 * args.minutes if args.minutes else float("inf")
+    given = [(args.program, args.finder, fen, rng.randrange(2**32), asked_on_the_way) for fen in diagrams]
+    for title, rest in (("diagrams", iter(given)), ("changed ones", changed_ones(diagrams, proved, args, rng))):
+        answers = collections.Counter()
+        for fen, answer, told in through(pool, tried_diagram, (task for task in rest if time.monotonic() < end), args.jobs):
+            answers[answer], found = answers[answer] + 1, found + len(told)
+            if answer == "proved" and title == "diagrams":
+                proved.append(fen)
+            print(*told, sep="\n", end="\n" * bool(told), flush=True)
+        print(f"{answers.total()} {title}: {', '.join(f'{answers[it]} {it}' for it in ('proved', 'game', 'neither', 'late'))}", flush=True)
+    print(f"{found} findings")
+    return found
+
+
 def main():
     parser = argparse.ArgumentParser(description=__doc__, formatter_class=argparse.RawDescriptionHelpFormatter)
     parser.add_argument("program", type=lambda path: str(pathlib.Path(path).resolve()))
@@ -192,20 +255,13 @@ def main():
     parser.add_argument("--jobs", type=int, default=4)
     parser.add_argument("--seed", type=int, default=0)
     parser.add_argument("--games", type=pathlib.Path, nargs="*", default=[])
+    parser.add_argument("--diagrams", type=pathlib.Path, nargs="+", default=[])
+    parser.add_argument("--changed", type=int, default=10_000)
+    parser.add_argument("--minutes", type=float)
+    parser.add_argument("--finder", type=lambda path: str(pathlib.Path(path).resolve()))
     args = parser.parse_args()
-
-    positions, found, waiting, rest = 0, 0, collections.deque(), tasks(args)
     with concurrent.futures.ProcessPoolExecutor(args.jobs) as pool:
-        while True:
-            while len(waiting) < 4 * args.jobs and (task := next(rest, None)):
-                waiting.append(pool.submit(tried, task))
-            if not waiting:
-                break
-            count, told = waiting.popleft().result()
-            positions, found = positions + count, found + len(told)
-            print(*told, sep="\n", end="\n" * bool(told), flush=True)
-    print(f"{positions} positions; {found} findings")
-    return 1 if found else 0
+        return 1 if (try_diagrams if args.diagrams else play_games)(args, pool) else 0
 
 
 if __name__ == "__main__":

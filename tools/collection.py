@@ -1,22 +1,24 @@
 #!/usr/bin/env python3
-"""Goes through collections of chess problems with the built program: which diagrams are illegal, which castlings have no right, which
-captures en passant are sound. docs/EDITORS.md says how to read what it finds.
+"""Goes through collections of chess problems with the built program: which diagrams are illegal, and to which a game leads, which
+castlings have no right, which captures en passant are sound. docs/EDITORS.md says how to read what it finds.
 
 collection.py FILE.. [--program PATH] [--jobs N] [--depth N] [--nodes N] [--seconds N] [--table PATH] [--findings]
-                     [--certificates FOLDER] [--resume]
+                     [--certificates FOLDER] [--study-alone] [--resume]
 
 A FILE is an .olv file, as Debian's package pychess has them, or a list of FEN or EPD lines. The side to move is that of the stipulation:
 White in `#n`, `s#n`, `r#n`, `hs#n`, series but `ser-h#n`, `+` and `=`; Black in `h#n` and `ser-h#n`; the other one where a half move
 is added (`h#2.5`) or Black is named; both in a duplex and where the stipulation doesn't tell. Each diagram is studied with no right
-demanded, unless a FEN line demands one. The table has Markdown, or CSV where its name ends with .csv.
+demanded, unless a FEN line demands one; what `study` leaves open is put to `settle`, which looks for a game against it too. The table has
+Markdown, or CSV where its name ends with .csv.
 
-Each study is kept beside the table in a file .journal; with --resume those that stand there aren't run again. The exit status is 1 where
+Each answer is kept beside the table in a file .journal; with --resume those that stand there aren't run again. The exit status is 1 where
 something couldn't be read or studied, and 2 where the words are wrong.
 """
 import argparse
 import collections
 import concurrent.futures
 import csv
+import itertools
 import json
 import os
 import pathlib
@@ -27,16 +29,18 @@ import sys
 import time
 
 from collection_records import Diagram, read
-from collection_studies import KINDS, Failed, Program, certify, facts_of, verdicts
+from collection_studies import KINDS, Failed, Program, certify, claim_text, facts_of, keep_game, verdicts
 
 try:
     from tqdm import tqdm
 except ImportError:
     tqdm = None
 
-HEAD = ["place", "author", "source", "asked", "diagram", "proved", "castling and en passant", "remarks"]
+HEAD = ["place", "author", "source", "asked", "diagram", "proved", "countered", "open", "castling and en passant", "remarks"]
 # How a diagram is studied again whose castling or capture en passant isn't settled: as `study` alone does.
 DEEPER = (64, 20_000)
+# How claims are put to `settle` that a study leaves open: as far as it looks for a game, then deeper.
+SETTLED = [(1, 4_000), DEEPER]
 
 
 class Journal:
@@ -95,23 +99,39 @@ class Row:
     def __init__(self, diagram, fen, answer, why):
         self.diagram, self.fen, self.why, self.remarks = diagram, fen, why, []
         self.facts = facts_of(fen, answer) if answer else []
-        self.uses = verdicts(diagram.solution, fen, self.facts) if answer else []
-        self.proved = [fact for fact in self.facts if fact.depth is not None]
-        self.is_illegal = any(fact.claim == "illegal" and fact.fen == fen for fact in self.proved)
-        self.is_open = any(not use.is_settled for use in self.uses)
 
+    @property
+    def uses(self):
+        return verdicts(self.diagram.solution, self.fen, self.facts)
+
+    @property
+    def proved(self):
+        return [fact for fact in self.facts if fact.word == "proved"]
+
+    @property
     def mine(self):
-        """What is proved with this side to move."""
-        return [fact for fact in self.proved if fact.fen.split(" ")[1] == self.fen.split(" ")[1]]
+        """What is known with this side to move."""
+        return [fact for fact in self.facts if fact.fen.split(" ")[1] == self.fen.split(" ")[1]]
+
+    @property
+    def legality(self):
+        """What is known of the claim that no game leads here."""
+        return next((fact.word for fact in self.facts if (fact.fen, fact.claim) == (self.fen, "illegal")), "unknown")
+
+    @property
+    def is_found(self):
+        """Whether there is something for an editor to look at: a proof, a castling or capture en passant, or a diagram that isn't decided."""
+        return bool(self.proved or self.uses or self.why) or self.legality == "open"
 
     def cells(self):
         """The cells of the table."""
-        mine = self.mine()
-        proved = [f"{'' if fact in mine else 'other side '}{fact.claim} ({fact.depth})" for fact in self.proved]
+        texts = {word: [] for word in ("proved", "countered", "open")}
+        for fact in self.facts:
+            texts[fact.word].append(f"{'' if fact in self.mine else 'other side '}{fact.text}")
         uses = [f"{use.where} {use.move}: {use.verdict}" for use in self.uses]
         remarks = [f"not studied: {self.why}"] if self.why else self.remarks
         it = self.diagram
-        return [it.place, it.author, it.source, it.stipulation, self.fen, "; ".join(proved), "; ".join(uses), "; ".join(remarks)]
+        return [it.place, it.author, it.source, it.stipulation, self.fen, *map("; ".join, [*texts.values(), uses, remarks])]
 
 
 def study_all(tasks, depth, nodes, journal, args, program):
@@ -121,31 +141,71 @@ def study_all(tasks, depth, nodes, journal, args, program):
     return [Row(diagram, fen, journal.answers.get(key_of(fen)), failed.get(key_of(fen))) for diagram, fen in tasks]
 
 
+def settle_all(rows, journal, args, program):
+    """Has `settle` decide the claims that are left open, and give the games that counter others where they are kept; first those of `illegal`,
+    since nothing else is asked of a diagram that is."""
+    for (depth, nodes), is_first in itertools.product(SETTLED, (True, False)):
+        asked = {}
+        for row in rows:
+            for fact in row.facts:
+                is_asked = fact.word == "open" or (args.certificates and fact.is_mere)
+                if is_asked and (fact.claim == "illegal") == is_first:
+                    asked.setdefault(("settle", claim_text(fact), depth, nodes), []).append((row, fact))
+        failed = ask_all(lambda key: program.settle(*key[1:]), list(asked), journal, args.jobs)
+        for key, some in asked.items():
+            for row, fact in some:
+                learn(row, fact, journal.answers.get(key), failed.get(key))
+
+
+def learn(row, fact, answer, why):
+    """Has a fact of a row take over what `settle` says, or the row remark why nothing was said."""
+    if why:
+        row.remarks.append(f"`{fact.claim}` isn't settled: {why}")
+        return
+    try:
+        fact.learn(answer)
+    except Failed as both:
+        row.why = str(both)
+    if row.legality == "proved":
+        row.facts = [it for it in row.facts if it.claim == "illegal"]
+
+
 def rows_of(tasks, journal, args, program):
-    """The rows of all diagrams: each is studied, and again deeper where a castling or a capture en passant of its solution isn't settled."""
+    """The rows of all diagrams: each is studied, what stays open is settled, and where a castling or a capture en passant of the solution
+    still isn't, the diagram is studied again deeper."""
+    settle = lambda some: None if args.study_alone else settle_all(some, journal, args, program)
     rows = study_all(tasks, args.depth, args.nodes, journal, args, program)
-    unsettled = [at for at, row in enumerate(rows) if row.is_open]
+    settle(rows)
+    unsettled = [at for at, row in enumerate(rows) if not all(use.is_settled for use in row.uses)]
     deep = study_all([tasks[at] for at in unsettled], max(args.depth, DEEPER[0]), max(args.nodes, DEEPER[1]), journal, args, program)
+    settle(deep)
     for at, row in zip(unsettled, deep):
-        if row.why:
-            rows[at].remarks.append(f"not studied deeper: {row.why}")
-        else:
+        if row.facts:
             rows[at] = row
+        else:
+            rows[at].remarks.append(f"not studied deeper: {row.why}")
     return rows
 
 
 def certify_all(rows, journal, args, program):
-    """Writes a certificate and an explanation of all that is proved, and has the rows remark what couldn't be written."""
+    """Writes a certificate and an explanation of all that is proved, and the game against all that is countered, and has the rows remark
+    what couldn't be written."""
     args.certificates.mkdir(parents=True, exist_ok=True)
     items = {}
     for row in rows:
-        for fact in row.mine():
-            stem = re.sub(r"[^0-9A-Za-z]+", "-", f"{row.diagram.place} {row.fen.split(' ')[1]} {fact.claim}")
-            items[str(args.certificates / stem), fact.fen, fact.claim, fact.depth] = row, fact
-    run = lambda key: certify(program, items[key][1], max(args.nodes, DEEPER[1]), pathlib.Path(key[0])) or ""
+        for fact in row.mine:
+            if fact.word != "open":
+                stem = re.sub(r"[^0-9A-Za-z]+", "-", f"{row.diagram.place} {row.fen.split(' ')[1]} {fact.claim}")
+                items[str(args.certificates / stem), fact.fen, fact.claim, fact.text] = row, fact
+    run = lambda key: write_down(program, items[key][1], max(args.nodes, DEEPER[1]), pathlib.Path(key[0])) or ""
     failed = ask_all(run, list(items), journal, args.jobs)
     for key, (row, _) in items.items():
         row.remarks += [it for it in [failed.get(key) or journal.answers.get(key)] if it]
+
+
+def write_down(program, fact, nodes, path):
+    """Writes the certificate of a fact and its explanation, or the game against it, and says what couldn't be written; None where all was."""
+    return certify(program, fact, nodes, path) if fact.word == "proved" else keep_game(program, fact, path)
 
 
 def progress(done, total):
@@ -173,12 +233,17 @@ def counted(rows):
     """What the rows say, in numbers: one line for each thing."""
     by_place = {}
     for row in rows:
-        by_place.setdefault(row.diagram.place, []).append(row)
-    kinds = collections.Counter(use.kind for row in rows for use in row.uses)
+        by_place.setdefault(row.diagram.place, []).append(row.legality)
+    illegal = sum(set(some) == {"proved"} for some in by_place.values())
+    reached = sum("countered" in some for some in by_place.values())
+    claims = collections.Counter((fact.claim.split(" ")[0], fact.word) for row in rows for fact in row.mine)
+    words = ("proved", "countered", "open")
+    uses = collections.Counter(use.kind for row in rows for use in row.uses)
     return [
         f"{len(by_place)} diagrams, {len(rows)} with a side to move, {sum(bool(row.proved) for row in rows)} with something proved",
-        f"{sum(all(row.is_illegal for row in some) for some in by_place.values())} illegal",
-        *(f"{kinds[kind]} {words}" for kind, words in KINDS.items()),
+        f"{illegal} illegal, {reached} to which a game leads, {len(by_place) - illegal - reached} open",
+        *(f"claims `{kind}`: {', '.join(f'{claims[kind, word]} {word}' for word in words)}" for kind in dict.fromkeys(kind for kind, _ in claims)),
+        *(f"{uses[kind]} {words}" for kind, words in KINDS.items()),
     ]
 
 
@@ -187,9 +252,11 @@ def report(rows, left_out):
     print(*counted(rows), sep="\n")
     broken = [(it.place, it.why) for it in left_out if it.is_broken]
     failed = [(row.diagram.place, row.why) for row in rows if row.why]
+    undecided = [(row.diagram.place, row.fen) for row in rows if row.legality == "open"]
     strange = [(it.place, it.why) for it in left_out if not it.is_broken]
     remarks = collections.Counter(remark for row in rows for remark in row.remarks)
-    for title, items in [("left out", strange), ("not read", broken), ("not studied", failed), ("kinds of remarks", remarks.items())]:
+    lists = {"left out": strange, "not read": broken, "not studied": failed, "left open": undecided, "kinds of remarks": remarks.items()}
+    for title, items in lists.items():
         print(f"{len(items)} {title}")
         for place, why in items:
             print(f"  {place}: {why}")
@@ -217,7 +284,8 @@ def options():
     parser.add_argument("--seconds", type=number(1, 86_400), default=300, help="how long a run of the program may take (300)")
     parser.add_argument("--table", type=pathlib.Path, default=pathlib.Path("collection.md"), help="the table (collection.md)")
     parser.add_argument("--findings", action="store_true", help="only rows in which something was found")
-    parser.add_argument("--certificates", type=pathlib.Path, metavar="FOLDER", help="a certificate and an explanation of each finding")
+    parser.add_argument("--certificates", type=pathlib.Path, metavar="FOLDER", help="a certificate and an explanation of each finding, and each game")
+    parser.add_argument("--study-alone", action="store_true", help="what a study leaves open stays open: no game is looked for by `settle`")
     parser.add_argument("--resume", action="store_true", help="go on where a run with the same settings was stopped")
     return parser.parse_args()
 
@@ -243,7 +311,7 @@ def main():
     rows = rows_of(tasks, journal, args, program)
     if args.certificates:
         certify_all(rows, journal, args, program)
-    write_table(args.table, [row.cells() for row in rows if row.proved or row.uses or row.why or not args.findings])
+    write_table(args.table, [row.cells() for row in rows if row.is_found or not args.findings])
     status = report(rows, [it for it in items if not isinstance(it, Diagram)])
     spent = resource.getrusage(resource.RUSAGE_CHILDREN)
     print(f"{time.perf_counter() - begun:.0f} seconds, and {spent.ru_utime + spent.ru_stime:.0f} seconds of processor time in the program")

@@ -1,10 +1,11 @@
-"""Runs `retractor study` on diagrams, and says what is proved, whether castling and en passant of the solution are sound, and why."""
+"""Runs `retractor study` and `retractor settle` on diagrams, and says what is proved and what a game counters, and whether castling and en
+passant of the solution are sound."""
 import dataclasses
 import re
 import subprocess
 
 HOMES = {"K": ("e1", "h1", "K", "R"), "Q": ("e1", "a1", "K", "R"), "k": ("e8", "h8", "k", "r"), "q": ("e8", "a8", "k", "r")}
-FACT = re.compile(r"(other side )?(?:proved (\d+)|open|spent) (.+)")
+FACT = re.compile(r"(other side )?(?:proved (\d+)|(countered|open|spent)) (.+)")
 CASTLING = re.compile(r"(?:0-0-0|O-O-O|0-0|O-O)(?![-\w])")
 # A mark of en passant, the number before a first move, a first move that is a try, and words by which a solution says that a move isn't legal.
 MARK = r"(?:\s*\(?e\.?\s*p\b\.?\)?)"
@@ -17,17 +18,21 @@ DENIED = re.compile(r"illegal|impossible|not allowed", re.I)
 VERDICTS = {
     "lost": "unsound: the right is proved to be lost",
     "away": "unsound: king or rook isn't at home",
+    "held": "sound: a game keeps the right",
     "undisproved": "sound by convention: the right isn't disproved",
     "permitted": "sound: the double step is proved",
+    "countered": "not permitted: a game ends otherwise",
     "unproved": "not permitted by convention: the double step isn't proved",
     "empty": "says nothing: the diagram is illegal",
 }
 KINDS = {
     "lost": "castlings whose right is proved to be lost",
     "away": "castlings without king and rook at home",
-    "undisproved": "castlings whose right isn't disproved",
+    "held": "castlings whose right a game keeps",
+    "undisproved": "castlings whose right is neither disproved nor kept by a game",
     "permitted": "captures en passant that are proved to be permitted",
-    "unproved": "captures en passant that aren't",
+    "countered": "captures en passant that a game shows not to be permitted",
+    "unproved": "captures en passant of which neither is shown",
     "empty": "castlings of illegal diagrams",
 }
 
@@ -38,11 +43,35 @@ class Failed(Exception):
 
 @dataclasses.dataclass
 class Fact:
-    """A line of a study that speaks of a claim: the FEN that it is about, the claim, and the depth of its proof, None where it has none."""
+    """What is known of a claim: the FEN that it is about, the claim, whether it is proved, countered or open, how many moves its proof takes
+    back, and the game that counters it, where they are known."""
 
     fen: str
     claim: str
-    depth: int | None
+    word: str
+    depth: int | None = None
+    game: str | None = None
+
+    @property
+    def is_mere(self):
+        """Whether a game that counters it isn't known yet."""
+        return self.word == "countered" and self.game is None
+
+    def learn(self, answer):
+        """Takes over what `settle` says."""
+        word, _, rest = answer.partition(" ")
+        if {word, self.word} == {"proved", "countered"}:
+            raise Failed(f"`{self.claim}` is {self.word} by `study`, and {word} by `settle`")
+        if word == "proved":
+            self.word, self.depth = word, int(rest)
+        elif word == "countered":
+            self.word, self.game = word, rest
+
+    @property
+    def text(self):
+        """The claim, with how many moves its proof takes back or its game has."""
+        count = self.depth if self.word == "proved" else None if self.game is None else len(self.game.split())
+        return self.claim if count is None else f"{self.claim} ({count})"
 
 
 @dataclasses.dataclass
@@ -85,6 +114,13 @@ class Program:
             raise Failed(f"`study` ends with status {status}: {answer.strip() or 'no answer'}")
         return answer
 
+    def settle(self, text, depth, nodes):
+        """What decides a claim: `proved` and how many moves the certificate takes back, or the game that counters it, or `open`."""
+        status, answer = self.run(["settle", str(depth), str(nodes)], text)
+        if status not in (0, 2, 3, 4):
+            raise Failed(f"`settle` ends with status {status}: {answer.strip() or 'no answer'}")
+        return answer.strip() if status == 4 else f"proved {height(answer)}" if status == 0 else "open"
+
 
 def facts_of(fen, answer):
     """The facts of a study's text. Behind `without demands` they are about the FEN without rights and square."""
@@ -94,7 +130,8 @@ def facts_of(fen, answer):
             fen = f"{' '.join(fen.split(' ')[:2])} - -"
         elif found := FACT.fullmatch(line):
             about = other_side(fen) if found[1] else fen
-            facts.append(Fact(about, found[3], int(found[2]) if found[2] else None))
+            word = "proved" if found[2] else "countered" if found[3] == "countered" else "open"
+            facts.append(Fact(about, found[4], word, int(found[2]) if found[2] else None))
     return facts
 
 
@@ -104,8 +141,9 @@ def other_side(fen):
     return f"{men} {'b' if side == 'w' else 'w'} {rights} -"
 
 
-def is_shown(facts, claim):
-    return any(fact.claim == claim and fact.depth is not None for fact in facts)
+def word_of(facts, claim):
+    """What is known of a claim, by one of the facts."""
+    return next((fact.word for fact in facts if fact.claim == claim), "open")
 
 
 def castlings(solution, board, direct):
@@ -168,27 +206,53 @@ def kind_of(letter, board, facts):
     """What is made of a castling in a diagram that isn't proved to be illegal."""
     if not stands_home(letter, board):
         return "away"
-    return "lost" if is_shown(facts, f"lost {letter}") else "undisproved"
+    return {"proved": "lost", "countered": "held", "open": "undisproved"}[word_of(facts, f"lost {letter}")]
 
 
 def verdicts(solution, fen, facts):
     """The castlings and the captures en passant of a solution, and what is made of them."""
     board, direct = board_of(fen), fen.split(" ")[1] == "w"
-    is_illegal = is_shown([fact for fact in facts if fact.fen == fen], "illegal")
+    is_illegal = word_of([fact for fact in facts if fact.fen == fen], "illegal") == "proved"
     found = dict.fromkeys(castlings(solution, board, direct))
     uses = [Use(where, letter, "empty" if is_illegal else kind_of(letter, board, facts)) for where, letter in found]
     captures = [fact for fact in facts if fact.claim.startswith("ep ") and is_key(fact.claim[3:], solution)]
-    return uses + [Use("key", fact.claim, "unproved" if fact.depth is None else "permitted") for fact in captures]
+    kinds = {"proved": "permitted", "countered": "countered", "open": "unproved"}
+    return uses + [Use("key", fact.claim, kinds[fact.word]) for fact in captures]
+
+
+def with_rights(fen, letters):
+    """The FEN that demands these rights besides its own."""
+    men, side, rights, square = fen.split(" ")
+    return f"{men} {side} {''.join(it for it in 'KQkq' if it in rights or it in letters) or '-'} {square}"
 
 
 def claim_text(fact):
-    """The claim and the position by which `settle` proves a fact; that of two castlings is the illegality of the diagram with both rights."""
-    words = fact.claim.split(" ")
-    if words[0] != "notboth":
-        return f"claim {fact.claim}\n{fact.fen}\n"
-    men, side, rights, square = fact.fen.split(" ")
-    both = "".join(it for it in "KQkq" if it in rights or it in words[1:])
-    return f"claim illegal\n{men} {side} {both} {square}\n"
+    """The claim and the position by which `settle` decides a fact; that of two castlings is the illegality of the diagram with both rights."""
+    kind, *letters = fact.claim.split(" ")
+    return f"claim illegal\n{with_rights(fact.fen, letters)}\n" if kind == "notboth" else f"claim {fact.claim}\n{fact.fen}\n"
+
+
+def game_text(fact):
+    """The game that counters a fact, as `play` reads it: the diagram, with the rights that the game keeps, and the moves."""
+    kind, *letters = fact.claim.split(" ")
+    fen = with_rights(fact.fen, letters) if kind in ("lost", "notboth") else fact.fen
+    return f"{fen}\n{fact.game}\n"
+
+
+def height(certificate):
+    """How many moves a certificate takes back: the depth of its deepest node."""
+    deepest, due = 0, []
+    for line in certificate.split("\n"):
+        found = re.fullmatch(r"(?:root|[a-h][1-8][a-h]\S+) (?:expand (\d+)|.*)", line)
+        if not found:
+            continue
+        while due and not due[-1]:
+            due.pop()
+        deepest = max(deepest, len(due))
+        if due:
+            due[-1] -= 1
+        due.append(int(found[1] or 0))
+    return deepest
 
 
 def certify(program, fact, nodes, path):
@@ -202,6 +266,17 @@ def certify(program, fact, nodes, path):
         return f"a certificate of `{fact.claim}` that `{checker}` doesn't accept"
     path.with_name(path.name + ".cert").write_text(certificate)
     return explain(program, fact, certificate, path) if kind == "settle" else None
+
+
+def keep_game(program, fact, path):
+    """Writes the game that counters a fact, and says what is wrong with it; None where nothing is."""
+    if fact.game is None:
+        return f"no game against `{fact.claim}`: `settle` finds none"
+    text = game_text(fact)
+    if program.run(["play"], text)[0] != 0:
+        return f"a game against `{fact.claim}` that `play` doesn't accept"
+    path.with_name(path.name + ".game").write_text(text)
+    return None
 
 
 def explain(program, fact, certificate, path):

@@ -11,6 +11,7 @@ import sys
 import tempfile
 import unittest
 
+import collection
 import collection_records as records
 import collection_studies as studies
 
@@ -39,7 +40,16 @@ STUDIES = {
     LOYD: "proved 0 illegal\nother side proved 0 illegal\n",
     TROITZKY: "open illegal\nproved 2 ep h5g6\nproved 2 last g7g5\nleft 1 of 6 g7g5\natleast 24\n",
 }
-# A program that answers `study` from a list of texts, and notes each FEN that it was asked about.
+KINGS = "4k3/8/8/8/8/8/8/4K3 w - -"
+# What a game is told against, and the game; every other claim that no study proves stays open.
+GAMES = {
+    f"claim illegal\n{BENKO}\n": "e2e4 e7e5 g1f3",
+    f"claim illegal\n{KINGS}\n": "e2e4 e7e5",
+    "claim lost K\n4k3/8/8/8/8/8/8/4K2R w - -\n": "g1f3 g8f6",
+    "claim illegal\nr3k2r/8/8/8/8/8/8/4K3 w kq -\n": "b1a3 b8a6",
+    "claim ep h5g6\n7k/6p1/8/6pP/8/8/8/7K w - -\n": "h2h4 g7g6",
+}
+# A program that answers `study` and `settle` from lists of texts, accepts each game that it told, and notes each FEN that it was asked about.
 STAND_IN = """#!{python}
 import pathlib, sys
 words, here = sys.argv[1:], pathlib.Path(__file__).resolve().parent
@@ -47,12 +57,24 @@ if words == ["--version"]:
     print("stand-in 1.0")
     sys.exit(0)
 text = sys.stdin.read()
+studies, games = {studies!r}, {games!r}
 if words[0] == "study":
     (here / "asked").open("a").write(words[1] + " " + text)
-    sys.stdout.write({studies!r}.get(text.strip(), "open illegal\\nleft 5 of 5\\n"))
+    sys.stdout.write(studies.get(text.strip(), "open illegal\\nleft 5 of 5\\n"))
     sys.exit(6 if "q7/8/8/8/8/8/8/K1k5" in text else 0)
+if words[0] == "settle":
+    (here / "settled").open("a").write(words[1] + " " + text.replace("\\n", " ") + "\\n")
+    claim, fen = text.split("\\n")[:2]
+    if text in games:
+        print("countered", games[text])
+        sys.exit(4)
+    if not any(line.startswith("proved") and line.endswith(claim[6:]) for line in studies.get(fen, "").split("\\n")):
+        print("undecided a1a2")
+        sys.exit(2)
 if words[0] in ("settle", "dossier"):
     sys.stdout.write("retro 1\\n" + text)
+elif words[0] == "play":
+    sys.exit(0 if text.split("\\n")[1] in games.values() else 1)
 elif words[0] == "explain":
     sys.exit(5) if not {explains} else sys.stdout.write("Claim.\\n")
 """
@@ -188,6 +210,7 @@ class Solutions(unittest.TestCase):
         for solution in ("1.0-0-0 ! zugzwang.", '"1. O-O-O!! zz', "1.Kd2 ?\n1...Kd8 !\n1.0-0-0 !"):
             self.assertEqual(self.uses(solution, fen), [("key", "Q", "undisproved")], solution)
         self.assertEqual(self.uses("1.0-0 !", fen, "open illegal\nproved 2 lost K\n"), [("key", "K", "lost")])
+        self.assertEqual(self.uses("1.0-0 !", fen, "countered illegal\ncountered lost K\nopen lost Q\n"), [("key", "K", "held")])
         self.assertEqual(self.uses("1.0-0 !", fen, "proved 0 illegal\nother side open illegal\n"), [("key", "K", "empty")])
         self.assertEqual(self.uses("1.0-0 !", "4k3/8/8/8/8/8/8/R3K3 w - -"), [("key", "K", "away")])
 
@@ -204,10 +227,11 @@ class Solutions(unittest.TestCase):
             self.assertEqual(self.uses(solution, fen), [], solution)
 
     def test_en_passant_key(self):
-        shown, unshown = "open illegal\nproved 2 ep h5g6\n", "open illegal\nopen ep h5g6\n"
+        shown, unshown, ended = "open illegal\nproved 2 ep h5g6\n", "open illegal\nspent ep h5g6\n", "countered illegal\ncountered ep h5g6\n"
         for solution in ("1.h5*g6 !", "1.h5xg6 ep.!", "1.hxg6+!", '"1. hg e.p.!', "1.h*g6"):
             self.assertEqual(self.uses(solution, TROITZKY, shown), [("key", "ep h5g6", "permitted")], solution)
             self.assertEqual(self.uses(solution, TROITZKY, unshown), [("key", "ep h5g6", "unproved")], solution)
+            self.assertEqual(self.uses(solution, TROITZKY, ended), [("key", "ep h5g6", "countered")], solution)
         for solution in ("1.Kg4 !", "1.h5*g6 ? Kg8", "1.h5xg6 ep ?", "1.hg e.p.+?", "1.hg", "1.Be5 ! g4 2.h5*g6"):
             self.assertEqual(self.uses(solution, TROITZKY, shown), [], solution)
 
@@ -215,6 +239,27 @@ class Solutions(unittest.TestCase):
         facts = studies.facts_of("r3k2r/8/8/8/8/8/8/4K3 w k -", "proved 1 illegal\nother side open illegal\nwithout demands\nopen illegal\nproved 1 notboth k q\n")
         self.assertEqual([fact.fen.split(" ", 1)[1] for fact in facts], ["w k -", "b k -", "w - -", "w - -"])
         self.assertEqual(studies.claim_text(facts[-1]), "claim illegal\nr3k2r/8/8/8/8/8/8/4K3 w kq -\n")
+        self.assertEqual([fact.word for fact in facts], ["proved", "open", "open", "proved"])
+
+    def test_games(self):
+        answer = "countered illegal\nopen lost K\ncountered lost Q\nleft 2 of 9 a2a1 a2b1\nstuck lost K a2a1 b7b8\npossible 1 of 2 a2a1\natleast 30\n"
+        facts = studies.facts_of("8/8/8/8/8/8/k7/R3K2R w - -", answer)
+        self.assertEqual([(fact.claim, fact.word) for fact in facts], [("illegal", "countered"), ("lost K", "open"), ("lost Q", "countered")])
+        facts[2].learn("countered g1f3 g8f6 f3g1")
+        self.assertEqual((facts[2].text, facts[2].is_mere, facts[0].is_mere), ("lost Q (3)", False, True))
+        self.assertEqual(studies.game_text(facts[2]), "8/8/8/8/8/8/k7/R3K2R w Q -\ng1f3 g8f6 f3g1\n")
+        self.assertRaises(studies.Failed, facts[0].learn, "proved 3")
+
+    def test_settled_to_be_illegal(self):
+        row = collection.Row(None, "4k3/8/8/8/8/8/8/4K2R w - -", "open illegal\nopen lost K\nleft 5 of 5\n", None)
+        collection.learn(row, row.facts[0], "proved 5", None)
+        self.assertEqual([(fact.claim, fact.text) for fact in row.facts], [("illegal", "illegal (5)")])
+        self.assertEqual(row.legality, "proved")
+
+    def test_height(self):
+        head = "retro 1\nclaim lost K\nfen 4k3/8/8/8/8/8/8/4K2R w - -\n"
+        bodies = ["root rule kings", "root expand 0", "root expand 2\ne8d8 expand 1\ne1e2xq back 1\ne8f8 rule check"]
+        self.assertEqual([studies.height(f"{head}{body}\n") for body in bodies], [0, 0, 2])
 
 
 class Runs(unittest.TestCase):
@@ -223,32 +268,39 @@ class Runs(unittest.TestCase):
         (self.folder / "list.fen").write_text(f"{BENKO}\n{LOYD}\n{TROITZKY} bm hxg6;\n4k3/8/8/8/8/8/8/4K3 w\n")
         self.program(explains=True)
 
-    def program(self, explains):
+    def program(self, explains, more=None):
         path = self.folder / "stand-in"
-        path.write_text(STAND_IN.format(python=sys.executable, studies=STUDIES, explains=explains))
+        path.write_text(STAND_IN.format(python=sys.executable, studies=STUDIES | (more or {}), games=GAMES, explains=explains))
         path.chmod(0o755)
 
     def run_tool(self, *words, files=("list.fen",)):
         command = [sys.executable, str(TOOL), *files, "--program", "./stand-in", "--jobs", "2", *words]
         return subprocess.run(command, cwd=self.folder, capture_output=True, text=True)
 
-    def asked(self):
-        return (self.folder / "asked").read_text().split("\n")[:-1]
+    def asked(self, file="asked"):
+        return (self.folder / file).read_text().split("\n")[:-1]
 
     def test_markdown(self):
         done = self.run_tool()
         self.assertEqual(done.returncode, 0, done.stderr)
         lines = (self.folder / "collection.md").read_text().split("\n")
-        self.assertEqual([len(line.split(" | ")) for line in lines[:-1]], [8] * 6)
-        self.assertIn("illegal (0); other side illegal (0)", lines[3])
-        self.assertIn("| ep h5g6 (2); last g7g5 (2) | key ep h5g6: sound: the double step is proved |", lines[4])
-        self.assertIn("4 diagrams, 4 with a side to move, 3 with something proved\n1 illegal\n", done.stdout)
+        self.assertEqual([len(line.split(" | ")) for line in lines[:-1]], [10] * 6)
+        self.assertIn("| lost K (1); lost Q (1) | illegal (3) |  |", lines[2])
+        self.assertIn("| illegal (0); other side illegal (0) |  |  |", lines[3])
+        self.assertIn("| ep h5g6 (2); last g7g5 (2) |  | illegal | key ep h5g6: sound: the double step is proved |", lines[4])
+        self.assertIn("4 diagrams, 4 with a side to move, 3 with something proved\n1 illegal, 2 to which a game leads, 1 open\n", done.stdout)
+        self.assertIn("claims `illegal`: 1 proved, 2 countered, 1 open\nclaims `lost`: 2 proved, 0 countered, 0 open\n", done.stdout)
+        self.assertIn(f"1 left open\n  list.fen:3: {TROITZKY}\n", done.stdout)
 
     def test_csv(self):
         self.run_tool("--table", "t.csv", "--findings")
         with (self.folder / "t.csv").open(newline="") as file:
             rows = list(csv.reader(file))
         self.assertEqual([row[0] for row in rows], ["place", "list.fen:1", "list.fen:2", "list.fen:3"])
+        (self.folder / "open.fen").write_text("4k3/8/8/8/8/8/8/3K4 w\n4k3/8/8/8/8/8/8/4K3 w\n")
+        self.run_tool("--table", "t.csv", "--findings", files=["open.fen"])
+        with (self.folder / "t.csv").open(newline="") as file:
+            self.assertEqual([row[0] for row in csv.reader(file)], ["place", "open.fen:1"])
 
     def test_resume(self):
         self.run_tool()
@@ -267,6 +319,24 @@ class Runs(unittest.TestCase):
         self.run_tool("--depth", "2", files=["castling.fen"])
         self.assertEqual([line.split(" ")[0] for line in self.asked()], ["2", "64"])
 
+    def test_settled(self):
+        self.run_tool()
+        asked = [line.split(" ", 2) for line in self.asked("settled")]
+        self.assertEqual(sorted(asked), sorted([depth, "claim", f"illegal {fen} "] for depth, fens in (("1", [BENKO, TROITZKY, KINGS]), ("64", [TROITZKY])) for fen in fens))
+
+    def test_study_alone(self):
+        done = self.run_tool("--study-alone")
+        self.assertFalse((self.folder / "settled").exists())
+        self.assertIn("1 illegal, 0 to which a game leads, 3 open\n", done.stdout)
+
+    def test_both_answers(self):
+        self.program(explains=True, more={KINGS: "countered illegal\nleft 5 of 5\n", BENKO: "countered illegal\nproved 1 lost K\n", TROITZKY: "open illegal\n"})
+        self.assertEqual(self.run_tool("--certificates", "proofs").returncode, 0)
+        self.program(explains=True, more={KINGS: "countered ep a5b6\nproved 2 ep a5b6\n"})
+        done = self.run_tool("--certificates", "proofs")
+        self.assertEqual(done.returncode, 1)
+        self.assertIn("1 not studied\n  list.fen:4: `ep a5b6` is countered by `study`, and proved by `settle`\n", done.stdout)
+
     def test_nothing_in_silence(self):
         (self.folder / "some.olv").write_text("---".join(["", record(white="Ke1, R"), record(white="Ke1, Ga1"), record("Ka1", "Kc1, Qa8"), record()]))
         done = self.run_tool(files=["some.olv", "none.fen"])
@@ -280,14 +350,26 @@ class Runs(unittest.TestCase):
         self.run_tool("--certificates", "proofs")
         names = sorted(path.name for path in (self.folder / "proofs").iterdir())
         claims = ["1-b-lost-K", "1-b-lost-Q", "2-w-illegal", "3-w-ep-h5g6", "3-w-last-g7g5"]
-        self.assertEqual(names, sorted(f"list-fen-{claim}.{ending}" for claim in claims for ending in ("cert", "txt")))
+        games = ["list-fen-1-b-illegal.game", "list-fen-4-w-illegal.game"]
+        self.assertEqual(names, sorted(games + [f"list-fen-{claim}.{ending}" for claim in claims for ending in ("cert", "txt")]))
         self.assertEqual((self.folder / "proofs/list-fen-2-w-illegal.cert").read_text(), f"retro 1\nclaim illegal\n{LOYD}\n")
+        self.assertEqual((self.folder / "proofs" / games[0]).read_text(), f"{BENKO}\ne2e4 e7e5 g1f3\n")
+
+    def test_games_of_claims(self):
+        rook, both, pawn = "4k3/8/8/8/8/8/8/4K2R w - -", "r3k2r/8/8/8/8/8/8/4K3 w - -", "7k/6p1/8/6pP/8/8/8/7K w - -"
+        open_claims = {rook: "lost K", both: "notboth k q", pawn: "ep h5g6"}
+        self.program(explains=True, more={fen: f"countered illegal\nopen {claim}\n" for fen, claim in open_claims.items()})
+        (self.folder / "three.fen").write_text("\n".join(open_claims))
+        self.run_tool("--certificates", "proofs", files=["three.fen"])
+        names = {"three-fen-1-w-lost-K": rook.replace("- -", "K -"), "three-fen-2-w-notboth-k-q": both.replace("- -", "kq -"), "three-fen-3-w-ep-h5g6": pawn}
+        self.assertEqual({path.stem: path.read_text().split("\n")[0] for path in (self.folder / "proofs").iterdir()}, names)
+        self.assertIn("no game against `illegal`: `settle` finds none", (self.folder / "collection.md").read_text())
 
     def test_no_explanation(self):
         self.program(explains=False)
         self.run_tool("--certificates", "proofs")
         self.assertIn("no explanation: this program doesn't know `explain`", (self.folder / "collection.md").read_text())
-        self.assertEqual([path.suffix for path in (self.folder / "proofs").iterdir()], [".cert"] * 5)
+        self.assertEqual(sorted(path.suffix for path in (self.folder / "proofs").iterdir()), [".cert"] * 5 + [".game"] * 2)
 
     def test_no_program(self):
         done = subprocess.run([sys.executable, str(TOOL), "x.fen", "--program", "./none"], cwd=self.folder, capture_output=True, text=True)
@@ -300,12 +382,19 @@ class BuiltProgram(unittest.TestCase):
     def test_findings(self):
         program = studies.Program(os.environ["RETRACTOR"], 300)
         for fen, claims in [(BENKO, ["lost K", "lost Q"]), (LOYD, ["illegal", "illegal"]), (TROITZKY, ["ep h5g6", "last g7g5"])]:
-            facts = [fact for fact in studies.facts_of(fen, program.study(fen, 4, 2000)) if fact.depth is not None]
+            facts = [fact for fact in studies.facts_of(fen, program.study(fen, 4, 2000)) if fact.word == "proved"]
             self.assertEqual([fact.claim for fact in facts], claims)
             with tempfile.TemporaryDirectory() as folder:
                 path = pathlib.Path(folder) / "proof"
                 self.assertRegex(studies.certify(program, facts[0], 2000, path) or "", "^$|doesn't know `explain`")
                 self.assertTrue(path.with_name("proof.cert").read_text().startswith("retro 1\n"))
+
+    def test_a_game(self):
+        program, fact = studies.Program(os.environ["RETRACTOR"], 300), studies.Fact(BENKO, "illegal", "open")
+        fact.learn(program.settle(studies.claim_text(fact), 1, 4000))
+        with tempfile.TemporaryDirectory() as folder:
+            self.assertIsNone(studies.keep_game(program, fact, pathlib.Path(folder) / "proof"))
+            self.assertEqual((pathlib.Path(folder) / "proof.game").read_text().split("\n")[0], BENKO)
 
 
 if __name__ == "__main__":
