@@ -4,7 +4,7 @@ import re
 import subprocess
 
 HOMES = {"K": ("e1", "h1", "K", "R"), "Q": ("e1", "a1", "K", "R"), "k": ("e8", "h8", "k", "r"), "q": ("e8", "a8", "k", "r")}
-FACT = re.compile(r"(other side )?(?:proved (\d+)|open|spent) (.+)")
+FACT = re.compile(r"(other side )?(?:proved (\d+)|countered|open|spent) (.+)")
 CASTLING = re.compile(r"(?:0-0-0|O-O-O|0-0|O-O)(?![-\w])")
 # A mark of en passant, the number before a first move, a first move that is a try, and words by which a solution says that a move isn't legal.
 MARK = r"(?:\s*\(?e\.?\s*p\b\.?\)?)"
