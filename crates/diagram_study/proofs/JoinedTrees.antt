@@ -27,7 +27,7 @@ use Rattle.retro_search.proofs.Trees.Ancestors.{Extends, proves_below}
 use Rattle.diagram_study.specs.Findings.{IsFound, IsOutcome, is_proved, is_refuted}
 use Rattle.diagram_study.specs.Looks.{AreHeights, AreLooked, IsHeight, IsKeptIn, IsLooked, claim_but}
 use Rattle.diagram_study.specs.declared.findings.Finding.{Finding}
-use Rattle.diagram_study.specs.declared.findings.Finding.TheVariants.{Proved, Open, Spent}
+use Rattle.diagram_study.specs.declared.findings.Finding.TheVariants.{Proved, Countered, Open, Spent}
 use Rattle.diagram_study.specs.declared.retractions.Looked.{Looked}
 use Rattle.diagram_study.proofs.Looking.{heights_low}
 
@@ -150,6 +150,9 @@ target_but q (Some m) plain = refl
 -- what the search alone didn't prove is proved by the tree
 pub joined_found : (q : Asked) (but : Option Move) (most nodes h : ℕ) (sought : Finding) → q.barred ≡ None → IsFound q (claim_but but) most nodes sought → is_proved sought ≡ false → HasProof (but_for q but) h most → IsFound q (claim_but but) most nodes (Proved h)
 joined_found q but most nodes h (Proved depth) plain found unproved proof = cc
+joined_found q but most nodes h Countered plain found unproved proof =
+    let here : HasProof (target q (claim_but but)) h most = subst (λ (a : Asked). HasProof a h most) (target_but q but plain) proof in
+    absurd (here.unreached found.0 (contradiction-reaches found.0 (claim_but but) q found.1))
 joined_found q but most nodes h Open plain found unproved proof =
     let here : HasProof (target q (claim_but but)) h most = subst (λ (a : Asked). HasProof a h most) (target_but q but plain) proof in
     record {

@@ -7,6 +7,7 @@ pub mod Looking
 pub mod JoinedTrees
 pub mod Forcing
 pub mod Telling
+pub mod Castlings
 pub mod Truths
 pub mod OneMove
 pub mod Seeking

@@ -1,7 +1,7 @@
 -- The texts of what is found, one behind the other.
 use Rattle.std.proofs.Common.{◌≡◌, ℕ, ◌<◌, ◌≤◌, true, false, List, [], ◌∷◌, ◌++◌, length, refl, ap, sym, subst, ◌∙◌, arith, append_assoc, append-nil}
 use Rattle.std.specs.Prelude.{IsTrue, Option, Result, Ok, Err, OnOk, codes}
-use Rattle.std.proofs.lemmas.Bool.{cond-true, cond-false}
+use Rattle.std.proofs.lemmas.Bool.{cond-true, cond-false, false≢true}
 use Rattle.board_base.specs.Rights.{Rights}
 use Rattle.board_base.specs.declared.castles.Castle.{Castle}
 use Rattle.board_base.specs.declared.unmoves.Unmove.{Unmove}
@@ -21,7 +21,7 @@ use Rattle.diagram_study.specs.Forced.{AreForced, TellsForced, TellsSteps}
 use Rattle.diagram_study.specs.Studies.{IsStudy, TellsAgain, TellsBehind, TellsLength, TellsMore, TellsOther, TellsPlain, TellsPosition, other_side, without_demands}
 use Rattle.diagram_study.specs.Texts.{capture_lines, castling_lines, found_line, left_line, other_line, plain_line, steps_line}
 use Rattle.diagram_study.specs.declared.findings.Finding.{Finding}
-use Rattle.diagram_study.specs.declared.findings.Finding.TheVariants.{Proved, Open, Spent}
+use Rattle.diagram_study.specs.declared.findings.Finding.TheVariants.{Proved, Countered, Open, Spent}
 use Rattle.diagram_study.specs.declared.rights.RightFound.{RightFound}
 
 -- a piece more behind what stood there
@@ -37,10 +37,6 @@ pairs_first Tells pair pairs t u v own others = (own.0 ++ others.0, (own.0, othe
 
 pub pairs_end : (Tells : Castle × Castle → List ℕ → Type 0) (t : List ℕ) → Told (TellsPairs Tells []) t t
 pairs_end Tells t = ([], refl, sym (append-nil t))
-
--- the line of two castlings
-pub pair_told : (q : Asked) (most nodes : ℕ) (x y : Castle) (finding : Finding) (old new : List ℕ) → IsLineFound q (NotBoth x y) most nodes finding → new ≡ old ++ steps_line finding (NotBoth x y) → Told (TellsPair q most nodes x y) old new
-pair_told q most nodes x y finding old new found longer = (steps_line finding (NotBoth x y), record { finding = finding; found = found; text_is = refl }, longer)
 
 -- the line of the last moves, where they are proved
 pub steps_told : (q : Asked) (most nodes : ℕ) (steps : List Unmove) (claim : LineClaim) (finding : Finding) (old new : List ℕ) → claim ≡ Line steps → IsLineFound q claim most nodes finding → is_proved finding ≡ true → new ≡ old ++ steps_line finding claim → Told (TellsSteps q most nodes steps) old new
@@ -120,8 +116,9 @@ position_told q most nodes finding t u v found line behind =
 -- what follows where it is proved to be illegal
 pub behind_proved : (q : Asked) (most nodes : ℕ) (finding : Finding) (u v : List ℕ) → IsTrue (is_proved finding) → Told (TellsOther q most nodes) u v → Told (TellsBehind q most nodes finding) u v
 behind_proved q most nodes (Proved depth) u v proved told = told
-behind_proved q most nodes Open u v proved told = cc
-behind_proved q most nodes Spent u v proved told = cc
+behind_proved q most nodes Countered u v proved told = absurd (false≢true proved)
+behind_proved q most nodes Open u v proved told = absurd (false≢true proved)
+behind_proved q most nodes Spent u v proved told = absurd (false≢true proved)
 
 pub plain_told : (q plain : Asked) (most nodes : ℕ) (finding : Finding) (t u v : List ℕ) → plain ≡ without_demands q → u ≡ t ++ plain_line → Told (TellsPosition plain most nodes finding) u v → Told (TellsPlain q most nodes) t v
 plain_told q plain most nodes finding t u v is line told =

@@ -12,23 +12,27 @@ use Rattle.line_claims.specs.declared.claims.LineClaim.{LineClaim}
 use Rattle.diagram_study.specs.Findings.{IsFound, is_proved}
 use Rattle.diagram_study.specs.Joined.{AreEachFound, IsLineFound, joined, together}
 use Rattle.diagram_study.specs.declared.findings.Finding.{Finding}
-use Rattle.diagram_study.specs.declared.findings.Finding.TheVariants.{Proved, Open, Spent}
+use Rattle.diagram_study.specs.declared.findings.Finding.TheVariants.{Proved, Countered, Open, Spent}
 
 -- what was found of a claim that is proved holds of every game
 pub proved_holds : (q : Asked) (claim : Claim) (most nodes : ℕ) (finding : Finding) → IsFound q claim most nodes finding → IsTrue (is_proved finding) → Holds claim q
 proved_holds q claim most nodes (Proved depth) found proved = found.proved.holds
+proved_holds q claim most nodes Countered found proved = cc
 proved_holds q claim most nodes Open found proved = cc
 proved_holds q claim most nodes Spent found proved = cc
 
 joined_first : (a b : Finding) → IsTrue (is_proved (joined a b)) → IsTrue (is_proved a)
 joined_first (Proved depth) b proved = refl
+joined_first Countered b proved = proved
 joined_first Open b proved = proved
 joined_first Spent b proved = proved
 
 joined_other : (a b : Finding) → IsTrue (is_proved (joined a b)) → IsTrue (is_proved b)
 joined_other (Proved depth) (Proved other) proved = refl
+joined_other (Proved depth) Countered proved = proved
 joined_other (Proved depth) Open proved = proved
 joined_other (Proved depth) Spent proved = proved
+joined_other Countered b proved = cc
 joined_other Open b proved = cc
 joined_other Spent b proved = cc
 
@@ -37,10 +41,13 @@ max_assoc a b c = omega arith
 
 joined_assoc : (a b c : Finding) → joined (joined a b) c ≡ joined a (joined b c)
 joined_assoc (Proved d) (Proved e) (Proved f) = ap Proved (max_assoc d e f)
+joined_assoc (Proved d) (Proved e) Countered = refl
 joined_assoc (Proved d) (Proved e) Open = refl
 joined_assoc (Proved d) (Proved e) Spent = refl
+joined_assoc (Proved d) Countered c = refl
 joined_assoc (Proved d) Open c = refl
 joined_assoc (Proved d) Spent c = refl
+joined_assoc Countered b c = refl
 joined_assoc Open b c = refl
 joined_assoc Spent b c = refl
 
@@ -49,6 +56,7 @@ max_none d = omega arith
 
 joined_none : (a : Finding) → joined a (Proved 0) ≡ a
 joined_none (Proved depth) = ap Proved (max_none depth)
+joined_none Countered = refl
 joined_none Open = refl
 joined_none Spent = refl
 

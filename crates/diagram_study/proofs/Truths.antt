@@ -1,6 +1,6 @@
 -- Each line of a study says what is so.
 use Rattle.std.proofs.Common.{◌≡◌, ℕ, ◌⊎◌, inl, inr, Bool, true, false, cond, List, [], ◌∷◌, ◌++◌, length, refl, ap, sym, subst, ◌∙◌, append_assoc, append-nil}
-use Rattle.std.specs.Prelude.{◌&&◌, Option, Some, None}
+use Rattle.std.specs.Prelude.{◌&&◌, IsTrue, Option, Some, None}
 use Rattle.std.specs.List.{All, flat_map}
 use Rattle.std.proofs.lemmas.Bool.{cases_lt}
 use Rattle.general_lemmas.proofs.Settling.{test}
@@ -9,6 +9,8 @@ use Rattle.board_base.specs.Rights.{Rights, holds}
 use Rattle.board_base.specs.declared.castles.Castle.{Castle}
 use Rattle.board_base.specs.declared.moves.Move.{Move}
 use Rattle.query_base.specs.Asked.{Asked}
+use Rattle.query_base.specs.Reach.{Holds}
+use Rattle.query_base.specs.declared.claims.Claim.{Claim}
 use Rattle.query_base.specs.declared.claims.Claim.TheVariants.{Illegal, Last}
 use Rattle.codex_verdict.specs.Rights.{claim_of}
 use Rattle.codex_verdict.specs.declared.kinds.Right.{Right}
@@ -16,8 +18,8 @@ use Rattle.codex_verdict.specs.declared.kinds.Right.TheVariants.{Castling, EnPas
 use Rattle.length_bound.specs.declared.texts.LengthText.{LengthText}
 use Rattle.line_claims.specs.declared.claims.LineClaim.TheVariants.{Line, NotBoth}
 use Rattle.unmove_gen.specs.Listed.{unmoves}
-use Rattle.diagram_study.specs.Facts.{Fact, IsTrueOf, SaysTrue, at_least, found, left, line_of, other, steps}
-use Rattle.diagram_study.specs.Findings.{IsFound, is_proved}
+use Rattle.diagram_study.specs.Facts.{Fact, IsSo, IsTrueOf, SaysTrue, at_least, found, left, line_of, other, steps}
+use Rattle.diagram_study.specs.Findings.{IsContradicted, IsFound, is_proved}
 use Rattle.diagram_study.specs.Forced.{TellsForced}
 use Rattle.diagram_study.specs.Pairs.{TellsOpenPair, TellsPairs, castle_pairs}
 use Rattle.diagram_study.specs.Retractions.{TellsLast, one_move}
@@ -25,9 +27,29 @@ use Rattle.diagram_study.specs.Rights.{IsRightFound, open_castlings}
 use Rattle.diagram_study.specs.Studies.{IsStudy, TellsAgain, TellsBehind, TellsLength, TellsMore, TellsPosition, makes_demands, other_side}
 use Rattle.diagram_study.specs.Texts.{capture_line, capture_lines, castling_line, castling_lines, found_line, left_line, plain_line}
 use Rattle.diagram_study.specs.declared.findings.Finding.{Finding}
-use Rattle.diagram_study.specs.declared.findings.Finding.TheVariants.{Proved, Open, Spent}
+use Rattle.diagram_study.specs.declared.findings.Finding.TheVariants.{Proved, Countered, Open, Spent}
 use Rattle.diagram_study.specs.declared.rights.RightFound.{RightFound}
-use Rattle.diagram_study.proofs.Together.{proved_holds}
+
+-- what was found of a claim is so
+found_so : (q : Asked) (claim : Claim) (most nodes : ℕ) (finding : Finding) → IsFound q claim most nodes finding → IsSo finding (Holds claim q) (IsContradicted claim q)
+found_so q claim most nodes (Proved depth) here = here.proved.holds
+found_so q claim most nodes Countered here = here
+found_so q claim most nodes Open here = tt
+found_so q claim most nodes Spent here = tt
+
+-- what is said is so, where it is wherever the claim is proved or countered
+said_so : (finding : Finding) (A B : Type 0) → (IsTrue (is_proved finding) → A) → (finding ≡ Countered → B) → IsSo finding A B
+said_so (Proved depth) A B holds countered = holds refl
+said_so Countered A B holds countered = countered refl
+said_so Open A B holds countered = tt
+said_so Spent A B holds countered = tt
+
+-- a claim that is proved is no other
+unless_proved : (finding : Finding) (B : Type 0) → is_proved finding ≡ true → finding ≡ Countered → B
+unless_proved (Proved depth) B proved countered = cc
+unless_proved Countered B proved countered = cc
+unless_proved Open B proved countered = cc
+unless_proved Spent B proved countered = cc
 
 -- the text is the lines of facts that are true of the query
 record Says (q : Asked) (text : List ℕ) : Type 0 where
@@ -53,18 +75,18 @@ says_both q a b s t = record {
 }
 
 says_claim : (q : Asked) (most nodes : ℕ) (finding : Finding) → IsFound q Illegal most nodes finding → Says q (found_line finding Illegal)
-says_claim q most nodes finding is = says_one q _ (found finding Illegal) (proved_holds q Illegal most nodes finding is) refl
+says_claim q most nodes finding is = says_one q _ (found finding Illegal) (found_so q Illegal most nodes finding is) refl
 
 -- the lines of rights
 castling_says : (q : Asked) (most nodes : ℕ) (f : RightFound) (right : Right) → right ≡ f.right → IsRightFound q most nodes f → Says q (castling_line f.finding right)
 castling_says q most nodes f (Castling x) is h =
-    says_one q _ (found f.finding (claim_of (Castling x))) (proved_holds q (claim_of (Castling x)) most nodes f.finding (subst (λ (r : Right). IsFound q (claim_of r) most nodes f.finding) (sym is) h)) refl
+    says_one q _ (found f.finding (claim_of (Castling x))) (found_so q (claim_of (Castling x)) most nodes f.finding (subst (λ (r : Right). IsFound q (claim_of r) most nodes f.finding) (sym is) h)) refl
 castling_says q most nodes f (EnPassant m) is h = says_none q [] refl
 
 capture_says : (q : Asked) (most nodes : ℕ) (f : RightFound) (right : Right) → right ≡ f.right → IsRightFound q most nodes f → Says q (capture_line f.finding right)
 capture_says q most nodes f (Castling x) is h = says_none q [] refl
 capture_says q most nodes f (EnPassant m) is h =
-    says_one q _ (found f.finding (claim_of (EnPassant m))) (proved_holds q (claim_of (EnPassant m)) most nodes f.finding (subst (λ (r : Right). IsFound q (claim_of r) most nodes f.finding) (sym is) h)) refl
+    says_one q _ (found f.finding (claim_of (EnPassant m))) (found_so q (claim_of (EnPassant m)) most nodes f.finding (subst (λ (r : Right). IsFound q (claim_of r) most nodes f.finding) (sym is) h)) refl
 
 castlings_say : (q : Asked) (most nodes : ℕ) (fs : List RightFound) → All (IsRightFound q most nodes) fs → Says q (castling_lines fs)
 unfolding castling_lines
@@ -85,7 +107,7 @@ says_if q false line text is own = says_none q text is
 
 pair_says : (q : Asked) (most nodes : ℕ) (kept : Rights) (pair : Castle × Castle) (text : List ℕ) → TellsOpenPair q most nodes kept pair text → Says q text
 pair_says q most nodes kept pair text told = elim (test (holds kept pair.0 && holds kept pair.1)) [
-  | inl both ↦ let t = told.0 both in says_one q text (steps t.finding (NotBoth pair.0 pair.1)) t.found.holds t.text_is
+  | inl both ↦ let t = told.0 both in says_one q text (steps t.finding (NotBoth pair.0 pair.1)) (said_so t.finding _ _ t.holds t.countered) t.text_is
   | inr one ↦ says_none q text (told.1 one)
 ]
 
@@ -97,14 +119,14 @@ pairs_say q most nodes kept (pair ∷ pairs) text told =
 last_says : (q : Asked) (most nodes : ℕ) (m : Option Move) (text : List ℕ) → TellsLast q most nodes m text → Says q text
 last_says q most nodes None text told = says_none q text told
 last_says q most nodes (Some m) text told =
-    says_if q (is_proved told.finding) _ text told.text_is (λ proved. says_one q _ (found told.finding (Last m)) (proved_holds q (Last m) most nodes told.finding told.found) refl)
+    says_if q (is_proved told.finding) _ text told.text_is (λ proved. says_one q _ (found told.finding (Last m)) (found_so q (Last m) most nodes told.finding told.found) refl)
 
 line_says : (q : Asked) (most nodes : ℕ) (text : List ℕ) → TellsForced q most nodes text → Says q text
 line_says q most nodes text told = elim (cases_lt (length told.steps) 2) [
   | inl few ↦ says_none q text (told.few few)
   | inr more ↦
       let t = told.several more in
-      says_if q (is_proved t.finding) _ text t.text_is (λ proved. says_one q _ (steps t.finding (Line told.steps)) t.found.holds refl)
+      says_if q (is_proved t.finding) _ text t.text_is (λ proved. says_one q _ (steps t.finding (Line told.steps)) (said_so t.finding _ _ t.found.holds (unless_proved t.finding _ proved)) refl)
 ]
 
 games_say : (q : Asked) (said : Option LengthText) (text : List ℕ) → TellsLength q said text → Says q text
@@ -123,7 +145,8 @@ more_says q most nodes text told =
     (games_say q told.said told.games told.games_told))
 
 behind_says : (q : Asked) (most nodes : ℕ) (finding : Finding) (text : List ℕ) → TellsBehind q most nodes finding text → Says q text
-behind_says q most nodes (Proved depth) text told = says_one q text (other told.finding) (proved_holds (other_side q) Illegal most nodes told.finding told.found) told.text_is
+behind_says q most nodes (Proved depth) text told = says_one q text (other told.finding) (found_so (other_side q) Illegal most nodes told.finding told.found) told.text_is
+behind_says q most nodes Countered text told = more_says q most nodes text told
 behind_says q most nodes Open text told = more_says q most nodes text told
 behind_says q most nodes Spent text told = more_says q most nodes text told
 

@@ -1,5 +1,5 @@
 -- What a study says of a position, line by line, and that it is so.
-use Rattle.std.specs.Prelude.{ℕ, ◌≡◌, ◌≤◌, ◌⊎◌, IsTrue, List, [], ◌++◌, length}
+use Rattle.std.specs.Prelude.{ℕ, ◌≡◌, ◌≤◌, ◌⊎◌, List, [], ◌++◌, length}
 use Rattle.std.specs.List.{All, flat_map}
 use Rattle.board_base.specs.declared.moves.Move.{Move}
 use Rattle.board_base.specs.declared.unmoves.Unmove.{Unmove}
@@ -9,10 +9,12 @@ use Rattle.query_base.specs.declared.claims.Claim.{Claim}
 use Rattle.query_base.specs.declared.claims.Claim.TheVariants.{Illegal}
 use Rattle.line_claims.specs.Holding.{HoldsLine}
 use Rattle.line_claims.specs.declared.claims.LineClaim.{LineClaim}
-use Rattle.diagram_study.specs.Findings.{is_proved}
+use Rattle.diagram_study.specs.Findings.{IsContradicted}
+use Rattle.diagram_study.specs.Joined.{IsLineContradicted}
 use Rattle.diagram_study.specs.Studies.{other_side}
 use Rattle.diagram_study.specs.Texts.{found_line, left_line, length_line, other_line, plain_line, steps_line}
 use Rattle.diagram_study.specs.declared.findings.Finding.{Finding}
+use Rattle.diagram_study.specs.declared.findings.Finding.TheVariants.{Proved, Countered, Open, Spent}
 
 -- what a line says: what was found of a claim, or of a claim of several steps; which unmoves are left; how long games are at least; what
 -- was found with the other side to move
@@ -31,13 +33,21 @@ line_of (left us all) = left_line us all
 line_of (at_least n) = length_line n
 line_of (other finding) = other_line finding
 
--- what is proved holds of every game, and each game that reaches the query has at least so many half-moves
+-- what is said of a claim: that it holds where it is proved, that it is contradicted where it is countered, and nothing elsewhere
+abbrev pub IsSo : Finding → Type 0 → Type 0 → Type 0
+IsSo (Proved depth) holds contradicted = holds
+IsSo Countered holds contradicted = contradicted
+IsSo Open holds contradicted = Unit {0}
+IsSo Spent holds contradicted = Unit {0}
+
+-- What is proved holds of every game, some game contradicts what is countered, and each game that reaches the query has at least so many
+-- half-moves.
 abbrev pub IsTrueOf : Asked → Fact → Type 0
-IsTrueOf q (found finding claim) = IsTrue (is_proved finding) → Holds claim q
-IsTrueOf q (steps finding claim) = IsTrue (is_proved finding) → HoldsLine claim q
+IsTrueOf q (found finding claim) = IsSo finding (Holds claim q) (IsContradicted claim q)
+IsTrueOf q (steps finding claim) = IsSo finding (HoldsLine claim q) (IsLineContradicted claim q)
 IsTrueOf q (left us all) = Unit {0}
 IsTrueOf q (at_least n) = (g : List Move) → Reaches g q → n ≤ length g
-IsTrueOf q (other finding) = IsTrue (is_proved finding) → Holds Illegal (other_side q)
+IsTrueOf q (other finding) = IsSo finding (Holds Illegal (other_side q)) (IsContradicted Illegal (other_side q))
 
 -- The text is the lines of facts, each of which is true of the query; and behind them nothing, or what was found without demands.
 pub record SaysTrue (q : Asked) (text : List ℕ) : Type 0 where

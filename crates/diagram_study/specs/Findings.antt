@@ -1,7 +1,8 @@
 -- What the searches for a proof of a claim come to.
-use Rattle.std.specs.Prelude.{ℕ, ◌≡◌, ◌≤◌, ◌<◌, Bool, true, false, []}
+use Rattle.std.specs.Prelude.{ℕ, ◌≡◌, ◌≤◌, ◌<◌, Bool, true, false, List, []}
+use Rattle.board_base.specs.declared.moves.Move.{Move}
 use Rattle.query_base.specs.Asked.{Asked}
-use Rattle.query_base.specs.Reach.{Holds}
+use Rattle.query_base.specs.Reach.{Contradicts, Holds, Reaches}
 use Rattle.query_base.specs.Targets.{target}
 use Rattle.query_base.specs.declared.claims.Claim.{Claim}
 use Rattle.price_search.specs.FlatPrices.{FlatPricesSupport}
@@ -13,7 +14,7 @@ use Rattle.retro_search.specs.Unsettled.{WhereRefutable}
 use Rattle.retro_search.specs.declared.searchers.Outcome.{Outcome}
 use Rattle.retro_search.specs.declared.searchers.Outcome.TheVariants as outcome
 use Rattle.diagram_study.specs.declared.findings.Finding.{Finding}
-use Rattle.diagram_study.specs.declared.findings.Finding.TheVariants.{Proved, Open, Spent}
+use Rattle.diagram_study.specs.declared.findings.Finding.TheVariants.{Proved, Countered, Open, Spent}
 
 -- some tree of this height, which is no higher than the depth, proves the claim's target; so the claim holds of every game
 pub record IsProvedAt (q : Asked) (claim : Claim) (depth height : ℕ) : Type 0 where
@@ -51,11 +52,20 @@ pub record IsProof (q : Asked) (claim : Claim) (most nodes depth : ℕ) : Type 0
   pub least : IsUnprovedBelow q claim nodes depth
   pub priced : 1 ≤ nodes → FlatPricesSupport (target q claim) → depth ≡ 0
 
--- What was found of a claim about a query. Where it is open, rule lines don't refute its target at the greatest depth nor at any lower
+-- some game reaches the query
+abbrev pub IsReached : Asked → Type 0
+IsReached q = (g : List Move) × Reaches g q
+
+-- some game contradicts the claim
+abbrev pub IsContradicted : Claim → Asked → Type 0
+IsContradicted claim q = (g : List Move) × Contradicts g claim q
+
+-- What was found of a claim about a query. Where it is countered, some game contradicts it. Where it is open, rule lines don't refute its target at the greatest depth nor at any lower
 -- one; where the search was spent, the whole search is larger than the nodes, and the target's cost is above them wherever rule lines
 -- refute it. What isn't proved lacks flat prices.
 abbrev pub IsFound : Asked → Claim → ℕ → ℕ → Finding → Type 0
 IsFound q claim most nodes (Proved depth) = IsProof q claim most nodes depth
+IsFound q claim most nodes Countered = IsContradicted claim q
 IsFound q claim most nodes Open = ((k : ℕ) → k ≤ most → IsRefutable (target q claim) k [] → ⊥) × LacksFlatPrices q claim nodes
 IsFound q claim most nodes Spent =
     WhereRefutable (target q claim) most (λ n. nodes < n) × LacksFlatPrices q claim nodes × IsLargeSearch (target q claim) most nodes
@@ -63,5 +73,6 @@ IsFound q claim most nodes Spent =
 -- a proof was found
 abbrev pub is_proved : Finding → Bool
 is_proved (Proved depth) = true
+is_proved Countered = false
 is_proved Open = false
 is_proved Spent = false

@@ -4,20 +4,28 @@ use Rattle.board_base.specs.Rights.{Rights, holds}
 use Rattle.board_base.specs.declared.castles.Castle.{Castle}
 use Rattle.board_base.specs.declared.castles.Castle.TheVariants.{WhiteShort, WhiteLong, BlackShort, BlackLong}
 use Rattle.query_base.specs.Asked.{Asked}
+use Rattle.query_base.specs.declared.claims.Claim.TheVariants.{Illegal}
+use Rattle.line_claims.specs.Due.{with_both}
+use Rattle.line_claims.specs.Holding.{HoldsLine}
 use Rattle.line_claims.specs.declared.claims.LineClaim.TheVariants.{NotBoth}
-use Rattle.diagram_study.specs.Joined.{IsLineFound}
+use Rattle.diagram_study.specs.Findings.{IsFound, is_proved}
+use Rattle.diagram_study.specs.Joined.{IsLineContradicted}
 use Rattle.diagram_study.specs.Texts.{steps_line}
 use Rattle.diagram_study.specs.declared.findings.Finding.{Finding}
+use Rattle.diagram_study.specs.declared.findings.Finding.TheVariants.{Countered}
 
 -- each two castlings, in the order K, Q, k, q
 abbrev pub castle_pairs : List (Castle × Castle)
 castle_pairs =
     (WhiteShort, WhiteLong) ∷ (WhiteShort, BlackShort) ∷ (WhiteShort, BlackLong) ∷ (WhiteLong, BlackShort) ∷ (WhiteLong, BlackLong) ∷ (BlackShort, BlackLong) ∷ []
 
--- the line of what was found of the claim that the two castlings aren't both kept
+-- The line of what was found of the claim that the two castlings aren't both kept: of the claim that no game reaches the query with both
+-- held. Where that is proved, no game leaves both unmoved; where it is countered, some game does.
 pub record TellsPair (q : Asked) (most nodes : ℕ) (x y : Castle) (text : List ℕ) : Type 0 where
   pub finding : Finding
-  pub found : IsLineFound q (NotBoth x y) most nodes finding
+  pub found : IsFound (with_both q x y) Illegal most nodes finding
+  pub holds : IsTrue (is_proved finding) → HoldsLine (NotBoth x y) q
+  pub countered : finding ≡ Countered → IsLineContradicted (NotBoth x y) q
   pub text_is : text ≡ steps_line finding (NotBoth x y)
 
 -- the text of two castlings: of two that aren't proved to be lost what was found of them, else nothing

@@ -19,7 +19,7 @@ use Rattle.diagram_study.specs.Retractions.{HasLeft, TellsLast, one_move}
 use Rattle.diagram_study.specs.Forced.{TellsForced}
 use Rattle.diagram_study.specs.Texts.{capture_lines, castling_lines, found_line, left_line, length_line, other_line, plain_line}
 use Rattle.diagram_study.specs.declared.findings.Finding.{Finding}
-use Rattle.diagram_study.specs.declared.findings.Finding.TheVariants.{Proved, Open, Spent}
+use Rattle.diagram_study.specs.declared.findings.Finding.TheVariants.{Proved, Countered, Open, Spent}
 use Rattle.diagram_study.specs.declared.rights.RightFound.{RightFound}
 
 -- the greatest length that potentials of a side's men show, and each game that reaches the query is as long
@@ -68,6 +68,7 @@ pub record TellsOther (q : Asked) (most nodes : ℕ) (text : List ℕ) : Type 0 
 -- about it holds then, but whether it is illegal with the other side to move.
 abbrev pub TellsBehind : Asked → ℕ → ℕ → Finding → List ℕ → Type 0
 TellsBehind q most nodes (Proved depth) text = TellsOther q most nodes text
+TellsBehind q most nodes Countered text = TellsMore q most nodes text
 TellsBehind q most nodes Open text = TellsMore q most nodes text
 TellsBehind q most nodes Spent text = TellsMore q most nodes text
 

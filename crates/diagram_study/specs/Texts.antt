@@ -15,12 +15,13 @@ use Rattle.line_claims.specs.Lines.{steps_text}
 use Rattle.line_claims.specs.declared.claims.LineClaim.{LineClaim}
 use Rattle.line_claims.specs.declared.claims.LineClaim.TheVariants.{NotBoth, Line}
 use Rattle.diagram_study.specs.declared.findings.Finding.{Finding}
-use Rattle.diagram_study.specs.declared.findings.Finding.TheVariants.{Proved, Open, Spent}
+use Rattle.diagram_study.specs.declared.findings.Finding.TheVariants.{Proved, Countered, Open, Spent}
 use Rattle.diagram_study.specs.declared.rights.RightFound.{RightFound}
 
 -- what was found, before the claim
 abbrev pub finding_words : Finding → List ℕ
 finding_words (Proved depth) = codes "proved " ++ decimal depth ++ 32 ∷ []
+finding_words Countered = codes "countered "
 finding_words Open = codes "open "
 finding_words Spent = codes "spent "
 

@@ -7,6 +7,8 @@ ghost use Rattle.diagram_study.specs.Joined.{joined};
 pub enum Finding {
     /// The claim is proved by taking back so many moves, the fewest by which the search proves it.
     Proved(u8),
+    /// A game contradicts the claim.
+    Countered,
     /// A line of moves taken back stays open.
     Open,
     /// All the nodes that were allowed were visited.
@@ -27,7 +29,7 @@ impl Finding {
     {
         match self {
             Finding::Proved(depth) => other.at_least(depth),
-            Finding::Open | Finding::Spent => self,
+            Finding::Countered | Finding::Open | Finding::Spent => self,
         }
     }
 
@@ -37,7 +39,7 @@ impl Finding {
     {
         match self {
             Finding::Proved(other) => Finding::Proved(depth.max(other)),
-            Finding::Open | Finding::Spent => self,
+            Finding::Countered | Finding::Open | Finding::Spent => self,
         }
     }
 }

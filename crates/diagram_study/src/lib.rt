@@ -4,8 +4,10 @@
 //! Articles are those of the FIDE Laws of Chess, in force from 1 January 2023.
 #![tactic(auto)]
 
+mod deciding;
 mod findings;
 mod forced;
+mod games;
 mod joining;
 mod line_searches;
 mod pairs;

@@ -1,18 +1,28 @@
 ghost use Rattle.std.specs.Prelude.{List, ℕ, ◌≡◌, ◌++◌, IsTrue, None, OnOk};
+ghost use Rattle.line_claims.specs.Due.{with_both};
 ghost use Rattle.line_claims.specs.Lines.{in_order};
 ghost use Rattle.diagram_study.specs.Pairs.{TellsOpenPair, TellsPair, TellsPairs, castle_pairs};
 
-use crate::line_searches::seek_line;
+use crate::deciding::decide;
 use crate::searchers::Searchers;
 use crate::texts::push_steps;
 use board_base::Castle::{BlackLong, BlackShort, WhiteLong, WhiteShort};
 use board_base::{Castle, CastleSet};
-use line_claims::LineClaim;
-use query_base::Query;
+use line_claims::{LineClaim, parts_make_lines_hold};
+use query_base::{Claim, Query};
 use retro_search::Limits;
 use std::alloc::AllocError;
 
-/// Adds the line of what is found of the claim that the two castlings aren't both kept.
+/// The query with both castlings added to those that it demands.
+fn with_both(query: &Query, first: Castle, second: Castle) -> Query
+    ensures { result ≡ with_both query.now first second }
+{
+    let mut both = *query;
+    both.held = query.held.with(first).with(second);
+    both
+}
+
+/// Adds the line of what is found of the claim that the two castlings aren't both kept: of the claim that no game keeps both.
 fn tell_pair(
     searchers: &mut Searchers,
     query: &Query,
@@ -25,9 +35,10 @@ fn tell_pair(
     requires plain { query.now.barred ≡ None }
     ensures { OnOk result ((own : List ℕ) × TellsPair query.now limits.depth limits.nodes first second own × (text.new.items ≡ text.old.items ++ own)) }
 {
-    let claim = LineClaim::NotBoth(first, second);
-    let finding = seek_line(searchers, query, &claim, limits)?;
-    push_steps(text, finding, &claim)
+    parts_make_lines_hold();
+    let both = with_both(query, first, second);
+    let finding = decide(searchers, &both, &Claim::Illegal, limits)?;
+    push_steps(text, finding, &LineClaim::NotBoth(first, second))
 }
 
 /// Adds what is found of two castlings, where neither is proved to be lost.

@@ -5,9 +5,9 @@ ghost use Rattle.codex_verdict.specs.Rights.{claim_of};
 ghost use Rattle.diagram_study.specs.Rights.{AreDue, AreFound, is_demanded, open_castlings, with_right};
 ghost use Rattle.diagram_study.specs.Texts.{capture_line, capture_lines, castling_line, castling_lines};
 
+use crate::deciding::decide;
 use crate::findings::Finding;
 use crate::searchers::Searchers;
-use crate::searches::seek;
 use crate::texts::push_found;
 use arrayvec::ArrayVec;
 use board_base::CastleSet;
@@ -73,7 +73,7 @@ pub(crate) fn seek_rights(
     let due = due_rights(query);
     let each = due.as_slice();
     for right in each {
-        let finding = seek(searchers, query, &claim_of(right), limits)?;
+        let finding = decide(searchers, query, &claim_of(right), limits)?;
         found.push(RightFound {
             right: *right,
             finding,

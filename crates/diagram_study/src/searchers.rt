@@ -7,6 +7,7 @@ ghost use Rattle.retro_search.specs.Unsettled.{WhereRefutable};
 ghost use Rattle.retro_search.specs.declared.runs.Reasons.TheVariants.{All};
 ghost use Rattle.diagram_study.specs.Findings.{is_refuted};
 
+use crate::games::Games;
 use board_base::Memory;
 use query_base::Query;
 use retro_search::{Limits, Outcome, Reasons, Searcher};
@@ -15,13 +16,14 @@ use std::alloc::Global;
 /// Of so many nodes one is visited where the balance of captures is looked for.
 const PRICED_SHARE: u32 = 10;
 
-/// The two searches of a study. What one question makes them keep serves the others.
+/// The two searches of a study, and the games that it found. What one question makes them keep serves the others.
 #[derive(Drop)]
 pub(crate) struct Searchers {
     pub(crate) alloc: Global,
     by_rule_lines: Searcher,
     /// By the balance of captures too, which is dear to look for.
     by_all: Searcher,
+    pub(crate) games: Games,
     ghost reasons: { by_all ≡ All },
 }
 
@@ -32,6 +34,7 @@ impl Searchers {
             alloc,
             by_rule_lines: Searcher::new(alloc, Reasons::RuleLines),
             by_all: Searcher::new(alloc, Reasons::All),
+            games: Games::new(alloc),
         }
     }
 

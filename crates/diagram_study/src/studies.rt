@@ -7,6 +7,7 @@ ghost use Rattle.diagram_study.specs.Looks.{IsSeen};
 ghost use Rattle.diagram_study.specs.Studies.{IsStudy, TellsAgain, TellsBehind, TellsLength, TellsMore, TellsOther, TellsPlain, TellsPosition, makes_demands, other_side, without_demands};
 ghost use Rattle.length_bound.specs.declared.texts.LengthText.{LengthText};
 
+use crate::deciding::{counter, decide};
 use crate::findings::Finding;
 use crate::forced::tell_forced;
 use crate::joining::joined_up;
@@ -78,7 +79,7 @@ fn tell_other(
     ensures { OnOk result ((own : List ℕ) × TellsOther query.now limits.depth limits.nodes own × (text.new.items ≡ text.old.items ++ own)) }
 {
     let other = other_side(query);
-    let finding = seek(searchers, &other, &Claim::Illegal, limits)?;
+    let finding = decide(searchers, &other, &Claim::Illegal, limits)?;
     text.extend_from_slice(b"other side ")?;
     push_found(text, finding, &Claim::Illegal)
 }
@@ -99,6 +100,7 @@ fn tell_behind(
 {
     match finding {
         Finding::Proved(_) => tell_other(searchers, query, limits, text),
+        Finding::Countered => tell_more(searchers, query, seen, limits, text),
         Finding::Open => tell_more(searchers, query, seen, limits, text),
         Finding::Spent => tell_more(searchers, query, seen, limits, text),
     }
@@ -117,7 +119,8 @@ fn tell_seen(
     ensures { IfOk result (λ finding. (own : List ℕ) × TellsPosition query.now limits.depth limits.nodes finding own × (text.new.items ≡ text.old.items ++ own)) }
 {
     let seen = retractions(searchers, query, limits)?;
-    let finding = joined_up(query, None, sought, &seen, limits);
+    let joined = joined_up(query, None, sought, &seen, limits);
+    let finding = counter(searchers, query, &Claim::Illegal, joined, limits)?;
     push_found(text, finding, &Claim::Illegal)?;
     tell_behind(searchers, query, finding, &seen, limits, text)?;
     Ok(finding)

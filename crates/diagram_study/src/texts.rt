@@ -36,6 +36,7 @@ fn push_finding(text: &mut Vec<u8>, finding: Finding) -> Result<(), AllocError>
             push_number(text, u32::from(depth))?;
             text.extend_from_slice(b" ")
         }
+        Finding::Countered => text.extend_from_slice(b"countered "),
         Finding::Open => text.extend_from_slice(b"open "),
         Finding::Spent => text.extend_from_slice(b"spent "),
     }
