@@ -9,6 +9,7 @@ mod forced;
 mod joining;
 mod line_searches;
 mod pairs;
+mod possible;
 mod retractions;
 mod rights;
 mod searchers;
