@@ -7,7 +7,7 @@ ghost use Rattle.diagram_study.specs.Retractions.{EndsAmong};
 
 use crate::texts::push_possible;
 use board_base::{Unmove, UnmoveList};
-use game_search::{FEW_QUERIES, Hunt, find_game};
+use game_search::{Hunt, find_game};
 use query_base::{Query, is_array};
 use std::alloc::{AllocError, Global};
 use unmove_gen::{listed_moves_lead_here, pred};
@@ -43,7 +43,7 @@ fn ends_among(alloc: Global, query: &Query, left: &UnmoveList) -> Result<UnmoveL
     for i in 0..left.len() {
         let u = left.get(i).unwrap();
         let share = queries / (left.len() - i) as u32;
-        let hunt = find_end(alloc, query, &u, share.min(FEW_QUERIES))?;
+        let hunt = find_end(alloc, query, &u, share)?;
         queries -= hunt.looked_at;
         if hunt.game.is_some() {
             match ends.push(u) {
