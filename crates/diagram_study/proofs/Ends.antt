@@ -1,12 +1,14 @@
 -- Which unmoves games end with.
-use Rattle.std.proofs.Common.{◌≡◌, ℕ, ◌<◌, ◌≤◌, ◌⊎◌, Bool, true, false, cond, List, [], ◌∷◌, ◌++◌, length, refl, ap, sym, subst, ◌∙◌, inl, inr, arith}
+use Rattle.std.proofs.Common.{◌≡◌, ℕ, zero, suc, ◌+◌, ◌<◌, ◌≤◌, ◌⊎◌, Bool, true, false, cond, List, [], ◌∷◌, ◌++◌, length, take, refl, ap, sym, subst, ◌∙◌, inl, inr, arith}
 use Rattle.std.proofs.lemmas.Bool.{and_parts, both_ways, cases_lt, cond-false}
 use Rattle.std.proofs.lemmas.List.Elements.{All-cons, All-contains, All-head, All-nil, All-same, All-tail, All-weaker}
-use Rattle.std.specs.Prelude.{◌&&◌, ◌↔◌, Option, Some, None, IfSome, IsTrue}
+use Rattle.std.specs.Prelude.{◌&&◌, ◌↔◌, Option, Some, None, IfSome, IsTrue, is_some, slice_get}
+use Rattle.std.proofs.lemmas.Option.{same_Some}
 use Rattle.std.specs.Bool.{beq}
 use Rattle.std.specs.List.{All, Contains}
 use Rattle.general_lemmas.proofs.Filtered.{passes-filter}
 use Rattle.general_lemmas.proofs.Lists.{contains-first, contains-later}
+use Rattle.general_lemmas.proofs.Splits.{up_to}
 use Rattle.general_lemmas.proofs.Truth.{same_truth}
 use Rattle.board_base.specs.Board.{Places, at, is_a, is_of, same_kind}
 use Rattle.board_base.specs.Game.{board_after, last_move, turn_after}
@@ -32,8 +34,10 @@ use Rattle.unmove_gen.proofs.Members.{at-capture, length-back}
 use Rattle.unmove_gen.proofs.Parts.{Parts, legality_of, parts}
 use Rattle.retro_search.specs.declared.searchers.Outcome.{Outcome}
 use Rattle.diagram_study.specs.Findings.{IsOutcome, is_refuted}
-use Rattle.diagram_study.specs.Possible.{AreEnds, HasFewLeft, IsEnd}
+use Rattle.diagram_study.specs.Possible.{AreEnds, HasFewLeft, IsEnd, TellsEnds}
 use Rattle.diagram_study.specs.Retractions.{AreLeft, EndsAmong}
+use Rattle.diagram_study.specs.Texts.{possible_line}
+use Rattle.diagram_study.proofs.Steps.{at_place}
 
 -- the man that one of this side captured is of the kind that was given
 kind-captured : (place : Option Man) (c : Colour) (k : Option Kind) → is_of c place ≡ true → kind_of (captured_by place k) ≡ k
@@ -90,6 +94,10 @@ unfolding unmoves
 is_last onward q before u g listed is reaches =
     let there : Reaches g (predecessor q u) = subst (Reaches g) is reaches in
     (g, onward g u q listed there, same-unmove g u q (parts q u (passes-filter (is_listed q) candidates u listed)) there)
+
+pub found_end : ((g : List Move) (u : Unmove) (q : Asked) → Contains (unmoves q) u → Reaches g (predecessor q u) → Reaches (g ++ u.mv ∷ []) q) → (q before : Asked) (u : Unmove) (game : Option (List Move)) → Contains (unmoves q) u → before ≡ predecessor q u → IfSome game (λ g. Reaches g before) → IfSome game (λ g. IsEnd q u)
+found_end onward q before u None listed is reached = tt
+found_end onward q before u (Some g) listed is reached = is_last onward q before u g listed is reached
 
 -- one unmove more with which some game ends
 pub ends_more : (q : Asked) (us ends : List Unmove) (u : Unmove) → AreEnds q us ends → IsEnd q u → AreEnds q (us ++ u ∷ []) (ends ++ u ∷ [])
@@ -171,3 +179,29 @@ few_or_not q left = elim (cases_lt 0 (length left)) [
     ]
   ]
 ]
+
+-- what holds of all holds of the one at a place
+pub holds_at : (P : Unmove → Type 0) (us : List Unmove) (i : ℕ) (u : Unmove) → All P us → slice_get us i ≡ Some u → P u
+holds_at P [] i u all there = absurd cc
+holds_at P (v ∷ us) zero u all there = subst P (same_Some _ _ there) (All-head P v us all)
+holds_at P (v ∷ us) (suc i) u all there = holds_at P us i u (All-tail P v us all) there
+
+some_then : (game : Option (List Move)) (P : Type 0) → IfSome game (λ g. P) → is_some game ≡ true → P
+some_then None P h some = absurd (both_ways false refl some)
+some_then (Some g) P h some = h
+
+-- the unmove at a place is an end, since a game was found
+pub ends_found : (q : Asked) (left ends longer : List Unmove) (i : ℕ) (u : Unmove) (game : Option (List Move)) → i < length left → slice_get left i ≡ Some u → AreEnds q (take i left) ends → IfSome game (λ g. IsEnd q u) → is_some game ≡ true → longer ≡ ends ++ u ∷ [] → AreEnds q (take (i + 1) left) longer
+ends_found q left ends longer i u game inside there are end some grown =
+    subst (λ (us : List Unmove). AreEnds q us longer) (sym (up_to left i u inside (at_place left i u there)))
+    (subst (AreEnds q (take i left ++ u ∷ [])) (sym grown) (ends_more q (take i left) ends u are (some_then game (IsEnd q u) end some)))
+
+-- or it is passed over
+pub ends_passed : (q : Asked) (left ends : List Unmove) (i : ℕ) (u : Unmove) → i < length left → slice_get left i ≡ Some u → AreEnds q (take i left) ends → AreEnds q (take (i + 1) left) ends
+ends_passed q left ends i u inside there are =
+    subst (λ (us : List Unmove). AreEnds q us ends) (sym (up_to left i u inside (at_place left i u there))) (ends_past q (take i left) ends u are)
+
+-- their line
+pub ends_told : (q : Asked) (left ends : List Unmove) (n : ℕ) (old new : List ℕ) → AreEnds q left ends → EndsAmong q left → n ≡ length left → new ≡ old ++ possible_line ends n → (own : List ℕ) × TellsEnds q left own × (new ≡ old ++ own)
+ends_told q left ends n old new are among counted longer =
+    (possible_line ends n, record { ends = ends; are = are; whole = whole_truth q left ends are among; text_is = ap (possible_line ends) counted }, longer)

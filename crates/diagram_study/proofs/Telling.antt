@@ -1,7 +1,7 @@
 -- The texts of what is found, one behind the other.
 use Rattle.std.proofs.Common.{◌≡◌, ℕ, ◌<◌, ◌≤◌, true, false, List, [], ◌∷◌, ◌++◌, length, refl, ap, sym, subst, ◌∙◌, arith, append_assoc, append-nil}
 use Rattle.std.specs.Prelude.{IsTrue, Option, Result, Ok, Err, OnOk, codes}
-use Rattle.std.proofs.lemmas.Bool.{cond-true, cond-false}
+use Rattle.std.proofs.lemmas.Bool.{both_ways, cond-true, cond-false}
 use Rattle.board_base.specs.Rights.{Rights}
 use Rattle.board_base.specs.declared.castles.Castle.{Castle}
 use Rattle.board_base.specs.declared.unmoves.Unmove.{Unmove}
@@ -124,8 +124,8 @@ position_told q most nodes finding t u v found line behind =
 -- what follows where it is proved to be illegal
 pub behind_proved : (q : Asked) (most nodes : ℕ) (finding : Finding) (u v : List ℕ) → IsTrue (is_proved finding) → Told (TellsOther q most nodes) u v → Told (TellsBehind q most nodes finding) u v
 behind_proved q most nodes (Proved depth) u v proved told = told
-behind_proved q most nodes Open u v proved told = cc
-behind_proved q most nodes Spent u v proved told = cc
+behind_proved q most nodes Open u v proved told = absurd (both_ways false refl proved)
+behind_proved q most nodes Spent u v proved told = absurd (both_ways false refl proved)
 
 pub plain_told : (q plain : Asked) (most nodes : ℕ) (finding : Finding) (t u v : List ℕ) → plain ≡ without_demands q → u ≡ t ++ plain_line → Told (TellsPosition plain most nodes finding) u v → Told (TellsPlain q most nodes) t v
 plain_told q plain most nodes finding t u v is line told =
