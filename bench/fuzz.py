@@ -83,7 +83,7 @@ FORMS = {
 WORD = r"(?:proved \d+|countered|open|spent)"
 STUDY = (
     rf"(?:proved \d+ illegal\nother side {WORD} illegal\n|(?:countered|open|spent) illegal\n(?:{WORD} (?:lost [KQkq]|notboth [KQkq] [KQkq]|ep [a-h][1-8][a-h][1-8])\n)*"
-    rf"(?:proved \d+ last {MOVE}\n)?(?:proved \d+ line {UNMOVE}(?: {UNMOVE}){{1,15}}\n)?left \d+ of \d+(?: {UNMOVE}){{0,24}}\n(?:atleast \d+\n)?)"
+    rf"(?:proved \d+ last {MOVE}\n)?(?:proved \d+ line {UNMOVE}(?: {UNMOVE}){{1,15}}\n)?left \d+ of \d+(?: {UNMOVE}){{0,24}}\n(?:possible [0-8] of [1-8](?: {UNMOVE}){{0,8}}\n)?(?:atleast \d+\n)?)"
 )
 FORMS |= {("study", 0): rf"{STUDY}(?:without demands\n{STUDY})?", ("--help", 0): r"usage:\n[^\0]+", ("--version", 0): r"retractor \d+\.\d+\n"}
 FORMS |= {("settle", status): FORMS["solve", status] for status in (0, 2, 4)}

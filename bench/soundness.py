@@ -131,6 +131,8 @@ def wrong_line(line, position, moves, legal_passings):
     if words[0] == "left":
         shown = words[4:]
         return bool(moves) and (words[1] == "0" or bool(shown) and moves[-1].retraction() not in shown)
+    if words[0] == "possible":
+        return bool(moves) and words[1] == words[3] and moves[-1].retraction() not in words[4:]
     if words[0] == "atleast":
         return int(words[1]) > len(moves)
     if words[0] != "proved":

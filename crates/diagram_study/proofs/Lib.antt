@@ -3,6 +3,7 @@ pub mod Plain
 pub mod Searching
 pub mod Together
 pub mod Leaving
+pub mod Ends
 pub mod Looking
 pub mod JoinedTrees
 pub mod Forcing

@@ -1,7 +1,7 @@
 -- The texts of what is found, one behind the other.
 use Rattle.std.proofs.Common.{◌≡◌, ℕ, ◌<◌, ◌≤◌, true, false, List, [], ◌∷◌, ◌++◌, length, refl, ap, sym, subst, ◌∙◌, arith, append_assoc, append-nil}
 use Rattle.std.specs.Prelude.{IsTrue, Option, Result, Ok, Err, OnOk, codes}
-use Rattle.std.proofs.lemmas.Bool.{cond-true, cond-false, false≢true}
+use Rattle.std.proofs.lemmas.Bool.{both_ways, cond-true, cond-false, false≢true}
 use Rattle.board_base.specs.Rights.{Rights}
 use Rattle.board_base.specs.declared.castles.Castle.{Castle}
 use Rattle.board_base.specs.declared.unmoves.Unmove.{Unmove}
@@ -18,6 +18,7 @@ use Rattle.diagram_study.specs.Rights.{AreFound, open_castlings}
 use Rattle.diagram_study.specs.Pairs.{TellsOpenPair, TellsPair, TellsPairs, castle_pairs}
 use Rattle.diagram_study.specs.Retractions.{HasLeft, TellsLast, one_move}
 use Rattle.diagram_study.specs.Forced.{AreForced, TellsForced, TellsSteps}
+use Rattle.diagram_study.specs.Possible.{TellsPossible}
 use Rattle.diagram_study.specs.Studies.{IsStudy, TellsAgain, TellsBehind, TellsLength, TellsMore, TellsOther, TellsPlain, TellsPosition, other_side, without_demands}
 use Rattle.diagram_study.specs.Texts.{capture_lines, castling_lines, found_line, left_line, other_line, plain_line, steps_line}
 use Rattle.diagram_study.specs.declared.findings.Finding.{Finding}
@@ -70,9 +71,9 @@ forced_untold q most nodes steps text forced few =
     ([], record { steps = steps; forced = forced; several = λ more. absurd (omega (arith, few, more)); few = λ _. refl }, sym (append-nil text))
 
 -- the texts of a study so far, one behind the other
-pub more_told : (q : Asked) (most nodes : ℕ) (found : List RightFound) (kept : Rights) (left : List Unmove) (all : ℕ) (t u v w x y z e : List ℕ) → AreFound q most nodes found → kept ≡ open_castlings found → HasLeft q most nodes left → (1 ≤ most → left ≡ [] → Reaches [] q) → all ≡ length (unmoves q) → u ≡ t ++ castling_lines found
-    → Told (TellsPairs (TellsOpenPair q most nodes kept) castle_pairs) u v → w ≡ v ++ capture_lines found → Told (TellsLast q most nodes (one_move left)) w x → Told (TellsForced q most nodes) x y → z ≡ y ++ left_line left all → ((own : List ℕ) × (said : Option LengthText) × TellsLength q said own × (e ≡ z ++ own)) → Told (TellsMore q most nodes) t e
-more_told q most nodes found kept left all t u v w x y z e are set has array counted castlings pairs captures last line lefts games =
+pub more_told : (q : Asked) (most nodes : ℕ) (found : List RightFound) (kept : Rights) (left : List Unmove) (all : ℕ) (t u v w x y z a e : List ℕ) → AreFound q most nodes found → kept ≡ open_castlings found → HasLeft q most nodes left → (1 ≤ most → left ≡ [] → Reaches [] q) → all ≡ length (unmoves q) → u ≡ t ++ castling_lines found
+    → Told (TellsPairs (TellsOpenPair q most nodes kept) castle_pairs) u v → w ≡ v ++ capture_lines found → Told (TellsLast q most nodes (one_move left)) w x → Told (TellsForced q most nodes) x y → z ≡ y ++ left_line left all → Told (TellsPossible q left) z a → ((own : List ℕ) × (said : Option LengthText) × TellsLength q said own × (e ≡ a ++ own)) → Told (TellsMore q most nodes) t e
+more_told q most nodes found kept left all t u v w x y z a e are set has array counted castlings pairs captures last line lefts possible games =
     let first = castling_lines found in
     let second = capture_lines found in
     let third = left_line left all in
@@ -81,8 +82,9 @@ more_told q most nodes found kept left all t u v w x y z e are set has array cou
     let to_last = joins t (first ++ pairs.0 ++ second) last.0 w x to_captures last.2 in
     let to_line = joins t (first ++ pairs.0 ++ second ++ last.0) line.0 x y to_last line.2 in
     let to_left = joins t (first ++ pairs.0 ++ second ++ last.0 ++ line.0) third y z to_line lefts in
-    let whole = joins t (first ++ pairs.0 ++ second ++ last.0 ++ line.0 ++ third) games.0 z e to_left games.3 in (
-      first ++ pairs.0 ++ second ++ last.0 ++ line.0 ++ third ++ games.0,
+    let to_possible = joins t (first ++ pairs.0 ++ second ++ last.0 ++ line.0 ++ third) possible.0 z a to_left possible.2 in
+    let whole = joins t (first ++ pairs.0 ++ second ++ last.0 ++ line.0 ++ third ++ possible.0) games.0 a e to_possible games.3 in (
+      first ++ pairs.0 ++ second ++ last.0 ++ line.0 ++ third ++ possible.0 ++ games.0,
       record {
         found = found;
         rights = are;
@@ -95,10 +97,12 @@ more_told q most nodes found kept left all t u v w x y z e are set has array cou
         last_told = last.1;
         line = line.0;
         line_told = line.1;
+        possible = possible.0;
+        possible_told = possible.1;
         said = games.1;
         games = games.0;
         games_told = games.2;
-        text_is = ap (λ (n : ℕ). first ++ pairs.0 ++ second ++ last.0 ++ line.0 ++ left_line left n ++ games.0) counted;
+        text_is = ap (λ (n : ℕ). first ++ pairs.0 ++ second ++ last.0 ++ line.0 ++ left_line left n ++ possible.0 ++ games.0) counted;
       },
       whole,
     )

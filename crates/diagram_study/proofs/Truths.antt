@@ -8,6 +8,7 @@ use Rattle.std.proofs.lemmas.List.Elements.{All-append, All-cons, All-head, All-
 use Rattle.board_base.specs.Rights.{Rights, holds}
 use Rattle.board_base.specs.declared.castles.Castle.{Castle}
 use Rattle.board_base.specs.declared.moves.Move.{Move}
+use Rattle.board_base.specs.declared.unmoves.Unmove.{Unmove}
 use Rattle.query_base.specs.Asked.{Asked}
 use Rattle.query_base.specs.Reach.{Holds}
 use Rattle.query_base.specs.declared.claims.Claim.{Claim}
@@ -18,9 +19,10 @@ use Rattle.codex_verdict.specs.declared.kinds.Right.TheVariants.{Castling, EnPas
 use Rattle.length_bound.specs.declared.texts.LengthText.{LengthText}
 use Rattle.line_claims.specs.declared.claims.LineClaim.TheVariants.{Line, NotBoth}
 use Rattle.unmove_gen.specs.Listed.{unmoves}
-use Rattle.diagram_study.specs.Facts.{Fact, IsSo, IsTrueOf, SaysTrue, at_least, found, left, line_of, other, steps}
+use Rattle.diagram_study.specs.Facts.{Fact, IsSo, IsTrueOf, SaysTrue, at_least, found, left, line_of, other, possible, steps}
 use Rattle.diagram_study.specs.Findings.{IsContradicted, IsFound, is_proved}
 use Rattle.diagram_study.specs.Forced.{TellsForced}
+use Rattle.diagram_study.specs.Possible.{HasFewLeft, TellsPossible}
 use Rattle.diagram_study.specs.Pairs.{TellsOpenPair, TellsPairs, castle_pairs}
 use Rattle.diagram_study.specs.Retractions.{TellsLast, one_move}
 use Rattle.diagram_study.specs.Rights.{IsRightFound, open_castlings}
@@ -29,6 +31,7 @@ use Rattle.diagram_study.specs.Texts.{capture_line, capture_lines, castling_line
 use Rattle.diagram_study.specs.declared.findings.Finding.{Finding}
 use Rattle.diagram_study.specs.declared.findings.Finding.TheVariants.{Proved, Countered, Open, Spent}
 use Rattle.diagram_study.specs.declared.rights.RightFound.{RightFound}
+use Rattle.diagram_study.proofs.Ends.{all_end, few_or_not}
 
 -- what was found of a claim is so
 found_so : (q : Asked) (claim : Claim) (most nodes : ℕ) (finding : Finding) → IsFound q claim most nodes finding → IsSo finding (Holds claim q) (IsContradicted claim q)
@@ -133,15 +136,22 @@ games_say : (q : Asked) (said : Option LengthText) (text : List ℕ) → TellsLe
 games_say q None text told = says_none q text told.2
 games_say q (Some said) text told = says_one q text (at_least said.at_least) told.0.games told.1
 
+possible_says : (q : Asked) (us : List Unmove) (text : List ℕ) → TellsPossible q us text → Says q text
+possible_says q us text told = elim (few_or_not q us) [
+  | inl few ↦ let t = told.told few in says_one q text (possible t.ends (length us)) (all_end q us t.ends t.are) t.text_is
+  | inr many ↦ says_none q text (told.untold many)
+]
+
 more_says : (q : Asked) (most nodes : ℕ) (text : List ℕ) → TellsMore q most nodes text → Says q text
 more_says q most nodes text told =
     subst (Says q) (sym told.text_is)
-    (says_both q _ told.games (says_both q _ (left_line told.left (length (unmoves q))) (says_both q _ told.line (says_both q _ told.last (says_both q _ (capture_lines told.found) (says_both q (castling_lines told.found) told.pairs
+    (says_both q _ told.games (says_both q _ told.possible (says_both q _ (left_line told.left (length (unmoves q))) (says_both q _ told.line (says_both q _ told.last (says_both q _ (capture_lines told.found) (says_both q (castling_lines told.found) told.pairs
     (castlings_say q most nodes told.found told.rights.each) (pairs_say q most nodes (open_castlings told.found) castle_pairs told.pairs told.pairs_told))
     (captures_say q most nodes told.found told.rights.each))
     (last_says q most nodes (one_move told.left) told.last told.last_told))
     (line_says q most nodes told.line told.line_told))
     (says_one q _ (left told.left (length (unmoves q))) tt refl))
+    (possible_says q told.left told.possible told.possible_told))
     (games_say q told.said told.games told.games_told))
 
 behind_says : (q : Asked) (most nodes : ℕ) (finding : Finding) (text : List ℕ) → TellsBehind q most nodes finding text → Says q text

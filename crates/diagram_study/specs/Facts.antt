@@ -11,17 +11,19 @@ use Rattle.line_claims.specs.Holding.{HoldsLine}
 use Rattle.line_claims.specs.declared.claims.LineClaim.{LineClaim}
 use Rattle.diagram_study.specs.Findings.{IsContradicted}
 use Rattle.diagram_study.specs.Joined.{IsLineContradicted}
+use Rattle.diagram_study.specs.Possible.{IsEnd}
 use Rattle.diagram_study.specs.Studies.{other_side}
-use Rattle.diagram_study.specs.Texts.{found_line, left_line, length_line, other_line, plain_line, steps_line}
+use Rattle.diagram_study.specs.Texts.{found_line, left_line, length_line, other_line, plain_line, possible_line, steps_line}
 use Rattle.diagram_study.specs.declared.findings.Finding.{Finding}
 use Rattle.diagram_study.specs.declared.findings.Finding.TheVariants.{Proved, Countered, Open, Spent}
 
 -- what a line says: what was found of a claim, or of a claim of several steps; which unmoves are left; how long games are at least; what
--- was found with the other side to move
+-- was found with the other side to move; with which of the unmoves left some game ends
 pub data Fact : Type 0 where
   found : Finding → Claim → Fact
   steps : Finding → LineClaim → Fact
   left : List Unmove → ℕ → Fact
+  possible : List Unmove → ℕ → Fact
   at_least : ℕ → Fact
   other : Finding → Fact
 
@@ -30,6 +32,7 @@ abbrev pub line_of : Fact → List ℕ
 line_of (found finding claim) = found_line finding claim
 line_of (steps finding claim) = steps_line finding claim
 line_of (left us all) = left_line us all
+line_of (possible us all) = possible_line us all
 line_of (at_least n) = length_line n
 line_of (other finding) = other_line finding
 
@@ -40,12 +43,13 @@ IsSo Countered holds contradicted = contradicted
 IsSo Open holds contradicted = Unit {0}
 IsSo Spent holds contradicted = Unit {0}
 
--- What is proved holds of every game, some game contradicts what is countered, and each game that reaches the query has at least so many
--- half-moves.
+-- What is proved holds of every game, some game contradicts what is countered, some game ends with each of the unmoves that are called
+-- possible, and each game that reaches the query has at least so many half-moves.
 abbrev pub IsTrueOf : Asked → Fact → Type 0
 IsTrueOf q (found finding claim) = IsSo finding (Holds claim q) (IsContradicted claim q)
 IsTrueOf q (steps finding claim) = IsSo finding (HoldsLine claim q) (IsLineContradicted claim q)
 IsTrueOf q (left us all) = Unit {0}
+IsTrueOf q (possible us all) = All (IsEnd q) us
 IsTrueOf q (at_least n) = (g : List Move) → Reaches g q → n ≤ length g
 IsTrueOf q (other finding) = IsSo finding (Holds Illegal (other_side q)) (IsContradicted Illegal (other_side q))
 

@@ -6,6 +6,7 @@ pub mod Pairs
 pub mod Retractions
 pub mod Forced
 pub mod Texts
+pub mod Possible
 pub mod Studies
 pub mod Facts
 pub mod Looks

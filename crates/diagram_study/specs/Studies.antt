@@ -17,6 +17,7 @@ use Rattle.diagram_study.specs.Rights.{AreFound, open_castlings}
 use Rattle.diagram_study.specs.Pairs.{TellsOpenPair, TellsPairs, castle_pairs}
 use Rattle.diagram_study.specs.Retractions.{HasLeft, TellsLast, one_move}
 use Rattle.diagram_study.specs.Forced.{TellsForced}
+use Rattle.diagram_study.specs.Possible.{TellsPossible}
 use Rattle.diagram_study.specs.Texts.{capture_lines, castling_lines, found_line, left_line, length_line, other_line, plain_line}
 use Rattle.diagram_study.specs.declared.findings.Finding.{Finding}
 use Rattle.diagram_study.specs.declared.findings.Finding.TheVariants.{Proved, Countered, Open, Spent}
@@ -35,7 +36,7 @@ TellsLength q (Some said) text = IsLength q said × (text ≡ length_line said.a
 
 -- What is told of a position that isn't proved to be illegal: what was found of the castlings that it seems to give and that aren't
 -- demanded, of each two of them that aren't proved to be lost, of captures en passant, of the last move and of those before it, which
--- retractions are left, and how long games are. Where a move may be taken back and no retraction is left, it is the array.
+-- retractions are left, with which of them games end, and how long games are. Where a move may be taken back and no retraction is left, it is the array.
 pub record TellsMore (q : Asked) (most nodes : ℕ) (text : List ℕ) : Type 0 where
   pub found : List RightFound
   pub rights : AreFound q most nodes found
@@ -48,10 +49,12 @@ pub record TellsMore (q : Asked) (most nodes : ℕ) (text : List ℕ) : Type 0 w
   pub last_told : TellsLast q most nodes (one_move left) last
   pub line : List ℕ
   pub line_told : TellsForced q most nodes line
+  pub possible : List ℕ
+  pub possible_told : TellsPossible q left possible
   pub said : Option LengthText
   pub games : List ℕ
   pub games_told : TellsLength q said games
-  pub text_is : text ≡ castling_lines found ++ pairs ++ capture_lines found ++ last ++ line ++ left_line left (length (unmoves q)) ++ games
+  pub text_is : text ≡ castling_lines found ++ pairs ++ capture_lines found ++ last ++ line ++ left_line left (length (unmoves q)) ++ possible ++ games
 
 -- The same board with the other side to move, at the same odds, with the same rights and the same clock demanded. The double step that
 -- an en passant square demands belongs to the side to move: it isn't demanded.

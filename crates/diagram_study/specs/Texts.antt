@@ -64,6 +64,10 @@ few_words us = cond (nat_le (length us) 24) (unmove_words us) []
 abbrev pub left_line : List Unmove → ℕ → List ℕ
 left_line left all = ended (codes "left " ++ decimal (length left) ++ codes " of " ++ decimal all ++ few_words left)
 
+-- the line that tells with which of so many unmoves some game ends
+abbrev pub possible_line : List Unmove → ℕ → List ℕ
+possible_line ends left = ended (codes "possible " ++ decimal (length ends) ++ codes " of " ++ decimal left ++ unmove_words ends)
+
 -- the line that tells how many half-moves there are at least
 abbrev pub length_line : ℕ → List ℕ
 length_line n = ended (codes "atleast " ++ decimal n)

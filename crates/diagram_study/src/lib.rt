@@ -11,6 +11,7 @@ mod games;
 mod joining;
 mod line_searches;
 mod pairs;
+mod possible;
 mod retractions;
 mod rights;
 mod searchers;

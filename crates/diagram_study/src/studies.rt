@@ -12,6 +12,7 @@ use crate::findings::Finding;
 use crate::forced::tell_forced;
 use crate::joining::joined_up;
 use crate::pairs::tell_pairs;
+use crate::possible::tell_possible;
 use crate::retractions::{Counted, retractions, tell_last};
 use crate::rights::{open_castlings, seek_rights, tell_captures, tell_castlings};
 use crate::searchers::Searchers;
@@ -55,6 +56,7 @@ fn tell_more(
     tell_last(searchers, query, seen, limits, text)?;
     tell_forced(searchers, query, &seen.left, limits, text)?;
     push_left(text, &seen.left, seen.all)?;
+    tell_possible(searchers.alloc, query, &seen.left, text)?;
     tell_length(query, text)
 }
 

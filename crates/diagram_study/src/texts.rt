@@ -4,7 +4,7 @@ ghost use Rattle.std.specs.List.{All};
 ghost use Rattle.board_base.specs.Texts.{unmove_text, unmove_words};
 ghost use Rattle.cert_text.specs.ClaimLines.{claim_words, promotes_well};
 ghost use Rattle.line_claims.specs.Lines.{HasLine, has_text};
-ghost use Rattle.diagram_study.specs.Texts.{few_words, finding_words, found_line, left_line, length_line, steps_line, steps_words};
+ghost use Rattle.diagram_study.specs.Texts.{few_words, finding_words, found_line, left_line, length_line, possible_line, steps_line, steps_words};
 
 use crate::findings::Finding;
 use arrayvec::ArrayVec;
@@ -143,6 +143,25 @@ pub(crate) fn push_left(text: &mut Vec<u8>, left: &UnmoveList, all: u32) -> Resu
     text.extend_from_slice(b" of ")?;
     push_number(text, all)?;
     push_few(text, left)?;
+    text.extend_from_slice(b"\n")
+}
+
+/// Adds the line that tells with which of so many unmoves some game ends.
+pub(crate) fn push_possible(
+    text: &mut Vec<u8>,
+    ends: &UnmoveList,
+    left: usize,
+) -> Result<(), AllocError>
+    requires few { length ends.now ≤ 8 }
+    requires some { left ≤ 8 }
+    requires texts { All (λ u. IsTrue (has_text u)) ends.now }
+    ensures { OnOk result (text.new.items ≡ text.old.items ++ possible_line ends.now left) }
+{
+    text.extend_from_slice(b"possible ")?;
+    push_number(text, ends.len() as u32)?;
+    text.extend_from_slice(b" of ")?;
+    push_number(text, left as u32)?;
+    push_unmoves(text, ends)?;
     text.extend_from_slice(b"\n")
 }
 

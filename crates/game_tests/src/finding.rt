@@ -2,7 +2,7 @@
 
 ghost use Rattle.std.specs.Prelude.{◌≡◌};
 
-use board_base::{Move, Odds, SquareSet};
+use board_base::{Move, MoveList, Odds, SquareSet};
 use fen_text::read_four_fields;
 use game_search::{MOST_QUERIES, find_game};
 use play_rules::{State, step};
@@ -42,16 +42,21 @@ const AT_ODDS: [(u64, &str); 3] = [
     (0x0020_0000_0000_0000, "3qk3/8/8/8/8/8/4P3/4K3 w - -"),
 ];
 
-/// Whether these moves, played at the query's odds, reach it.
-pub fn is_game_to(query: &Query, moves: &[Move]) -> bool {
+/// Whether this game, played at the query's odds, reaches it.
+pub fn is_game_to(query: &Query, game: &MoveList) -> bool {
     let mut state = State::start_of(query.odds);
-    for m in moves {
-        match step(&state, m) {
+    let mut last = None;
+    for i in 0..game.len() {
+        last = game.get(i);
+        let Some(m) = last else {
+            return false;
+        };
+        match step(&state, &m) {
             Ok(next) => state = next,
             Err(_) => return false,
         }
     }
-    matches_end(&state, moves.last().copied(), query)
+    matches_end(&state, last, query)
 }
 
 /// How many moves the game has that is found, if it reaches the query.
@@ -60,15 +65,8 @@ pub fn length_found(alloc: Global, query: &Query, last: Option<Move>) -> Option<
         return None;
     };
     let game = hunt.game?;
-    let mut moves = Vec::new(alloc);
-    for i in 0..game.len() {
-        let m = game.get(i)?;
-        if moves.push(m).is_err() {
-            return None;
-        }
-    }
-    if is_game_to(query, moves.as_slice()) {
-        Some(moves.len())
+    if is_game_to(query, &game) {
+        Some(game.len())
     } else {
         None
     }

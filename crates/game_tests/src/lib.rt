@@ -4,4 +4,6 @@
 #[cfg(test)]
 mod finding;
 #[cfg(test)]
+mod refused_memory;
+#[cfg(test)]
 mod wishes;

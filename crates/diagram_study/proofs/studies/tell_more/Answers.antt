@@ -6,6 +6,7 @@ use Rattle.codex_verdict.specs.Rights.{claim_of}
 use Rattle.diagram_study.specs.Rights.{open_castlings}
 use Rattle.diagram_study.specs.Texts.{capture_lines, castling_lines}
 use Rattle.diagram_study.specs.declared.rights.RightFound.{RightFound}
+use Rattle.diagram_study.proofs.Ends.{left_listed}
 use Rattle.diagram_study.proofs.Plain.{found_told}
 use Rattle.diagram_study.proofs.Telling.{more_told, ok_then}
 use Rattle.diagram_study.proofs.studies.tell_more.Goals as goal
@@ -14,10 +15,13 @@ pub tell_captures-requires : goal.tell_captures-requires
 tell_captures-requires c =
     All-same (λ (f : RightFound). IsTrue (promotes_well (claim_of f.right))) _ _ c.as_slice-3.ensures.value (found_told c.args.query.now c.in_ok-found.found.items c.in_ok-found.ensures.due)
 
+pub tell_possible-requires-clause-listed : goal.tell_possible-requires-clause-listed
+tell_possible-requires-clause-listed c = let has = c.requires.seen.left in left_listed c.args.query.now _ _ _ c.args.seen.now.left has.are
+
 pub returns : goal.returns
 returns c =
     ok_then c.tell_length.result _ _
-    (more_told c.args.query.now c.args.limits.depth c.args.limits.nodes c.in_ok-found.found.items c.open_castlings-kept.result c.args.seen.now.left c.args.seen.now.all _ _ _ _ _ _ _ _
+    (more_told c.args.query.now c.args.limits.depth c.args.limits.nodes c.in_ok-found.found.items c.open_castlings-kept.result c.args.seen.now.left c.args.seen.now.all _ _ _ _ _ _ _ _ _
     c.in_ok-found.ensures
     (c.open_castlings-kept.ensures ∙ ap (λ (l : List RightFound). open_castlings l) c.as_slice.ensures.value)
     c.requires.seen.left
@@ -28,5 +32,6 @@ returns c =
     (c.in_ok-tell_captures.ensures ∙ ap (λ (l : List RightFound). c.tell_pairs.new.text.items ++ capture_lines l) c.as_slice-3.ensures.value)
     c.in_ok-tell_last.ensures
     c.in_ok-tell_forced.ensures
-    c.in_ok-push_left.ensures)
+    c.in_ok-push_left.ensures
+    c.in_ok-tell_possible.ensures)
     c.tell_length.ensures
