@@ -60,9 +60,9 @@ IsReached q = (g : List Move) × Reaches g q
 abbrev pub IsContradicted : Claim → Asked → Type 0
 IsContradicted claim q = (g : List Move) × Contradicts g claim q
 
--- What was found of a claim about a query. Where it is countered, some game contradicts it. Where it is open, rule lines don't refute its target at the greatest depth nor at any lower
--- one; where the search was spent, the whole search is larger than the nodes, and the target's cost is above them wherever rule lines
--- refute it. What isn't proved lacks flat prices.
+-- What was found of a claim about a query. Where it is countered, some game contradicts it. Where it is open, rule lines don't refute its
+-- target at the greatest depth nor at any lower one; where the search was spent, the whole search is larger than the nodes, and the
+-- target's cost is above them wherever rule lines refute it. What isn't proved lacks flat prices.
 abbrev pub IsFound : Asked → Claim → ℕ → ℕ → Finding → Type 0
 IsFound q claim most nodes (Proved depth) = IsProof q claim most nodes depth
 IsFound q claim most nodes Countered = IsContradicted claim q
