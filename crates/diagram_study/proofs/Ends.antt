@@ -24,16 +24,14 @@ use Rattle.board_base.proofs.KindsOfMen.{kind_is}
 use Rattle.play_rules.proofs.Kings.{length-after}
 use Rattle.query_base.specs.Asked.{Asked}
 use Rattle.query_base.specs.Reach.{Reaches}
-use Rattle.query_base.specs.declared.claims.Claim.TheVariants.{Illegal}
 use Rattle.query_base.proofs.Settled.{array_settled}
-use Rattle.unmove_gen.specs.Listed.{answered, before, candidates, every_right, has_left, is_listed, is_marked, mover, took_pawn, unmoves}
+use Rattle.unmove_gen.specs.Listed.{answered, before, candidates, every_right, has_left, is_listed, mover, took_pawn, unmoves}
 use Rattle.unmove_gen.specs.Predecessor.{is_en_passant_after, predecessor, unmove_after}
 use Rattle.unmove_gen.specs.TakenBack.{capture_square, captured_by, kind_of}
 use Rattle.unmove_gen.proofs.Marks.{captures, goes-same, none-answers}
 use Rattle.unmove_gen.proofs.Members.{at-capture, length-back}
 use Rattle.unmove_gen.proofs.Parts.{Parts, legality_of, parts}
-use Rattle.retro_search.specs.declared.searchers.Outcome.{Outcome}
-use Rattle.diagram_study.specs.Findings.{IsOutcome, is_refuted}
+use Rattle.diagram_study.specs.Findings.{is_refuted}
 use Rattle.diagram_study.specs.Possible.{AreEnds, HasFewLeft, IsEnd, TellsEnds}
 use Rattle.diagram_study.specs.Retractions.{AreLeft, EndsAmong}
 use Rattle.diagram_study.specs.Texts.{possible_line}
@@ -102,10 +100,14 @@ found_end onward q before u (Some g) listed is reached = is_last onward q before
 -- one unmove more with which some game ends
 pub ends_more : (q : Asked) (us ends : List Unmove) (u : Unmove) → AreEnds q us ends → IsEnd q u → AreEnds q (us ++ u ∷ []) (ends ++ u ∷ [])
 ends_more q [] ends u are end = ([], refl, inr (end, ap (λ (l : List Unmove). l ++ u ∷ []) are))
-ends_more q (v ∷ us) ends u are end = (are.0 ++ u ∷ [], ends_more q us are.0 u are.1 end, elim are.2 [
-  | inl same ↦ inl (ap (λ (l : List Unmove). l ++ u ∷ []) same)
-  | inr there ↦ inr (there.0, ap (λ (l : List Unmove). l ++ u ∷ []) there.1)
-])
+ends_more q (v ∷ us) ends u are end = (
+  are.0 ++ u ∷ [],
+  ends_more q us are.0 u are.1 end,
+  elim are.2 [
+    | inl same ↦ inl (ap (λ (l : List Unmove). l ++ u ∷ []) same)
+    | inr there ↦ inr (there.0, ap (λ (l : List Unmove). l ++ u ∷ []) there.1)
+  ],
+)
 
 -- and one of which none is known
 pub ends_past : (q : Asked) (us ends : List Unmove) (u : Unmove) → AreEnds q us ends → AreEnds q (us ++ u ∷ []) ends

@@ -22,7 +22,7 @@ use Rattle.unmove_gen.specs.Listed.{unmoves}
 use Rattle.diagram_study.specs.Facts.{Fact, IsSo, IsTrueOf, SaysTrue, at_least, found, left, line_of, other, possible, steps}
 use Rattle.diagram_study.specs.Findings.{IsContradicted, IsFound, is_proved}
 use Rattle.diagram_study.specs.Forced.{TellsForced}
-use Rattle.diagram_study.specs.Possible.{HasFewLeft, TellsPossible}
+use Rattle.diagram_study.specs.Possible.{TellsPossible}
 use Rattle.diagram_study.specs.Pairs.{TellsOpenPair, TellsPairs, castle_pairs}
 use Rattle.diagram_study.specs.Retractions.{TellsLast, one_move}
 use Rattle.diagram_study.specs.Rights.{IsRightFound, open_castlings}
