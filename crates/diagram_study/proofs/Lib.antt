@@ -6,6 +6,8 @@ pub mod Leaving
 pub mod Looking
 pub mod JoinedTrees
 pub mod Forcing
+pub mod OpenFronts
+pub mod Staying
 pub mod Telling
 pub mod Castlings
 pub mod Truths
