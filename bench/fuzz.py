@@ -81,8 +81,11 @@ FORMS = {
     ("dossier", 2): r"undecided part [1-9]\d*\n",
 }
 WORD = r"(?:proved \d+|countered|open|spent)"
+RIGHT = r"(?:lost [KQkq]|notboth [KQkq] [KQkq]|ep [a-h][1-8][a-h][1-8])"
+# A claim that isn't proved, with where the search for a proof of an open one got stuck.
+UNPROVED = lambda claim: rf"(?:(?:countered|spent) {claim}\n|open {claim}\n(?:stuck {claim}(?: {UNMOVE}){{0,8}}\n)?)"
 STUDY = (
-    rf"(?:proved \d+ illegal\nother side {WORD} illegal\n|(?:countered|open|spent) illegal\n(?:{WORD} (?:lost [KQkq]|notboth [KQkq] [KQkq]|ep [a-h][1-8][a-h][1-8])\n)*"
+    rf"(?:proved \d+ illegal\nother side {WORD} illegal\n|{UNPROVED('illegal')}(?:proved \d+ {RIGHT}\n|{UNPROVED(RIGHT)})*"
     rf"(?:proved \d+ last {MOVE}\n)?(?:proved \d+ line {UNMOVE}(?: {UNMOVE}){{1,15}}\n)?left \d+ of \d+(?: {UNMOVE}){{0,24}}\n(?:possible [0-8] of [1-8](?: {UNMOVE}){{0,8}}\n)?(?:atleast \d+\n)?)"
 )
 FORMS |= {("study", 0): rf"{STUDY}(?:without demands\n{STUDY})?", ("--help", 0): r"usage:\n[^\0]+", ("--version", 0): r"retractor \d+\.\d+\n"}

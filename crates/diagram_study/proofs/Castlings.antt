@@ -1,11 +1,12 @@
 -- What is found of two castlings together.
 use Rattle.std.proofs.Common.{◌≡◌, ℕ, Bool, true, List, [], ◌∷◌, ◌++◌, refl, ap, sym, subst, ◌∙◌}
-use Rattle.std.specs.Prelude.{IsTrue}
+use Rattle.std.specs.Prelude.{IsTrue, Option}
 use Rattle.std.specs.List.{All}
 use Rattle.std.proofs.lemmas.List.Elements.{All-cons, All-nil}
 use Rattle.board_base.specs.Rights.{Rights, holds, with_castling}
 use Rattle.board_base.specs.declared.castles.Castle.{Castle}
 use Rattle.board_base.specs.declared.castles.Castle.TheVariants.{WhiteShort, WhiteLong, BlackShort, BlackLong}
+use Rattle.board_base.specs.declared.unmoves.Unmove.{Unmove}
 use Rattle.query_base.specs.Asked.{Asked}
 use Rattle.query_base.specs.Reach.{Holds, Reaches}
 use Rattle.query_base.specs.declared.claims.Claim.{Claim}
@@ -13,10 +14,11 @@ use Rattle.query_base.specs.declared.claims.Claim.TheVariants.{Illegal}
 use Rattle.line_claims.specs.Due.{with_both}
 use Rattle.line_claims.specs.Holding.{HoldsLine}
 use Rattle.line_claims.specs.declared.claims.LineClaim.TheVariants.{NotBoth}
+use Rattle.diagram_study.specs.Ends.{IsStuck}
 use Rattle.diagram_study.specs.Findings.{IsContradicted, IsFound, is_proved}
 use Rattle.diagram_study.specs.Joined.{IsLineContradicted}
 use Rattle.diagram_study.specs.Pairs.{TellsPair}
-use Rattle.diagram_study.specs.Texts.{steps_line}
+use Rattle.diagram_study.specs.Texts.{decided_steps}
 use Rattle.diagram_study.specs.declared.findings.Finding.{Finding}
 use Rattle.diagram_study.specs.declared.findings.Finding.TheVariants.{Countered}
 use Rattle.diagram_study.proofs.Telling.{Told}
@@ -54,15 +56,17 @@ both_kept q x y (g, r) =
     (g, here, r.held x (kept (with_castling q.held x) y x (added q.held x)), r.held y (added (with_castling q.held x) y))
 
 -- the line of two castlings
-pub pair_told : PartsMakeLines → (q both : Asked) (most nodes : ℕ) (x y : Castle) (finding : Finding) (old new : List ℕ) → both ≡ with_both q x y → IsFound both Illegal most nodes finding → new ≡ old ++ steps_line finding (NotBoth x y) → Told (TellsPair q most nodes x y) old new
-pair_told law q both most nodes x y finding old new is found longer =
+pub pair_told : PartsMakeLines → (q both : Asked) (most nodes : ℕ) (x y : Castle) (finding : Finding) (stuck : Option (List Unmove)) (old new : List ℕ) → both ≡ with_both q x y → IsFound both Illegal most nodes finding → IsStuck both Illegal most nodes finding stuck → new ≡ old ++ decided_steps finding stuck (NotBoth x y) → Told (TellsPair q most nodes x y) old new
+pair_told law q both most nodes x y finding stuck old new is found ends longer =
     let here : IsFound (with_both q x y) Illegal most nodes finding = subst (λ (a : Asked). IsFound a Illegal most nodes finding) is found in (
-      steps_line finding (NotBoth x y),
+      decided_steps finding stuck (NotBoth x y),
       record {
         finding = finding;
         found = here;
         holds = λ proved. law (NotBoth x y) q (All-cons (λ (part : Claim × Asked). Holds part.0 part.1) (Illegal, with_both q x y) [] (proved_holds (with_both q x y) Illegal most nodes finding here proved) (All-nil (λ (part : Claim × Asked). Holds part.0 part.1)));
         countered = λ e. both_kept q x y (subst (IsFound (with_both q x y) Illegal most nodes) e here);
+        stuck = stuck;
+        is_stuck = subst (λ (a : Asked). IsStuck a Illegal most nodes finding stuck) is ends;
         text_is = refl;
       },
       longer,

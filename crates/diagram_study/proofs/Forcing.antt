@@ -63,7 +63,7 @@ pub forced_listed_here : (q : Asked) (most nodes : ℕ) (u : Unmove) → IsForce
 forced_listed_here q most nodes u forced = left_listed q (most - 1) nodes (unmoves q) u forced.last.left.are
 
 -- one step more in front
-listed_more : (q : Asked) (u : Unmove) (us : List Unmove) → Contains (unmoves q) u → AreListed (predecessor q u) us → AreListed q (u ∷ us)
+pub listed_more : (q : Asked) (u : Unmove) (us : List Unmove) → Contains (unmoves q) u → AreListed (predecessor q u) us → AreListed q (u ∷ us)
 listed_more q u us here rest = λ before after v e. by_front before after v e
   where
     by_front : (before after : List Unmove) (v : Unmove) → u ∷ us ≡ before ++ v ∷ after → Contains (unmoves (left_by q before)) v
@@ -73,7 +73,7 @@ listed_more q u us here rest = λ before after v e. by_front before after v e
         let tail : us ≡ before ++ v ∷ after = cc in
         subst (λ (x : Unmove). Contains (unmoves (left_by (predecessor q x) before)) v) same (rest before after v tail)
 
-listed_none : (q : Asked) → AreListed q []
+pub listed_none : (q : Asked) → AreListed q []
 listed_none q = λ before after u e. absurd (omega (arith, ap length e, length-append before (u ∷ after)))
 
 pub forced_listed : (room : ℕ) (q : Asked) (most nodes : ℕ) (steps : List Unmove) → AreForced room q most nodes steps → AreListed q steps

@@ -7,6 +7,8 @@ pub mod Ends
 pub mod Looking
 pub mod JoinedTrees
 pub mod Forcing
+pub mod OpenFronts
+pub mod Staying
 pub mod Telling
 pub mod Castlings
 pub mod Truths

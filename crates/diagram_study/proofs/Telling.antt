@@ -1,6 +1,6 @@
 -- The texts of what is found, one behind the other.
 use Rattle.std.proofs.Common.{◌≡◌, ℕ, ◌<◌, ◌≤◌, true, false, List, [], ◌∷◌, ◌++◌, length, refl, ap, sym, subst, ◌∙◌, arith, append_assoc, append-nil}
-use Rattle.std.specs.Prelude.{IsTrue, Option, Result, Ok, Err, OnOk, codes}
+use Rattle.std.specs.Prelude.{IsTrue, None, Option, Result, Ok, Err, OnOk, codes}
 use Rattle.std.proofs.lemmas.Bool.{both_ways, cond-true, cond-false, false≢true}
 use Rattle.board_base.specs.Rights.{Rights}
 use Rattle.board_base.specs.declared.castles.Castle.{Castle}
@@ -12,6 +12,7 @@ use Rattle.line_claims.specs.declared.claims.LineClaim.{LineClaim}
 use Rattle.line_claims.specs.declared.claims.LineClaim.TheVariants.{NotBoth, Line}
 use Rattle.length_bound.specs.declared.texts.LengthText.{LengthText}
 use Rattle.unmove_gen.specs.Listed.{unmoves}
+use Rattle.diagram_study.specs.Ends.{IsStuck}
 use Rattle.diagram_study.specs.Findings.{IsFound, is_proved}
 use Rattle.diagram_study.specs.Joined.{IsLineFound}
 use Rattle.diagram_study.specs.Rights.{AreFound, open_castlings}
@@ -20,7 +21,7 @@ use Rattle.diagram_study.specs.Retractions.{HasLeft, TellsLast, one_move}
 use Rattle.diagram_study.specs.Forced.{AreForced, TellsForced, TellsSteps}
 use Rattle.diagram_study.specs.Possible.{TellsPossible}
 use Rattle.diagram_study.specs.Studies.{IsStudy, TellsAgain, TellsBehind, TellsLength, TellsMore, TellsOther, TellsPlain, TellsPosition, other_side, without_demands}
-use Rattle.diagram_study.specs.Texts.{capture_lines, castling_lines, found_line, left_line, other_line, plain_line, steps_line}
+use Rattle.diagram_study.specs.Texts.{capture_lines, castling_lines, decided_lines, found_line, left_line, other_line, plain_line, steps_line}
 use Rattle.diagram_study.specs.declared.findings.Finding.{Finding}
 use Rattle.diagram_study.specs.declared.findings.Finding.TheVariants.{Proved, Countered, Open, Spent}
 use Rattle.diagram_study.specs.declared.rights.RightFound.{RightFound}
@@ -113,9 +114,20 @@ other_told q other most nodes finding t u v is found front line =
     (other_line finding, record { finding = finding; found = subst (λ (r : Asked). IsFound r Illegal most nodes finding) is found; text_is = refl }, joins t (codes "other side ") (found_line finding Illegal) u v front line)
 
 -- a position: the line of the claim that it is illegal, and what follows
-pub position_told : (q : Asked) (most nodes : ℕ) (finding : Finding) (t u v : List ℕ) → IsFound q Illegal most nodes finding → u ≡ t ++ found_line finding Illegal → Told (TellsBehind q most nodes finding) u v → Told (TellsPosition q most nodes finding) t v
-position_told q most nodes finding t u v found line behind =
-    (found_line finding Illegal ++ behind.0, record { found = found; behind = behind.0; behind_told = behind.1; text_is = refl }, joins t (found_line finding Illegal) behind.0 u v line behind.2)
+pub position_told : (q : Asked) (most nodes : ℕ) (finding : Finding) (stuck : Option (List Unmove)) (t u v : List ℕ) → IsFound q Illegal most nodes finding → IsStuck q Illegal most nodes finding stuck → u ≡ t ++ decided_lines finding stuck Illegal → Told (TellsBehind q most nodes finding) u v → Told (TellsPosition q most nodes finding) t v
+position_told q most nodes finding stuck t u v found ends line behind =
+    (decided_lines finding stuck Illegal ++ behind.0, record { found = found; stuck = stuck; is_stuck = ends; behind = behind.0; behind_told = behind.1; text_is = refl }, joins t (decided_lines finding stuck Illegal) behind.0 u v line behind.2)
+
+-- one that is proved to be illegal: nothing is told of an open line
+stuck_none : (q : Asked) (most nodes : ℕ) (finding : Finding) → IsTrue (is_proved finding) → IsStuck q Illegal most nodes finding None
+stuck_none q most nodes (Proved depth) proved = λ e. cc
+stuck_none q most nodes Countered proved = absurd (false≢true proved)
+stuck_none q most nodes Open proved = absurd (false≢true proved)
+stuck_none q most nodes Spent proved = absurd (false≢true proved)
+
+pub illegal_told : (q : Asked) (most nodes : ℕ) (finding : Finding) (t u v : List ℕ) → IsFound q Illegal most nodes finding → IsTrue (is_proved finding) → u ≡ t ++ found_line finding Illegal → Told (TellsBehind q most nodes finding) u v → Told (TellsPosition q most nodes finding) t v
+illegal_told q most nodes finding t u v found proved line behind =
+    position_told q most nodes finding None t u v found (stuck_none q most nodes finding proved) (line ∙ ap (λ (l : List ℕ). t ++ l) (sym (append-nil (found_line finding Illegal)))) behind
 
 -- what follows where it is proved to be illegal
 pub behind_proved : (q : Asked) (most nodes : ℕ) (finding : Finding) (u v : List ℕ) → IsTrue (is_proved finding) → Told (TellsOther q most nodes) u v → Told (TellsBehind q most nodes finding) u v

@@ -9,6 +9,7 @@ use Rattle.board_base.specs.Rights.{Rights, holds}
 use Rattle.board_base.specs.declared.castles.Castle.{Castle}
 use Rattle.board_base.specs.declared.moves.Move.{Move}
 use Rattle.board_base.specs.declared.unmoves.Unmove.{Unmove}
+use Rattle.cert_text.specs.ClaimLines.{claim_words}
 use Rattle.query_base.specs.Asked.{Asked}
 use Rattle.query_base.specs.Reach.{Holds}
 use Rattle.query_base.specs.declared.claims.Claim.{Claim}
@@ -17,9 +18,10 @@ use Rattle.codex_verdict.specs.Rights.{claim_of}
 use Rattle.codex_verdict.specs.declared.kinds.Right.{Right}
 use Rattle.codex_verdict.specs.declared.kinds.Right.TheVariants.{Castling, EnPassant}
 use Rattle.length_bound.specs.declared.texts.LengthText.{LengthText}
+use Rattle.line_claims.specs.declared.claims.LineClaim.{LineClaim}
 use Rattle.line_claims.specs.declared.claims.LineClaim.TheVariants.{Line, NotBoth}
 use Rattle.unmove_gen.specs.Listed.{unmoves}
-use Rattle.diagram_study.specs.Facts.{Fact, IsSo, IsTrueOf, SaysTrue, at_least, found, left, line_of, other, possible, steps}
+use Rattle.diagram_study.specs.Facts.{Fact, IsSo, IsTrueOf, SaysTrue, at_least, found, left, line_of, other, possible, steps, stuck}
 use Rattle.diagram_study.specs.Findings.{IsContradicted, IsFound, is_proved}
 use Rattle.diagram_study.specs.Forced.{TellsForced}
 use Rattle.diagram_study.specs.Possible.{TellsPossible}
@@ -27,7 +29,7 @@ use Rattle.diagram_study.specs.Pairs.{TellsOpenPair, TellsPairs, castle_pairs}
 use Rattle.diagram_study.specs.Retractions.{TellsLast, one_move}
 use Rattle.diagram_study.specs.Rights.{IsRightFound, open_castlings}
 use Rattle.diagram_study.specs.Studies.{IsStudy, TellsAgain, TellsBehind, TellsLength, TellsMore, TellsPosition, makes_demands, other_side}
-use Rattle.diagram_study.specs.Texts.{capture_line, capture_lines, castling_line, castling_lines, found_line, left_line, plain_line}
+use Rattle.diagram_study.specs.Texts.{capture_line, capture_lines, castling_line, castling_lines, decided_lines, left_line, plain_line, steps_words, stuck_line}
 use Rattle.diagram_study.specs.declared.findings.Finding.{Finding}
 use Rattle.diagram_study.specs.declared.findings.Finding.TheVariants.{Proved, Countered, Open, Spent}
 use Rattle.diagram_study.specs.declared.rights.RightFound.{RightFound}
@@ -77,19 +79,24 @@ says_both q a b s t = record {
   is = ap (λ (x : List ℕ). x ++ b) s.is ∙ ap (λ (x : List ℕ). flat_map line_of s.facts ++ x) t.is ∙ sym (lines_both s.facts t.facts);
 }
 
-says_claim : (q : Asked) (most nodes : ℕ) (finding : Finding) → IsFound q Illegal most nodes finding → Says q (found_line finding Illegal)
-says_claim q most nodes finding is = says_one q _ (found finding Illegal) (found_so q Illegal most nodes finding is) refl
+-- the line behind an open claim
+says_stuck : (q : Asked) (words : List ℕ) (front : Option (List Unmove)) → Says q (stuck_line words front)
+says_stuck q words None = says_none q [] refl
+says_stuck q words (Some front) = says_one q _ (stuck words front) tt refl
+
+says_claim : (q : Asked) (claim : Claim) (most nodes : ℕ) (finding : Finding) (front : Option (List Unmove)) → IsFound q claim most nodes finding → Says q (decided_lines finding front claim)
+says_claim q claim most nodes finding front is = says_both q _ _ (says_one q _ (found finding claim) (found_so q claim most nodes finding is) refl) (says_stuck q (claim_words claim) front)
 
 -- the lines of rights
-castling_says : (q : Asked) (most nodes : ℕ) (f : RightFound) (right : Right) → right ≡ f.right → IsRightFound q most nodes f → Says q (castling_line f.finding right)
+castling_says : (q : Asked) (most nodes : ℕ) (f : RightFound) (right : Right) → right ≡ f.right → IsRightFound q most nodes f → Says q (castling_line f.finding f.stuck right)
 castling_says q most nodes f (Castling x) is h =
-    says_one q _ (found f.finding (claim_of (Castling x))) (found_so q (claim_of (Castling x)) most nodes f.finding (subst (λ (r : Right). IsFound q (claim_of r) most nodes f.finding) (sym is) h)) refl
+    says_claim q (claim_of (Castling x)) most nodes f.finding f.stuck (subst (λ (r : Right). IsFound q (claim_of r) most nodes f.finding) (sym is) h.found)
 castling_says q most nodes f (EnPassant m) is h = says_none q [] refl
 
-capture_says : (q : Asked) (most nodes : ℕ) (f : RightFound) (right : Right) → right ≡ f.right → IsRightFound q most nodes f → Says q (capture_line f.finding right)
+capture_says : (q : Asked) (most nodes : ℕ) (f : RightFound) (right : Right) → right ≡ f.right → IsRightFound q most nodes f → Says q (capture_line f.finding f.stuck right)
 capture_says q most nodes f (Castling x) is h = says_none q [] refl
 capture_says q most nodes f (EnPassant m) is h =
-    says_one q _ (found f.finding (claim_of (EnPassant m))) (found_so q (claim_of (EnPassant m)) most nodes f.finding (subst (λ (r : Right). IsFound q (claim_of r) most nodes f.finding) (sym is) h)) refl
+    says_claim q (claim_of (EnPassant m)) most nodes f.finding f.stuck (subst (λ (r : Right). IsFound q (claim_of r) most nodes f.finding) (sym is) h.found)
 
 castlings_say : (q : Asked) (most nodes : ℕ) (fs : List RightFound) → All (IsRightFound q most nodes) fs → Says q (castling_lines fs)
 unfolding castling_lines
@@ -110,7 +117,10 @@ says_if q false line text is own = says_none q text is
 
 pair_says : (q : Asked) (most nodes : ℕ) (kept : Rights) (pair : Castle × Castle) (text : List ℕ) → TellsOpenPair q most nodes kept pair text → Says q text
 pair_says q most nodes kept pair text told = elim (test (holds kept pair.0 && holds kept pair.1)) [
-  | inl both ↦ let t = told.0 both in says_one q text (steps t.finding (NotBoth pair.0 pair.1)) (said_so t.finding _ _ t.holds t.countered) t.text_is
+  | inl both ↦
+      let t = told.0 both in
+      let claim : LineClaim = NotBoth pair.0 pair.1 in
+      subst (Says q) (sym t.text_is) (says_both q _ _ (says_one q _ (steps t.finding claim) (said_so t.finding _ _ t.holds t.countered) refl) (says_stuck q (steps_words claim) t.stuck))
   | inr one ↦ says_none q text (told.1 one)
 ]
 
@@ -162,7 +172,7 @@ behind_says q most nodes Spent text told = more_says q most nodes text told
 
 position_says : (q : Asked) (most nodes : ℕ) (finding : Finding) (text : List ℕ) → TellsPosition q most nodes finding text → Says q text
 position_says q most nodes finding text told =
-    subst (Says q) (sym told.text_is) (says_both q (found_line finding Illegal) told.behind (says_claim q most nodes finding told.found) (behind_says q most nodes finding told.behind told.behind_told))
+    subst (Says q) (sym told.text_is) (says_both q (decided_lines finding told.stuck Illegal) told.behind (says_claim q Illegal most nodes finding told.stuck told.found) (behind_says q most nodes finding told.behind told.behind_told))
 
 again_is : (q : Asked) (most nodes : ℕ) (finding : Finding) (text : List ℕ) → TellsAgain q most nodes finding text → (text ≡ []) ⊎ ((more : List ℕ) × (text ≡ plain_line ++ more))
 again_is q most nodes finding text told = elim (test (is_proved finding && makes_demands q)) [

@@ -1,5 +1,5 @@
 -- What a study says of a position, line by line, and that it is so.
-use Rattle.std.specs.Prelude.{ℕ, ◌≡◌, ◌≤◌, ◌⊎◌, List, [], ◌++◌, length}
+use Rattle.std.specs.Prelude.{ℕ, ◌≡◌, ◌≤◌, ◌⊎◌, List, [], ◌++◌, length, Some}
 use Rattle.std.specs.List.{All, flat_map}
 use Rattle.board_base.specs.declared.moves.Move.{Move}
 use Rattle.board_base.specs.declared.unmoves.Unmove.{Unmove}
@@ -13,15 +13,16 @@ use Rattle.diagram_study.specs.Findings.{IsContradicted}
 use Rattle.diagram_study.specs.Joined.{IsLineContradicted}
 use Rattle.diagram_study.specs.Possible.{IsEnd}
 use Rattle.diagram_study.specs.Studies.{other_side}
-use Rattle.diagram_study.specs.Texts.{found_line, left_line, length_line, other_line, plain_line, possible_line, steps_line}
+use Rattle.diagram_study.specs.Texts.{found_line, left_line, length_line, other_line, plain_line, possible_line, steps_line, stuck_line}
 use Rattle.diagram_study.specs.declared.findings.Finding.{Finding}
 use Rattle.diagram_study.specs.declared.findings.Finding.TheVariants.{Proved, Countered, Open, Spent}
 
--- what a line says: what was found of a claim, or of a claim of several steps; which unmoves are left; how long games are at least; what
--- was found with the other side to move; with which of the unmoves left some game ends
+-- what a line says: what was found of a claim, or of a claim of several steps; at which retractions a search stays open; which unmoves are
+-- left, and with which of these some game ends; how long games are at least; what was found with the other side to move
 pub data Fact : Type 0 where
   found : Finding → Claim → Fact
   steps : Finding → LineClaim → Fact
+  stuck : List ℕ → List Unmove → Fact
   left : List Unmove → ℕ → Fact
   possible : List Unmove → ℕ → Fact
   at_least : ℕ → Fact
@@ -31,6 +32,7 @@ pub data Fact : Type 0 where
 abbrev pub line_of : Fact → List ℕ
 line_of (found finding claim) = found_line finding claim
 line_of (steps finding claim) = steps_line finding claim
+line_of (stuck words front) = stuck_line words (Some front)
 line_of (left us all) = left_line us all
 line_of (possible us all) = possible_line us all
 line_of (at_least n) = length_line n
@@ -48,6 +50,7 @@ IsSo Spent holds contradicted = Unit {0}
 abbrev pub IsTrueOf : Asked → Fact → Type 0
 IsTrueOf q (found finding claim) = IsSo finding (Holds claim q) (IsContradicted claim q)
 IsTrueOf q (steps finding claim) = IsSo finding (HoldsLine claim q) (IsLineContradicted claim q)
+IsTrueOf q (stuck words front) = Unit {0}
 IsTrueOf q (left us all) = Unit {0}
 IsTrueOf q (possible us all) = All (IsEnd q) us
 IsTrueOf q (at_least n) = (g : List Move) → Reaches g q → n ≤ length g

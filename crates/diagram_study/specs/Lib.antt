@@ -1,5 +1,7 @@
 pub mod Budgets
 pub mod Findings
+pub mod Ends
+pub mod Decisions
 pub mod Joined
 pub mod Rights
 pub mod Pairs

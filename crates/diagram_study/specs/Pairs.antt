@@ -1,16 +1,18 @@
 -- What is found of two castlings together.
-use Rattle.std.specs.Prelude.{ℕ, ◌≡◌, ◌&&◌, IsTrue, List, [], ◌∷◌, ◌++◌}
+use Rattle.std.specs.Prelude.{ℕ, ◌≡◌, ◌&&◌, IsTrue, List, [], ◌∷◌, ◌++◌, Option}
 use Rattle.board_base.specs.Rights.{Rights, holds}
 use Rattle.board_base.specs.declared.castles.Castle.{Castle}
 use Rattle.board_base.specs.declared.castles.Castle.TheVariants.{WhiteShort, WhiteLong, BlackShort, BlackLong}
+use Rattle.board_base.specs.declared.unmoves.Unmove.{Unmove}
 use Rattle.query_base.specs.Asked.{Asked}
 use Rattle.query_base.specs.declared.claims.Claim.TheVariants.{Illegal}
 use Rattle.line_claims.specs.Due.{with_both}
 use Rattle.line_claims.specs.Holding.{HoldsLine}
 use Rattle.line_claims.specs.declared.claims.LineClaim.TheVariants.{NotBoth}
+use Rattle.diagram_study.specs.Ends.{IsStuck}
 use Rattle.diagram_study.specs.Findings.{IsFound, is_proved}
 use Rattle.diagram_study.specs.Joined.{IsLineContradicted}
-use Rattle.diagram_study.specs.Texts.{steps_line}
+use Rattle.diagram_study.specs.Texts.{decided_steps}
 use Rattle.diagram_study.specs.declared.findings.Finding.{Finding}
 use Rattle.diagram_study.specs.declared.findings.Finding.TheVariants.{Countered}
 
@@ -26,7 +28,9 @@ pub record TellsPair (q : Asked) (most nodes : ℕ) (x y : Castle) (text : List 
   pub found : IsFound (with_both q x y) Illegal most nodes finding
   pub holds : IsTrue (is_proved finding) → HoldsLine (NotBoth x y) q
   pub countered : finding ≡ Countered → IsLineContradicted (NotBoth x y) q
-  pub text_is : text ≡ steps_line finding (NotBoth x y)
+  pub stuck : Option (List Unmove)
+  pub is_stuck : IsStuck (with_both q x y) Illegal most nodes finding stuck
+  pub text_is : text ≡ decided_steps finding stuck (NotBoth x y)
 
 -- the text of two castlings: of two that aren't proved to be lost what was found of them, else nothing
 abbrev pub TellsOpenPair : Asked → ℕ → ℕ → Rights → Castle × Castle → List ℕ → Type 0

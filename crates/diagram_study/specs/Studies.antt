@@ -12,13 +12,14 @@ use Rattle.query_base.specs.declared.claims.Claim.TheVariants.{Illegal}
 use Rattle.length_bound.specs.Longest.{IsBest, longer_side, side_length}
 use Rattle.length_bound.specs.declared.texts.LengthText.{LengthText}
 use Rattle.unmove_gen.specs.Listed.{unmoves}
+use Rattle.diagram_study.specs.Ends.{IsStuck}
 use Rattle.diagram_study.specs.Findings.{IsFound, is_proved}
 use Rattle.diagram_study.specs.Rights.{AreFound, open_castlings}
 use Rattle.diagram_study.specs.Pairs.{TellsOpenPair, TellsPairs, castle_pairs}
 use Rattle.diagram_study.specs.Retractions.{HasLeft, TellsLast, one_move}
 use Rattle.diagram_study.specs.Forced.{TellsForced}
 use Rattle.diagram_study.specs.Possible.{TellsPossible}
-use Rattle.diagram_study.specs.Texts.{capture_lines, castling_lines, found_line, left_line, length_line, other_line, plain_line}
+use Rattle.diagram_study.specs.Texts.{capture_lines, castling_lines, decided_lines, left_line, length_line, other_line, plain_line}
 use Rattle.diagram_study.specs.declared.findings.Finding.{Finding}
 use Rattle.diagram_study.specs.declared.findings.Finding.TheVariants.{Proved, Countered, Open, Spent}
 use Rattle.diagram_study.specs.declared.rights.RightFound.{RightFound}
@@ -78,9 +79,11 @@ TellsBehind q most nodes Spent text = TellsMore q most nodes text
 -- what is told of a position: what was found of the claim that it is illegal, and what follows
 pub record TellsPosition (q : Asked) (most nodes : ℕ) (finding : Finding) (text : List ℕ) : Type 0 where
   pub found : IsFound q Illegal most nodes finding
+  pub stuck : Option (List Unmove)
+  pub is_stuck : IsStuck q Illegal most nodes finding stuck
   pub behind : List ℕ
   pub behind_told : TellsBehind q most nodes finding behind
-  pub text_is : text ≡ found_line finding Illegal ++ behind
+  pub text_is : text ≡ decided_lines finding stuck Illegal ++ behind
 
 -- the query demands a right, a last move or a clock
 abbrev pub makes_demands : Asked → Bool

@@ -1,5 +1,5 @@
 -- The lines of a study.
-use Rattle.std.specs.Prelude.{ℕ, cond, nat_le, List, [], ◌∷◌, ◌++◌, codes, length}
+use Rattle.std.specs.Prelude.{ℕ, cond, nat_le, List, [], ◌∷◌, ◌++◌, codes, length, Option, Some, None}
 use Rattle.std.specs.List.{flat_map}
 use Rattle.std.specs.Fmt.{decimal}
 use Rattle.board_base.specs.Texts.{unmove_words}
@@ -29,23 +29,32 @@ finding_words Spent = codes "spent "
 abbrev pub found_line : Finding → Claim → List ℕ
 found_line finding claim = ended (finding_words finding ++ claim_words claim)
 
--- the line of a right where it is that of a castling, and nothing of another
-abbrev pub castling_line : Finding → Right → List ℕ
-castling_line finding (Castling x) = found_line finding (Lost x)
-castling_line finding (EnPassant m) = []
+-- the line behind an open claim: the retractions that are told of an open line, if there are any
+abbrev pub stuck_line : List ℕ → Option (List Unmove) → List ℕ
+stuck_line words None = []
+stuck_line words (Some front) = ended (codes "stuck " ++ words ++ unmove_words front)
 
--- the line of a right where it is that of a capture en passant, and nothing of another
-abbrev pub capture_line : Finding → Right → List ℕ
-capture_line finding (Castling x) = []
-capture_line finding (EnPassant m) = found_line finding (Ep m)
+-- the lines that tell what was found of a claim
+abbrev pub decided_lines : Finding → Option (List Unmove) → Claim → List ℕ
+decided_lines finding stuck claim = found_line finding claim ++ stuck_line (claim_words claim) stuck
+
+-- the lines of a right where it is that of a castling, and nothing of another
+abbrev pub castling_line : Finding → Option (List Unmove) → Right → List ℕ
+castling_line finding stuck (Castling x) = decided_lines finding stuck (Lost x)
+castling_line finding stuck (EnPassant m) = []
+
+-- the lines of a right where it is that of a capture en passant, and nothing of another
+abbrev pub capture_line : Finding → Option (List Unmove) → Right → List ℕ
+capture_line finding stuck (Castling x) = []
+capture_line finding stuck (EnPassant m) = decided_lines finding stuck (Ep m)
 
 -- the lines that tell what was found of castlings, in order
 unfoldable pub castling_lines : List RightFound → List ℕ
-castling_lines found = flat_map (λ f. castling_line f.finding f.right) found
+castling_lines found = flat_map (λ f. castling_line f.finding f.stuck f.right) found
 
 -- the lines that tell what was found of captures en passant, in order
 unfoldable pub capture_lines : List RightFound → List ℕ
-capture_lines found = flat_map (λ f. capture_line f.finding f.right) found
+capture_lines found = flat_map (λ f. capture_line f.finding f.stuck f.right) found
 
 -- what the line of a claim of several steps says after `claim `
 abbrev pub steps_words : LineClaim → List ℕ
@@ -55,6 +64,10 @@ steps_words (Line steps) = codes "line " ++ steps_text steps
 -- the line that tells what was found of a claim of several steps
 abbrev pub steps_line : Finding → LineClaim → List ℕ
 steps_line finding claim = ended (finding_words finding ++ steps_words claim)
+
+-- the lines that tell what was found of a claim of several steps
+abbrev pub decided_steps : Finding → Option (List Unmove) → LineClaim → List ℕ
+decided_steps finding stuck claim = steps_line finding claim ++ stuck_line (steps_words claim) stuck
 
 -- the unmoves themselves where they are at most 24
 abbrev pub few_words : List Unmove → List ℕ

@@ -5,8 +5,10 @@
 #![tactic(auto)]
 
 mod deciding;
+mod ends;
 mod findings;
 mod forced;
+mod fronts;
 mod games;
 mod joining;
 mod line_searches;

@@ -5,7 +5,7 @@ ghost use Rattle.diagram_study.specs.Pairs.{TellsOpenPair, TellsPair, TellsPairs
 
 use crate::deciding::decide;
 use crate::searchers::Searchers;
-use crate::texts::push_steps;
+use crate::texts::push_decided_steps;
 use board_base::Castle::{BlackLong, BlackShort, WhiteLong, WhiteShort};
 use board_base::{Castle, CastleSet};
 use line_claims::{LineClaim, parts_make_lines_hold};
@@ -37,8 +37,13 @@ fn tell_pair(
 {
     parts_make_lines_hold();
     let both = with_both(query, first, second);
-    let finding = decide(searchers, &both, &Claim::Illegal, limits)?;
-    push_steps(text, finding, &LineClaim::NotBoth(first, second))
+    let decided = decide(searchers, &both, &Claim::Illegal, limits)?;
+    push_decided_steps(
+        text,
+        decided.finding,
+        &decided.stuck,
+        &LineClaim::NotBoth(first, second),
+    )
 }
 
 /// Adds what is found of two castlings, where neither is proved to be lost.

@@ -2,37 +2,26 @@ ghost use Rattle.std.specs.Prelude.{◌≡◌, ◌++◌, IfOk, IsTrue, None, OnO
 ghost use Rattle.std.specs.List.{All};
 ghost use Rattle.cert_text.specs.ClaimLines.{promotes_well};
 ghost use Rattle.codex_verdict.specs.Rights.{claim_of};
-ghost use Rattle.diagram_study.specs.Rights.{AreDue, AreFound, is_demanded, open_castlings, with_right};
+ghost use Rattle.diagram_study.specs.Rights.{AreDue, AreFound, HasStuckText, is_demanded, open_castlings, with_right};
 ghost use Rattle.diagram_study.specs.Texts.{capture_line, capture_lines, castling_line, castling_lines};
 
 use crate::deciding::decide;
 use crate::findings::Finding;
 use crate::searchers::Searchers;
-use crate::texts::push_found;
+use crate::texts::push_decided;
 use arrayvec::ArrayVec;
-use board_base::CastleSet;
+use board_base::{CastleSet, UnmoveList};
 use codex_verdict::{Right, claim_of, rights};
 use query_base::{Claim, Query};
 use retro_search::Limits;
 use std::alloc::AllocError;
 
-/// A right, and what is found of the claim that decides it.
-#[derive(Clone, Copy)]
+/// A right, and what is found of the claim that decides it; where that stays open, the retractions that are told of an open line.
+#[derive(Drop)]
 pub struct RightFound {
     pub right: Right,
     pub finding: Finding,
-}
-
-impl Default for RightFound {
-    /// What stands in the unused places of an array.
-    fn default() -> RightFound
-        ensures { result.finding ≡ Finding.Open }
-    {
-        RightFound {
-            right: Right::default(),
-            finding: Finding::Open,
-        }
-    }
+    pub stuck: Option<UnmoveList>,
 }
 
 /// The right is that of a castling which the query demands.
@@ -65,19 +54,21 @@ pub(crate) fn seek_rights(
     searchers: &mut Searchers,
     query: &Query,
     limits: Limits,
-) -> Result<ArrayVec<RightFound, 18>, AllocError>
+) -> Result<Vec<RightFound>, AllocError>
     requires plain { query.now.barred ≡ None }
-    ensures { IfOk result (λ found. AreFound query.now limits.depth limits.nodes found.items) }
+    ensures found { IfOk result (λ found. AreFound query.now limits.depth limits.nodes found.items) }
+    ensures texts { IfOk result (λ found. All HasStuckText found.items) }
 {
-    let mut found: ArrayVec<RightFound, 18> = ArrayVec::new();
+    let mut found = Vec::new(searchers.alloc);
     let due = due_rights(query);
     let each = due.as_slice();
     for right in each {
-        let finding = decide(searchers, query, &claim_of(right), limits)?;
+        let decided = decide(searchers, query, &claim_of(right), limits)?;
         found.push(RightFound {
             right: *right,
-            finding,
-        });
+            finding: decided.finding,
+            stuck: decided.stuck,
+        })?;
     }
     Ok(found)
 }
@@ -105,27 +96,30 @@ fn with_right(f: &RightFound, set: CastleSet) -> CastleSet
 
 /// Adds the line of a right, where it is that of a castling.
 fn push_castling(text: &mut Vec<u8>, f: &RightFound) -> Result<(), AllocError>
-    ensures { OnOk result (text.new.items ≡ text.old.items ++ castling_line f.now.finding f.now.right) }
+    requires { HasStuckText f.now }
+    ensures { OnOk result (text.new.items ≡ text.old.items ++ castling_line f.now.finding f.now.stuck f.now.right) }
 {
     match f.right {
-        Right::Castling(castle) => push_found(text, f.finding, &Claim::Lost(castle)),
+        Right::Castling(castle) => push_decided(text, f.finding, &f.stuck, &Claim::Lost(castle)),
         Right::EnPassant(_) => Ok(()),
     }
 }
 
 /// Adds the line of a right, where it is that of a capture en passant.
 fn push_capture(text: &mut Vec<u8>, f: &RightFound) -> Result<(), AllocError>
-    requires { IsTrue (promotes_well (claim_of f.now.right)) }
-    ensures { OnOk result (text.new.items ≡ text.old.items ++ capture_line f.now.finding f.now.right) }
+    requires promotion { IsTrue (promotes_well (claim_of f.now.right)) }
+    requires texts { HasStuckText f.now }
+    ensures { OnOk result (text.new.items ≡ text.old.items ++ capture_line f.now.finding f.now.stuck f.now.right) }
 {
     match f.right {
         Right::Castling(_) => Ok(()),
-        Right::EnPassant(m) => push_found(text, f.finding, &Claim::Ep(m)),
+        Right::EnPassant(m) => push_decided(text, f.finding, &f.stuck, &Claim::Ep(m)),
     }
 }
 
 /// Adds the line of each castling.
 pub(crate) fn tell_castlings(text: &mut Vec<u8>, found: &[RightFound]) -> Result<(), AllocError>
+    requires { All HasStuckText found.now }
     ensures { OnOk result (text.new.items ≡ text.old.items ++ castling_lines found.now) }
 {
     for f in found {
@@ -136,7 +130,8 @@ pub(crate) fn tell_castlings(text: &mut Vec<u8>, found: &[RightFound]) -> Result
 
 /// Adds the line of each capture en passant.
 pub(crate) fn tell_captures(text: &mut Vec<u8>, found: &[RightFound]) -> Result<(), AllocError>
-    requires { All (λ f. IsTrue (promotes_well (claim_of f.right))) found.now }
+    requires promotions { All (λ f. IsTrue (promotes_well (claim_of f.right))) found.now }
+    requires texts { All HasStuckText found.now }
     ensures { OnOk result (text.new.items ≡ text.old.items ++ capture_lines found.now) }
 {
     for f in found {

@@ -1,16 +1,18 @@
-ghost use Rattle.std.specs.Prelude.{◌≡◌, ◌<◌, ◌≤◌, [], IfOk, IsTrue};
+ghost use Rattle.std.specs.Prelude.{◌≡◌, ◌<◌, ◌≤◌, [], IfOk, IsTrue, None};
 ghost use Rattle.price_search.specs.FlatPrices.{FlatPricesSupport};
 ghost use Rattle.retro_search.specs.Outcomes.{HasProof, IfRefuted};
 ghost use Rattle.retro_search.specs.Refutable.{IsRefutable};
 ghost use Rattle.retro_search.specs.SearchSizes.{IsLargeSearch};
 ghost use Rattle.retro_search.specs.Unsettled.{WhereRefutable};
-ghost use Rattle.retro_search.specs.declared.runs.Reasons.TheVariants.{All};
+ghost use Rattle.retro_search.specs.declared.runs.Reasons.TheVariants.{All, RuleLines};
+ghost use Rattle.diagram_study.specs.Ends.{IsEnd};
 ghost use Rattle.diagram_study.specs.Findings.{is_refuted};
 
+use crate::ends::End;
 use crate::games::Games;
 use board_base::Memory;
-use query_base::Query;
-use retro_search::{Limits, Outcome, Reasons, Searcher};
+use query_base::{Claim, Query};
+use retro_search::{Found, Limits, Outcome, Reasons, Searcher};
 use std::alloc::Global;
 
 /// Of so many nodes one is visited where the balance of captures is looked for.
@@ -24,6 +26,7 @@ pub(crate) struct Searchers {
     /// By the balance of captures too, which is dear to look for.
     by_all: Searcher,
     pub(crate) games: Games,
+    ghost lines: { by_rule_lines ≡ RuleLines },
     ghost reasons: { by_all ≡ All },
 }
 
@@ -51,16 +54,59 @@ impl Searchers {
         if is_refuted(by_rule_lines) {
             return Ok(by_rule_lines);
         }
-        let few = Limits {
-            depth: limits.depth,
-            nodes: (limits.nodes + PRICED_SHARE - 1) / PRICED_SHARE,
-        };
-        let by_all = self.by_all.refute(query, few)?;
+        let by_all = self.by_all.refute(query, priced(limits))?;
         if is_refuted(by_all) {
             Ok(by_all)
         } else {
             Ok(by_rule_lines)
         }
+    }
+
+    /// Where the search by rule lines ends.
+    fn end_by_rule_lines(
+        &mut self,
+        query: &Query,
+        claim: &Claim,
+        limits: Limits,
+    ) -> Result<End, Memory>
+        requires plain { query.now.barred ≡ None }
+        ensures { IfOk result (IsEnd query.now claim.now limits.depth limits.nodes) }
+    {
+        match self.by_rule_lines.settle(query, claim, limits)? {
+            Found::Undecided(line) => Ok(End::Line(line)),
+            Found::Countered(_) => Ok(End::Game),
+            Found::Proved(_) => Ok(End::Nowhere),
+            Found::Spent { .. } => Ok(End::Nowhere),
+        }
+    }
+
+    /// Where the search ends that leaves the claim open: the one by all reasons, or else the one by rule lines.
+    pub(crate) fn end(
+        &mut self,
+        query: &Query,
+        claim: &Claim,
+        limits: Limits,
+    ) -> Result<End, Memory>
+        requires plain { query.now.barred ≡ None }
+        ensures { IfOk result (IsEnd query.now claim.now limits.depth limits.nodes) }
+    {
+        match self.by_all.settle(query, claim, priced(limits))? {
+            Found::Undecided(line) => Ok(End::Line(line)),
+            Found::Countered(_) => Ok(End::Game),
+            Found::Proved(_) => self.end_by_rule_lines(query, claim, limits),
+            Found::Spent { .. } => self.end_by_rule_lines(query, claim, limits),
+        }
+    }
+}
+
+/// The limits of a search where the balance of captures is looked for.
+fn priced(limits: Limits) -> Limits
+    ensures depth { result.depth ≡ limits.depth }
+    ensures some { 1 ≤ limits.nodes → 1 ≤ result.nodes }
+{
+    Limits {
+        depth: limits.depth,
+        nodes: (limits.nodes + PRICED_SHARE - 1) / PRICED_SHARE,
     }
 }
 

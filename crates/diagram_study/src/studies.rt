@@ -17,7 +17,7 @@ use crate::retractions::{Counted, retractions, tell_last};
 use crate::rights::{open_castlings, seek_rights, tell_captures, tell_castlings};
 use crate::searchers::Searchers;
 use crate::searches::seek;
-use crate::texts::{push_found, push_left, push_length};
+use crate::texts::{push_decided, push_found, push_left, push_length};
 use board_base::{Castle, CastleSet};
 use length_bound::{longest, shown_lengths_hold};
 use query_base::{Claim, Query};
@@ -81,9 +81,9 @@ fn tell_other(
     ensures { OnOk result ((own : List ℕ) × TellsOther query.now limits.depth limits.nodes own × (text.new.items ≡ text.old.items ++ own)) }
 {
     let other = other_side(query);
-    let finding = decide(searchers, &other, &Claim::Illegal, limits)?;
+    let decided = decide(searchers, &other, &Claim::Illegal, limits)?;
     text.extend_from_slice(b"other side ")?;
-    push_found(text, finding, &Claim::Illegal)
+    push_found(text, decided.finding, &Claim::Illegal)
 }
 
 /// Adds what follows the line that says whether the position is illegal.
@@ -122,8 +122,9 @@ fn tell_seen(
 {
     let seen = retractions(searchers, query, limits)?;
     let joined = joined_up(query, None, sought, &seen, limits);
-    let finding = counter(searchers, query, &Claim::Illegal, joined, limits)?;
-    push_found(text, finding, &Claim::Illegal)?;
+    let decided = counter(searchers, query, &Claim::Illegal, joined, limits)?;
+    let finding = decided.finding;
+    push_decided(text, finding, &decided.stuck, &Claim::Illegal)?;
     tell_behind(searchers, query, finding, &seen, limits, text)?;
     Ok(finding)
 }

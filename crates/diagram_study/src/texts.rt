@@ -1,10 +1,10 @@
-ghost use Rattle.std.specs.Prelude.{◌≡◌, ◌≤◌, ◌++◌, ◌∷◌, IsTrue, OnOk, drop, length};
+ghost use Rattle.std.specs.Prelude.{◌≡◌, ◌≤◌, ◌++◌, ◌∷◌, IfSome, IsTrue, OnOk, drop, length};
 ghost use Rattle.std.specs.Fmt.{decimal};
 ghost use Rattle.std.specs.List.{All};
 ghost use Rattle.board_base.specs.Texts.{unmove_text, unmove_words};
 ghost use Rattle.cert_text.specs.ClaimLines.{claim_words, promotes_well};
 ghost use Rattle.line_claims.specs.Lines.{HasLine, has_text};
-ghost use Rattle.diagram_study.specs.Texts.{few_words, finding_words, found_line, left_line, length_line, possible_line, steps_line, steps_words};
+ghost use Rattle.diagram_study.specs.Texts.{decided_lines, decided_steps, few_words, finding_words, found_line, left_line, length_line, possible_line, steps_line, steps_words, stuck_line};
 
 use crate::findings::Finding;
 use arrayvec::ArrayVec;
@@ -130,6 +130,60 @@ fn push_few(text: &mut Vec<u8>, left: &UnmoveList) -> Result<(), AllocError>
     } else {
         Ok(())
     }
+}
+
+/// Adds the line of an open claim, of the text of whose lines this is what the words say: the retractions that are told, if there are any.
+fn push_stuck(
+    text: &mut Vec<u8>,
+    words: &[u8],
+    stuck: &Option<UnmoveList>,
+) -> Result<(), AllocError>
+    requires { IfSome stuck.now (All (λ u. IsTrue (has_text u))) }
+    ensures { OnOk result (text.new.items ≡ text.old.items ++ stuck_line words.now stuck.now) }
+{
+    match stuck {
+        Some(front) => {
+            text.extend_from_slice(b"stuck ")?;
+            text.extend_from_slice(words)?;
+            push_unmoves(text, front)?;
+            text.extend_from_slice(b"\n")
+        }
+        None => Ok(()),
+    }
+}
+
+/// Adds the lines that tell what was found of a claim.
+pub(crate) fn push_decided(
+    text: &mut Vec<u8>,
+    finding: Finding,
+    stuck: &Option<UnmoveList>,
+    claim: &Claim,
+) -> Result<(), AllocError>
+    requires promotion { IsTrue (promotes_well claim.now) }
+    requires texts { IfSome stuck.now (All (λ u. IsTrue (has_text u))) }
+    ensures { OnOk result (text.new.items ≡ text.old.items ++ decided_lines finding stuck.now claim.now) }
+{
+    let mut line: ArrayVec<u8, 128> = ArrayVec::new();
+    write_claim(claim, &mut line);
+    push_found(text, finding, claim)?;
+    push_stuck(text, words_of_claim(line.as_slice()), stuck)
+}
+
+/// Adds the lines that tell what was found of a claim of several steps.
+pub(crate) fn push_decided_steps(
+    text: &mut Vec<u8>,
+    finding: Finding,
+    stuck: &Option<UnmoveList>,
+    claim: &LineClaim,
+) -> Result<(), AllocError>
+    requires line { HasLine claim.now }
+    requires texts { IfSome stuck.now (All (λ u. IsTrue (has_text u))) }
+    ensures { OnOk result (text.new.items ≡ text.old.items ++ decided_steps finding stuck.now claim.now) }
+{
+    let mut line: ArrayVec<u8, 160> = ArrayVec::new();
+    write_line_claim(claim, &mut line);
+    push_steps(text, finding, claim)?;
+    push_stuck(text, words_of_claim(line.as_slice()), stuck)
 }
 
 /// Adds the line that tells how many of so many unmoves are left, and which.

@@ -65,7 +65,7 @@ const ROWS: [Row; 12] = [
         words: &["study", "2", "1000"],
         input: b"6nk/2p4p/3B1P1P/5KpP/8/8/8/8 w - -\n",
         status: Status::Done,
-        text: b"open illegal\nproved 2 ep h5g6\nproved 2 last g7g5\nleft 1 of 6 g7g5\npossible 1 of 1 g7g5\natleast 24\n",
+        text: b"open illegal\nstuck illegal g7g5\nproved 2 ep h5g6\nproved 2 last g7g5\nleft 1 of 6 g7g5\npossible 1 of 1 g7g5\natleast 24\n",
     },
     Row {
         words: &["verdict", "1", "100"],

@@ -11,9 +11,9 @@ use Rattle.diagram_study.proofs.Plain.{found_told}
 use Rattle.diagram_study.proofs.Telling.{more_told, ok_then}
 use Rattle.diagram_study.proofs.studies.tell_more.Goals as goal
 
-pub tell_captures-requires : goal.tell_captures-requires
-tell_captures-requires c =
-    All-same (λ (f : RightFound). IsTrue (promotes_well (claim_of f.right))) _ _ c.as_slice-3.ensures.value (found_told c.args.query.now c.in_ok-found.found.items c.in_ok-found.ensures.due)
+pub tell_captures-requires-clause-promotions : goal.tell_captures-requires-clause-promotions
+tell_captures-requires-clause-promotions c =
+    All-same (λ (f : RightFound). IsTrue (promotes_well (claim_of f.right))) _ _ c.as_slice-3.ensures.value (found_told c.args.query.now c.in_ok-found.found.items c.in_ok-found.ensures.found.due)
 
 pub tell_possible-requires-clause-listed : goal.tell_possible-requires-clause-listed
 tell_possible-requires-clause-listed c = let has = c.requires.seen.left in left_listed c.args.query.now _ _ _ c.args.seen.now.left has.are
@@ -22,7 +22,7 @@ pub returns : goal.returns
 returns c =
     ok_then c.tell_length.result _ _
     (more_told c.args.query.now c.args.limits.depth c.args.limits.nodes c.in_ok-found.found.items c.open_castlings-kept.result c.args.seen.now.left c.args.seen.now.all _ _ _ _ _ _ _ _ _
-    c.in_ok-found.ensures
+    c.in_ok-found.ensures.found
     (c.open_castlings-kept.ensures ∙ ap (λ (l : List RightFound). open_castlings l) c.as_slice.ensures.value)
     c.requires.seen.left
     c.requires.array

@@ -11,8 +11,8 @@ use Rattle.diagram_study.proofs.studies.tell_seen.Goals as goal
 pub tell_behind-requires-clause-sure : goal.tell_behind-requires-clause-sure
 tell_behind-requires-clause-sure c = λ some elsewhere empty.
     let proved : IsTrue (is_proved c.joined_up-joined.result) = c.joined_up-joined.ensures.sure some elsewhere (all_none (λ (u : Unmove). IsTrue (is_move None u.mv)) c.in_ok-seen.seen.left empty) in
-    subst (λ (f : Finding). IsTrue (is_proved f)) (sym (c.in_ok-finding.ensures.proved proved)) proved
+    subst (λ (f : Finding). IsTrue (is_proved f)) (sym (c.in_ok-decided.ensures.proved proved)) proved
 
 pub returns : goal.returns
 returns c =
-    position_told c.args.query.now c.args.limits.depth c.args.limits.nodes c.in_ok-finding.finding _ _ _ c.in_ok-finding.ensures.found c.in_ok-push_found.ensures c.in_ok-tell_behind.ensures
+    position_told c.args.query.now c.args.limits.depth c.args.limits.nodes c.in_ok-decided.decided.finding c.in_ok-decided.decided.stuck _ _ _ c.in_ok-decided.ensures.found.found c.in_ok-decided.ensures.found.stuck c.in_ok-push_decided.ensures c.in_ok-tell_behind.ensures
