@@ -1,7 +1,6 @@
 -- What is found of two castlings together.
-use Rattle.std.proofs.Common.{◌≡◌, ℕ, Bool, true, List, [], ◌∷◌, ◌++◌, refl, ap, sym, subst, ◌∙◌}
+use Rattle.std.proofs.Common.{◌≡◌, ℕ, List, [], ◌++◌, refl, subst}
 use Rattle.std.specs.Prelude.{IsTrue, Option}
-use Rattle.std.specs.List.{All}
 use Rattle.std.proofs.lemmas.List.Elements.{All-cons, All-nil}
 use Rattle.board_base.specs.Rights.{Rights, holds, with_castling}
 use Rattle.board_base.specs.declared.castles.Castle.{Castle}
@@ -12,15 +11,13 @@ use Rattle.query_base.specs.Reach.{Holds, Reaches}
 use Rattle.query_base.specs.declared.claims.Claim.{Claim}
 use Rattle.query_base.specs.declared.claims.Claim.TheVariants.{Illegal}
 use Rattle.line_claims.specs.Due.{with_both}
-use Rattle.line_claims.specs.Holding.{HoldsLine}
 use Rattle.line_claims.specs.declared.claims.LineClaim.TheVariants.{NotBoth}
 use Rattle.diagram_study.specs.Ends.{IsStuck}
-use Rattle.diagram_study.specs.Findings.{IsContradicted, IsFound, is_proved}
+use Rattle.diagram_study.specs.Findings.{IsContradicted, IsFound}
 use Rattle.diagram_study.specs.Joined.{IsLineContradicted}
 use Rattle.diagram_study.specs.Pairs.{TellsPair}
 use Rattle.diagram_study.specs.Texts.{decided_steps}
 use Rattle.diagram_study.specs.declared.findings.Finding.{Finding}
-use Rattle.diagram_study.specs.declared.findings.Finding.TheVariants.{Countered}
 use Rattle.diagram_study.proofs.Telling.{Told}
 use Rattle.diagram_study.proofs.Together.{PartsMakeLines, proved_holds}
 

@@ -3,7 +3,7 @@ pub mod Plain
 pub mod Searching
 pub mod Together
 pub mod Leaving
-pub mod Ends
+pub mod LastMoves
 pub mod Looking
 pub mod JoinedTrees
 pub mod Forcing

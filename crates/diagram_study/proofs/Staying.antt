@@ -13,7 +13,6 @@ use Rattle.retro_search.specs.Unsettled.{StaysUnsettled}
 use Rattle.diagram_study.specs.Decisions.{IsDecided}
 use Rattle.diagram_study.specs.Ends.{IsCut}
 use Rattle.diagram_study.specs.Findings.{IsFound}
-use Rattle.diagram_study.specs.declared.deciding.Decided.{Decided}
 use Rattle.diagram_study.specs.declared.findings.Finding.TheVariants.{Open}
 use Rattle.diagram_study.proofs.OpenFronts.{front_texts, open_listed}
 

@@ -33,7 +33,7 @@ use Rattle.diagram_study.specs.Texts.{capture_line, capture_lines, castling_line
 use Rattle.diagram_study.specs.declared.findings.Finding.{Finding}
 use Rattle.diagram_study.specs.declared.findings.Finding.TheVariants.{Proved, Countered, Open, Spent}
 use Rattle.diagram_study.specs.declared.rights.RightFound.{RightFound}
-use Rattle.diagram_study.proofs.Ends.{all_end, few_or_not}
+use Rattle.diagram_study.proofs.LastMoves.{all_end, few_or_not}
 
 -- what was found of a claim is so
 found_so : (q : Asked) (claim : Claim) (most nodes : ℕ) (finding : Finding) → IsFound q claim most nodes finding → IsSo finding (Holds claim q) (IsContradicted claim q)

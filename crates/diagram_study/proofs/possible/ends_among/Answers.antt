@@ -2,7 +2,7 @@ use Rattle.std.proofs.Common.{◌+◌, sym, ◌∙◌, subst, take, arith}
 use Rattle.std.specs.List.{Contains}
 use Rattle.unmove_gen.specs.Listed.{unmoves}
 use Rattle.diagram_study.specs.Possible.{AreEnds}
-use Rattle.diagram_study.proofs.Ends.{ends_found, ends_passed, holds_at}
+use Rattle.diagram_study.proofs.LastMoves.{ends_found, ends_passed, holds_at}
 use Rattle.diagram_study.proofs.possible.ends_among.Goals as goal
 use Rattle.diagram_study.proofs.possible.ends_among.Goals.{then-is_some+in-Ok, else-is_some}
 

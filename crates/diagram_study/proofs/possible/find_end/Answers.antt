@@ -1,4 +1,4 @@
-use Rattle.diagram_study.proofs.Ends.{found_end}
+use Rattle.diagram_study.proofs.LastMoves.{found_end}
 use Rattle.diagram_study.proofs.possible.find_end.Goals as goal
 
 pub returns-in-Ok-clause-end : goal.returns-in-Ok-clause-end

@@ -2,7 +2,7 @@ use Rattle.std.proofs.Common.{◌≤◌, length, arith}
 use Rattle.std.specs.Prelude.{IsTrue}
 use Rattle.board_base.specs.declared.unmoves.Unmove.{Unmove}
 use Rattle.line_claims.specs.Lines.{has_text}
-use Rattle.diagram_study.proofs.Ends.{ends_few, ends_keep, ends_told}
+use Rattle.diagram_study.proofs.LastMoves.{ends_few, ends_keep, ends_told}
 use Rattle.diagram_study.proofs.Telling.{ok_then}
 use Rattle.diagram_study.proofs.possible.tell_ends.Goals as goal
 

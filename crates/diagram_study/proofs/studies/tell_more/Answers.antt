@@ -6,7 +6,7 @@ use Rattle.codex_verdict.specs.Rights.{claim_of}
 use Rattle.diagram_study.specs.Rights.{open_castlings}
 use Rattle.diagram_study.specs.Texts.{capture_lines, castling_lines}
 use Rattle.diagram_study.specs.declared.rights.RightFound.{RightFound}
-use Rattle.diagram_study.proofs.Ends.{left_listed}
+use Rattle.diagram_study.proofs.LastMoves.{left_listed}
 use Rattle.diagram_study.proofs.Plain.{found_told}
 use Rattle.diagram_study.proofs.Telling.{more_told, ok_then}
 use Rattle.diagram_study.proofs.studies.tell_more.Goals as goal
