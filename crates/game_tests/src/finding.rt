@@ -47,14 +47,12 @@ pub fn is_game_to(query: &Query, game: &MoveList) -> bool {
     let mut state = State::start_of(query.odds);
     let mut last = None;
     for i in 0..game.len() {
-        last = game.get(i);
-        let Some(m) = last else {
-            return false;
-        };
+        let m = game.get(i).unwrap();
         match step(&state, &m) {
             Ok(next) => state = next,
             Err(_) => return false,
         }
+        last = Some(m);
     }
     matches_end(&state, last, query)
 }
