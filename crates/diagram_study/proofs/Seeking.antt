@@ -10,7 +10,8 @@ use Rattle.codex_verdict.specs.Rights.{claim_of}
 use Rattle.codex_verdict.specs.declared.kinds.Right.{Right}
 use Rattle.diagram_study.specs.Ends.{IsStuck}
 use Rattle.diagram_study.specs.Findings.{IsFound}
-use Rattle.diagram_study.specs.Rights.{HasStuckText, IsRightFound}
+use Rattle.diagram_study.specs.Decisions.{HasStuckText}
+use Rattle.diagram_study.specs.Rights.{IsRightFound}
 use Rattle.diagram_study.specs.declared.rights.RightFound.{RightFound}
 
 pub rights_more : (each : List Right) (i : ℕ) (f : RightFound) (old new : List RightFound) → i < length each → f.right ≡ get_or each i f.right → map (λ g. g.right) old ≡ take i each → new ≡ old ++ f ∷ [] → map (λ g. g.right) new ≡ take (i + 1) each

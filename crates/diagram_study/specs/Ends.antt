@@ -1,5 +1,5 @@
--- Where a search ends that leaves a claim open, and what is told of it.
-use Rattle.std.specs.Prelude.{ℕ, suc, ◌≡◌, ◌<◌, ◌≤◌, Bool, true, false, ◌||◌, is_some, List, [], length, take, Option, Some, None, slice_get}
+-- What is told of a search that leaves a claim open.
+use Rattle.std.specs.Prelude.{ℕ, suc, ◌≡◌, ◌<◌, ◌≤◌, Bool, true, false, ◌||◌, is_some, List, length, take, Option, Some, None, slice_get}
 use Rattle.board_base.specs.declared.unmoves.Unmove.{Unmove}
 use Rattle.castle_history.specs.TakenBack.{castling_back}
 use Rattle.query_base.specs.Asked.{Asked}
@@ -7,12 +7,8 @@ use Rattle.query_base.specs.Targets.{target}
 use Rattle.query_base.specs.declared.claims.Claim.{Claim}
 use Rattle.unmove_gen.specs.Listed.{resets}
 use Rattle.unmove_gen.specs.Predecessor.{left_by}
-use Rattle.retro_search.specs.Refutable.{IsRefutable}
 use Rattle.retro_search.specs.SearchSizes.{IsLargeSearch}
 use Rattle.retro_search.specs.Unsettled.{StaysUnsettled}
-use Rattle.diagram_study.specs.Findings.{IsContradicted}
-use Rattle.diagram_study.specs.declared.ends.End.{End}
-use Rattle.diagram_study.specs.declared.ends.End.TheVariants as end
 use Rattle.diagram_study.specs.declared.findings.Finding.{Finding}
 use Rattle.diagram_study.specs.declared.findings.Finding.TheVariants.{Open}
 
@@ -39,13 +35,6 @@ pub record IsFront (q : Asked) (depth : ℕ) (front : List Unmove) : Type 0 wher
   pub number : ℕ
   pub cut : IsCut q line number
   pub front_is : front ≡ take number line
-
--- Where a search ends that doesn't prove the claim: at a line of its target's that stays open; at a game that contradicts it; or nowhere,
--- which a claim that rule lines don't refute comes to only if the whole search is larger than the nodes.
-abbrev pub IsEnd : Asked → Claim → ℕ → ℕ → End → Type 0
-IsEnd q claim depth nodes (end.Line line) = StaysUnsettled line (target q claim) depth
-IsEnd q claim depth nodes end.Game = IsContradicted claim q
-IsEnd q claim depth nodes end.Nowhere = (IsRefutable (target q claim) depth [] → ⊥) → IsLargeSearch (target q claim) depth nodes
 
 -- What is told of why a claim is open: the retractions of a line of its target's that stays open; nothing only if the whole search is
 -- larger than the nodes. Of a claim that isn't open nothing is told.

@@ -2,7 +2,7 @@
 use Rattle.std.specs.Prelude.{ℕ, ◌≡◌, ◌≤◌, ◌<◌, Bool, true, false, List, []}
 use Rattle.board_base.specs.declared.moves.Move.{Move}
 use Rattle.query_base.specs.Asked.{Asked}
-use Rattle.query_base.specs.Reach.{Contradicts, Holds, Reaches}
+use Rattle.query_base.specs.Reach.{Contradicts, Holds}
 use Rattle.query_base.specs.Targets.{target}
 use Rattle.query_base.specs.declared.claims.Claim.{Claim}
 use Rattle.price_search.specs.FlatPrices.{FlatPricesSupport}
@@ -51,10 +51,6 @@ pub record IsProof (q : Asked) (claim : Claim) (most nodes depth : ℕ) : Type 0
   pub proved : IsProvedAt q claim most depth
   pub least : IsUnprovedBelow q claim nodes depth
   pub priced : 1 ≤ nodes → FlatPricesSupport (target q claim) → depth ≡ 0
-
--- some game reaches the query
-abbrev pub IsReached : Asked → Type 0
-IsReached q = (g : List Move) × Reaches g q
 
 -- some game contradicts the claim
 abbrev pub IsContradicted : Claim → Asked → Type 0

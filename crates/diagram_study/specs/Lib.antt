@@ -1,7 +1,6 @@
 pub mod Budgets
 pub mod Findings
 pub mod Ends
-pub mod Decisions
 pub mod Joined
 pub mod Rights
 pub mod Pairs
@@ -11,4 +10,5 @@ pub mod Texts
 pub mod Possible
 pub mod Studies
 pub mod Facts
+pub mod Decisions
 pub mod Looks

@@ -1,12 +1,11 @@
 -- What is found of the rights that a position seems to give.
-use Rattle.std.specs.Prelude.{ℕ, ◌≡◌, Bool, false, cond, not, IfSome, IsTrue, List, map, fold}
+use Rattle.std.specs.Prelude.{ℕ, ◌≡◌, Bool, false, cond, not, List, map, fold}
 use Rattle.std.specs.List.{All, filter}
 use Rattle.board_base.specs.Rights.{Rights, holds, with_castling, no_rights}
 use Rattle.query_base.specs.Asked.{Asked}
 use Rattle.codex_verdict.specs.Rights.{AreRights, claim_of}
 use Rattle.codex_verdict.specs.declared.kinds.Right.{Right}
 use Rattle.codex_verdict.specs.declared.kinds.Right.TheVariants.{Castling, EnPassant}
-use Rattle.line_claims.specs.Lines.{has_text}
 use Rattle.diagram_study.specs.Ends.{IsStuck}
 use Rattle.diagram_study.specs.Findings.{IsFound, is_proved}
 use Rattle.diagram_study.specs.declared.findings.Finding.{Finding}
@@ -27,10 +26,6 @@ pub record AreDue (q : Asked) (due : List Right) : Type 0 where
 pub record IsRightFound (q : Asked) (most nodes : ℕ) (f : RightFound) : Type 0 where
   pub found : IsFound q (claim_of f.right) most nodes f.finding
   pub stuck : IsStuck q (claim_of f.right) most nodes f.finding f.stuck
-
--- the retractions that are told have texts
-abbrev pub HasStuckText : RightFound → Type 0
-HasStuckText f = IfSome f.stuck (All (λ u. IsTrue (has_text u)))
 
 -- what was found of each right that isn't demanded, in order
 pub record AreFound (q : Asked) (most nodes : ℕ) (found : List RightFound) : Type 0 where

@@ -1,6 +1,6 @@
 ghost use Rattle.std.specs.Prelude.{IfOk, IsTrue};
 ghost use Rattle.query_base.specs.Reach.{Reaches};
-ghost use Rattle.diagram_study.specs.Findings.{IsReached};
+ghost use Rattle.diagram_study.specs.Decisions.{IsReached};
 
 use board_base::{Memory, MoveList};
 use game_search::{FEW_QUERIES, find_game};

@@ -2,7 +2,8 @@ ghost use Rattle.std.specs.Prelude.{◌≡◌, ◌++◌, IfOk, IsTrue, None, OnO
 ghost use Rattle.std.specs.List.{All};
 ghost use Rattle.cert_text.specs.ClaimLines.{promotes_well};
 ghost use Rattle.codex_verdict.specs.Rights.{claim_of};
-ghost use Rattle.diagram_study.specs.Rights.{AreDue, AreFound, HasStuckText, is_demanded, open_castlings, with_right};
+ghost use Rattle.diagram_study.specs.Decisions.{HasStuckText};
+ghost use Rattle.diagram_study.specs.Rights.{AreDue, AreFound, is_demanded, open_castlings, with_right};
 ghost use Rattle.diagram_study.specs.Texts.{capture_line, capture_lines, castling_line, castling_lines};
 
 use crate::deciding::decide;

@@ -5,7 +5,7 @@ ghost use Rattle.retro_search.specs.Refutable.{IsRefutable};
 ghost use Rattle.retro_search.specs.SearchSizes.{IsLargeSearch};
 ghost use Rattle.retro_search.specs.Unsettled.{WhereRefutable};
 ghost use Rattle.retro_search.specs.declared.runs.Reasons.TheVariants.{All, RuleLines};
-ghost use Rattle.diagram_study.specs.Ends.{IsEnd};
+ghost use Rattle.diagram_study.specs.Decisions.{IsSearchEnd};
 ghost use Rattle.diagram_study.specs.Findings.{is_refuted};
 
 use crate::ends::End;
@@ -70,7 +70,7 @@ impl Searchers {
         limits: Limits,
     ) -> Result<End, Memory>
         requires plain { query.now.barred ≡ None }
-        ensures { IfOk result (IsEnd query.now claim.now limits.depth limits.nodes) }
+        ensures { IfOk result (IsSearchEnd query.now claim.now limits.depth limits.nodes) }
     {
         match self.by_rule_lines.settle(query, claim, limits)? {
             Found::Undecided(line) => Ok(End::Line(line)),
@@ -88,7 +88,7 @@ impl Searchers {
         limits: Limits,
     ) -> Result<End, Memory>
         requires plain { query.now.barred ≡ None }
-        ensures { IfOk result (IsEnd query.now claim.now limits.depth limits.nodes) }
+        ensures { IfOk result (IsSearchEnd query.now claim.now limits.depth limits.nodes) }
     {
         match self.by_all.settle(query, claim, priced(limits))? {
             Found::Undecided(line) => Ok(End::Line(line)),

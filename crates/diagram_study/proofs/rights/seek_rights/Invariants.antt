@@ -1,6 +1,7 @@
 use Rattle.std.proofs.Common.{◌≡◌, map, take}
 use Rattle.std.specs.List.{All}
-use Rattle.diagram_study.specs.Rights.{HasStuckText, IsRightFound}
+use Rattle.diagram_study.specs.Decisions.{HasStuckText}
+use Rattle.diagram_study.specs.Rights.{IsRightFound}
 use Rattle.diagram_study.proofs.rights.seek_rights.Given as goal
 
 abbrev pub invariant-loop-right : goal.invariant-loop-right
