@@ -36,9 +36,9 @@ BENKO = "8/8/8/8/n3k3/p3pb1r/p1q1P2P/RN2K1NR b - -"
 LOYD = "b5rn/1kPBpp2/pP4p1/PR1Pp3/PP2P3/8/2NP4/R3K3 w - -"
 TROITZKY = "6nk/2p4p/3B1P1P/5KpP/8/8/8/8 w - -"
 STUDIES = {
-    BENKO: "countered illegal\nproved 1 lost K\nproved 1 lost Q\nleft 11 of 20\natleast 41\n",
+    BENKO: "open illegal\nproved 1 lost K\nproved 1 lost Q\nleft 11 of 20\natleast 41\n",
     LOYD: "proved 0 illegal\nother side proved 0 illegal\n",
-    TROITZKY: "countered illegal\nproved 2 ep h5g6\nproved 2 last g7g5\nleft 1 of 6 g7g5\natleast 24\n",
+    TROITZKY: "open illegal\nproved 2 ep h5g6\nproved 2 last g7g5\nleft 1 of 6 g7g5\natleast 24\n",
 }
 KINGS = "4k3/8/8/8/8/8/8/4K3 w - -"
 # What a game is told against, and the game; every other claim that no study proves stays open.
@@ -236,7 +236,7 @@ class Solutions(unittest.TestCase):
             self.assertEqual(self.uses(solution, TROITZKY, shown), [], solution)
 
     def test_claims(self):
-        facts = studies.facts_of("r3k2r/8/8/8/8/8/8/4K3 w k -", "proved 1 illegal\nother side countered illegal\nwithout demands\ncountered illegal\nproved 1 notboth k q\n")
+        facts = studies.facts_of("r3k2r/8/8/8/8/8/8/4K3 w k -", "proved 1 illegal\nother side open illegal\nwithout demands\nopen illegal\nproved 1 notboth k q\n")
         self.assertEqual([fact.fen.split(" ", 1)[1] for fact in facts], ["w k -", "b k -", "w - -", "w - -"])
         self.assertEqual(studies.claim_text(facts[-1]), "claim illegal\nr3k2r/8/8/8/8/8/8/4K3 w kq -\n")
         self.assertEqual([fact.word for fact in facts], ["proved", "open", "open", "proved"])
@@ -330,7 +330,7 @@ class Runs(unittest.TestCase):
         self.assertIn("1 illegal, 0 to which a game leads, 3 open\n", done.stdout)
 
     def test_both_answers(self):
-        self.program(explains=True, more={KINGS: "countered illegal\nleft 5 of 5\n", BENKO: "countered illegal\nproved 1 lost K\n", TROITZKY: "open illegal\n"})
+        self.program(explains=True, more={KINGS: "countered illegal\nleft 5 of 5\n", BENKO: "open illegal\nproved 1 lost K\n", TROITZKY: "open illegal\n"})
         self.assertEqual(self.run_tool("--certificates", "proofs").returncode, 0)
         self.program(explains=True, more={KINGS: "countered ep a5b6\nproved 2 ep a5b6\n"})
         done = self.run_tool("--certificates", "proofs")
