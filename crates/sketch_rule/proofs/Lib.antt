@@ -1,1 +1,1 @@
-mod Refuting
+pub mod Refuting

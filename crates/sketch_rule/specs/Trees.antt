@@ -1,8 +1,9 @@
 -- Trees that refute a sketch: why no game comes to it, and to the sketches before its listed steps.
-use Rattle.std.specs.Prelude.{ℕ, ◌≡◌, Bool, false, List, [], ◌∷◌, Some}
+use Rattle.std.specs.Prelude.{ℕ, ◌≡◌, Bool, true, false, List, [], ◌∷◌, Some}
 use Rattle.board_base.specs.Rights.{Rights}
-use Rattle.board_base.specs.declared.men.Kind.TheVariants.{Knight, Rook, Queen}
-use Rattle.past_sketches.specs.Figures.{Figure, Sketch, figure_at}
+use Rattle.board_base.specs.declared.men.Kind.{Kind}
+use Rattle.board_base.specs.declared.men.Kind.TheVariants.{Pawn, Knight, Bishop, Rook, Queen, King}
+use Rattle.past_sketches.specs.Figures.{Figure, Sketch, figure_at, may_be}
 use Rattle.past_sketches.specs.Homes.{may_be_array}
 use Rattle.past_sketches.specs.Known.{known_at, marked_at}
 use Rattle.past_account.specs.Closes.{Closes, Forces}
@@ -23,11 +24,20 @@ mutual
     none : Forest
     more : Tree → Forest → Forest
 
--- the figure with this number is a knight, a rook or a queen
+-- a knight, a rook or a queen
+abbrev pub is_heavy : Kind → Bool
+is_heavy Pawn = false
+is_heavy Knight = true
+is_heavy Bishop = false
+is_heavy Rook = true
+is_heavy Queen = true
+is_heavy King = false
+
+-- the figure with this number may be each of these, and nothing else
 pub record IsUnknown (S : Sketch) (i : ℕ) : Type 0 where
   pub figure : Figure
   pub found : figure_at S i ≡ Some figure
-  pub kinds : figure.kinds ≡ Knight ∷ Rook ∷ Queen ∷ []
+  pub kinds : (k : Kind) → may_be figure k ≡ is_heavy k
 
 abbrev mutual
   -- The tree refutes the sketch: an account closes it, by prices or since the array hasn't its frozen men; or an account forces the mark,
