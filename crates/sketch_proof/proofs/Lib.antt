@@ -1,0 +1,4 @@
+pub mod Whole
+pub mod Grounds
+pub mod Standing
+pub mod Sound
