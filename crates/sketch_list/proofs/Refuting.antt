@@ -25,7 +25,8 @@ use Rattle.past_sketches.proofs.Changed.{changed-at}
 use Rattle.past_sketches.proofs.Sketches.{any-figure, figure-any}
 use Rattle.past_account.specs.Refuted.{Refuted, clash, crowd, kinds, rearranged, steps, trim}
 use Rattle.sketch_steps.specs.Places.{recounted}
-use Rattle.sketch_list.specs.Listed.{Earlier, earlier, figures_before, is_open, is_short, is_sound, may_take, sketch_before, steps_by, trimmed_out, ways_to}
+use Rattle.sketch_sets.specs.TrimmedOut.{trimmed_out}
+use Rattle.sketch_list.specs.Listed.{Earlier, earlier, figures_before, is_open, is_short, is_sound, may_take, sketch_before, steps_by, ways_to}
 use Rattle.sketch_list.proofs.Before.{before-respelled}
 use Rattle.sketch_list.proofs.Listing.{Gone, Made, above-due, by-told, inside-told, listed, step-listed, victim_for, way-in}
 use Rattle.sketch_list.proofs.Narrowed.{HaveKinds, check-too, trims-narrow}

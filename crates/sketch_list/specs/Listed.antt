@@ -1,5 +1,5 @@
 -- The steps of a sketch in a list, each with the sketch before it.
-use Rattle.std.specs.Prelude.{ℕ, ◌+◌, ◌-◌, ◌*◌, ◌==◌, Bool, true, false, cond, ◌&&◌, not, nat_lt, max, length, List, [], ◌∷◌, ◌++◌, map, Option, Some, None, count_by}
+use Rattle.std.specs.Prelude.{ℕ, ◌+◌, ◌-◌, ◌==◌, Bool, true, false, cond, ◌&&◌, not, nat_lt, max, length, List, [], ◌∷◌, ◌++◌, map, Option, Some, None, count_by}
 use Rattle.std.specs.List.{filter, flat_map, list_any, range_with_len}
 use Rattle.board_base.specs.Board.{array_of, at, file, is_in, is_of, opponent, rank, same_colour}
 use Rattle.board_base.specs.Play.{ahead, behind}
@@ -11,7 +11,7 @@ use Rattle.past_sketches.specs.Clashes.{is_clash}
 use Rattle.past_sketches.specs.Figures.{Figure, Sketch, each_changed, figure_at, may_be}
 use Rattle.past_sketches.specs.Steps.{Step, changed_by, is_step, victim_on}
 use Rattle.past_sketches.specs.Touching.{side_checks}
-use Rattle.past_sketches.specs.Trimmed.{trims}
+use Rattle.sketch_sets.specs.TrimmedOut.{trimmed_out}
 use Rattle.sketch_steps.specs.Places.{recounted}
 use Rattle.sketch_list.specs.declared.steps.Victim.{Victim}
 use Rattle.sketch_list.specs.declared.steps.Victim.TheVariants.{Nobody, TakenPawn, TakenBishop, TakenOther, PassedPawn}
@@ -90,10 +90,6 @@ victims_as f t PassedPawn = victim_on f Pawn (ahead f.colour t) ∷ []
 -- each figure before the step, and then that man
 unfoldable pub figures_before : Sketch → Figure → Listed → Sketch
 figures_before T f y = each_changed (changed_by f.colour (step_for T f y)) 0 T ++ victims_as f y.to y.victim
-
--- trimmed until nothing changes: each round but the last leaves somebody fewer squares
-unfoldable pub trimmed_out : Sketch → Sketch
-trimmed_out S = trims (64 * length S) S
 
 -- the sketch before the step, its places counted anew, and trimmed
 unfoldable pub sketch_before : Sketch → Figure → Listed → Sketch

@@ -6,7 +6,6 @@ use Rattle.std.proofs.lemmas.Option.{same_Some}
 use Rattle.std.specs.Prelude.{Some}
 use Rattle.std.specs.List.{list_all, list_any, range_with_len}
 use Rattle.general_lemmas.proofs.Ranges.{any-found}
-use Rattle.general_lemmas.proofs.Rounds.{count, count-le}
 use Rattle.board_base.specs.Board.{is_in, same_kind}
 use Rattle.board_base.specs.Rights.{Rights}
 use Rattle.board_base.specs.declared.men.Colour.{Colour}
@@ -21,7 +20,7 @@ use Rattle.past_sketches.proofs.Sketches.{figure-any, kind-any}
 use Rattle.sketch_sets.specs.Leasts.{AreLike, IsClosedAbove}
 use Rattle.sketch_sets.specs.Origins.{comes_from, is_origin, widened, widened_set}
 use Rattle.sketch_sets.specs.Remade.{AreWhole, set_of, with_set}
-use Rattle.sketch_sets.proofs.Sizes.{AreInside, inside-length, same-sets, smaller, total}
+use Rattle.sketch_sets.proofs.Sizes.{AreInside, inside-length, same-sets, smaller, total, total-most}
 use Rattle.sketch_sets.proofs.Under.{AreSomewhere, AreUnder, IsUnder, above-at, below-at, quiet-more, room-more}
 
 -- a quiet way begins on the board
@@ -171,11 +170,6 @@ inside-each : (held : Rights) (exact : List Bool) (T S : Sketch) → AreWhole S 
 inside-each held exact T [] w = tt
 inside-each held exact T (f ∷ S) w = ((refl, λ s member. more-in held exact T f s w.0 member), inside-each held exact T S w.1)
 
-few : (T : Sketch) → AreWhole T → total T ≤ 64 * length T
-unfolding total
-few [] w = omega arith
-few (f ∷ T) w = let rest : total T ≤ 64 * length T = few T w.1 in let here : count f.squares ≤ 64 = omega (arith, count-le f.squares, w.0) in omega (arith, rest, here)
-
 -- how many squares may still be added
 pub gap : Sketch → ℕ
 gap T = 64 * length T - total T
@@ -186,7 +180,7 @@ gap-less held exact T more whole e other =
     let W : Sketch = widened held exact T in
     let inside : AreInside W T = inside-each held exact T T whole in
     let size : length T ≡ length W = inside-length W T inside in
-    let most : total W ≤ 64 * length W = few W (widened-whole held exact T) in
+    let most : total W ≤ 64 * length W = total-most W (widened-whole held exact T) in
     subst (λ (M : Sketch). 64 * length M - total M < 64 * length T - total T) (sym e) (elim (smaller W T (widened-whole held exact T) whole inside) [
       | inl same ↦ absurd (other (sym same ∙ ap (map set_of) (sym e)))
       | inr less ↦ omega (arith, size, most, less)

@@ -2,10 +2,13 @@ pub mod Sets
 pub mod Rooms
 pub mod Made
 pub mod Trimming
+pub mod Keeping
 pub mod Sizes
+pub mod Ending
 pub mod Under
 pub mod Closing
 pub mod Touched
 pub mod Wayside
 pub mod Clashing
+pub mod Checking
 pub mod Lodging

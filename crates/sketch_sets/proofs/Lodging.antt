@@ -72,8 +72,11 @@ pub counted-none : (set : List Bool) → 0 + count_by (is_in set) (range_with_le
 unfolding home_count
 counted-none set = zero-add (count_by (is_in set) (range_with_len 0 64))
 
-pub crowd-made : (o : List Bool) (T : Sketch) (c : Colour) (first : Places) (set : List Bool) (begun now : ℕ) → first ≡ array_of o → set ≡ squares_that (λ h. is_of c (at first h)) → begun ≡ home_count set → now ≡ count_by (λ f. same_colour c f.colour) T → nat_lt begun now ≡ is_crowded o T c
-unfolding is_crowded home_count
-crowd-made o T c first set begun now a b d e =
-    ap (λ (n : ℕ). nat_lt n now) (d ∙ ap (λ (l : List Bool). count_by (is_in l) (range_with_len 0 64)) (b ∙ ap (λ (p : Places). squares_that (λ h. is_of c (at p h))) a) ∙ count-same (is_in (squares_that (λ h. is_of c (at (array_of o) h)))) (λ h. is_of c (at (array_of o) h)) 0 64 (λ q low. is_in-that (λ h. is_of c (at (array_of o) h)) q (omega arith)))
-    ∙ ap (λ (n : ℕ). nat_lt (count_by (λ h. is_of c (at (array_of o) h)) (range_with_len 0 64)) n) e
+pub begun-made : (o : List Bool) (c : Colour) (first : Places) (set : List Bool) (begun : ℕ) → first ≡ array_of o → set ≡ squares_that (λ h. is_of c (at first h)) → begun ≡ home_count set → begun ≡ count_by (λ h. is_of c (at (array_of o) h)) (range_with_len 0 64)
+unfolding home_count
+begun-made o c first set begun a b d =
+    d ∙ ap (λ (l : List Bool). count_by (is_in l) (range_with_len 0 64)) (b ∙ ap (λ (p : Places). squares_that (λ h. is_of c (at p h))) a) ∙ count-same (is_in (squares_that (λ h. is_of c (at (array_of o) h)))) (λ h. is_of c (at (array_of o) h)) 0 64 (λ q low. is_in-that (λ h. is_of c (at (array_of o) h)) q (omega arith))
+
+pub crowd-made : (o : List Bool) (T : Sketch) (c : Colour) (begun now : ℕ) → begun ≡ count_by (λ h. is_of c (at (array_of o) h)) (range_with_len 0 64) → now ≡ count_by (λ f. same_colour c f.colour) T → nat_lt begun now ≡ is_crowded o T c
+unfolding is_crowded
+crowd-made o T c begun now a b = ap (λ (n : ℕ). nat_lt n now) a ∙ ap (λ (n : ℕ). nat_lt (count_by (λ h. is_of c (at (array_of o) h)) (range_with_len 0 64)) n) b

@@ -1,12 +1,13 @@
 -- Tests of whole sets, as tests of their squares.
-use Rattle.std.proofs.Common.{◌≡◌, ℕ, zero, suc, ◌+◌, ◌<◌, ◌==◌, Bool, true, false, cond, ◌&&◌, ◌||◌, not, List, set, refl, ap, ◌∙◌, arith}
-use Rattle.std.proofs.lemmas.Bool.{and_from, and_left, and_right}
+use Rattle.std.proofs.Common.{◌≡◌, ℕ, zero, suc, ◌+◌, ◌<◌, ◌≤◌, ◌==◌, inl, inr, Bool, true, false, cond, ◌&&◌, ◌||◌, not, List, set, refl, ap, sym, ◌∙◌, subst, arith}
+use Rattle.std.proofs.lemmas.Bool.{and_from, and_left, and_right, cases_lt, cond-false, cond-true, le-ltb, lt-ltb}
+use Rattle.std.specs.Prelude.{nat_lt}
 use Rattle.std.specs.List.{list_all, list_any, range_with_len}
 use Rattle.board_base.specs.Board.{is_in}
 use Rattle.board_base.specs.Squares.{number_of, squares_of}
 use Rattle.cage_rules.specs.Sets.{squares_that}
 use Rattle.cage_rules.specs.Steps.{both, outside}
-use Rattle.cage_rules.proofs.Filling.{Filled, filled-in, filled-out, is_in-that}
+use Rattle.cage_rules.proofs.Filling.{Filled, empty-start, filled-in, filled-out, filled-that, is_in-that}
 use Rattle.cage_rules.proofs.SetAlgebra.{is_in-both, is_in-outside, none-bits}
 use Rattle.sketch_sets.specs.Tests.{is_inside, meets}
 
@@ -54,9 +55,36 @@ unfolding meets
 meets-told a p = any-same (λ q. is_in a q && is_in (squares_that p) q) (λ q. is_in a q && p q) 0 64 (λ q low. ap (λ (x : Bool). is_in a q && x) (is_in-that p q (omega arith)))
 
 -- one more square of those of a set that pass a test
-pub those-if : (inside : List Bool) (p : ℕ → Bool) (those : List Bool) (i : ℕ) (b : Bool) → i < 64 → is_in inside i ≡ true → p i ≡ b → Filled (λ s. is_in inside s && p s) false those i → Filled (λ s. is_in inside s && p s) false (cond b (set those i true) those) (i + 1)
+those-if : (inside : List Bool) (p : ℕ → Bool) (those : List Bool) (i : ℕ) (b : Bool) → i < 64 → is_in inside i ≡ true → p i ≡ b → Filled (λ s. is_in inside s && p s) false those i → Filled (λ s. is_in inside s && p s) false (cond b (set those i true) those) (i + 1)
 those-if inside p those i true low member pass before = filled-in (λ s. is_in inside s && p s) false those i true low (and_from _ _ member pass) before
 those-if inside p those i false low member pass before = filled-out (λ s. is_in inside s && p s) false those i (and_right _ _ pass) before
 
-pub those-out : (inside : List Bool) (p : ℕ → Bool) (those : List Bool) (i : ℕ) → is_in inside i ≡ false → Filled (λ s. is_in inside s && p s) false those i → Filled (λ s. is_in inside s && p s) false those (i + 1)
-those-out inside p those i out before = filled-out (λ s. is_in inside s && p s) false those i (and_left _ _ out) before
+-- none between
+those-past : (inside : List Bool) (p : ℕ → Bool) (those : List Bool) (i j : ℕ) → i ≤ j → ((s : ℕ) → i ≤ s → s < j → is_in inside s ≡ false) → Filled (λ s. is_in inside s && p s) false those i → Filled (λ s. is_in inside s && p s) false those j
+those-past inside p those i j high none before = record {
+  size = before.size;
+  each = λ t. elim (cases_lt t i) [
+    | inl low ↦ before.each t ∙ cond-true (nat_lt t i) (is_in inside t && p t) false (lt-ltb t i low) ∙ sym (cond-true (nat_lt t j) (is_in inside t && p t) false (lt-ltb t j (omega arith)))
+    | inr past ↦ elim (cases_lt t j) [
+      | inl between ↦ before.each t ∙ cond-false (nat_lt t i) (is_in inside t && p t) false (le-ltb t i past) ∙ sym (cond-true (nat_lt t j) (is_in inside t && p t) false (lt-ltb t j between) ∙ and_left _ _ (none t past between))
+      | inr beyond ↦ before.each t ∙ cond-false (nat_lt t i) (is_in inside t && p t) false (le-ltb t i past) ∙ sym (cond-false (nat_lt t j) (is_in inside t && p t) false (le-ltb t j beyond))
+    ]
+  ];
+}
+
+-- those before the next square of the set, which is this one
+pub record Those (inside : List Bool) (p : ℕ → Bool) (those : List Bool) (i : ℕ) : Type 0 where
+  pub filled : Filled (λ s. is_in inside s && p s) false those i
+  pub next : i < 64 → is_in inside i ≡ true
+
+pub those-start : (inside : List Bool) (p : ℕ → Bool) (those : List Bool) (i : ℕ) → those ≡ squares_of 0 → ((s : ℕ) → 0 ≤ s → s < i → is_in inside s ≡ false) → (i < 64 → is_in inside i ≡ true) → Those inside p those i
+those-start inside p those i e none next = record { filled = those-past inside p those 0 i (omega arith) none (empty-start (λ s. is_in inside s && p s) those e); next = next }
+
+pub those-more : (inside : List Bool) (p : ℕ → Bool) (those more : List Bool) (i j : ℕ) (b : Bool) → i < 64 → p i ≡ b → more ≡ cond b (set those i true) those → i + 1 ≤ j → ((s : ℕ) → i + 1 ≤ s → s < j → is_in inside s ≡ false) → (j < 64 → is_in inside j ≡ true) → Those inside p those i → Those inside p more j
+those-more inside p those more i j b low here made high none next before = record {
+  filled = those-past inside p more (i + 1) j high none (subst (λ (l : List Bool). Filled (λ s. is_in inside s && p s) false l (i + 1)) (sym made) (those-if inside p those i b low (before.next low) here before.filled));
+  next = next;
+}
+
+pub those-end : (inside : List Bool) (p : ℕ → Bool) (those : List Bool) (i : ℕ) → 64 ≤ i → Those inside p those i → those ≡ squares_that (λ s. is_in inside s && p s)
+those-end inside p those i past done = filled-that (λ s. is_in inside s && p s) those i past done.filled

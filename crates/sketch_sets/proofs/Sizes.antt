@@ -1,6 +1,6 @@
 -- How many squares the figures of a sketch have in all.
-use Rattle.std.proofs.Common.{◌≡◌, ℕ, zero, suc, ◌+◌, ◌<◌, ◌⊎◌, inl, inr, List, [], ◌∷◌, Bool, true, length, map, refl, ap, sym, ◌∙◌, subst, arith}
-use Rattle.general_lemmas.proofs.Rounds.{count, fewer}
+use Rattle.std.proofs.Common.{◌≡◌, ℕ, zero, suc, ◌+◌, ◌*◌, ◌<◌, ◌≤◌, ◌⊎◌, inl, inr, List, [], ◌∷◌, Bool, true, length, map, refl, ap, sym, ◌∙◌, subst, arith}
+use Rattle.general_lemmas.proofs.Rounds.{count, count-le, fewer}
 use Rattle.general_lemmas.proofs.Lists.{same_first, same_rest}
 use Rattle.board_base.specs.Board.{is_in}
 use Rattle.cage_rules.proofs.Filling.{in-that, length-that}
@@ -12,6 +12,14 @@ use Rattle.std.proofs.lemmas.Bool.{and_parts}
 unfoldable pub total : Sketch → ℕ
 total [] = 0
 total (f ∷ T) = count f.squares + total T
+
+pub total-most : (T : Sketch) → AreWhole T → total T ≤ 64 * length T
+unfolding total
+total-most [] w = omega arith
+total-most (f ∷ T) w =
+    let rest : total T ≤ 64 * length T = total-most T w.1 in
+    let here : count f.squares ≤ 64 = omega (arith, count-le f.squares, w.0) in
+    omega (arith, rest, here)
 
 -- the second sketch has the figures of the first, each with a set inside his
 abbrev pub AreInside : Sketch → Sketch → Type 0

@@ -2,7 +2,7 @@
 -- What the ways of a sketch's figures depend on.
 use Rattle.std.specs.Prelude.{ℕ, Bool, ◌&&◌, List}
 use Rattle.std.specs.List.{list_any, range_with_len}
-use Rattle.board_base.specs.Board.{same_colour}
+use Rattle.board_base.specs.Board.{opponent, same_colour}
 use Rattle.board_base.specs.Rights.{Rights}
 use Rattle.board_base.specs.declared.men.Colour.{Colour}
 use Rattle.board_base.specs.declared.men.Colour.TheVariants.{White, Black}
@@ -23,6 +23,10 @@ touched_by c s f = same_colour c f.colour && surely_touches f s
 -- the figure is a king of this colour, fixed on q
 unfoldable pub is_king_there : Colour → ℕ → Figure → Bool
 is_king_there c q f = is_king_on c q f
+
+-- the figure is a king of the other colour, fixed on a square that a fixed figure of this colour surely touches
+unfoldable pub is_checked : Sketch → Colour → Figure → Bool
+is_checked T c f = list_any (λ q. is_king_there (opponent c) q f && list_any (touched_by c q) T) (range_with_len 0 64)
 
 abbrev pub ground_of : Rights → Sketch → Ground
 ground_of held T = record {

@@ -1,4 +1,5 @@
 pub mod Leasts
+pub mod TrimmedOut
 pub mod Files
 pub mod Tests
 pub mod Remade

@@ -23,6 +23,10 @@ is_kept T fixed f s = (not (is_in fixed s) || is_fixed_on s f) && (not (list_all
 unfoldable pub kept_squares : Sketch → List Bool → Figure → List Bool
 kept_squares T fixed f = squares_that (λ s. is_in f.squares s && is_kept T fixed f s)
 
+-- all squares of the figure if he is fixed on one, else those on which nobody of these is
+unfoldable pub free_squares : List Bool → Figure → List Bool
+free_squares fixed f = squares_that (λ s. is_in f.squares s && (not (is_in fixed s) || is_fixed_on s f))
+
 -- some square of the set passes the test
 unfoldable pub some_that : List Bool → (ℕ → Bool) → Bool
 some_that set p = list_any (λ s. is_in set s && p s) (range_with_len 0 64)

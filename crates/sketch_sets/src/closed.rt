@@ -3,21 +3,11 @@ ghost use Rattle.std.specs.List.{list_any};
 ghost use Rattle.past_sketches.specs.Clashes.{is_nowhere};
 ghost use Rattle.past_sketches.specs.Figures.{IsAbove, Sketch as ASketch};
 ghost use Rattle.sketch_sets.specs.Leasts.{IsClosedAbove};
-ghost use Rattle.sketch_sets.specs.Remade.{AreWhole};
 
 use crate::origins::widened;
-use crate::remade::has_same_sets;
+use crate::remade::{are_whole, has_same_sets};
 use board_base::CastleSet;
-use figures::{Sketch, is_whole};
-
-/// Tells the caller that each figure's set has 64 truth values.
-fn are_whole(sketch: &Sketch)
-    ensures { AreWhole sketch.now }
-{
-    for figure in sketch.figures() {
-        is_whole(figure.squares);
-    }
-}
+use figures::Sketch;
 
 /// The least closed sketch above a sketch, with the same figures, if these rights are held and pawns have no quiet ways on these files: it
 /// is above it and closed (`closed`), and so each other sketch with the same figures that is both is above this one, unless a figure has no

@@ -1,5 +1,6 @@
 ghost use Rattle.std.specs.Prelude.{◌≡◌, count_by};
-ghost use Rattle.board_base.specs.Board.{at, is_of};
+ghost use Rattle.std.specs.List.{range_with_len};
+ghost use Rattle.board_base.specs.Board.{array_of, at, is_of, same_colour};
 ghost use Rattle.cage_rules.specs.Sets.{squares_that};
 ghost use Rattle.past_sketches.specs.Clashes.{is_crowded};
 ghost use Rattle.sketch_sets.specs.Crowds.{is_on_side};
@@ -24,8 +25,8 @@ fn is_on_side(colour: Colour, figure: &Figure) -> bool
 }
 
 /// How many figures have this colour.
-fn figures_of(sketch: &Sketch, colour: Colour) -> usize
-    ensures { result ≡ count_by (is_on_side colour) sketch.now }
+pub fn figures_of(sketch: &Sketch, colour: Colour) -> usize
+    ensures { result ≡ count_by (λ f. same_colour colour f.colour) sketch.now }
 {
     sketch
         .figures()
@@ -34,11 +35,18 @@ fn figures_of(sketch: &Sketch, colour: Colour) -> usize
         .count()
 }
 
+/// How many men of this colour the array has at these odds.
+pub fn men_begun(odds: Odds, colour: Colour) -> usize
+    ensures { result ≡ count_by (λ h. is_of colour (at (array_of odds) h)) (range_with_len 0 64) }
+{
+    count(men_of(&array_of(odds), colour))
+}
+
 /// Whether there are more figures of the colour than men of it in the array at these odds.
 pub fn is_crowded(odds: Odds, sketch: &Sketch, colour: Colour) -> bool
     ensures { result ≡ is_crowded odds sketch.now colour }
 {
-    let begun = count(men_of(&array_of(odds), colour));
+    let begun = men_begun(odds, colour);
     let now = figures_of(sketch, colour);
     begun < now
 }

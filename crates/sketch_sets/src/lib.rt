@@ -19,8 +19,8 @@ mod ways;
 
 pub use checks::{gives_check, is_clash, side_checks};
 pub use closed::least_closed;
-pub use crowds::is_crowded;
+pub use crowds::{figures_of, is_crowded, men_begun};
 pub use homes::may_be_array;
-pub use masks::those_that;
+pub use masks::{has_file, those_that};
 pub use trims::{all_leave_room, is_pawn_beside, stands_above, stands_below, trim};
 pub use ways::{goes_straight, is_pawn, on_the_way};

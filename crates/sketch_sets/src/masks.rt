@@ -1,4 +1,5 @@
 ghost use Rattle.std.specs.Prelude.{◌≡◌, ◌<◌, ◌==◌, ◌&&◌, ℕ, Bool, nat_lt, true};
+ghost use Rattle.std.specs.List.{list_any, range_with_len};
 ghost use Rattle.board_base.specs.Board.{file, is_in, rank};
 ghost use Rattle.cage_rules.specs.Sets.{squares_that};
 ghost use Rattle.sketch_sets.specs.Tests.{is_inside, meets, some_that};
@@ -35,6 +36,14 @@ pub(crate) fn file_squares(n: u8) -> SquareSet
         6 => SquareSet::from_bits(0x4040_4040_4040_4040),
         _ => SquareSet::from_bits(0x8080_8080_8080_8080),
     }
+}
+
+/// Whether some square of the set is on this file, counted from 0.
+pub fn has_file(set: SquareSet, n: u8) -> bool
+    requires { n < 8 }
+    ensures { result ≡ list_any (λ s. is_in set s && (file s == n)) (range_with_len 0 64) }
+{
+    meets(set, file_squares(n))
 }
 
 /// The squares of the ranks below this one, counted from 0.
@@ -77,11 +86,11 @@ pub fn those_that<F: Fn(Square) -> bool>(set: SquareSet, test: F) -> SquareSet
     ensures { (p : ℕ → Bool) → ((s : ℕ) (b : Bool) → s < 64 → is_in set s ≡ true → F.post test s b → b ≡ p s) → result ≡ squares_that (λ s. is_in set s && p s) }
 {
     let mut those = SquareSet::from_bits(0);
-    for i in 0..64 {
+    let mut i = set.next_from(0);
+    'squares: while i < 64 {
         let s = Square::known(i);
-        if set.has(s) {
-            those = with_if(those, s, test(s));
-        }
+        those = with_if(those, s, test(s));
+        i = set.next_from(i + 1);
     }
     those
 }

@@ -1,9 +1,18 @@
 ghost use Rattle.std.specs.Prelude.{◌≡◌, ◌↔◌, Bool, IsTrue, List, length, map};
 ghost use Rattle.past_sketches.specs.Figures.{Figure as AFigure};
-ghost use Rattle.sketch_sets.specs.Remade.{set_of, with_set};
+ghost use Rattle.sketch_sets.specs.Remade.{AreWhole, set_of, with_set};
 
 use board_base::SquareSet;
-use figures::{Figure, Sketch, is_same};
+use figures::{Figure, Sketch, is_same, is_whole};
+
+/// Tells the caller that each figure's set has 64 truth values.
+pub(crate) fn are_whole(sketch: &Sketch)
+    ensures { AreWhole sketch.now }
+{
+    for figure in sketch.figures() {
+        is_whole(figure.squares);
+    }
+}
 
 /// The sketch with other sets of squares.
 pub(crate) fn with_sets<F: Fn(Figure) -> SquareSet>(sketch: &Sketch, sets: F) -> Sketch

@@ -63,7 +63,7 @@ fn is_touching(colour: Colour, figure: &Figure, s: Square) -> bool
 }
 
 /// Whether the figure is a king of this colour, fixed on `q`.
-fn is_king_on(colour: Colour, figure: &Figure, q: Square) -> bool
+pub(crate) fn is_king_on(colour: Colour, figure: &Figure, q: Square) -> bool
     ensures { result ≡ is_king_there colour q figure.now }
 {
     let king = figure.kinds.is_only(Kind::King);

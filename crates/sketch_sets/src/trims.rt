@@ -1,12 +1,13 @@
-ghost use Rattle.std.specs.Prelude.{◌≡◌, ℕ};
-ghost use Rattle.past_sketches.specs.Trimmed.{trimmed, trims};
+ghost use Rattle.std.specs.Prelude.{◌≡◌};
+ghost use Rattle.past_sketches.specs.Trimmed.{trimmed};
 ghost use Rattle.sketch_sets.specs.Files.{gives_room, has_all_room, is_above, is_below, is_beside};
-ghost use Rattle.sketch_sets.specs.Tests.{is_kept, kept_squares};
+ghost use Rattle.sketch_sets.specs.Tests.{free_squares, is_kept, kept_squares};
+ghost use Rattle.sketch_sets.specs.TrimmedOut.{trimmed_out};
 
 use crate::masks::{file_squares, is_within, meets, ranks_above, ranks_below, those_that};
-use crate::remade::{has_same_sets, with_sets};
+use crate::remade::{are_whole, has_same_sets, with_sets};
 use board_base::{Kind, Square, SquareSet};
-use figures::{Figure, Sketch, fixed_squares};
+use figures::{Figure, Sketch, both, fixed_squares, outside};
 
 /// Whether the figure is a pawn on this square's file.
 pub fn is_pawn_beside(e: Square, figure: &Figure) -> bool
@@ -65,11 +66,24 @@ fn is_kept(sketch: &Sketch, fixed: SquareSet, figure: &Figure, s: Square) -> boo
     all_leave_room(sketch, figure, s)
 }
 
+/// What an officer or a king keeps of his squares: all if he is fixed, else those on which nobody is.
+fn free_squares(fixed: SquareSet, figure: &Figure) -> SquareSet
+    ensures { result ≡ free_squares fixed figure.now }
+{
+    match figure.fixed_square() {
+        Some(_) => figure.squares,
+        None => both(figure.squares, outside(fixed)),
+    }
+}
+
 /// What a figure keeps of his squares: those on which nobody is fixed, unless it is himself, and on which the pawns of his file leave him
 /// room, if he is a pawn.
 fn kept_squares(sketch: &Sketch, fixed: SquareSet, figure: Figure) -> SquareSet
     ensures { result ≡ kept_squares sketch.now fixed figure }
 {
+    if !figure.kinds.is_only(Kind::Pawn) {
+        return free_squares(fixed, &figure);
+    }
     those_that(figure.squares, |s| is_kept(sketch, fixed, &figure, s))
 }
 
@@ -84,9 +98,10 @@ fn trimmed(sketch: &Sketch) -> Sketch
 
 /// The sketch, trimmed until nothing changes.
 pub fn trim(sketch: &Sketch) -> Sketch
-    ensures rounds { (n : ℕ) × (result ≡ trims n sketch.now) }
+    ensures value { result ≡ trimmed_out sketch.now }
     ensures end { trimmed result ≡ result }
 {
+    are_whole(sketch);
     let mut left = trimmed(sketch);
     'rounds: loop {
         let less = trimmed(&left);

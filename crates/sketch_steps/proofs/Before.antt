@@ -62,10 +62,17 @@ each-more c x S i f g first made more low there new before e =
     let pushed : each_changed h 0 (take (i + 1) S) ≡ each_changed h 0 (take i S) ++ g ∷ [] = ap (each_changed h 0) front ∙ each-push h 0 (take i S) f ∙ ap (λ (n : ℕ). each_changed h 0 (take i S) ++ h n f ∷ []) at_i ∙ ap (λ (y : Figure). each_changed h 0 (take i S) ++ y ∷ []) (sym new) in
     e ∙ ap (λ (l : Sketch). l ++ g ∷ []) before ∙ append_assoc first (each_changed h 0 (take i S)) (g ∷ []) ∙ ap (λ (l : Sketch). first ++ l) (sym pushed)
 
-pub others-made : (T : Sketch) (x : Step) (f : Figure) (c : Colour) (made : Sketch) (i : ℕ) → c ≡ f.colour → length T ≤ i → made ≡ each_changed (changed_of c x) 0 (take i T) → made ++ victims f x ≡ others_first T f x
-unfolding others_first changed_of
-others-made T x f c made i same past e =
-    ap (λ (l : Sketch). l ++ victims f x) (e ∙ ap (λ (d : Colour). each_changed (changed_by d x) 0 (take i T)) same ∙ ap (λ (l : Sketch). each_changed (changed_by f.colour x) 0 l) (take_all i T past))
+pub each-told : (c : Colour) (x : Step) (T : Sketch) (i : ℕ) → length T ≤ i → each_changed (changed_of c x) 0 (take i T) ≡ each_changed (changed_by c x) 0 T
+unfolding changed_of
+each-told c x T i past = ap (λ (l : Sketch). each_changed (changed_by c x) 0 l) (take_all i T past)
+
+pub each-length : (h : ℕ → Figure → Figure) (k : ℕ) (S : Sketch) → length (each_changed h k S) ≡ length S
+each-length h k [] = refl
+each-length h k (f ∷ S) = ap suc (each-length h (suc k) S)
+
+pub others-made : (T : Sketch) (x : Step) (f : Figure) (c : Colour) (made : Sketch) → c ≡ f.colour → made ≡ each_changed (changed_by c x) 0 T → made ++ victims f x ≡ others_first T f x
+unfolding others_first
+others-made T x f c made same e = ap (λ (l : Sketch). l ++ victims f x) (e ∙ ap (λ (d : Colour). each_changed (changed_by d x) 0 T) same)
 
 pub victims-past : (f : Figure) (x : Step) (v : Figure) → x.passing ≡ true → v ≡ victim_on f Pawn (ahead f.colour x.to) → v ∷ [] ≡ victims f x
 victims-past f x v h e = ap (λ (g : Figure). g ∷ []) e ∙ sym (past f x x.passing h)

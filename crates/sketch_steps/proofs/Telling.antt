@@ -1,6 +1,6 @@
 -- Steps, test by test.
 use Rattle.std.proofs.Common.{◌≡◌, ℕ, ◌+◌, ◌<◌, ◌==◌, Bool, true, false, cond, ◌&&◌, ◌||◌, not, List, refl, ap, sym, ◌∙◌}
-use Rattle.std.proofs.lemmas.Bool.{and_left, eq-eqb, lt-ltb, ne_eqb}
+use Rattle.std.proofs.lemmas.Bool.{and_left, both_ways, eq-eqb, lt-ltb, ne_eqb}
 use Rattle.std.specs.Prelude.{None, Option, Some, is_none, nat_lt}
 use Rattle.std.specs.List.{list_all, list_any}
 use Rattle.board_base.specs.Attacks.{files_apart, one_ahead}
@@ -14,7 +14,8 @@ use Rattle.play_rules.specs.Laws.{is_end}
 use Rattle.past_sketches.specs.Figures.{Figure, Sketch, figure_at, fixed_squares, may_be}
 use Rattle.past_sketches.specs.Steps.{Step, is_step, made_by, takes}
 use Rattle.sketch_sets.specs.Files.{gives_room, has_all_room, is_above, is_below, is_beside, straight}
-use Rattle.sketch_steps.specs.Stepping.{arrives_on, captures_by, ends_are_free, has_next, is_gone, is_made, is_next_to, is_way, keeps, passes_by, place_is_free, squares_are_free, takes_by, yields}
+use Rattle.sketch_steps.specs.Arrivals.{arrives_on}
+use Rattle.sketch_steps.specs.Stepping.{captures_by, ends_are_free, has_next, is_gone, is_made, is_next_to, is_way, keeps, passes_by, place_is_free, squares_are_free, takes_by, yields}
 
 next-same : (n m n' m' : ℕ) → n ≡ n' → m ≡ m' → (n == m + 1) ≡ (n' == m' + 1)
 next-same n m n' m' a b = cc
@@ -104,6 +105,9 @@ gone-told exact T f x = refl
 pub gone-made : (exact : List Bool) (T : Sketch) (f : Figure) (x : Step) (a b d s k : Bool) (r l : ℕ) → a ≡ is_in exact (file x.from) → b ≡ squares_are_free T f x → d ≡ may_be f Pawn → r ≡ rank x.to → l ≡ last_rank f.colour → s ≡ straight f.colour x.from x.to → k ≡ keeps T f x → (a && b && d && not (r == l) && s && k) ≡ is_gone exact T f x
 gone-made exact T f x a b d s k r l h1 h2 h3 h4 h5 h6 h7 = same-gone a b d s k r l (is_in exact (file x.from)) (squares_are_free T f x) (may_be f Pawn) (straight f.colour x.from x.to) (keeps T f x) (rank x.to) (last_rank f.colour) h1 h2 h3 h4 h5 h6 h7 ∙ gone-told exact T f x
 
+pub gone-none : (exact : List Bool) (T : Sketch) (f : Figure) (x : Step) → is_in exact (file x.from) ≡ false → false ≡ is_gone exact T f x
+gone-none exact T f x none = sym (sym (gone-made exact T f x (is_in exact (file x.from)) (squares_are_free T f x) (may_be f Pawn) (straight f.colour x.from x.to) (keeps T f x) (rank x.to) (last_rank f.colour) refl refl refl refl refl refl refl) ∙ ap (λ (a : Bool). a && squares_are_free T f x && may_be f Pawn && not (rank x.to == last_rank f.colour) && straight f.colour x.from x.to && keeps T f x) none)
+
 -- whom the step takes
 same-pairs : (a b r l a' b' r' l' : ℕ) → a ≡ a' → b ≡ b' → r ≡ r' → l ≡ l' → ((a == b) && (r == l)) ≡ ((a' == b') && (r' == l'))
 same-pairs a b r l a' b' r' l' h1 h2 h3 h4 = cc
@@ -130,9 +134,26 @@ captures-there c x b passing e = e ∙ sym (ap (λ (y : Bool). cond y (passes_by
 same-way : (m s a r k m' s' a' r' k' : Bool) → m ≡ m' → s ≡ s' → a ≡ a' → r ≡ r' → k ≡ k' → (not m && s && a && r && k) ≡ (not m' && s' && a' && r' && k')
 same-way m s a r k m' s' a' r' k' h1 h2 h3 h4 h5 = cc
 
-pub way-made : (T : Sketch) (f : Figure) (x : Step) (m s a r k : Bool) → m ≡ f.marked → s ≡ squares_are_free T f x → a ≡ one_ahead f.colour x.from x.to → r ≡ arrives_on f x.to → k ≡ captures_by f.colour x → (not m && s && a && r && k) ≡ is_way T f x
+way-made : (T : Sketch) (f : Figure) (x : Step) (m s a r k : Bool) → m ≡ f.marked → s ≡ squares_are_free T f x → a ≡ one_ahead f.colour x.from x.to → r ≡ arrives_on f x.to → k ≡ captures_by f.colour x → (not m && s && a && r && k) ≡ is_way T f x
 unfolding is_way
 way-made T f x m s a r k h1 h2 h3 h4 h5 = same-way m s a r k f.marked (squares_are_free T f x) (one_ahead f.colour x.from x.to) (arrives_on f x.to) (captures_by f.colour x) h1 h2 h3 h4 h5
+
+-- what the squares alone tell comes last
+out-anyway : (m s a r k : Bool) → (not m && a && r && k) ≡ false → false ≡ (not m && s && a && r && k)
+out-anyway true s a r k h = refl
+out-anyway false false a r k h = refl
+out-anyway false true a r k h = sym h
+
+last-alone : (m s a r k : Bool) → (not m && a && r && k) ≡ true → s ≡ (not m && s && a && r && k)
+last-alone true s a r k h = absurd (both_ways false refl h)
+last-alone false false a r k h = refl
+last-alone false true a r k h = sym h
+
+pub way-none : (T : Sketch) (f : Figure) (x : Step) (m a r k : Bool) → m ≡ f.marked → a ≡ one_ahead f.colour x.from x.to → r ≡ arrives_on f x.to → k ≡ captures_by f.colour x → (not m && a && r && k) ≡ false → false ≡ is_way T f x
+way-none T f x m a r k h1 h3 h4 h5 none = out-anyway m (squares_are_free T f x) a r k none ∙ way-made T f x m (squares_are_free T f x) a r k h1 refl h3 h4 h5
+
+pub way-squares : (T : Sketch) (f : Figure) (x : Step) (m s a r k : Bool) → m ≡ f.marked → s ≡ squares_are_free T f x → a ≡ one_ahead f.colour x.from x.to → r ≡ arrives_on f x.to → k ≡ captures_by f.colour x → (not m && a && r && k) ≡ true → s ≡ is_way T f x
+way-squares T f x m s a r k h1 h2 h3 h4 h5 may = last-alone m s a r k may ∙ way-made T f x m s a r k h1 h2 h3 h4 h5
 
 made-told : (T : Sketch) (f : Figure) (x : Step) → (is_way T f x && place_is_free T x) ≡ is_made T f x
 unfolding is_made is_way squares_are_free arrives_on captures_by passes_by takes_by place_is_free

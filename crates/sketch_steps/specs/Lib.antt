@@ -1,3 +1,4 @@
 pub mod Places
+pub mod Arrivals
 pub mod Cleared
 pub mod Stepping

@@ -6,12 +6,10 @@ use Rattle.board_base.specs.Board.{is_in}
 use Rattle.board_base.specs.declared.men.Colour.{Colour}
 use Rattle.play_rules.specs.Laws.{is_end}
 use Rattle.past_sketches.specs.Figures.{Figure, Sketch, fixed_squares}
-use Rattle.past_sketches.specs.Steps.{Step, arrives, has_place, has_squares, is_next_place, keeps_place, leaves_place, may_have_gone, may_have_made, passes, takes}
+use Rattle.past_sketches.specs.Steps.{Step, has_place, has_squares, is_next_place, keeps_place, leaves_place, may_have_gone, may_have_made, passes, takes}
+use Rattle.sketch_steps.specs.Arrivals.{arrives_on}
 
--- a pawn comes to the step's target as the figure; he takes whom the step says, there or en passant
-unfoldable pub arrives_on : Figure → ℕ → Bool
-arrives_on f t = arrives f t
-
+-- he takes whom the step says, on its target or en passant
 unfoldable pub takes_by : Colour → Step → Bool
 takes_by c x = takes c x.from x.to x.taken
 

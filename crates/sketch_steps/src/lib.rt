@@ -9,6 +9,6 @@ mod steps;
 mod taken;
 
 pub use places::recounted;
-pub use stepping::is_step;
+pub use stepping::{arrives, is_step};
 pub use steps::Step;
-pub use taken::taken_back;
+pub use taken::{ahead, each_before, has_low_places, taken_back, victim_on};

@@ -5,7 +5,8 @@ ghost use Rattle.board_base.specs.Legal.{is_officer};
 ghost use Rattle.board_base.specs.Play.{en_passant_rank};
 ghost use Rattle.board_base.specs.declared.men.Kind.TheVariants.{King as AKing};
 ghost use Rattle.past_sketches.specs.Steps.{is_step};
-ghost use Rattle.sketch_steps.specs.Stepping.{arrives_on, captures_by, ends_are_free, has_next, is_gone, is_made, is_next_to, is_way, keeps, passes_by, place_is_free, squares_are_free, takes_by, yields};
+ghost use Rattle.sketch_steps.specs.Arrivals.{arrives_on};
+ghost use Rattle.sketch_steps.specs.Stepping.{captures_by, ends_are_free, has_next, is_gone, is_made, is_next_to, is_way, keeps, passes_by, place_is_free, squares_are_free, takes_by, yields};
 
 use crate::steps::Step;
 use board_base::{Colour, Kind, Square, files_between, is_ahead, last_rank};
@@ -43,7 +44,7 @@ fn may_be_officer(figure: &Figure) -> bool
 }
 
 /// Whether a pawn that comes to `t` may be the figure there.
-fn arrives(figure: &Figure, t: Square) -> bool
+pub fn arrives(figure: &Figure, t: Square) -> bool
     ensures { result ≡ arrives_on figure.now t }
 {
     if t.rank() == last_rank(figure.colour) {
@@ -175,10 +176,13 @@ fn squares_are_free(sketch: &Sketch, figure: &Figure, step: &Step) -> bool
 fn is_way(sketch: &Sketch, figure: &Figure, step: &Step) -> bool
     ensures { result ≡ is_way sketch.now figure.now step.now }
 {
-    let free = squares_are_free(sketch, figure, step);
     let ahead = is_ahead(figure.colour, step.from, step.to);
     let there = arrives(figure, step.to);
-    !figure.marked & free & ahead & there & captures(figure.colour, step)
+    let may = !figure.marked & ahead & there & captures(figure.colour, step);
+    if !may {
+        return false;
+    }
+    squares_are_free(sketch, figure, step)
 }
 
 /// Whether the figure may have made the step as a capture or a promotion.
@@ -203,15 +207,14 @@ fn keeps(sketch: &Sketch, figure: &Figure, step: &Step) -> bool
 fn is_gone(exact: &[bool; 8], sketch: &Sketch, figure: &Figure, step: &Step) -> bool
     ensures { result ≡ is_gone exact.now sketch.now figure.now step.now }
 {
+    let on = exact[step.from.file() as usize];
+    if !on {
+        return false;
+    }
     let free = squares_are_free(sketch, figure, step);
     let short = !(step.to.rank() == last_rank(figure.colour));
     let straight = goes_straight(figure.colour, step.from, step.to);
-    exact[step.from.file() as usize]
-        & free
-        & figure.may_be(Kind::Pawn)
-        & short
-        & straight
-        & keeps(sketch, figure, step)
+    free & figure.may_be(Kind::Pawn) & short & straight & keeps(sketch, figure, step)
 }
 
 /// Whether it is a step of the sketch, if these files are exact.

@@ -1,8 +1,8 @@
 ghost use Rattle.std.specs.Prelude.{◌≡◌, ◌<◌, ◌≤◌, IfSome, IsTrue, SomeIff, length};
 ghost use Rattle.std.specs.List.{list_all};
 ghost use Rattle.board_base.specs.Play.{ahead, behind};
-ghost use Rattle.past_sketches.specs.Figures.{Figure as AFigure, IsRearranged};
-ghost use Rattle.past_sketches.specs.Steps.{taken_back, victim_on, victims};
+ghost use Rattle.past_sketches.specs.Figures.{Figure as AFigure, IsRearranged, each_changed};
+ghost use Rattle.past_sketches.specs.Steps.{changed_by, taken_back, victim_on, victims};
 ghost use Rattle.sketch_steps.specs.Cleared.{bystander_of, changed_of, clears, listed, pawn_of};
 ghost use Rattle.sketch_steps.specs.Places.{before_step, can_go_back, fits_before, has_home, has_low_place, others_first};
 
@@ -13,7 +13,7 @@ use figures::{Figure, KindSet, Sketch, only_on};
 use sketch_sets::{on_the_way, those_that};
 
 /// The number of the square ahead of `s`, as pawns of this colour go.
-fn ahead(colour: Colour, s: Square) -> u8
+pub fn ahead(colour: Colour, s: Square) -> u8
     ensures { result ≡ ahead colour s }
 {
     match colour {
@@ -71,7 +71,7 @@ fn pawn_before(step: &Step, figure: &Figure) -> Figure
 }
 
 /// The man of this kind whom the figure took on a square.
-fn victim_on(figure: &Figure, kind: Kind, s: Square) -> Figure
+pub fn victim_on(figure: &Figure, kind: Kind, s: Square) -> Figure
     requires { figure.now.place < 127 }
     ensures { result ≡ victim_on figure.now kind s }
 {
@@ -140,8 +140,8 @@ fn has_low_place(figure: &Figure) -> bool
     figure.place < 127
 }
 
-/// Whether all places can be doubled.
-fn has_low_places(sketch: &Sketch) -> bool
+/// Whether all places can be doubled, and one more than twice each is below 256.
+pub fn has_low_places(sketch: &Sketch) -> bool
     ensures { result ≡ list_all has_low_place sketch.now }
 {
     sketch.figures().iter().all(|figure| has_low_place(figure))
@@ -156,17 +156,26 @@ fn fits(sketch: &Sketch, mover: &Figure, step: &Step) -> bool
     few & (step.place < 128) & has_home(mover, step) & low
 }
 
+/// Each figure before the step that one of this colour made.
+pub fn each_before(colour: Colour, sketch: &Sketch, step: &Step) -> Sketch
+    requires step { step.now.place < 128 }
+    requires figures { IsTrue (list_all has_low_place sketch.now) }
+    ensures { result ≡ each_changed (changed_by colour step.now) 0 sketch.now }
+{
+    let mut before = Sketch::new();
+    for (i, figure) in sketch.figures().iter().enumerate() {
+        before.push(changed(colour, step, i, figure));
+    }
+    before
+}
+
 /// Each figure before the step that this one made, and then the victim, if there was one.
 fn others_first(sketch: &Sketch, mover: &Figure, step: &Step) -> Sketch
     requires fits { IsTrue (fits_before sketch.now mover.now step.now) }
     requires place { mover.now.place < 127 }
     ensures { result ≡ others_first sketch.now mover.now step.now }
 {
-    let colour = mover.colour;
-    let mut before = Sketch::new();
-    for (i, figure) in sketch.figures().iter().enumerate() {
-        before.push(changed(colour, step, i, figure));
-    }
+    let mut before = each_before(mover.colour, sketch, step);
     if let Some(man) = victim(mover, step) {
         before.push(man);
     }

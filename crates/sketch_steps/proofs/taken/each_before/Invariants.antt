@@ -1,7 +1,7 @@
 use Rattle.std.proofs.Common.{◌≡◌, length, take}
 use Rattle.past_sketches.specs.Figures.{each_changed}
 use Rattle.sketch_steps.specs.Cleared.{changed_of}
-use Rattle.sketch_steps.proofs.taken.others_first.Given as goal
+use Rattle.sketch_steps.proofs.taken.each_before.Given as goal
 
 abbrev pub invariant-loop-i : goal.invariant-loop-i
 invariant-loop-i l = record {

@@ -1,7 +1,7 @@
 use Rattle.std.proofs.Common.{length, ap, sym, ◌∙◌, subst, arith}
 use Rattle.sketch_sets.specs.Remade.{AreWhole, set_of}
 use Rattle.sketch_sets.proofs.Closing.{whole-all, whole-more}
-use Rattle.sketch_sets.proofs.closed.are_whole.Goals as goal
+use Rattle.sketch_sets.proofs.remade.are_whole.Goals as goal
 
 pub loop-figure-preserved : goal.loop-figure-preserved
 loop-figure-preserved c = whole-more c.figures-figure-items.result.now c.loop-figure.figure-index c.figure-item.result c.loop-figure-test.true c.figure-item.is (sym (ap length (ap set_of c.figure.view_is)) ∙ c.is_whole.ensures) c.loop-figure.invariant

@@ -1,0 +1,7 @@
+pub mod Nesting
+pub mod Spelling
+pub mod Barring
+pub mod Advancing
+pub mod Raising
+pub mod Fitting
+pub mod Making

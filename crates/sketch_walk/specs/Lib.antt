@@ -1,0 +1,5 @@
+pub mod Values
+pub mod Shorts
+pub mod Cursors
+pub mod Nests
+pub mod Walks
