@@ -1,2 +1,3 @@
 pub mod FlatPrices
 pub mod FlatGrounds
+pub mod Standing

@@ -1,8 +1,10 @@
 ghost use Rattle.std.specs.Prelude.{◌≤◌};
+ghost use Rattle.price_search.specs.Standing.{AreStanding};
 
 use crate::flat_grounds::{FlatGround, FlatGrounds, Homes, flat_fails};
 use crate::payers::{Payers, flat_prices};
 use crate::places::free_on;
+use crate::standing::StandingMen;
 use crate::tallies::{Deeds, Tally, deeds_of};
 use crate::weighing::Weighing;
 use assignment::solve_large;
@@ -279,9 +281,12 @@ fn try_flat(
     query: &Query,
     set: SquareSet,
     payers: Payers,
+    men: &StandingMen,
     others: &Homes,
-) -> Option<FlatTried> {
-    if flat_fails(kept, query, set, payers, others) {
+) -> Option<FlatTried>
+    requires { AreStanding query.now.board men.now }
+{
+    if flat_fails(kept, query, set, payers, men, others) {
         return Some(FlatTried {
             homes: *others,
             is_above: false,
@@ -289,7 +294,7 @@ fn try_flat(
     }
     let outcome = flat_outcome(kept, query, payers)?;
     Some(FlatTried {
-        is_above: most_cost(query.odds, &flat_prices(payers)) < outcome.cost,
+        is_above: kept.most < outcome.cost,
         homes: outcome.homes,
     })
 }
@@ -324,14 +329,35 @@ fn ascend(query: &Query, kept: &FlatGround, first: &Outcome, most: u32) -> Optio
     None
 }
 
-/// Tries the flat prices, and seeks others at which the men cost more than their true homes can, where none of these do; None where a side
-/// has more men than it began with.
-pub(crate) fn seek(query: &Query, set: SquareSet, kept: &FlatGrounds) -> Option<Sought> {
+/// Tries the flat prices for men on these squares, and seeks others at which the men cost more than their true homes can, where none of
+/// these do; None where a side has more men than it began with.
+pub(crate) fn seek(
+    query: &Query,
+    set: SquareSet,
+    kept: &FlatGrounds,
+    men: &StandingMen,
+) -> Option<Sought>
+    requires { AreStanding query.now.board men.now }
+{
     let both = flat_outcome(&kept.both, query, Payers::Both)?;
     let homes = both.homes;
-    let white = try_flat(&kept.white_alone, query, set, Payers::WhiteAlone, &homes)?;
-    let black = try_flat(&kept.black_alone, query, set, Payers::BlackAlone, &homes)?;
-    let most = most_cost(query.odds, &flat_prices(Payers::Both));
+    let white = try_flat(
+        &kept.white_alone,
+        query,
+        set,
+        Payers::WhiteAlone,
+        men,
+        &homes,
+    )?;
+    let black = try_flat(
+        &kept.black_alone,
+        query,
+        set,
+        Payers::BlackAlone,
+        men,
+        &homes,
+    )?;
+    let most = kept.both.most;
     let prices = if most < both.cost || white.is_above || black.is_above {
         None
     } else {

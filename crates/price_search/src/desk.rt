@@ -1,20 +1,24 @@
 ghost use Rattle.std.specs.Prelude.{IfSome, IsSome};
 ghost use Rattle.balance_rule.specs.Balance.{BalanceSupports};
 ghost use Rattle.price_search.specs.FlatPrices.{FlatPricesSupport, flat_prices};
+ghost use Rattle.price_search.specs.Standing.{AreStanding};
 ghost use Rattle.price_search.specs.declared.payers.Payers.{Payers as APayers};
 
 use crate::ascent::{Sought, seek};
 use crate::flat_grounds::{FlatGround, FlatGrounds, Homes, flat_fails};
 use crate::keys::{Key, Placed, homes_by_squares, homes_by_traces, placed_men, traces_of};
 use crate::payers::{Payers, flat_prices};
+use crate::standing::{StandingMen, standing_men};
 use arrayvec::ArrayVec;
 use balance_rule::{balances, is_whole};
 use board_base::SquareSet;
+use byte_hash::ByteHasher;
 use cage_rules::greatest_as_array;
 use capture_prices::Prices;
 use indexmap::IndexMap;
 use query_base::Query;
 use std::alloc::Global;
+use std::hash::BuildHasherDefault;
 
 /// The most keys of which it is noted what was found.
 const MOST_TRIED: usize = 65_536;
@@ -22,13 +26,16 @@ const MOST_TRIED: usize = 65_536;
 /// The most sets of which it is kept what is known at flat prices.
 const MOST_SETS: usize = 32;
 
+/// What was found for keys.
+type Tried = IndexMap<Key, Sought, BuildHasherDefault<ByteHasher>>;
+
 /// What is kept while prices are sought for one position after another.
 #[derive(Drop)]
 pub struct PriceDesk {
     /// What is known at flat prices of sets and odds.
     kept: Vec<FlatGrounds>,
     /// What was found for each key, with homes in order of the men's traces.
-    tried: IndexMap<Key, Sought>,
+    tried: Tried,
 }
 
 /// The men of both sides in order of their traces.
@@ -43,7 +50,7 @@ impl PriceDesk {
     pub fn new(alloc: Global) -> PriceDesk {
         PriceDesk {
             kept: Vec::new(alloc),
-            tried: IndexMap::new(alloc),
+            tried: IndexMap::with_hasher(alloc, BuildHasherDefault::new()),
         }
     }
 
@@ -85,17 +92,21 @@ impl PlacedMen {
     }
 }
 
-/// What was found for the position's key, or is found now, with the homes in ascending order of the men's squares; None where a side
-/// has more men than it began with.
+/// What was found for the key of the position, whose men stand on these squares, or is found now, with the homes in ascending order of
+/// the squares; None where a side has more men than it began with.
 fn sought(
     kept: &FlatGrounds,
-    tried: &mut IndexMap<Key, Sought>,
+    tried: &mut Tried,
     query: &Query,
     set: SquareSet,
-) -> Option<Sought> {
+    standing: &StandingMen,
+) -> Option<Sought>
+    requires { AreStanding query.now.board standing.now }
+{
+    let sides = &kept.both;
     let men = PlacedMen {
-        white: placed_men(&kept.both.white.side, &query.board)?,
-        black: placed_men(&kept.both.black.side, &query.board)?,
+        white: placed_men(&sides.white.side, &query.board, standing.white.as_slice()),
+        black: placed_men(&sides.black.side, &query.board, standing.black.as_slice()),
     };
     let key = Key {
         set,
@@ -111,7 +122,7 @@ fn sought(
             prices: found.prices,
         });
     }
-    let found = seek(query, set, kept)?;
+    let found = seek(query, set, kept, standing)?;
     if tried.len() < MOST_TRIED {
         let by_traces = Sought {
             both: men.by_traces(&found.both),
@@ -142,23 +153,34 @@ fn flat_if_balanced(
     query: &Query,
     set: SquareSet,
     payers: Payers,
+    standing: &Option<StandingMen>,
     homes: &Homes,
 ) -> Option<Prices>
+    requires { IfSome standing.now (AreStanding query.now.board) }
     ensures supports { IfSome result (λ found. BalanceSupports query.now set found) }
     ensures all { BalanceSupports query.now set (flat_prices payers) → IsSome result }
 {
-    if flat_fails(kept, query, set, payers, homes) {
-        return None;
+    if let Some(men) = standing {
+        if flat_fails(kept, query, set, payers, men, homes) {
+            return None;
+        }
     }
     if_balanced(query, set, flat_prices(payers))
 }
 
 /// Flat prices that support the query with this set, if some do.
-fn find_flat(kept: &FlatGrounds, query: &Query, set: SquareSet, found: &Sought) -> Option<Prices>
+fn find_flat(
+    kept: &FlatGrounds,
+    query: &Query,
+    set: SquareSet,
+    standing: &Option<StandingMen>,
+    found: &Sought,
+) -> Option<Prices>
+    requires { IfSome standing.now (AreStanding query.now.board) }
     ensures supports { IfSome result (λ prices. BalanceSupports query.now set prices) }
     ensures flat { (payers : APayers) → BalanceSupports query.now set (flat_prices payers) → IsSome result }
 {
-    let both = flat_if_balanced(&kept.both, query, set, Payers::Both, &found.both);
+    let both = flat_if_balanced(&kept.both, query, set, Payers::Both, standing, &found.both);
     if both.is_some() {
         return both;
     }
@@ -167,6 +189,7 @@ fn find_flat(kept: &FlatGrounds, query: &Query, set: SquareSet, found: &Sought) 
         query,
         set,
         Payers::WhiteAlone,
+        standing,
         &found.white_alone,
     );
     if white.is_some() {
@@ -177,22 +200,23 @@ fn find_flat(kept: &FlatGrounds, query: &Query, set: SquareSet, found: &Sought) 
         query,
         set,
         Payers::BlackAlone,
+        standing,
         &found.black_alone,
     )
 }
 
 /// Prices that support the query with this set, if they are found: flat ones if some do.
-fn prices_by(
-    kept: &FlatGrounds,
-    tried: &mut IndexMap<Key, Sought>,
-    query: &Query,
-    set: SquareSet,
-) -> Option<Prices>
+fn prices_by(kept: &FlatGrounds, tried: &mut Tried, query: &Query, set: SquareSet) -> Option<Prices>
     ensures supports { IfSome result (λ prices. BalanceSupports query.now set prices) }
     ensures flat { (payers : APayers) → BalanceSupports query.now set (flat_prices payers) → IsSome result }
 {
-    let found = sought(kept, tried, query, set).unwrap_or(Sought::nothing());
-    let flat = find_flat(kept, query, set, &found);
+    let standing = standing_men(&query.board);
+    let found = match &standing {
+        Some(men) => sought(kept, tried, query, set, men),
+        None => None,
+    };
+    let found = found.unwrap_or(Sought::nothing());
+    let flat = find_flat(kept, query, set, &standing, &found);
     if flat.is_some() {
         return flat;
     }
@@ -200,7 +224,7 @@ fn prices_by(
 }
 
 /// The same, with nothing that is kept at flat prices.
-fn prices_anew(tried: &mut IndexMap<Key, Sought>, query: &Query, set: SquareSet) -> Option<Prices>
+fn prices_anew(tried: &mut Tried, query: &Query, set: SquareSet) -> Option<Prices>
     ensures supports { IfSome result (λ prices. BalanceSupports query.now set prices) }
     ensures flat { (payers : APayers) → BalanceSupports query.now set (flat_prices payers) → IsSome result }
 {

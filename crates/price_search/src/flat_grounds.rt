@@ -1,18 +1,17 @@
-ghost use Rattle.std.specs.Prelude.{◌≡◌, ◌-◌, ◌<◌, ◌≤◌, ℕ, IfSome, IsTrue, List, SomeIff, length, slice_index};
-ghost use Rattle.std.specs.Option.{option_map};
-ghost use Rattle.std.specs.List.{All};
+ghost use Rattle.std.specs.Prelude.{◌≡◌, ◌<◌, ◌≤◌, IfSome, IsTrue, length};
 ghost use Rattle.board_base.specs.Board.{array_of, men_squares};
 ghost use Rattle.assignment.specs.Assignments.{IsInjection};
 ghost use Rattle.assignment.specs.Tables.{cost_at};
-ghost use Rattle.balance_rule.specs.Balance.{BalanceSupports, cost_table, men_on, side_cost};
+ghost use Rattle.balance_rule.specs.Balance.{BalanceSupports, cost_table, men_on, most_cost, side_cost};
 ghost use Rattle.price_search.specs.FlatGrounds.{IsFlatGround};
+ghost use Rattle.price_search.specs.Standing.{AreStanding};
 ghost use Rattle.price_search.specs.FlatPrices.{flat_prices};
 
 use crate::payers::{Payers, flat_prices};
-use arrayvec::ArrayVec;
+use crate::standing::StandingMen;
 use assignment::least_cost_is_least;
 use balance_rule::{Ground, begun_with, gone_row, ground_of, most_cost, number_of_home, stands};
-use board_base::{Board, Colour, Odds, Square, SquareSet, is_of};
+use board_base::{Board, Colour, Odds, Square, SquareSet};
 use query_base::Query;
 
 /// What is known of a side beside a set at flat prices, in games at these odds.
@@ -23,7 +22,11 @@ pub(crate) struct FlatSide {
     pub(crate) side: Ground,
     /// What it costs that the man of each of the side's homes is gone.
     lost: [u16; 16],
+    /// With how many men the side begins.
+    begun: u8,
     ghost known: { ∥ IsFlatGround payers odds side lost ∥₁ },
+    ghost begun_is: { begun ≡ men_on side.side (array_of odds) },
+    ghost few: { begun ≤ 16 },
 }
 
 /// The same of both sides.
@@ -31,6 +34,9 @@ pub(crate) struct FlatSide {
 pub(crate) struct FlatGround {
     pub(crate) white: FlatSide,
     pub(crate) black: FlatSide,
+    /// What the true homes of all men cost at most.
+    pub(crate) most: u32,
+    ghost most_is: { most ≡ most_cost white.odds (flat_prices white.payers) },
 }
 
 /// The same at each of the flat prices.
@@ -49,14 +55,17 @@ pub(crate) struct Homes {
 }
 
 /// What is known of a side of the query.
-fn flat_side(query: &Query, set: SquareSet, payers: Payers, side: Colour) -> FlatSide {
-    let side = ground_of(query, set, &flat_prices(payers), side);
-    let lost = gone_row(&side);
+fn flat_side(query: &Query, set: SquareSet, payers: Payers, side: Colour) -> FlatSide
+    ensures { (result.odds ≡ query.now.odds) × (result.payers ≡ payers) }
+{
+    let ground = ground_of(query, set, &flat_prices(payers), side);
+    let lost = gone_row(&ground);
     FlatSide {
         payers,
         odds: query.odds,
-        side,
+        side: ground,
         lost,
+        begun: begun_with(side, query.odds),
     }
 }
 
@@ -65,6 +74,7 @@ fn flat_ground(query: &Query, set: SquareSet, payers: Payers) -> FlatGround {
     FlatGround {
         white: flat_side(query, set, payers, Colour::White),
         black: flat_side(query, set, payers, Colour::Black),
+        most: most_cost(query.odds, &flat_prices(payers)),
     }
 }
 
@@ -96,31 +106,16 @@ impl FlatGrounds {
     }
 }
 
-/// The squares of the side's men, in ascending order; None exactly where there are more than so many.
-fn squares_of_men(board: &Board, side: Colour, most: u8) -> Option<ArrayVec<u8, 16>>
-    requires { most ≤ 16 }
-    ensures { SomeIff (option_map (λ men. men.items) result) (men_on side board.now ≤ most) (men_squares side board.now) }
-{
-    let mut men: ArrayVec<u8, 16> = ArrayVec::new();
-    for i in 0..64 {
-        if is_of(side, board.at(Square::known(i))) {
-            if men.len() == most as usize {
-                return None;
-            }
-            men.push(i);
-        }
-    }
-    Some(men)
-}
-
 /// Whether these are homes of so many men, each of another.
 fn are_homes(homes: &[u8]) -> bool
     ensures { IsTrue result → IsInjection 16 (length homes.now) homes.now }
 {
+    let mut seen = [false; 16];
     for i in 0..homes.len() {
-        if homes[i] >= 16 || homes[..i].contains(&homes[i]) {
+        if homes[i] >= 16 || seen[homes[i] as usize] {
             return false;
         }
+        seen[homes[i] as usize] = true;
     }
     true
 }
@@ -140,20 +135,19 @@ fn cell(kept: &FlatSide, board: &Board, men: &[u8], i: usize, home: u8) -> u16
     }
 }
 
-/// What the men of a side cost with these homes, one for each man on the board and then one for each who is gone; None where these are
-/// no homes of theirs.
-fn cost_with(kept: &FlatSide, board: &Board, homes: &[u8; 16]) -> Option<u32>
+/// What the men of a side cost with these homes, one for each man on the board, who stand on these squares, and then one for each who
+/// is gone; None where these are no homes of theirs.
+fn cost_with(kept: &FlatSide, board: &Board, men: &[u8], homes: &[u8; 16]) -> Option<u32>
+    requires { men.now ≡ men_squares kept.now.side.side board.now }
     ensures { IfSome result (λ cost. (men_on kept.now.side.side board.now ≤ men_on kept.now.side.side (array_of kept.now.odds)) × (side_cost kept.now.odds board.now (flat_prices kept.now.payers) kept.now.side.frozen kept.now.side.side ≤ cost)) }
 {
-    let begun = begun_with(kept.side.side, kept.odds);
-    let homes = &homes[..begun as usize];
-    if !are_homes(homes) {
+    let homes = &homes[..kept.begun as usize];
+    if men.len() > homes.len() || !are_homes(homes) {
         return None;
     }
-    let men = squares_of_men(board, kept.side.side, begun)?;
     let mut cost = 0;
     for i in 0..homes.len() {
-        cost += u32::from(cell(kept, board, men.as_slice(), i, homes[i]));
+        cost += u32::from(cell(kept, board, men, i, homes[i]));
     }
     Some(cost)
 }
@@ -164,8 +158,10 @@ pub(crate) fn flat_fails(
     query: &Query,
     set: SquareSet,
     payers: Payers,
+    men: &StandingMen,
     homes: &Homes,
 ) -> bool
+    requires { AreStanding query.now.board men.now }
     ensures { IsTrue result → BalanceSupports query.now set (flat_prices payers) → ⊥ }
 {
     if !kept.white.fits(Colour::White, payers, set, query.odds)
@@ -173,12 +169,11 @@ pub(crate) fn flat_fails(
     {
         return false;
     }
-    let white = cost_with(&kept.white, &query.board, &homes.white);
-    let black = cost_with(&kept.black, &query.board, &homes.black);
+    let board = &query.board;
+    let white = cost_with(&kept.white, board, men.white.as_slice(), &homes.white);
+    let black = cost_with(&kept.black, board, men.black.as_slice(), &homes.black);
     match (white, black) {
-        (Some(white), Some(black)) => {
-            white.saturating_add(black) <= most_cost(query.odds, &flat_prices(payers))
-        }
+        (Some(white), Some(black)) => white.saturating_add(black) <= kept.most,
         _ => false,
     }
 }

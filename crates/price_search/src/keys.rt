@@ -86,22 +86,22 @@ fn trace_of(ground: &Ground, man: Man, s: Square) -> Trace {
     }
 }
 
-/// The men of the side in order of their traces; None where there are more than sixteen.
-pub(crate) fn placed_men(ground: &Ground, board: &Board) -> Option<ArrayVec<Placed, 16>> {
+/// The men on these squares of the side, at most sixteen, in order of their traces.
+pub(crate) fn placed_men(ground: &Ground, board: &Board, squares: &[u8]) -> ArrayVec<Placed, 16> {
     let mut men: ArrayVec<Placed, 16> = ArrayVec::new();
     let mut place = 0u8;
-    for i in 0..64 {
-        let s = Square::known(i);
+    for i in squares {
+        let Some(s) = Square::new(*i) else {
+            continue;
+        };
         if let Some(man) = board.at(s) {
-            if man.colour == ground.side {
-                let trace = trace_of(ground, man, s);
-                men.try_push(Placed { trace, place }).ok()?;
-                place = place.wrapping_add(1);
-            }
+            let trace = trace_of(ground, man, s);
+            let _ = men.try_push(Placed { trace, place });
+            place = place.wrapping_add(1);
         }
     }
     men.as_mut_slice().sort_unstable();
-    Some(men)
+    men
 }
 
 /// The traces of these men.

@@ -10,7 +10,7 @@ use Rattle.board_base.specs.Board.{Places, array_of, at, file, initial_array, is
 use Rattle.board_base.specs.Legal.{is_officer}
 use Rattle.board_base.specs.declared.men.Colour.{Colour}
 use Rattle.board_base.specs.declared.men.Kind.{Kind}
-use Rattle.board_base.specs.declared.men.Kind.TheVariants.{Knight, Bishop, Rook, Queen}
+use Rattle.board_base.specs.declared.men.Kind.TheVariants.{Pawn, Knight, Bishop, Rook, Queen}
 use Rattle.board_base.specs.declared.men.Man.{Man}
 use Rattle.board_base.proofs.KindsOfMen.{full-of, same_colour-self, same_kind-self}
 use Rattle.play_rules.specs.Laws.{is_end}
@@ -32,7 +32,7 @@ use Rattle.assignment.proofs.Duality.{weak_duality}
 use Rattle.pawn_assign.specs.PawnCosts.{pawn_costs}
 use Rattle.static_rules.specs.Left.{left_with}
 use Rattle.static_rules.specs.SetRules.{IsAbove}
-use Rattle.static_rules.specs.Stayed.{IsStayedAllowance, front, has_stayed, is_guarded, may_be_spent, may_spend}
+use Rattle.static_rules.specs.Stayed.{IsStayedAllowance, front, has_stayed, is_guarded, may_be_spent, may_spend, pawns_alone}
 use Rattle.static_rules.proofs.Larger.{excess-more, less-count}
 use Rattle.static_rules.proofs.Left.{at-left, home-of}
 
@@ -92,6 +92,13 @@ few-more o q side a (pawns, knights, light, dark, rooks, queens) few set more =
     let living : Allowance = allowance_of side (λ h. not (is_dead q.board set h)) (array_of o) in
     let least = excess-more (counts_of side q.board) living a (omega (arith, knights, stayed-less o q.board set side Knight is_any refl)) (omega (arith, light, stayed-less o q.board set side Bishop is_light refl)) (omega (arith, dark, stayed-less o q.board set side Bishop is_dark refl)) (omega (arith, rooks, stayed-less o q.board set side Rook is_any refl)) (omega (arith, queens, stayed-less o q.board set side Queen is_any refl)) in
     above-most _ _ _ _ more least few pawns
+
+-- nor are more than there are men beside the king
+few-men : (o : List Bool) (q : Asked) (side : Colour) (pawns : ℕ) → pawns ≡ men side Pawn is_any (array_of o) → excess_of (counts_of side q.board) (pawns_alone pawns) ≤ pawns → (set : List Bool) → HasTooMany o q set side → ⊥
+few-men o q side pawns is few set more =
+    let living : Allowance = allowance_of side (λ h. not (is_dead q.board set h)) (array_of o) in
+    let least = excess-more (counts_of side q.board) living (pawns_alone pawns) (omega arith) (omega arith) (omega arith) (omega arith) (omega arith) in
+    above-most _ _ _ _ more least few is
 
 -- Homes that an enemy pawn can strike
 
@@ -176,6 +183,11 @@ few-needed o q side set table files cost on_board begun none same injection cost
     too-few (assignment_cost table files) (men_of (opponent side) is_any q.board) (men_of (opponent side) (is_spent q.board set) (array_of o)) (men_of (opponent side) is_any (array_of o)) (total u +ℤ total v) (none-spent o (opponent side) q.board set none) (omega arith) least h.needs.above
 
 -- The same, as the tests have it.
+
+pub few-men-from : (q : Asked) (side : Colour) (o : List Bool) (board : Places) (counted : Counts) (a : Allowance) → o ≡ q.odds → board ≡ q.board → counted ≡ counts_of side board → a ≡ allowance_of side is_any (array_of o) → excess_of counted (pawns_alone a.pawns) ≤ a.pawns → (set : List Bool) → HasTooMany q.odds q set side → ⊥
+few-men-from q side o board counted a odds here counts is few set more =
+    few-men o q side a.pawns (ap (λ (x : Allowance). x.pawns) is) (subst (λ (k : Counts). excess_of k (pawns_alone a.pawns) ≤ a.pawns) (counts ∙ ap (counts_of side) here) few) set
+    (subst (λ (x : List Bool). HasTooMany x q set side) (sym odds) more)
 
 pub few-from : (q : Asked) (side : Colour) (o : List Bool) (board : Places) (counted : Counts) (a : Allowance) (n : ℕ) → o ≡ q.odds → board ≡ q.board → counted ≡ counts_of side board → IsStayedAllowance (array_of o) side board a → n ≡ excess_of counted a → n ≤ a.pawns → (set : List Bool) → HasTooMany q.odds q set side → ⊥
 few-from q side o board counted a n odds here counts stayed is few set more =

@@ -8,3 +8,4 @@ pub mod Unreached
 pub mod Settled
 pub mod EachLine
 pub mod AtHome
+pub mod OwnFiles

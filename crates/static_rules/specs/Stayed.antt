@@ -35,3 +35,7 @@ abbrev pub IsStayedAllowance : Places → Colour → Places → Allowance → Ty
 IsStayedAllowance first side board a =
     let n = counts_of side (left_with (has_stayed first board) first) in
     (a.pawns ≡ men side Pawn is_any first) × (a.knights ≡ n.knights) × (a.light_bishops ≡ n.light_bishops) × (a.dark_bishops ≡ n.dark_bishops) × (a.rooks ≡ n.rooks) × (a.queens ≡ n.queens)
+
+-- so many pawns, and no officers
+abbrev pub pawns_alone : ℕ → Allowance
+pawns_alone p = record { pawns = p; knights = 0; light_bishops = 0; dark_bishops = 0; rooks = 0; queens = 0 }

@@ -7,6 +7,7 @@ mod closing;
 mod closing_laws;
 mod laws;
 mod living_homes;
+mod own_files;
 mod rules;
 mod set_laws;
 mod set_rules;

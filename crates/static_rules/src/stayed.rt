@@ -1,15 +1,17 @@
-ghost use Rattle.std.specs.Prelude.{◌≡◌, ◌&&◌, ◌<◌, cond, IsTrue, List, Bool, ℤ, None};
+ghost use Rattle.std.specs.Prelude.{◌≡◌, ◌&&◌, ◌<◌, ◌≤◌, cond, IsTrue, List, Bool, ℤ, None};
 ghost use Rattle.board_base.specs.Board.{array_of, at, is_of};
+ghost use Rattle.men_account.specs.Account.{excess_of};
 ghost use Rattle.static_rules.specs.Left.{left_with};
 ghost use Rattle.cage_rules.specs.Refuted.{HasTooMany};
 ghost use Rattle.static_rules.specs.SetRules.{IsAbove};
-ghost use Rattle.static_rules.specs.Stayed.{IsStayedAllowance, front, has_stayed, is_guarded, may_be_spent, may_spend};
+ghost use Rattle.static_rules.specs.Stayed.{IsStayedAllowance, front, has_stayed, is_guarded, may_be_spent, may_spend, pawns_alone};
 
 use crate::living_homes::{begun_with, with_pawns};
+use crate::own_files::low_cost;
 use board_base::{Board, Colour, Man, Odds, Square, SquareSet, array_of, is_of, is_same_place};
 use cage_rules::is_officer_home;
-use men_account::{Allowance, allowance, counts, excess, men_of};
-use pawn_assign::{costs, least};
+use men_account::{Allowance, Counts, allowance, counts, excess, men_of};
+use pawn_assign::costs;
 use query_base::Query;
 
 /// Whether the square holds what the first board has there.
@@ -49,13 +51,38 @@ fn stayed_allowance(board: &Board, side: Colour, odds: Odds) -> Allowance
     with_pawns(allowance(side, odds).pawns, &n)
 }
 
+/// So many pawns, and no officers.
+fn pawns_alone(pawns: u8) -> Allowance
+    ensures { result ≡ pawns_alone pawns }
+{
+    Allowance {
+        pawns,
+        knights: 0,
+        light_bishops: 0,
+        dark_bishops: 0,
+        rooks: 0,
+        queens: 0,
+    }
+}
+
+/// Whether a side has no more men beside its king than so many pawns.
+fn are_few(men: &Counts, pawns: u8) -> bool
+    ensures { IsTrue result → excess_of men.now (pawns_alone pawns) ≤ pawns }
+{
+    excess(men, &pawns_alone(pawns)) <= pawns as u16
+}
+
 /// True only where the side's pawns, and its officers of each kind above those who stand where they began, are at most the pawns with
 /// which it began. Homes on which they stand are never dead, so no more of them have been promoted, whatever the set.
 pub(crate) fn has_few(query: &Query, side: Colour) -> bool
     ensures { IsTrue result → (set : List Bool) → HasTooMany query.now.odds query.now set side → ⊥ }
 {
+    let men = counts(&query.board, side);
+    if are_few(&men, allowance(side, query.odds).pawns) {
+        return true;
+    }
     let allowed = stayed_allowance(&query.board, side, query.odds);
-    excess(&counts(&query.board, side), &allowed) <= allowed.pawns as u16
+    excess(&men, &allowed) <= allowed.pawns as u16
 }
 
 /// The square in front of this one, where a side's officers begin.
@@ -117,8 +144,10 @@ pub(crate) fn needs_few(query: &Query, side: Colour, set: SquareSet) -> bool
     }
     match costs(&query.board, side, query.odds) {
         Some(costs) => {
-            let used = least(&costs).cost as u32 + men_of(&query.board, enemy) as u32;
-            used <= begun_with(enemy, query.odds) as u32
+            let on_board = men_of(&query.board, enemy);
+            let begun = begun_with(enemy, query.odds);
+            let gone = begun.saturating_sub(on_board);
+            low_cost(&costs, u16::from(gone)) as u32 + on_board as u32 <= begun as u32
         }
         None => true,
     }

@@ -8,4 +8,4 @@ use Rattle.static_rules.proofs.stayed.needs_few.Goals as goal
 
 pub returns-in-Some : goal.returns-in-Some
 returns-in-Some c h =
-    needed-from c.args.query.now c.args.side c.args.set _ _ _ _ _ _ _ _ _ (ap (λ (q : Asked). q.odds) c.query.view_is) (ap (λ (q : Asked). q.board) c.query.view_is) c.other-enemy.ensures (c.may_spend.ensures ∙ ap (λ (first : Places). may_spend first c.other-enemy.result c.query.inside.board c.args.set) c.array_of.ensures) c.if-may_spend.false c.in-Some.ensures.1 c.least.ensures.injection c.least.ensures.cost c.men_of.ensures.number c.begun_with.ensures.number (leb-true _ _ h)
+    needed-from c.args.query.now c.args.side c.args.set _ _ _ _ _ _ _ _ _ (ap (λ (q : Asked). q.odds) c.query.view_is) (ap (λ (q : Asked). q.board) c.query.view_is) c.other-enemy.ensures (c.may_spend.ensures ∙ ap (λ (first : Places). may_spend first c.other-enemy.result c.query.inside.board c.args.set) c.array_of.ensures) c.if-may_spend.false c.in-Some.ensures.1 c.low_cost.ensures.1 c.low_cost.ensures.2 c.men_of-on_board.ensures.number c.begun_with-begun.ensures.number (leb-true _ _ h)

@@ -5,27 +5,27 @@ use Rattle.board_base.specs.Board.{at, is_of, men_squares}
 use Rattle.board_base.specs.declared.men.Man.{Man}
 use Rattle.general_lemmas.proofs.Rows.{AreMade-all, AreMade-none, AreMade-skips, AreMade-takes, AreMade-too-many}
 use Rattle.price_search.proofs.HomesCosts.{map-same}
-use Rattle.price_search.proofs.flat_grounds.squares_of_men.Goals as goal
-use Rattle.price_search.proofs.flat_grounds.squares_of_men.Goals.{then-is_of+else-len-most, else-is_of}
+use Rattle.price_search.proofs.standing.squares_of_men.Goals as goal
+use Rattle.price_search.proofs.standing.squares_of_men.Goals.{then-is_of+else-len-eq16, else-is_of}
 
 pub loop-i-init : goal.loop-i-init
 loop-i-init c = AreMade-none _ _ _ _ _ c.new-men.ensures
 
-pub returns-then-len-most : goal.returns-then-len-most
+pub returns-then-len-eq16 : goal.returns-then-len-eq16
 unfolding men_squares
-returns-then-len-most c =
+returns-then-len-eq16 c =
     let test : is_of c.args.side (at c.args.board.now c.loop-i.i) ≡ c.is_of.result =
     ap (λ (s : ℕ). is_of c.args.side (at c.args.board.now s)) (sym c.known.ensures) ∙ ap (λ (m : Option Man). is_of c.args.side m) (sym c.at.ensures.man) ∙ sym c.is_of.ensures in
-    AreMade-too-many _ _ _ _ _ _ c.loop-i.invariant c.loop-i-test.true (test ∙ c.if-is_of.true) (sym c.len.ensures.value ∙ c.if-len-most.true)
+    AreMade-too-many _ _ _ _ _ _ c.loop-i.invariant c.loop-i-test.true (test ∙ c.if-is_of.true) (sym c.len.ensures.value ∙ c.if-len-eq16.true)
 
 pub loop-i-preserved : goal.loop-i-preserved
 loop-i-preserved c =
     let test : is_of c.args.side (at c.args.board.now c.loop-i.i) ≡ c.is_of.result =
     ap (λ (s : ℕ). is_of c.args.side (at c.args.board.now s)) (sym c.known.ensures) ∙ ap (λ (m : Option Man). is_of c.args.side m) (sym c.at.ensures.man) ∙ sym c.is_of.ensures in
     elim c.if-is_of.branch [
-      | then-is_of+else-len-most w ↦
-          let other : length c.loop-i.men.items ≡ c.args.most → ⊥ = λ same. w.if-len-most.false (w.len.ensures.value ∙ same) in
-          let room : length c.loop-i.men.items < c.args.most = omega (arith, c.loop-i.invariant.size, other) in
+      | then-is_of+else-len-eq16 w ↦
+          let other : length c.loop-i.men.items ≡ 16 → ⊥ = λ same. w.if-len-eq16.false (w.len.ensures.value ∙ same) in
+          let room : length c.loop-i.men.items < 16 = omega (arith, c.loop-i.invariant.size, other) in
           let more : c.if-is_of.men.items ≡ c.loop-i.men.items ++ c.loop-i.i ∷ [] = search rules in
           AreMade-takes _ _ _ _ _ _ _ c.loop-i.invariant c.loop-i-test.true (test ∙ w.if-is_of.true) room more
       | else-is_of w ↦

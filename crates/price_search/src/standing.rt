@@ -1,0 +1,44 @@
+ghost use Rattle.std.specs.Prelude.{◌≡◌, ◌≤◌, IfSome, SomeIff};
+ghost use Rattle.std.specs.Option.{option_map};
+ghost use Rattle.board_base.specs.Board.{men_squares};
+ghost use Rattle.balance_rule.specs.Balance.{men_on};
+ghost use Rattle.price_search.specs.Standing.{AreStanding};
+
+use arrayvec::ArrayVec;
+use board_base::{Board, Colour, Square, is_of};
+
+/// The squares of the men of each side, in ascending order.
+#[derive(Drop)]
+pub(crate) struct StandingMen {
+    pub(crate) white: ArrayVec<u8, 16>,
+    pub(crate) black: ArrayVec<u8, 16>,
+}
+
+/// The squares of the side's men, in ascending order; None exactly where there are more than sixteen.
+fn squares_of_men(board: &Board, side: Colour) -> Option<ArrayVec<u8, 16>>
+    ensures { SomeIff (option_map (λ men. men.items) result) (men_on side board.now ≤ 16) (men_squares side board.now) }
+{
+    let mut men: ArrayVec<u8, 16> = ArrayVec::new();
+    for i in 0..64 {
+        if is_of(side, board.at(Square::known(i))) {
+            if men.len() == 16 {
+                return None;
+            }
+            men.push(i);
+        }
+    }
+    Some(men)
+}
+
+/// The squares of the men of each side; None where a side has more than sixteen.
+pub(crate) fn standing_men(board: &Board) -> Option<StandingMen>
+    ensures { IfSome result (AreStanding board.now) }
+{
+    match (
+        squares_of_men(board, Colour::White),
+        squares_of_men(board, Colour::Black),
+    ) {
+        (Some(white), Some(black)) => Some(StandingMen { white, black }),
+        _ => None,
+    }
+}
