@@ -1,16 +1,14 @@
 -- Steps, and what stood before them, put together.
-use Rattle.std.proofs.Common.{◌≡◌, ℕ, Bool, true, false, ◌&&◌, not, ◌++◌, refl, ap, sym, ◌∙◌}
-use Rattle.std.proofs.lemmas.Bool.{and_left, and_parts, both_ways}
+use Rattle.std.proofs.Common.{◌≡◌, ℕ, Bool, true, false, ◌&&◌, ◌++◌, refl, ap, sym, ◌∙◌}
+use Rattle.std.proofs.lemmas.Bool.{and_parts, both_ways}
 use Rattle.std.specs.Prelude.{Option}
 use Rattle.board_base.specs.declared.men.Colour.{Colour}
 use Rattle.board_base.specs.declared.men.Kind.{Kind}
-use Rattle.past_sketches.specs.Clashes.{is_clash}
 use Rattle.past_sketches.specs.Figures.{Figure, Sketch, each_changed}
 use Rattle.past_sketches.specs.Steps.{Step, changed_by}
-use Rattle.past_sketches.specs.Touching.{gives_check}
 use Rattle.sketch_steps.specs.Places.{recounted}
 use Rattle.sketch_sets.specs.TrimmedOut.{trimmed_out}
-use Rattle.sketch_list.specs.Listed.{Listed, figures_before, is_passed, is_sound, kind_taken, place_before, sketch_before, step_for, victims_as}
+use Rattle.sketch_list.specs.Listed.{Listed, figures_before, is_passed, kind_taken, place_before, sketch_before, step_for, victims_as}
 
 made : ℕ → ℕ → ℕ → Option Kind → Bool → ℕ → Step
 made i s t k p n = record { by = i; from = s; to = t; taken = k; passing = p; place = n }
@@ -40,12 +38,6 @@ before-made T f y x c others step same e =
 pub sketch-made : (T : Sketch) (f : Figure) (y : Listed) (before counted left : Sketch) → before ≡ figures_before T f y → counted ≡ recounted before → left ≡ trimmed_out counted → left ≡ sketch_before T f y
 unfolding sketch_before
 sketch-made T f y before counted left a b d = d ∙ ap trimmed_out (b ∙ ap recounted a)
-
-pub clash-unsound : (S : Sketch) (f : Figure) → is_clash S ≡ true → false ≡ is_sound S f
-clash-unsound S f h = sym (and_left (not (is_clash S)) (not (gives_check S f.colour)) (ap not h))
-
-pub sound-made : (S : Sketch) (f : Figure) (b : Bool) → is_clash S ≡ false → b ≡ gives_check S f.colour → not b ≡ is_sound S f
-sound-made S f b h e = ap not e ∙ sym (ap (λ (x : Bool). not x && not (gives_check S f.colour)) h)
 
 pub not-both : (a b : Bool) → b ≡ false → (a && b) ≡ true → ⊥
 not-both a b none h = both_ways b none (and_parts a b h).1

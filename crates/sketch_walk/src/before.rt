@@ -12,7 +12,7 @@ use crate::places::step_for;
 use board_base::{Kind, Square};
 use figures::{Figure, KindSet, Sketch};
 use sketch_list::Victim;
-use sketch_sets::{gives_check, is_clash, trim};
+use sketch_sets::{is_clash, side_checks, trim};
 use sketch_steps::{Step, ahead, each_before, is_step, recounted, victim_on};
 
 /// A knight, a rook or a queen whom the figure took on a square.
@@ -72,7 +72,7 @@ fn is_sound(before: &Sketch, figure: &Figure) -> bool
     if is_clash(before) {
         return false;
     }
-    !gives_check(before, figure.colour)
+    !side_checks(before, Some(*figure))
 }
 
 /// The sketch before the listed step, if this is one of the sketch's and was sound.
