@@ -1,7 +1,9 @@
-//! Tests of sketches: what never moved, accounts, and marks that they force, on written boards.
+//! Tests of sketches: what never moved, accounts, marks that they force, and steps, on written boards.
 #![tactic(auto)]
 
 #[cfg(test)]
 mod accounts;
 #[cfg(test)]
 mod grounds;
+#[cfg(test)]
+mod steps;
