@@ -1,4 +1,4 @@
-//! Tests of sketches: what never moved, accounts, marks that they force, and nodes, on written boards.
+//! Tests of sketches: what never moved, accounts, marks that they force, nodes and steps, on written boards.
 #![tactic(auto)]
 
 #[cfg(test)]
@@ -7,3 +7,5 @@ mod accounts;
 mod grounds;
 #[cfg(test)]
 mod nodes;
+#[cfg(test)]
+mod steps;
