@@ -1,11 +1,10 @@
 -- When a user gets which advice, and what it tells.
-use Rattle.std.specs.Prelude.{ℕ, ◌≡◌, ◌⊎◌, IsTrue, List, [], ◌∷◌, ◌++◌, codes, nat_eq, string_bytes, String}
+use Rattle.std.specs.Prelude.{ℕ, ◌≡◌, ◌⊎◌, IsTrue, List, [], ◌∷◌, ◌++◌, codes, nat_eq, String}
 use Rattle.std.specs.Global.{Global}
 use Rattle.std.specs.List.{starts_with}
 use Rattle.command_answers.specs.declared.statuses.Status.{Status}
 use Rattle.command_answers.specs.declared.statuses.Status.TheVariants.{BadInput, BadWords, Refused}
-use Rattle.retro_top.specs.Commands.{words_of}
-use Rattle.retro_top.specs.declared.commands.Command.{Command}
+use Rattle.retro_top.specs.Names.{Begin, NameCommand}
 use Rattle.front_door.specs.declared.advice.Advice.{Advice}
 use Rattle.front_door.specs.declared.advice.Advice.TheVariants.{Words, Lines, Fen, Moves, Texts}
 use Rattle.front_door.specs.declared.advice.FenAdvice.{FenAdvice}
@@ -15,20 +14,6 @@ use Rattle.front_door.specs.declared.advice.TextAdvice.{TextAdvice}
 use Rattle.front_door.specs.declared.advice.TextAdvice.TheVariants.{Dossier, DossierToExplain, Length, Claim, ClaimToExplain, CarriageReturns, ReturnsToExplain, PositionToExplain}
 use Rattle.front_door.specs.declared.advice.WordAdvice.{WordAdvice}
 use Rattle.front_door.specs.declared.advice.WordAdvice.TheVariants.{StandsAlone, NoCommand, NearestCommand}
-
--- the first word is this name
-abbrev pub Begin : List (String Global) → List ℕ → Type 0
-Begin [] name = ⊥
-Begin (word ∷ _) name = string_bytes word ≡ name
-
--- the name is the first of the words by which some command is called
-abbrev pub IsCommand : List ℕ → Type 0
-IsCommand name = (command : Command) × (numbers : List (List ℕ)) × (words_of command ≡ name ∷ numbers)
-
--- the first word is the name of a command
-abbrev pub NameCommand : List (String Global) → Type 0
-NameCommand [] = ⊥
-NameCommand (word ∷ _) = IsCommand (string_bytes word)
 
 -- the words ask for a command that reads a game
 abbrev pub AskForGame : List (String Global) → Type 0

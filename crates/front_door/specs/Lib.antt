@@ -1,7 +1,7 @@
 pub mod Hints
 pub mod OneLine
-pub mod Numbers
 pub mod WordHints
 pub mod Refusals
 pub mod Fronts
-pub mod Calls
+pub mod Usage
+pub mod Kinds

@@ -2,7 +2,8 @@
 -- Hints on the words of the command line.
 use Rattle.std.specs.Prelude.{◌≡◌, ◌⊎◌, IfSome, List, String}
 use Rattle.std.specs.Global.{Global}
-use Rattle.front_door.specs.Hints.{Begin, TellsWords}
+use Rattle.retro_top.specs.Names.{Begin}
+use Rattle.front_door.specs.Hints.{TellsWords}
 use Rattle.front_door.specs.declared.advice.Advice.TheVariants.{Words}
 use Rattle.front_door.specs.declared.advice.WordAdvice.{WordAdvice}
 use Rattle.front_door.specs.declared.advice.WordAdvice.TheVariants.{NearestCommand}

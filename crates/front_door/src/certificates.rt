@@ -55,11 +55,11 @@ fn advise_explain(input: &[u8]) -> Option<TextAdvice>
     }
 }
 
-/// What the input is that the command of this name refused at its first line; None where it isn't known.
-pub(crate) fn advise_text(name: &[u8], input: &[u8]) -> Option<TextAdvice>
+/// What the input is that `explain`, or else `check`, refused at its first line; None where it isn't known.
+pub(crate) fn advise_text(explain: bool, input: &[u8]) -> Option<TextAdvice>
     ensures { IfSome result (λ advice. TellsText advice input.now) }
 {
-    if matches!(name, b"explain") {
+    if explain {
         advise_explain(input)
     } else {
         advise_check(input)

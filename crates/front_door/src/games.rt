@@ -2,6 +2,7 @@
 
 use crate::advice::MoveAdvice;
 use board_base::read_move;
+use retro_top::InputKind;
 
 fn is_blank(byte: u8) -> bool {
     matches!(byte, b' ' | b'\n' | b'\r')
@@ -48,13 +49,13 @@ fn advise_san(word: &[u8]) -> MoveAdvice {
     }
 }
 
-/// What is wrong with the word of this number, counted from 1, of a game that the command reads.
-pub(crate) fn advise_word(name: &[u8], game: &[u8], number: u32) -> MoveAdvice {
+/// What is wrong with the word of this number, counted from 1, of a game of this kind.
+pub(crate) fn advise_word(kind: InputKind, game: &[u8], number: u32) -> MoveAdvice {
     let mut words = game
         .split(|byte| is_blank(*byte))
         .filter(|word| !word.is_empty());
     let word = words.nth(number.saturating_sub(1) as usize).unwrap_or(b"");
-    if matches!(name, b"san") {
+    if kind == InputKind::Notation {
         advise_san(word)
     } else if !word.is_empty() && is_algebraic(word) {
         MoveAdvice::UseSan

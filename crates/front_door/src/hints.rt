@@ -3,13 +3,14 @@
 ghost use Rattle.std.specs.Prelude.{◌≡◌, ◌↔◌, ◌⊎◌, IfSome, IsSome, IsTrue, List, Some, None, String, codes};
 ghost use Rattle.std.specs.Global.{Global as AGlobal};
 ghost use Rattle.command_answers.specs.declared.statuses.Status.TheVariants.{BadInput, BadWords, Refused};
-ghost use Rattle.front_door.specs.Hints.{AskForCertificate, AskForGame, Begin, Concerns, GoesWith, IsOfFen, NameCommand, Says, status_of};
+ghost use Rattle.retro_top.specs.Names.{Begin, NameCommand};
+ghost use Rattle.front_door.specs.Hints.{AskForCertificate, AskForGame, Concerns, GoesWith, IsOfFen, Says, status_of};
+ghost use Rattle.front_door.specs.Kinds.{IsGame};
 ghost use Rattle.front_door.specs.declared.advice.Advice.TheVariants.{Lines, Words};
 ghost use Rattle.front_door.specs.declared.advice.LineAdvice.TheVariants.{Empty};
 ghost use Rattle.front_door.specs.declared.advice.WordAdvice.TheVariants.{NearestCommand};
 
-use crate::advice::{Advice, LineAdvice, MoveAdvice, WordAdvice};
-use crate::calls::{Call, first_call};
+use crate::advice::{Advice, LineAdvice, MoveAdvice};
 use crate::certificates::advise_text;
 use crate::fens::advise_fen;
 use crate::games::{advise_ply, advise_word};
@@ -17,14 +18,14 @@ use crate::inputs::{after_fen, fen_line};
 use crate::lines::advise_line;
 use crate::refusals::{Refusal, refusal_of};
 use crate::words::advise_words;
-use retro_top::Status;
+use retro_top::{InputKind, Row, Status, first_row};
 use std::alloc::Global;
 
 /// What a user is told, and how the command that is meant is called.
 #[derive(Clone, Copy, Debug)]
 pub struct Hint {
     pub advice: Advice,
-    pub call: Option<Call>,
+    pub call: Option<Row>,
 }
 
 impl Hint {
@@ -35,7 +36,7 @@ impl Hint {
         Hint { advice, call: None }
     }
 
-    pub(crate) fn of_call(advice: Advice, call: Call) -> Hint
+    pub(crate) fn of_call(advice: Advice, call: Row) -> Hint
         ensures advice { result.advice ≡ advice }
         ensures call { result.call ≡ Some call }
     {
@@ -56,54 +57,67 @@ pub(crate) fn begin(words: &[String], name: &[u8]) -> bool
     }
 }
 
+/// What the command that the words name reads; nothing if they name none.
+fn kind_of(words: &[String]) -> InputKind {
+    first_row(words).map_or(InputKind::Nothing, |row| row.input)
+}
+
+/// It has the moves of a game, or a game in algebraic notation.
+fn is_game(kind: InputKind) -> bool
+    ensures { IsTrue result → IsGame kind }
+{
+    matches!(
+        kind,
+        InputKind::Game | InputKind::Notation | InputKind::Moves
+    )
+}
+
 /// The words ask for a command that reads a game.
 fn ask_for_game(words: &[String]) -> bool
     ensures { IsTrue result → AskForGame words.now }
 {
-    begin(words, b"play") || begin(words, b"san") || begin(words, b"spell")
+    match first_row(words) {
+        Some(row) => is_game(row.input),
+        None => false,
+    }
 }
 
 /// The words ask for a command that reads a certificate.
 fn ask_for_certificate(words: &[String]) -> bool
     ensures { IsTrue result → AskForCertificate words.now }
 {
-    begin(words, b"check") || begin(words, b"explain")
-}
-
-/// The first word, which names the command.
-fn name_of(words: &[String]) -> &[u8] {
-    match words {
-        [] => b"",
-        [word, ..] => word.as_bytes(),
+    match first_row(words) {
+        Some(row) => matches!(row.input, InputKind::Certificate),
+        None => false,
     }
 }
 
 /// What is wrong with an input that isn't of the command's form, by the line that says where.
-fn advise_input(name: &[u8], input: &[u8], answer: &[u8]) -> Advice
+fn advise_input(kind: InputKind, input: &[u8], answer: &[u8]) -> Advice
     ensures status { status_of result ≡ BadInput }
     ensures told { (words : List (String AGlobal)) → Concerns result words input.now answer.now }
     ensures fen { Says answer.now (codes "bad fen field ") → IsOfFen result }
 {
     match refusal_of(answer) {
         Some(Refusal::Fen { field, at }) => {
-            Advice::Fen(advise_fen(fen_line(name, input), field, at))
+            Advice::Fen(advise_fen(fen_line(kind, input), field, at))
         }
-        Some(Refusal::Line(number)) => Advice::Lines(advise_line(name, input, number)),
+        Some(Refusal::Line(number)) => Advice::Lines(advise_line(kind, input, number)),
         _ => Advice::Lines(LineAdvice::Lines),
     }
 }
 
 /// What is wrong with a game that is refused, by the line that says so; None where it is a game's text.
-fn advise_game(name: &[u8], input: &[u8], answer: &[u8]) -> Option<MoveAdvice>
+fn advise_game(kind: InputKind, input: &[u8], answer: &[u8]) -> Option<MoveAdvice>
     ensures { IsSome result → Says answer.now (codes "refused word ") ⊎ Says answer.now (codes "refused ply ") }
 {
-    let game = if matches!(name, b"spell") {
+    let game = if kind == InputKind::Moves {
         input
     } else {
-        after_fen(name, input)
+        after_fen(kind, input)
     };
     match refusal_of(answer) {
-        Some(Refusal::Word(number)) => Some(advise_word(name, game, number)),
+        Some(Refusal::Word(number)) => Some(advise_word(kind, game, number)),
         Some(Refusal::Ply(number)) => advise_ply(game, number),
         _ => None,
     }
@@ -121,12 +135,12 @@ fn advise_refused(words: &[String], input: &[u8], answer: &[u8]) -> Option<Advic
     ensures { IfSome result (λ advice. GoesWith advice words.now input.now Refused answer.now) }
 {
     if ask_for_certificate(words) && refuses_first_line(answer) {
-        match advise_text(name_of(words), input) {
+        match advise_text(begin(words, b"explain"), input) {
             Some(advice) => Some(Advice::Texts(advice)),
             None => None,
         }
     } else if ask_for_game(words) {
-        match advise_game(name_of(words), input, answer) {
+        match advise_game(kind_of(words), input, answer) {
             Some(advice) => Some(Advice::Moves(advice)),
             None => None,
         }
@@ -142,7 +156,7 @@ fn with_call(words: &[String], advice: Advice) -> Hint
     ensures shown { advice ≡ Lines Empty → IsSome result.call ↔ NameCommand words.now }
 {
     let call = match advice {
-        Advice::Lines(LineAdvice::Empty) => first_call(words),
+        Advice::Lines(LineAdvice::Empty) => first_row(words),
         _ => None,
     };
     Hint { advice, call }
@@ -171,12 +185,9 @@ pub fn advise(
     ensures shown { IfSome result (λ hint. hint.advice ≡ Lines Empty → IsSome hint.call ↔ NameCommand words.now) }
 {
     match status {
-        Status::BadWords => match advise_words(alloc, words) {
-            Some(hint) => Some(hint),
-            None => Some(Hint::plain(Advice::Words(WordAdvice::Usage))),
-        },
+        Status::BadWords => Some(advise_words(alloc, words)),
         Status::BadInput => {
-            let advice = advise_input(name_of(words), input, answer);
+            let advice = advise_input(kind_of(words), input, answer);
             Some(with_call(words, advice))
         }
         Status::Refused => match advise_refused(words, input, answer) {

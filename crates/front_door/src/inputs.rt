@@ -3,10 +3,11 @@
 ghost use Rattle.std.specs.Prelude.{◌≤◌};
 
 use question_text::split_first_line;
+use retro_top::InputKind;
 
-/// The commands whose first line is a claim.
-pub(crate) fn asks_for_claim(name: &[u8]) -> bool {
-    matches!(name, b"solve" | b"settle" | b"dossier")
+/// The first line is a claim.
+pub(crate) fn asks_for_claim(kind: InputKind) -> bool {
+    matches!(kind, InputKind::Claim | InputKind::Steps)
 }
 
 /// The text from the line of this number on, counted from 1; None where there is none.
@@ -32,25 +33,25 @@ fn begins(input: &[u8], number: u32, text: &[u8]) -> bool {
 }
 
 /// The number of the line that is due as the FEN.
-pub(crate) fn fen_number(name: &[u8], input: &[u8]) -> u32
+pub(crate) fn fen_number(kind: InputKind, input: &[u8]) -> u32
     ensures { result ≤ 4 }
 {
-    let mut number = if asks_for_claim(name) { 2 } else { 1 };
+    let mut number = if asks_for_claim(kind) { 2 } else { 1 };
     if begins(input, number, b"odds ") {
         number += 1;
     }
-    if !matches!(name, b"length") && begins(input, number, b"clock ") {
+    if kind != InputKind::PlainPosition && begins(input, number, b"clock ") {
         number += 1;
     }
     number
 }
 
 /// The line that is due as the FEN, as far as the input goes.
-pub(crate) fn fen_line<'a>(name: &[u8], input: &'a [u8]) -> &'a [u8] {
-    line_at(input, fen_number(name, input)).unwrap_or(b"")
+pub(crate) fn fen_line(kind: InputKind, input: &[u8]) -> &[u8] {
+    line_at(input, fen_number(kind, input)).unwrap_or(b"")
 }
 
 /// What follows the FEN line.
-pub(crate) fn after_fen<'a>(name: &[u8], input: &'a [u8]) -> &'a [u8] {
-    from_line(input, fen_number(name, input) + 1).unwrap_or(b"")
+pub(crate) fn after_fen(kind: InputKind, input: &[u8]) -> &[u8] {
+    from_line(input, fen_number(kind, input) + 1).unwrap_or(b"")
 }

@@ -15,25 +15,26 @@ ghost use Rattle.retro_top.specs.Commands.{Call as Calls, CallReader, CallSome, 
 ghost use Rattle.retro_top.specs.declared.commands.Command.{Command};
 
 mod advice;
-mod calls;
 mod certificates;
 mod fens;
 mod games;
+mod help;
 mod hints;
 mod inputs;
 mod lines;
 mod refusals;
+mod searches;
 mod watching;
 mod words;
 
-use crate::calls::{call_of, usage};
+use crate::help::usage;
+use crate::searches::many_nodes;
 use crate::watching::{Overheard, Watched};
-use crate::words::{advise_words, is_option};
+use crate::words::is_option;
 pub use advice::{Advice, FenAdvice, LineAdvice, MoveAdvice, TextAdvice, WordAdvice};
-pub use calls::{Call, Number};
 pub use hints::{Hint, advise};
 use retro_ports::{Sink, Source, StdSink, StdSource, write_all};
-use retro_top::{Status, run};
+use retro_top::{Status, first_row, parse_words, run};
 use std::alloc::Global;
 use std::env::Env;
 use std::io::{ErrorKind, IsTerminal};
@@ -82,8 +83,8 @@ impl Termination for Ended {
 fn say_hint<R: Eprint>(rt: &R, hint: Hint) {
     let text = hint.advice.text();
     let _ = match hint.call {
-        Some(call) => {
-            let line = call.line;
+        Some(row) => {
+            let line = row.line;
             eprintln!(rt; "retractor: {text}: retractor {line}")
         }
         None => eprintln!(rt; "retractor: {text}"),
@@ -130,18 +131,27 @@ fn tell_option<R: Print + AllocGlobal>(rt: &R, word: &str) -> Status {
     }
 }
 
-/// Says on standard error what the command that these words call waits for, where it reads from a terminal.
-fn say_what_is_due<R: Eprint + AllocGlobal, T: IsTerminal>(rt: &R, words: &[String], input: &T) {
-    let [name, ..] = words else {
+/// Says on standard error what the command that these words call waits for, if it reads from a terminal.
+fn say_what_is_due<E: Eprint, T: IsTerminal>(err: &E, words: &[String], input: &T) {
+    let Some(row) = first_row(words) else {
         return;
     };
-    let Some(call) = call_of(name.as_bytes()) else {
-        return;
-    };
-    if call.reads && advise_words(rt.alloc(), words).is_none() && input.is_terminal() {
-        let line = call.line;
-        let _ = eprintln!(rt;
+    if row.reads() && parse_words(words).is_ok() && input.is_terminal() {
+        let line = row.line;
+        let _ = eprintln!(err;
             "retractor: reading from the terminal, to the end of the input (Ctrl-D): retractor {line}"
+        );
+    }
+}
+
+/// Says on standard error, if that is a terminal, how far each search goes that these words ask for, if a user may wait for it.
+fn say_how_far<E: Eprint + IsTerminal>(err: &E, words: &[String]) {
+    let Some(nodes) = many_nodes(words) else {
+        return;
+    };
+    if err.is_terminal() {
+        let _ = eprintln!(err;
+            "retractor: searching up to {nodes} positions at a time; Ctrl-C ends it"
         );
     }
 }
@@ -182,12 +192,15 @@ fn end_of<S: Source, K: Sink>(
 }
 
 /// Does what the words ask, from standard input to standard output.
-fn answer<R: Input + Print + Eprint + AllocGlobal>(rt: &R, words: &[String]) -> Ended
+fn answer<R, E>(rt: &R, err: &E, words: &[String]) -> Ended
 where
+    R: Input + Print + AllocGlobal,
     R::Reader: IsTerminal,
+    E: Eprint + IsTerminal,
 {
     let reader = rt.reader();
-    say_what_is_due(rt, words, &reader);
+    say_what_is_due(err, words, &reader);
+    say_how_far(err, words);
     let mut source = Watched::new(StdSource::new(reader));
     let mut sink = Overheard::new(StdSink::new(io::writer(rt)));
     end_of(rt.alloc(), words, &mut source, &mut sink)
@@ -218,11 +231,14 @@ fn words_of<R: Env + AllocGlobal>(rt: &R) -> Result<Vec<String>, Status> {
 }
 
 /// Does what the words of the command line ask, as `run` does it, from standard input to standard output; or writes the usage or the
-/// version, where `--help` or `--version` is the only word. A word that isn't UTF-8 makes the words bad. No clause can name what the
-/// system gives, so none says which status comes.
-pub fn serve<R: Env + Input + Print + Eprint + AllocGlobal>(rt: &R) -> Ended
+/// version, where `--help` or `--version` is the only word. A word that isn't UTF-8 makes the words bad. Before the input is read, a line
+/// on standard error says so if it comes from a terminal, and another says how far a long search goes if standard error is one. No clause
+/// can name what the system gives, so none says which status comes.
+pub fn serve<R, E>(rt: &R, err: &E) -> Ended
 where
+    R: Env + Input + Print + AllocGlobal,
     R::Reader: IsTerminal,
+    E: Eprint + IsTerminal,
 {
     let words = match words_of(rt) {
         Ok(words) => words,
@@ -233,6 +249,6 @@ where
             status: tell_option(rt, word.as_str()),
             hint: None,
         },
-        _ => answer(rt, words.as_slice()),
+        _ => answer(rt, err, words.as_slice()),
     }
 }

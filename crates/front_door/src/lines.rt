@@ -6,6 +6,7 @@ ghost use Rattle.front_door.specs.declared.advice.LineAdvice.TheVariants.{Empty}
 use crate::advice::LineAdvice;
 use crate::inputs::{asks_for_claim, fen_number, line_at};
 use fen_text::{read_clock, read_odds};
+use retro_top::InputKind;
 
 /// What is wrong with a line that is due as the claim of `solve` or `settle`.
 fn advise_claim(line: &[u8]) -> LineAdvice
@@ -48,13 +49,13 @@ fn advise_demand(line: &[u8]) -> LineAdvice
 }
 
 /// What is wrong with the line of this number of the command's input.
-pub(crate) fn advise_line(name: &[u8], input: &[u8], number: u32) -> LineAdvice
+pub(crate) fn advise_line(kind: InputKind, input: &[u8], number: u32) -> LineAdvice
     ensures { (result ≡ Empty) ↔ (input.now ≡ []) }
 {
     if input.is_empty() {
         return LineAdvice::Empty;
     }
-    let due = fen_number(name, input);
+    let due = fen_number(kind, input);
     let Some(line) = line_at(input, number) else {
         return if number == due {
             LineAdvice::NoFen
@@ -65,8 +66,8 @@ pub(crate) fn advise_line(name: &[u8], input: &[u8], number: u32) -> LineAdvice
     if number > due {
         return LineAdvice::LineTooMany;
     }
-    if number == 1 && asks_for_claim(name) {
-        return if matches!(name, b"dossier") {
+    if number == 1 && asks_for_claim(kind) {
+        return if kind == InputKind::Steps {
             advise_steps(line)
         } else {
             advise_claim(line)

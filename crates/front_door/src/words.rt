@@ -2,14 +2,15 @@
 
 ghost use Rattle.std.specs.Prelude.{◌≡◌, IfSome, List, Some, None, String};
 ghost use Rattle.std.specs.Global.{Global as AGlobal};
-ghost use Rattle.front_door.specs.Hints.{NameCommand, TellsWords};
+ghost use Rattle.retro_top.specs.Names.{NameCommand};
+ghost use Rattle.front_door.specs.Hints.{TellsWords};
 ghost use Rattle.front_door.specs.WordHints.{IsOfWords, ShowsCall};
 ghost use Rattle.front_door.specs.declared.advice.Advice.TheVariants.{Words};
 ghost use Rattle.front_door.specs.declared.advice.WordAdvice.TheVariants.{NearestCommand};
 
 use crate::advice::{Advice, WordAdvice};
-use crate::calls::{CALLS, Call, Number, first_call};
 use crate::hints::{Hint, begin};
+use retro_top::{Number, ROWS, RestFault, Row, WordFault, parse_words};
 use std::alloc::{AllocError, Global};
 use strsim::osa_distance;
 
@@ -26,11 +27,11 @@ fn plain(advice: WordAdvice) -> Hint
     Hint::plain(Advice::Words(advice))
 }
 
-fn about(advice: WordAdvice, call: Call) -> Hint
+fn about(advice: WordAdvice, row: Row) -> Hint
     ensures advice { result.advice ≡ Words advice }
-    ensures call { result.call ≡ Some call }
+    ensures call { result.call ≡ Some row }
 {
-    Hint::of_call(Advice::Words(advice), call)
+    Hint::of_call(Advice::Words(advice), row)
 }
 
 /// The word asks for the usage or the version.
@@ -56,27 +57,31 @@ fn is_input(word: &str) -> bool {
 }
 
 /// The command whose name is nearest to the word, where one is near.
-fn nearest(alloc: Global, word: &str) -> Result<Option<Call>, AllocError> {
+fn nearest(alloc: Global, word: &str) -> Result<Option<Row>, AllocError> {
     if word.len() > MOST_NAME {
         return Ok(None);
     }
     let mut found = None;
     let mut least = MOST_STEPS + 1;
-    for call in CALLS {
-        let steps = osa_distance(alloc, word, call.name)?;
-        if steps < least && steps < call.name.len() {
+    for row in ROWS {
+        let steps = osa_distance(alloc, word, row.name)?;
+        if steps < least && steps < row.name.len() {
             least = steps;
-            found = Some(call);
+            found = Some(row);
         }
     }
     Ok(found)
 }
 
 /// What is said of words whose first is no command's name.
-fn advise_name(alloc: Global, words: &[String], first: &str) -> Hint
+fn advise_name(alloc: Global, words: &[String]) -> Hint
     ensures told { (NameCommand words.now → ⊥) → IsOfWords result words.now }
     ensures called { IfSome result.call (λ call. result.advice ≡ Words NearestCommand) }
 {
+    let [first, ..] = words else {
+        return plain(WordAdvice::Usage);
+    };
+    let first = first.as_str();
     if begin(words, b"--help") || begin(words, b"--version") {
         return plain(WordAdvice::StandsAlone);
     }
@@ -87,20 +92,8 @@ fn advise_name(alloc: Global, words: &[String], first: &str) -> Hint
         return plain(WordAdvice::ComesByInput);
     }
     match nearest(alloc, first) {
-        Ok(Some(call)) => about(WordAdvice::NearestCommand, call),
+        Ok(Some(row)) => about(WordAdvice::NearestCommand, row),
         _ => plain(WordAdvice::NoCommand),
-    }
-}
-
-/// The word is a decimal number in this range, without sign and without a leading zero.
-fn is_number(word: &str, least: u64, most: u64) -> bool {
-    let text = word.as_bytes();
-    if text.len() > 1 && text[0] == b'0' {
-        return false;
-    }
-    match word.parse::<u64>() {
-        Ok(number) => text[0] != b'+' && least <= number && number <= most,
-        Err(_) => false,
     }
 }
 
@@ -116,47 +109,28 @@ fn advice_on(number: Number) -> WordAdvice
     }
 }
 
-/// The first number that is out of its range.
-fn first_bad(numbers: &[Number], words: &[String]) -> Option<Number> {
-    for (number, word) in numbers.iter().zip(words) {
-        let (least, most) = number.range();
-        if !is_number(word.as_str(), least, most) {
-            return Some(*number);
-        }
-    }
-    None
-}
-
-/// What is said of the words behind a command's name; None where nothing is wrong with them.
-fn advise_rest(call: Call, rest: &[String]) -> Option<Hint>
-    ensures told { IfSome result (λ hint. (words : List (String AGlobal)) → IsOfWords hint words) }
-    ensures called { IfSome result (λ hint. hint.call ≡ Some call) }
+/// What is said of the words behind a command's name.
+fn advise_rest(row: Row, words: &[String], why: RestFault) -> Hint
+    ensures told { (words : List (String AGlobal)) → IsOfWords result words }
+    ensures called { result.call ≡ Some row }
 {
-    if rest.iter().any(|word| is_input(word.as_str())) {
-        return Some(about(WordAdvice::ComesByInput, call));
+    if words.iter().skip(1).any(|word| is_input(word.as_str())) {
+        return about(WordAdvice::ComesByInput, row);
     }
-    if rest.is_empty() && call.alone {
-        return None;
-    }
-    if rest.len() != call.numbers.len() {
-        return Some(about(WordAdvice::Count, call));
-    }
-    match first_bad(call.numbers, rest) {
-        Some(number) => Some(about(advice_on(number), call)),
-        None => None,
+    match why {
+        RestFault::Count => about(WordAdvice::Count, row),
+        RestFault::Number(number) => about(advice_on(number), row),
     }
 }
 
-/// What is wrong with the words; None where they call a command.
-pub(crate) fn advise_words(alloc: Global, words: &[String]) -> Option<Hint>
-    ensures told { IfSome result (λ hint. IsOfWords hint words.now) }
-    ensures called { IfSome result (λ hint. ShowsCall hint words.now) }
+/// What is wrong with words that call no command.
+pub(crate) fn advise_words(alloc: Global, words: &[String]) -> Hint
+    ensures told { IsOfWords result words.now }
+    ensures called { ShowsCall result words.now }
 {
-    let [first, rest @ ..] = words else {
-        return Some(plain(WordAdvice::Usage));
-    };
-    match first_call(words) {
-        Some(call) => advise_rest(call, rest),
-        None => Some(advise_name(alloc, words, first.as_str())),
+    match parse_words(words) {
+        Ok(_) => plain(WordAdvice::Usage),
+        Err(WordFault::Name) => advise_name(alloc, words),
+        Err(WordFault::Rest(row, why)) => advise_rest(row, words, why),
     }
 }

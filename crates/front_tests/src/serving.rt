@@ -129,17 +129,6 @@ impl Env for Desk {
     }
 }
 
-impl Eprint for Desk {
-    fn eprint<D: Display + Drop>(&self, value: D) -> io::Result<()> {
-        drop(value);
-        Ok(())
-    }
-
-    fn eprintln<D: Display + Drop>(&self, value: D) -> io::Result<()> {
-        self.eprint(value)
-    }
-}
-
 impl Print for Desk {
     fn print<D: Display + Drop>(&self, value: D) -> io::Result<()> {
         drop(value);
@@ -155,6 +144,53 @@ impl Print for Desk {
             Some(begins) if bytes.starts_with(begins) => Ok(()),
             _ => Err(ErrorKind::Other.into()),
         }
+    }
+}
+
+/// Where standard error goes: how many lines were the one that is wanted, and how many others.
+#[derive(Drop)]
+struct Ears {
+    alloc: Global,
+    wanted: &'static str,
+    terminal: bool,
+    heard: Cell<u32>,
+    others: Cell<u32>,
+}
+
+impl Ears {
+    fn new(alloc: Global, wanted: &'static str, terminal: bool) -> Ears {
+        Ears {
+            alloc,
+            wanted,
+            terminal,
+            heard: Cell::new(0),
+            others: Cell::new(0),
+        }
+    }
+}
+
+impl IsTerminal for Ears {
+    fn is_terminal(&self) -> bool {
+        self.terminal
+    }
+}
+
+impl Eprint for Ears {
+    fn eprint<D: Display + Drop>(&self, value: D) -> io::Result<()> {
+        drop(value);
+        self.others.set(self.others.get().wrapping_add(1));
+        Ok(())
+    }
+
+    fn eprintln<D: Display + Drop>(&self, value: D) -> io::Result<()> {
+        let line = format!(in self.alloc; "{value}");
+        match line {
+            Ok(line) if line.as_str() == self.wanted => {
+                self.heard.set(self.heard.get().wrapping_add(1));
+            }
+            _ => self.others.set(self.others.get().wrapping_add(1)),
+        }
+        Ok(())
     }
 }
 
@@ -199,36 +235,9 @@ fn ends_with_the_number_of_the_status(rt: HostRuntime) {
         (beginning(VERSION, b"", Some(b"retractor 1.0\n")), 0),
         (beginning(VERSION, b"", Some(b"usage:\n")), 8),
     ] {
-        let code = serve(&(desk, rt.alloc())).report(&rt);
+        let ears = Ears::new(rt.alloc(), "", false);
+        let code = serve(&(desk, rt.alloc()), &ears).report(&rt);
         assert_eq!(rt; code, ExitCode::from(want));
-    }
-}
-
-/// Where standard error goes: how many lines were the one that is wanted, and how many others.
-#[derive(Drop)]
-struct Ears {
-    alloc: Global,
-    wanted: &'static str,
-    heard: Cell<u32>,
-    others: Cell<u32>,
-}
-
-impl Eprint for Ears {
-    fn eprint<D: Display + Drop>(&self, value: D) -> io::Result<()> {
-        drop(value);
-        self.others.set(self.others.get().wrapping_add(1));
-        Ok(())
-    }
-
-    fn eprintln<D: Display + Drop>(&self, value: D) -> io::Result<()> {
-        let line = format!(in self.alloc; "{value}");
-        match line {
-            Ok(line) if line.as_str() == self.wanted => {
-                self.heard.set(self.heard.get().wrapping_add(1));
-            }
-            _ => self.others.set(self.others.get().wrapping_add(1)),
-        }
-        Ok(())
     }
 }
 
@@ -261,13 +270,44 @@ fn says_one_line_or_nothing(rt: HostRuntime) {
             "retractor: writing the answer failed",
         ),
     ] {
-        let ears = Ears {
-            alloc: rt.alloc(),
-            wanted,
-            heard: Cell::new(0),
-            others: Cell::new(0),
-        };
-        let _ = serve(&(desk, rt.alloc())).report(&ears);
+        let ears = Ears::new(rt.alloc(), wanted, false);
+        let _ = serve(&(desk, rt.alloc()), &ears).report(&ears);
+        let lines = if wanted == "" { 0 } else { 1 };
+        assert_eq!(rt; (ears.heard.get(), ears.others.get()), (lines, 0));
+    }
+}
+
+const SETTLE: &[&[u8]] = &[b"retractor", b"settle"];
+
+const SOLVE_AT_ONCE: &[&[u8]] = &[b"retractor", b"solve", b"0", b"20000"];
+
+const SOLVE_BY_FEW: &[&[u8]] = &[b"retractor", b"solve", b"0", b"19999"];
+
+const TREE: &[&[u8]] = &[b"retractor", b"tree", b"0", b"500000"];
+
+const TWO_KINGS_ALONE: &[u8] = b"4k3/8/8/8/8/8/8/4K3 w - -\n";
+
+/// Before a search that may last a terminal is told how far it goes, and nothing else is.
+#[test]
+fn says_how_far_a_long_search_goes(rt: HostRuntime) {
+    for (desk, terminal, wanted) in [
+        (
+            working(SOLVE_AT_ONCE, TWO_KINGS),
+            true,
+            "retractor: searching up to 20000 positions at a time; Ctrl-C ends it",
+        ),
+        (
+            working(SETTLE, ARRAY),
+            true,
+            "retractor: searching up to 250000 positions at a time; Ctrl-C ends it",
+        ),
+        (working(SOLVE_AT_ONCE, TWO_KINGS), false, ""),
+        (working(SOLVE_BY_FEW, TWO_KINGS), true, ""),
+        (working(TREE, TWO_KINGS_ALONE), true, ""),
+        (working(CHECK, KINGLESS), true, ""),
+    ] {
+        let ears = Ears::new(rt.alloc(), wanted, terminal);
+        let _ = serve(&(desk, rt.alloc()), &ears).report(&ears);
         let lines = if wanted == "" { 0 } else { 1 };
         assert_eq!(rt; (ears.heard.get(), ears.others.get()), (lines, 0));
     }

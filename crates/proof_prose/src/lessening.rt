@@ -1,11 +1,12 @@
 //! Least sets: what is told of men who never moved is told of no more of them than the reason needs.
 
-ghost use Rattle.std.specs.Prelude.{◌≡◌, None, cond, length, slice_set};
+ghost use Rattle.std.specs.Prelude.{◌≡◌, None, cond, slice_set};
 ghost use Rattle.board_base.specs.Board.{is_in};
 ghost use Rattle.cert_checker.specs.Reasons.{ReasonSupports};
 ghost use Rattle.static_rules.specs.Left.{left_with};
 ghost use Rattle.proof_prose.specs.Lessened.{IsGreatestWithin, IsLeast, IsLeft, IsLessened, line_set, line_with, set_of, with_set};
 
+use balance_rule::is_whole;
 use board_base::{Board, Man, Square, SquareSet};
 use cage_rules::greatest_frozen;
 use cert_checker::reason_supports;
@@ -17,10 +18,12 @@ fn line_set(rule: &RuleLine) -> Option<SquareSet>
     ensures { result ≡ line_set rule.now }
 {
     match rule {
-        RuleLine::Frozen(set) => Some(*set),
-        RuleLine::Promo(_, set) => Some(*set),
-        RuleLine::Caps(_, set, _) => Some(*set),
-        _ => None,
+        RuleLine::Frozen(set) | RuleLine::Caps(_, set, _) | RuleLine::Promo(_, set) => Some(*set),
+        RuleLine::Kings
+        | RuleLine::Ranks
+        | RuleLine::Check
+        | RuleLine::Rights
+        | RuleLine::Count(_) => None,
     }
 }
 
@@ -40,9 +43,13 @@ fn line_with(rule: &RuleLine, set: SquareSet) -> RuleLine
 {
     match rule {
         RuleLine::Frozen(_) => RuleLine::Frozen(set),
-        RuleLine::Promo(side, _) => RuleLine::Promo(*side, set),
         RuleLine::Caps(side, _, p) => RuleLine::Caps(*side, set, *p),
-        other => *other,
+        RuleLine::Promo(side, _) => RuleLine::Promo(*side, set),
+        RuleLine::Kings
+        | RuleLine::Ranks
+        | RuleLine::Check
+        | RuleLine::Rights
+        | RuleLine::Count(_) => *rule,
     }
 }
 
@@ -54,13 +61,6 @@ fn with_set(reason: &Reason, set: SquareSet) -> Reason
         Reason::Line(rule) => Reason::Line(line_with(rule, set)),
         Reason::Balance(_, prices) => Reason::Balance(set, *prices),
     }
-}
-
-/// Tells the caller that a set has 64 truth values.
-fn is_whole(set: SquareSet)
-    ensures { length set ≡ 64 }
-{
-    let _ = set.has(Square::known(0));
 }
 
 fn place_if(set: SquareSet, s: Square, place: Option<Man>) -> Option<Man>

@@ -5,7 +5,7 @@ ghost use Rattle.board_base.specs.Legal.{in_check};
 ghost use Rattle.play_rules.specs.Laws.{HasNoPawnOnEnds};
 ghost use Rattle.proof_prose.specs.Firsts.{IsFirst, is_king_attacked, is_pawn_on_end};
 
-use board_base::{Board, Colour, Kind, Square, is_a, is_the};
+use board_base::{Board, Colour, Kind, Square, is_a, is_king_attacked};
 
 fn is_pawn_on_end(board: &Board, s: Square) -> bool
     ensures { result ≡ is_pawn_on_end board.now s }
@@ -26,12 +26,6 @@ pub(crate) fn pawn_on_end(board: &Board) -> Option<Square>
         }
     }
     None
-}
-
-fn is_king_attacked(board: &Board, side: Colour, s: Square) -> bool
-    ensures { result ≡ is_king_attacked board.now side s }
-{
-    is_the(side, Kind::King, board.at(s)) && board.attacked(s, side.other())
 }
 
 /// The first square of a king of the side who stands in check, where one does.

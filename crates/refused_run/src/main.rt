@@ -4,5 +4,5 @@
 use front_door::{Ended, serve};
 
 fn main(rt: HostRuntime) -> Ended {
-    serve(&rt)
+    serve(&rt, &rt.stderr())
 }

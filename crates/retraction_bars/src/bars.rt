@@ -5,12 +5,11 @@ ghost use Rattle.unmove_gen.specs.Listed.{answered, has_left};
 ghost use Rattle.retraction_bars.specs.Bars.{bars, is_late};
 
 use crate::checks::gives_check;
-use crate::ways::answered;
 use board_base::{Castle, Colour, Move, Square, Unmove, is_move};
 use castle_history::touches;
 use men_account::account_ok;
 use query_base::Query;
-use unmove_gen::{is_listed, obeys_clock, obeys_only, take_back};
+use unmove_gen::{answered, is_listed, obeys_clock, obeys_only, take_back};
 
 /// Why a retraction is none: the first of the tests of a last move that it fails, in the terms of the board.
 #[derive(Clone, Copy, PartialEq, Eq, Debug)]

@@ -1,6 +1,5 @@
 ghost use Rattle.std.specs.Prelude.{◌≡◌, ◌∷◌, [], ◌++◌, ◌&&◌, ◌==◌, IfOk};
 ghost use Rattle.std.specs.List.{list_any};
-ghost use Rattle.board_base.specs.Legal.{pawn_rank};
 ghost use Rattle.retraction_bars.specs.Clauses.{clauses};
 ghost use Rattle.retraction_bars.specs.Lines.{bars_text, firsts_line, firsts_phrase, some_firsts, group_line, group_lines, has_first, is_first, is_grouped, is_part, is_whole, labels_words, lines_of, man_line, man_lines, pair_line};
 ghost use Rattle.retraction_bars.specs.Numbers.{bar_at};
@@ -13,19 +12,10 @@ use crate::pairs::{Pair, pair_of};
 use crate::phrases::{Phrase, say_phrase};
 use crate::scopes::{Manner, same_manner};
 use crate::sentences::{push_label, push_sentences, push_whole};
-use board_base::{Colour, Kind, Square, is_the};
+use board_base::{Kind, Square, is_the, pawn_rank};
 use prose_words::say;
 use query_base::Query;
 use std::alloc::{AllocError, Global};
-
-fn pawn_rank(colour: Colour) -> u8
-    ensures { result ≡ pawn_rank colour }
-{
-    match colour {
-        Colour::White => 1,
-        Colour::Black => 6,
-    }
-}
 
 /// A pawn of the side that moved stands there, on its first square.
 fn is_first(query: &Query, t: Square) -> bool

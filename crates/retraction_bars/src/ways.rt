@@ -1,22 +1,13 @@
 ghost use Rattle.std.specs.Prelude.{◌≡◌, ◌∷◌, [], ◌++◌, ◌&&◌, IfOk};
 ghost use Rattle.std.specs.List.{filter};
-ghost use Rattle.play_rules.specs.Laws.{is_end};
-ghost use Rattle.unmove_gen.specs.Listed.{answered, unmoves_between, unmoves_of, unmoves_to};
+ghost use Rattle.unmove_gen.specs.Listed.{unmoves_between, unmoves_of, unmoves_to};
 ghost use Rattle.retraction_bars.specs.Ways.{comes_so, has_no_pawn_on_end, is_way, keeps_kind, may_come, passes_well};
 
 use board_base::{Board, CastleSet, Colour, Kind, Move, Square, Unmove, is_a, is_of};
-use ep_history::double_of;
-use play_rules::{may_go, promotion_fits};
+use play_rules::{is_end, may_go, promotion_fits};
 use query_base::Query;
 use std::alloc::{AllocError, Global};
-use unmove_gen::take_back;
-
-/// The double step that the move answered, if it is marked en passant.
-pub fn answered(u: &Unmove, colour: Colour) -> Option<Move>
-    ensures { result ≡ answered u.now colour }
-{
-    if u.ep { double_of(&u.mv, colour) } else { None }
-}
+use unmove_gen::{answered, take_back};
 
 /// What the move made of a pawn, if it did, stands on the target.
 fn keeps_kind(query: &Query, m: &Move) -> bool
@@ -26,12 +17,6 @@ fn keeps_kind(query: &Query, m: &Move) -> bool
         Some(kind) => is_a(kind, query.board.at(m.to)),
         None => true,
     }
-}
-
-fn is_end(s: Square) -> bool
-    ensures { result ≡ is_end s }
-{
-    s.rank() == 0 || s.rank() == 7
 }
 
 /// No pawn stands there on rank 1 or 8.
