@@ -40,13 +40,7 @@ fn marked(sketch: &Sketch, marks: &[usize]) -> Sketch {
 fn way_of(step: &Listed) -> Way {
     let last = (step.to.rank() == 0) | (step.to.rank() == 7);
     match step.victim {
-        Victim::Nobody => {
-            if last {
-                Way::Promotion
-            } else {
-                Way::Straight
-            }
-        }
+        Victim::Nobody => { if last { Way::Promotion } else { Way::Straight } }
         Victim::TakenPawn => Way::Capture(Named::Pawn, step.above),
         Victim::TakenBishop => {
             if last {
@@ -108,7 +102,14 @@ fn lists_the_steps_of_certificates(rt: HostRuntime) {
             exact: NO_FILES,
             marks: &[4, 6, 13, 14, 15, 16, 17, 18, 22],
             labels: &[
-                "b2=b1", "a2xb1b=", "a2xb1nrq=", "g2xf1b=", "g2xf1nrq=", "h3xg4p", "h3xg4b", "h3xg4nrq",
+                "b2=b1",
+                "a2xb1b=",
+                "a2xb1nrq=",
+                "g2xf1b=",
+                "g2xf1nrq=",
+                "h3xg4p",
+                "h3xg4b",
+                "h3xg4nrq",
             ],
         },
         Case {
@@ -117,7 +118,19 @@ fn lists_the_steps_of_certificates(rt: HostRuntime) {
             exact: NO_FILES,
             marks: &[2, 4, 9, 12, 13, 16, 17, 18, 19, 20, 21],
             labels: &[
-                "h2xg1b=", "h2xg1nrq=", "h2xg3p", "h2xg3b", "h2xg3nrq", "h2xg1b=", "h2xg1nrq=", "d7xe6p", "d7xe6b", "d7xe6nrq", "f7xe6p", "f7xe6b", "f7xe6nrq",
+                "h2xg1b=",
+                "h2xg1nrq=",
+                "h2xg3p",
+                "h2xg3b",
+                "h2xg3nrq",
+                "h2xg1b=",
+                "h2xg1nrq=",
+                "d7xe6p",
+                "d7xe6b",
+                "d7xe6nrq",
+                "f7xe6p",
+                "f7xe6b",
+                "f7xe6nrq",
             ],
         },
         Case {
@@ -126,7 +139,49 @@ fn lists_the_steps_of_certificates(rt: HostRuntime) {
             exact: NO_FILES,
             marks: &[1, 10, 11, 12, 13, 14, 15, 22, 24],
             labels: &[
-                "e5xf4p1", "e5xf4b1", "e5xf4nrq1", "g5xf4p1", "g5xf4b1", "g5xf4nrq1", "e6xf5p1", "e6xf5b1", "e6xf5nrq1", "g6xf5p1", "g6xf5b1", "g6xf5nrq1", "e7xf6p", "e7xf6b", "e7xf6nrq", "a2=a1", "b2xa1b=", "b2xa1nrq=", "b2xc1b=", "b2xc1nrq=", "f2xe1b=", "f2xe1nrq=", "g2=g1", "f2xg1b=", "f2xg1nrq=", "a2=a1", "b2xa1b=", "b2xa1nrq=", "b2=b1", "a2xb1b=", "a2xb1nrq=", "b2xc1b=", "b2xc1nrq=", "f2xe1b=", "f2xe1nrq=", "f2=f1", "g2xf1b=", "g2xf1nrq=", "g2=g1", "f2xg1b=", "f2xg1nrq=", "g2xh1b=", "g2xh1nrq=",
+                "e5xf4p1",
+                "e5xf4b1",
+                "e5xf4nrq1",
+                "g5xf4p1",
+                "g5xf4b1",
+                "g5xf4nrq1",
+                "e6xf5p1",
+                "e6xf5b1",
+                "e6xf5nrq1",
+                "g6xf5p1",
+                "g6xf5b1",
+                "g6xf5nrq1",
+                "e7xf6p",
+                "e7xf6b",
+                "e7xf6nrq",
+                "a2=a1",
+                "b2xa1b=",
+                "b2xa1nrq=",
+                "b2xc1b=",
+                "b2xc1nrq=",
+                "f2xe1b=",
+                "f2xe1nrq=",
+                "g2=g1",
+                "f2xg1b=",
+                "f2xg1nrq=",
+                "a2=a1",
+                "b2xa1b=",
+                "b2xa1nrq=",
+                "b2=b1",
+                "a2xb1b=",
+                "a2xb1nrq=",
+                "b2xc1b=",
+                "b2xc1nrq=",
+                "f2xe1b=",
+                "f2xe1nrq=",
+                "f2=f1",
+                "g2xf1b=",
+                "g2xf1nrq=",
+                "g2=g1",
+                "f2xg1b=",
+                "f2xg1nrq=",
+                "g2xh1b=",
+                "g2xh1nrq=",
             ],
         },
         Case {
@@ -135,7 +190,25 @@ fn lists_the_steps_of_certificates(rt: HostRuntime) {
             exact: FILE_A,
             marks: &[1, 7, 8, 11, 12, 13, 14, 15, 16, 22, 23, 24, 25],
             labels: &[
-                "e5xf4p1", "e5xf4b1", "e5xf4nrq1", "g5xf4p1", "g5xf4b1", "g5xf4nrq1", "e6xf5p1", "e6xf5b1", "e6xf5nrq1", "g6xf5p1", "g6xf5b1", "g6xf5nrq1", "e7xf6p", "e7xf6b", "e7xf6nrq", "a6-a7", "b6xa7p1", "b6xa7b1", "b6xa7nrq1",
+                "e5xf4p1",
+                "e5xf4b1",
+                "e5xf4nrq1",
+                "g5xf4p1",
+                "g5xf4b1",
+                "g5xf4nrq1",
+                "e6xf5p1",
+                "e6xf5b1",
+                "e6xf5nrq1",
+                "g6xf5p1",
+                "g6xf5b1",
+                "g6xf5nrq1",
+                "e7xf6p",
+                "e7xf6b",
+                "e7xf6nrq",
+                "a6-a7",
+                "b6xa7p1",
+                "b6xa7b1",
+                "b6xa7nrq1",
             ],
         },
         Case {
@@ -144,11 +217,46 @@ fn lists_the_steps_of_certificates(rt: HostRuntime) {
             exact: NO_FILES,
             marks: &[7, 8, 9, 10, 13, 18],
             labels: &[
-                "g2xh3p2", "g2xh3b2", "g2xh3nrq2", "g3xh4p2", "g3xh4b2", "g3xh4nrq2", "b4xa5p", "b4xa5b", "b4xa5nrq", "b7xc6p", "b7xc6b", "b7xc6nrq", "e7xd6p", "e7xd6b", "e7xd6nrq", "e7xf6p", "e7xf6b", "e7xf6nrq", "h7xg6p", "h7xg6b", "h7xg6nrq", "g3xh4p2", "g3xh4b2", "g3xh4nrq2", "g4xh5p2", "g4xh5b2", "g4xh5nrq2", "g5xh6p2", "g5xh6b2", "g5xh6nrq2", "g5xh6ep2",
+                "g2xh3p2",
+                "g2xh3b2",
+                "g2xh3nrq2",
+                "g3xh4p2",
+                "g3xh4b2",
+                "g3xh4nrq2",
+                "b4xa5p",
+                "b4xa5b",
+                "b4xa5nrq",
+                "b7xc6p",
+                "b7xc6b",
+                "b7xc6nrq",
+                "e7xd6p",
+                "e7xd6b",
+                "e7xd6nrq",
+                "e7xf6p",
+                "e7xf6b",
+                "e7xf6nrq",
+                "h7xg6p",
+                "h7xg6b",
+                "h7xg6nrq",
+                "g3xh4p2",
+                "g3xh4b2",
+                "g3xh4nrq2",
+                "g4xh5p2",
+                "g4xh5b2",
+                "g4xh5nrq2",
+                "g5xh6p2",
+                "g5xh6b2",
+                "g5xh6nrq2",
+                "g5xh6ep2",
             ],
         },
     ];
     for case in &cases {
-        assert_eq!(rt; followed(case), Some((case.labels.len(), true)), "{}", case.name);
+        assert_eq!(rt;
+            followed(case),
+            Some((case.labels.len(), true)),
+            "{}",
+            case.name
+        );
     }
 }
