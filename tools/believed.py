@@ -8,9 +8,9 @@ A definition is to be believed where a public clause cites it, directly or throu
 functions or proofs: they stand in files of their own, whose first line is INNER below, and which specs/Lib.antt lists last. There
 is a line for each file where this isn't so, and exit status 1. The clauses of all crates count; naming crates limits what is told.
 
-Public are the clauses of what lib.rt re-exports: functions, methods, traits and what fulfils them. So is the value as which a type
-is seen; its view and its invariant only where its fields are public. Of a program every clause in main.rt counts. A variable that
-has the name of a definition in scope counts as citing it. Reads files only.
+Public are the clauses of what lib.rt re-exports or declares: functions, methods, traits and what fulfils them. So is the value as
+which a type is seen; its view and its invariant only where its fields are public. Of a program every clause in main.rt counts. A
+variable that has the name of a definition in scope counts as citing it. Reads files only.
 """
 import argparse
 import pathlib
@@ -126,7 +126,9 @@ def public_clauses(text, exported, is_program):
 def cited_publicly(folder, definitions):
     """The definitions that the public clauses of a crate name."""
     library = folder / "src" / "lib.rt"
-    lines = re.findall(r"pub use [\w:]+::(\w+|\{[^}]*\});", library.read_text() if library.is_file() else "")
+    listed = library.read_text() if library.is_file() else ""
+    lines = re.findall(r"pub use [\w:]+::(\w+|\{[^}]*\});", listed)
+    lines += re.findall(r"(?m)^pub (?:const )?(?:fn|struct|enum|trait) (\w+)", listed)
     exported = set(re.findall(r"\w+", " ".join(lines)))
     found = set()
     for path in (folder / "src").rglob("*.rt"):

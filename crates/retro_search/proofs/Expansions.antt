@@ -86,7 +86,7 @@ expands_none q below ancestors rest c run all empty numbers sound keeps =
       are = no_children c q below ancestors empty numbers;
       plain = λ by off. omega (arith, numbers.2);
       twice = λ off. omega (arith, numbers.2);
-      on = record { sound = sound; mode = refl; fewer = omega arith; reasons = refl; vain = λ vain. vain };
+      on = record { sound = sound; mode = refl; fewer = omega arith; reasons = refl };
       lined = λ by. subst AreByRuleLines (sym empty) tt;
       keeps = keeps;
       cost = λ counted n sums. record { later = n; sums = sums; total = omega arith };
@@ -143,7 +143,7 @@ expands_more q below ancestors rest others c more run now first u r p above here
       are = one_more c more q p x.done u r below ancestors above here up x.are f a;
       plain = λ by off. omega (arith, a.lines, x.plain by off, plain (same by) (x.on.mode ∙ off));
       twice = λ off. omega (arith, a.lines, x.twice off, twice (x.on.mode ∙ off));
-      on = record { sound = on.sound; mode = on.mode ∙ x.on.mode; fewer = omega (arith, on.fewer, x.on.fewer); reasons = on.reasons ∙ x.on.reasons; vain = λ vain. on.vain (x.on.vain vain) };
+      on = record { sound = on.sound; mode = on.mode ∙ x.on.mode; fewer = omega (arith, on.fewer, x.on.fewer); reasons = on.reasons ∙ x.on.reasons };
       lined = λ by. subst AreByRuleLines (sym a.kids) (lined_more c.kids u (tree_of r.node) (x.lined by) (lined (same by)));
       keeps = λ by. keeps (same by);
       cost = λ counted n sums.

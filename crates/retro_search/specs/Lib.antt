@@ -11,7 +11,6 @@ pub mod Unsettled
 pub mod Outcomes
 pub mod LineCounts
 pub mod Unrefuted
-pub mod Vain
 pub mod Kept
 pub mod Runs
 pub mod Eager

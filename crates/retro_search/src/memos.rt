@@ -9,10 +9,12 @@ ghost use Rattle.retro_search.specs.Tidy.{HasRoomFor, IsFresh, IsKeptLow, Keeps}
 use crate::copying::copied;
 use crate::refutations::Refutation;
 use board_base::Memory;
+use byte_hash::ByteHasher;
 use cert_text::Node;
 use indexmap::IndexMap;
 use query_base::Query;
 use std::alloc::Global;
+use std::hash::BuildHasherDefault;
 
 /// The most trees that are kept.
 const MOST_TREES: usize = 65_536;
@@ -37,7 +39,7 @@ pub struct Kept {
 #[derive(Drop)]
 pub struct Memo {
     /// The trees, by their queries.
-    pub trees: IndexMap<Query, Kept>,
+    pub trees: IndexMap<Query, Kept, BuildHasherDefault<ByteHasher>>,
     /// A number that the lines of all trees together don't pass.
     pub lines: u32,
     /// Whether any are kept.
@@ -59,7 +61,7 @@ impl Memo {
         ensures fresh { IsFresh result }
     {
         Memo {
-            trees: IndexMap::new(alloc),
+            trees: IndexMap::with_hasher(alloc, BuildHasherDefault::new()),
             lines: 0,
             on: true,
         }
@@ -72,7 +74,7 @@ impl Memo {
         ensures off { result.on ≡ false }
     {
         Memo {
-            trees: IndexMap::new(alloc),
+            trees: IndexMap::with_hasher(alloc, BuildHasherDefault::new()),
             lines: 0,
             on: false,
         }

@@ -3,9 +3,7 @@ ghost use Rattle.retro_search.specs.Runs.{IsReady};
 ghost use Rattle.retro_search.specs.Tidy.{IsFresh};
 
 use crate::memos::Memo;
-use indexmap::IndexSet;
 use price_search::PriceDesk;
-use query_base::Query;
 use std::alloc::Global;
 
 /// What may refute a query of which nothing is taken back.
@@ -26,8 +24,6 @@ pub struct Run {
     pub reasons: Reasons,
     /// The refutations that are kept.
     pub memo: Memo,
-    /// Queries for which no prices were found.
-    pub vain: IndexSet<Query>,
     /// What is kept while prices are sought.
     pub desk: PriceDesk,
 }
@@ -43,7 +39,6 @@ impl Run {
             left: 0,
             reasons,
             memo: Memo::new(alloc),
-            vain: IndexSet::new(alloc),
             desk: PriceDesk::new(alloc),
         }
     }
@@ -58,7 +53,6 @@ impl Run {
             left: 0,
             reasons,
             memo: Memo::off(alloc),
-            vain: IndexSet::new(alloc),
             desk: PriceDesk::new(alloc),
         }
     }

@@ -8,7 +8,6 @@ ghost use Rattle.retro_search.specs.SearchSizes.{IsSearchSize};
 ghost use Rattle.retro_search.specs.Searched.{AreCounted, IsCostBelow, IsCounted, IsOpen, IsSizeBelow, IsUnsettled, WhereEachRefutable};
 ghost use Rattle.retro_search.specs.Unrefuted.{IfOpen, IfSpent, IfTooLarge};
 ghost use Rattle.retro_search.specs.Unsettled.{IsUnpriced};
-ghost use Rattle.retro_search.specs.Vain.{AreVain};
 ghost use Rattle.retro_search.specs.Kept.{IsRefutation, IsSound, KeepsRuleLines, StandsAlone};
 ghost use Rattle.retro_search.specs.RuleLines.{IsByRuleLines};
 ghost use Rattle.retro_search.specs.Runs.{GoesOn};
@@ -103,8 +102,8 @@ pub(crate) fn search(
     ensures too_large { run.old.reasons ≡ Reasons.RuleLines → IfErr result (λ stop. IfTooLarge stop (run.old.memo.on ≡ false → ⊥)) }
     ensures twice { IfOk result (λ found. run.old.memo.on ≡ false → found.lines + 2 * run.new.left ≤ 2 * run.old.left) }
     ensures few_visits { IfErr result (λ stop. IfTooLarge stop (run.old.memo.on ≡ false → 250000 < run.old.left)) }
-    ensures priced { run.old.reasons ≡ Reasons.All → AreVain run.old.vain.keys → FlatPricesSupport query.now → IfErr result (λ stop. (stop ≡ Unrefuted.Memory) ⊎ (run.old.left ≡ 0)) }
-    ensures unpriced { run.old.reasons ≡ Reasons.All → AreVain run.old.vain.keys → IfErr result (λ stop. IfOpen stop (λ line. IsUnpriced query.now (reverse line.back.items))) }
+    ensures priced { run.old.reasons ≡ Reasons.All → FlatPricesSupport query.now → IfErr result (λ stop. (stop ≡ Unrefuted.Memory) ⊎ (run.old.left ≡ 0)) }
+    ensures unpriced { run.old.reasons ≡ Reasons.All → IfErr result (λ stop. IfOpen stop (λ line. IsUnpriced query.now (reverse line.back.items))) }
     ensures cost { OnOk result (IsRefutable query.now depth (reverse ancestors.old.items) → (n : ℕ) → IsCost query.now depth (reverse ancestors.old.items) n → run.old.left ≤ run.new.left + n) }
     ensures spent { IfErr result (λ stop. IfSpent stop (IsCounted run.old.reasons query.now depth (reverse ancestors.old.items) → (n : ℕ) → IsCost query.now depth (reverse ancestors.old.items) n → run.old.left < n)) }
     ensures size { OnOk result ((n : ℕ) → IsSearchSize query.now depth (reverse ancestors.old.items) n → run.old.left ≤ run.new.left + n) }
@@ -178,7 +177,7 @@ fn expand(
     ensures too_large { run.old.reasons ≡ Reasons.RuleLines → IfErr result (λ stop. IfTooLarge stop (run.old.memo.on ≡ false → ⊥)) }
     ensures twice { IfOk result (λ found. run.old.memo.on ≡ false → found.lines + 2 * run.new.left ≤ 2 * run.old.left + 1) }
     ensures few_visits { IfErr result (λ stop. IfTooLarge stop (run.old.memo.on ≡ false → 250000 ≤ run.old.left)) }
-    ensures unpriced { run.old.reasons ≡ Reasons.All → AreVain run.old.vain.keys → (FlatPricesSupport query.now → ⊥) → IfErr result (λ stop. IfOpen stop (λ line. IsUnpriced query.now (reverse line.back.items))) }
+    ensures unpriced { run.old.reasons ≡ Reasons.All → (FlatPricesSupport query.now → ⊥) → IfErr result (λ stop. IfOpen stop (λ line. IsUnpriced query.now (reverse line.back.items))) }
     ensures cost { OnOk result (WhereEachRefutable query.now below (reverse ancestors.old.items) (λ n. run.old.left ≤ run.new.left + n)) }
     ensures spent { IfErr result (λ stop. IfSpent stop (AreCounted run.old.reasons query.now below (reverse ancestors.old.items) → (n : ℕ) → IsCostBelow query.now below (reverse ancestors.old.items) n → run.old.left < n)) }
     ensures size { OnOk result ((n : ℕ) → IsSizeBelow query.now below (reverse ancestors.old.items) n → run.old.left ≤ run.new.left + n) }

@@ -42,8 +42,8 @@ returns-clause-comes c =
       dear = λ by.
           subst (λ (l : List Asked). IfErr c.search.result (λ s. IfSpent s ((n : ℕ) → IsCost q depth (reverse l) n → c.args.limits.nodes < n))) none
           (if_err c.search.result _ _ (λ s. if_spent s _ _ (λ cost. cost (inl by))) c.search.ensures.spent);
-      priced = λ by e. c.search.ensures.priced by c.requires.vain e;
-      unpriced = λ by few. c.search.ensures.unpriced by c.requires.vain;
+      priced = λ by e. c.search.ensures.priced by e;
+      unpriced = λ by few. c.search.ensures.unpriced by;
     }
 
 pub returns-clause-plain : goal.returns-clause-plain
@@ -69,5 +69,4 @@ pub returns-clause-ready : goal.returns-clause-ready
 returns-clause-ready c = record {
   sound = c.search.ensures.on.sound;
   lined = λ by. c.search.ensures.keeps (sym c.search.ensures.on.reasons ∙ by);
-  vain = c.search.ensures.on.vain c.requires.vain;
 }

@@ -14,7 +14,7 @@ err_always : {A E : Type 0} (r : Result A E) (P : E → Type 0) → ((e : E) →
 err_always {A} {E} (Ok a) P h = tt
 err_always {A} {E} (Err e) P h = h e
 
--- A search by rule lines alone does for a search by any reasons, where flat prices aren't looked for in vain, and more nodes are allowed
+-- A search by rule lines alone does for a search by any reasons, where flat prices don't support the query, and more nodes are allowed
 -- than half of those that fill a certificate.
 for_any : (came : Result Refutation Unrefuted) (q : Asked) (depth nodes : ℕ) (own any : Reasons) → own ≡ RuleLines → (any ≡ All → FlatPricesSupport q → nodes ≡ 0) → (nodes ≤ 250000 → ⊥) → ComesTo came q depth nodes own → ComesTo came q depth nodes any
 for_any came q depth nodes own any by none many w = record {

@@ -239,10 +239,10 @@ pub expand-returns-clause-lined : goal.expand-returns-clause-lined
 expand-returns-clause-lined t c by = subst IsByRuleLines (sym c.finish.ensures.tree) (c.loop-unmove.invariant.expands.lined by)
 
 pub search-returns-then-at_array-clause-priced : goal.search-returns-then-at_array-clause-priced
-search-returns-then-at_array-clause-priced t c by vain e = absurd (pricing.elsewhere c.args.query.now e (c.is_array-at_array.ensures.0 c.if-at_array.true))
+search-returns-then-at_array-clause-priced t c by e = absurd (pricing.elsewhere c.args.query.now e (c.is_array-at_array.ensures.0 c.if-at_array.true))
 
 pub search-returns-then-at_array-clause-unpriced : goal.search-returns-then-at_array-clause-unpriced
-search-returns-then-at_array-clause-unpriced t c by vain =
+search-returns-then-at_array-clause-unpriced t c by =
     leaf_unpriced _ c.args.query.now c.new.ensures.items (λ e. pricing.elsewhere c.args.query.now e (c.is_array-at_array.ensures.0 c.if-at_array.true))
 
 pub search-returns-in-Some-by_balance-clause-on : goal.search-returns-in-Some-by_balance-clause-on
@@ -260,9 +260,9 @@ pub search-returns-in-Err-clause-on : goal.search-returns-in-Err-clause-on
 search-returns-in-Err-clause-on t c = over_balance c.args.run.now c.by_balance.new.run c.expand.new.run c.by_balance.ensures.same c.in-Err.ensures.on
 
 pub expand-returns-in-Err-search-clause-unpriced : goal.expand-returns-in-Err-search-clause-unpriced
-expand-returns-in-Err-search-clause-unpriced t c by vain lacks =
+expand-returns-in-Err-search-clause-unpriced t c by lacks =
     let on = c.loop-unmove.invariant.expands.on in
-    stop_unpriced c.in-Err-search.stop c.lengthened.result c.args.query.now c.pred.result c.in-Some.unmove c.pred.ensures lacks c.lengthened.ensures (c.in-Err-search.ensures.unpriced (on.reasons ∙ by) (on.vain vain))
+    stop_unpriced c.in-Err-search.stop c.lengthened.result c.args.query.now c.pred.result c.in-Some.unmove c.pred.ensures lacks c.lengthened.ensures (c.in-Err-search.ensures.unpriced (on.reasons ∙ by))
 
 pub expand-returns-in-Err-search-clause-on : goal.expand-returns-in-Err-search-clause-on
 expand-returns-in-Err-search-clause-on t c = further c.args.run.now c.loop-unmove.run c.search.new.run c.loop-unmove.invariant.expands.on c.in-Err-search.ensures.on
