@@ -51,6 +51,9 @@ def gainsaid(lines):
         if claim.startswith("notboth") and any(f"lost {letter}" in proved for letter in claim.split(" ")[1:]):
             yield f"`{claim}` is countered, and one of the two proved to be lost"
     left, possible = ([line for line in lines if line[0] == word] for word in ("left", "possible"))
+    games = [f"countered {claim}" for claim in countered] + [" ".join(words) for words in possible if words[1] != "0"]
+    if games and any(words in (["open", "illegal"], ["spent", "illegal"]) for words in lines):
+        yield f"`illegal` isn't countered beside `{games[0]}`"
     for words in possible:
         ends, whole = words[4:], left[0][4:]
         moves = [end.partition("x")[0].removesuffix("ep") for end in ends]

@@ -1,24 +1,24 @@
 -- What is found of two castlings together.
-use Rattle.std.proofs.Common.{◌≡◌, ℕ, List, [], ◌++◌, refl, subst}
-use Rattle.std.specs.Prelude.{IsTrue, Option}
-use Rattle.std.proofs.lemmas.List.Elements.{All-cons, All-nil}
+use Rattle.std.proofs.Common.{◌≡◌, ℕ, List, [], ◌∷◌, map, refl, subst}
+use Rattle.std.specs.Prelude.{IsTrue}
+use Rattle.std.specs.List.{All, filter}
+use Rattle.std.proofs.lemmas.List.Elements.{All-cons, All-filter, All-head, All-nil, All-same, All-tail}
 use Rattle.board_base.specs.Rights.{Rights, holds, with_castling}
 use Rattle.board_base.specs.declared.castles.Castle.{Castle}
 use Rattle.board_base.specs.declared.castles.Castle.TheVariants.{WhiteShort, WhiteLong, BlackShort, BlackLong}
-use Rattle.board_base.specs.declared.unmoves.Unmove.{Unmove}
+use Rattle.board_base.specs.declared.moves.Move.{Move}
 use Rattle.query_base.specs.Asked.{Asked}
 use Rattle.query_base.specs.Reach.{Holds, Reaches}
 use Rattle.query_base.specs.declared.claims.Claim.{Claim}
 use Rattle.query_base.specs.declared.claims.Claim.TheVariants.{Illegal}
 use Rattle.line_claims.specs.Due.{with_both}
+use Rattle.line_claims.specs.Lines.{in_order}
 use Rattle.line_claims.specs.declared.claims.LineClaim.TheVariants.{NotBoth}
-use Rattle.diagram_study.specs.Ends.{IsStuck}
+use Rattle.diagram_study.specs.Decisions.{IsPairAgreed}
 use Rattle.diagram_study.specs.Findings.{IsContradicted, IsFound}
 use Rattle.diagram_study.specs.Joined.{IsLineContradicted}
-use Rattle.diagram_study.specs.Pairs.{TellsPair}
-use Rattle.diagram_study.specs.Texts.{decided_steps}
-use Rattle.diagram_study.specs.declared.findings.Finding.{Finding}
-use Rattle.diagram_study.proofs.Telling.{Told}
+use Rattle.diagram_study.specs.Pairs.{IsPairFound, are_both_in, castle_pairs, pair_of}
+use Rattle.diagram_study.specs.declared.pairs.PairFound.{PairFound}
 use Rattle.diagram_study.proofs.Together.{PartsMakeLines, proved_holds}
 
 -- a castling that is added is held, and so is what was held
@@ -52,19 +52,37 @@ both_kept q x y (g, r) =
     let here : Reaches g q = record { odds = r.odds; game = r.game; board = r.board; turn = r.turn; held = λ z held. r.held z (kept (with_castling q.held x) y z (kept q.held x z held)); only = r.only; barred = r.barred; clock = r.clock } in
     (g, here, r.held x (kept (with_castling q.held x) y x (added q.held x)), r.held y (added (with_castling q.held x) y))
 
--- the line of two castlings
-pub pair_told : PartsMakeLines → (q both : Asked) (most nodes : ℕ) (x y : Castle) (finding : Finding) (stuck : Option (List Unmove)) (old new : List ℕ) → both ≡ with_both q x y → IsFound both Illegal most nodes finding → IsStuck both Illegal most nodes finding stuck → new ≡ old ++ decided_steps finding stuck (NotBoth x y) → Told (TellsPair q most nodes x y) old new
-pair_told law q both most nodes x y finding stuck old new is found ends longer =
-    let here : IsFound (with_both q x y) Illegal most nodes finding = subst (λ (a : Asked). IsFound a Illegal most nodes finding) is found in (
-      decided_steps finding stuck (NotBoth x y),
-      record {
-        finding = finding;
-        found = here;
-        holds = λ proved. law (NotBoth x y) q (All-cons (λ (part : Claim × Asked). Holds part.0 part.1) (Illegal, with_both q x y) [] (proved_holds (with_both q x y) Illegal most nodes finding here proved) (All-nil (λ (part : Claim × Asked). Holds part.0 part.1)));
-        countered = λ e. both_kept q x y (subst (IsFound (with_both q x y) Illegal most nodes) e here);
-        stuck = stuck;
-        is_stuck = subst (λ (a : Asked). IsStuck a Illegal most nodes finding stuck) is ends;
-        text_is = refl;
-      },
-      longer,
-    )
+-- what was found of two castlings by searches and by games
+pub pair_agreed : PartsMakeLines → (q : Asked) (most nodes : ℕ) (games : List (List Move)) (f : PairFound) → IsPairAgreed q most nodes games f → IsPairFound q most nodes games f
+pair_agreed law q most nodes games f is =
+    let d = is.agreed.decided in
+    record {
+      found = d.found;
+      agrees = is.agreed.agrees;
+      holds = λ proved. law (NotBoth f.first f.second) q (All-cons (λ (part : Claim × Asked). Holds part.0 part.1) (Illegal, with_both q f.first f.second) [] (proved_holds (with_both q f.first f.second) Illegal most nodes f.finding d.found proved) (All-nil (λ (part : Claim × Asked). Holds part.0 part.1)));
+      countered = λ e. both_kept q f.first f.second (subst (IsFound (with_both q f.first f.second) Illegal most nodes) e d.found);
+      stuck = d.stuck;
+    }
+
+-- each two castlings that are told of stand in order
+abbrev IsOrdered : Castle × Castle → Type 0
+IsOrdered pair = IsTrue (in_order pair.0 pair.1)
+
+all_ordered : All IsOrdered castle_pairs
+all_ordered =
+    let last : List (Castle × Castle) = (BlackShort, BlackLong) ∷ [] in
+    let two : List (Castle × Castle) = (WhiteLong, BlackLong) ∷ last in
+    let three : List (Castle × Castle) = (WhiteLong, BlackShort) ∷ two in
+    let four : List (Castle × Castle) = (WhiteShort, BlackLong) ∷ three in
+    let five : List (Castle × Castle) = (WhiteShort, BlackShort) ∷ four in
+    All-cons IsOrdered (WhiteShort, WhiteLong) five refl
+    (All-cons IsOrdered (WhiteShort, BlackShort) four refl
+    (All-cons IsOrdered (WhiteShort, BlackLong) three refl (All-cons IsOrdered (WhiteLong, BlackShort) two refl (All-cons IsOrdered (WhiteLong, BlackLong) last refl (All-cons IsOrdered (BlackShort, BlackLong) [] refl (All-nil IsOrdered))))))
+
+unmapped : (found : List PairFound) → All IsOrdered (map pair_of found) → All (λ f. IsTrue (in_order f.first f.second)) found
+unmapped [] all = All-nil (λ f. IsTrue (in_order f.first f.second))
+unmapped (f ∷ found) all =
+    All-cons (λ g. IsTrue (in_order g.first g.second)) f found (All-head IsOrdered (pair_of f) (map pair_of found) all) (unmapped found (All-tail IsOrdered (pair_of f) (map pair_of found) all))
+
+pub pairs_ordered : (kept : Rights) (found : List PairFound) → map pair_of found ≡ filter (are_both_in kept) castle_pairs → All (λ f. IsTrue (in_order f.first f.second)) found
+pairs_ordered kept found are = unmapped found (All-same IsOrdered _ _ are (All-filter (are_both_in kept) IsOrdered castle_pairs all_ordered))

@@ -2,7 +2,7 @@
 use Rattle.std.proofs.Common.{◌≡◌, ℕ, zero, suc, ◌+◌, ◌<◌, ◌≤◌, ◌⊎◌, Bool, true, false, cond, List, [], ◌∷◌, ◌++◌, length, take, refl, ap, sym, subst, ◌∙◌, inl, inr, arith}
 use Rattle.std.proofs.lemmas.Bool.{and_parts, both_ways, cases_lt, cond-false}
 use Rattle.std.proofs.lemmas.List.Elements.{All-cons, All-contains, All-head, All-nil, All-same, All-tail, All-weaker}
-use Rattle.std.specs.Prelude.{◌&&◌, ◌↔◌, Option, Some, None, IfSome, IsTrue, is_some, slice_get}
+use Rattle.std.specs.Prelude.{◌&&◌, ◌↔◌, Option, Some, None, IfSome, IsTrue, slice_get}
 use Rattle.std.proofs.lemmas.Option.{same_Some}
 use Rattle.std.specs.Bool.{beq}
 use Rattle.std.specs.List.{All, Contains}
@@ -32,6 +32,7 @@ use Rattle.unmove_gen.proofs.Marks.{captures, goes-same, none-answers}
 use Rattle.unmove_gen.proofs.Members.{at-capture, length-back}
 use Rattle.unmove_gen.proofs.Parts.{Parts, legality_of, parts}
 use Rattle.diagram_study.specs.Findings.{is_refuted}
+use Rattle.diagram_study.specs.Games.{IsEndIn}
 use Rattle.diagram_study.specs.Possible.{AreEnds, HasFewLeft, IsEnd, TellsEnds}
 use Rattle.diagram_study.specs.Retractions.{AreLeft, EndsAmong}
 use Rattle.diagram_study.specs.Texts.{possible_line}
@@ -86,77 +87,79 @@ same-unmove g u q p r =
     ap (λ (k : Option Kind). let v : Unmove = record { mv = u.mv; captured = k; ep = is_en_passant_after q.odds g u.mv } in v) captured
     ∙ ap (λ (b : Bool). let v : Unmove = record { mv = u.mv; captured = u.captured; ep = b } in v) ep
 
--- so a game to what is before a listed unmove ends with it
-pub is_last : ((g : List Move) (u : Unmove) (q : Asked) → Contains (unmoves q) u → Reaches g (predecessor q u) → Reaches (g ++ u.mv ∷ []) q) → (q before : Asked) (u : Unmove) (g : List Move) → Contains (unmoves q) u → before ≡ predecessor q u → Reaches g before → IsEnd q u
+-- so with that move a game to what is before a listed unmove ends with it
+pub onward_ends : ((g : List Move) (u : Unmove) (q : Asked) → Contains (unmoves q) u → Reaches g (predecessor q u) → Reaches (g ++ u.mv ∷ []) q) → (q before : Asked) (u : Unmove) → Contains (unmoves q) u → before ≡ predecessor q u → (g : List Move) → Reaches g before → Reaches (g ++ u.mv ∷ []) q × (unmove_after q.odds g u.mv ≡ u)
 unfolding unmoves
-is_last onward q before u g listed is reaches =
+onward_ends onward q before u listed is g reaches =
     let there : Reaches g (predecessor q u) = subst (Reaches g) is reaches in
-    (g, onward g u q listed there, same-unmove g u q (parts q u (passes-filter (is_listed q) candidates u listed)) there)
+    (onward g u q listed there, same-unmove g u q (parts q u (passes-filter (is_listed q) candidates u listed)) there)
 
-pub found_end : ((g : List Move) (u : Unmove) (q : Asked) → Contains (unmoves q) u → Reaches g (predecessor q u) → Reaches (g ++ u.mv ∷ []) q) → (q before : Asked) (u : Unmove) (game : Option (List Move)) → Contains (unmoves q) u → before ≡ predecessor q u → IfSome game (λ g. Reaches g before) → IfSome game (λ g. IsEnd q u)
-found_end onward q before u None listed is reached = tt
-found_end onward q before u (Some g) listed is reached = is_last onward q before u g listed is reached
-
--- one unmove more with which some game ends
-pub ends_more : (q : Asked) (us ends : List Unmove) (u : Unmove) → AreEnds q us ends → IsEnd q u → AreEnds q (us ++ u ∷ []) (ends ++ u ∷ [])
-ends_more q [] ends u are end = ([], refl, inr (end, ap (λ (l : List Unmove). l ++ u ∷ []) are))
-ends_more q (v ∷ us) ends u are end = (
+-- one unmove more with which one of the games ends
+pub ends_more : (games : List (List Move)) (q : Asked) (us ends : List Unmove) (u : Unmove) → AreEnds games q us ends → IsEndIn games q u → AreEnds games q (us ++ u ∷ []) (ends ++ u ∷ [])
+ends_more games q [] ends u are end = ([], refl, inr (end, ap (λ (l : List Unmove). l ++ u ∷ []) are))
+ends_more games q (v ∷ us) ends u are end = (
   are.0 ++ u ∷ [],
-  ends_more q us are.0 u are.1 end,
+  ends_more games q us are.0 u are.1 end,
   elim are.2 [
-    | inl same ↦ inl (ap (λ (l : List Unmove). l ++ u ∷ []) same)
+    | inl same ↦ inl (same.0, ap (λ (l : List Unmove). l ++ u ∷ []) same.1)
     | inr there ↦ inr (there.0, ap (λ (l : List Unmove). l ++ u ∷ []) there.1)
   ],
 )
 
--- and one of which none is known
-pub ends_past : (q : Asked) (us ends : List Unmove) (u : Unmove) → AreEnds q us ends → AreEnds q (us ++ u ∷ []) ends
-ends_past q [] ends u are = ([], refl, inl are)
-ends_past q (v ∷ us) ends u are = (are.0, ends_past q us are.0 u are.1, are.2)
+-- and one with which none does
+pub ends_past : (games : List (List Move)) (q : Asked) (us ends : List Unmove) (u : Unmove) → AreEnds games q us ends → (IsEndIn games q u → ⊥) → AreEnds games q (us ++ u ∷ []) ends
+ends_past games q [] ends u are none = ([], refl, inl (none, are))
+ends_past games q (v ∷ us) ends u are none = (are.0, ends_past games q us are.0 u are.1 none, are.2)
 
 -- what holds of all unmoves holds of the ends
-pub ends_keep : (P : Unmove → Type 0) (q : Asked) (us ends : List Unmove) → AreEnds q us ends → All P us → All P ends
-ends_keep P q [] ends are all = All-same P ends [] are (All-nil P)
-ends_keep P q (v ∷ us) ends are all =
-    let others : All P are.0 = ends_keep P q us are.0 are.1 (All-tail P v us all) in
+pub ends_keep : (P : Unmove → Type 0) (games : List (List Move)) (q : Asked) (us ends : List Unmove) → AreEnds games q us ends → All P us → All P ends
+ends_keep P games q [] ends are all = All-same P ends [] are (All-nil P)
+ends_keep P games q (v ∷ us) ends are all =
+    let others : All P are.0 = ends_keep P games q us are.0 are.1 (All-tail P v us all) in
     elim are.2 [
-      | inl same ↦ All-same P ends are.0 same others
+      | inl same ↦ All-same P ends are.0 same.1 others
       | inr there ↦ All-same P ends (v ∷ are.0) there.1 (All-cons P v are.0 (All-head P v us all) others)
     ]
 
--- some game ends with each of them
-pub all_end : (q : Asked) (us ends : List Unmove) → AreEnds q us ends → All (IsEnd q) ends
-all_end q [] ends are = All-same (IsEnd q) ends [] are (All-nil (IsEnd q))
-all_end q (v ∷ us) ends are =
-    let others : All (IsEnd q) are.0 = all_end q us are.0 are.1 in
+-- one of the games ends with each of them
+pub all_end_in : (games : List (List Move)) (q : Asked) (us ends : List Unmove) → AreEnds games q us ends → All (IsEndIn games q) ends
+all_end_in games q [] ends are = All-same (IsEndIn games q) ends [] are (All-nil (IsEndIn games q))
+all_end_in games q (v ∷ us) ends are =
+    let others : All (IsEndIn games q) are.0 = all_end_in games q us are.0 are.1 in
     elim are.2 [
-      | inl same ↦ All-same (IsEnd q) ends are.0 same others
-      | inr there ↦ All-same (IsEnd q) ends (v ∷ are.0) there.1 (All-cons (IsEnd q) v are.0 there.0 others)
+      | inl same ↦ All-same (IsEndIn games q) ends are.0 same.1 others
+      | inr there ↦ All-same (IsEndIn games q) ends (v ∷ are.0) there.1 (All-cons (IsEndIn games q) v are.0 there.0 others)
     ]
 
-pub ends_few : (q : Asked) (us ends : List Unmove) → AreEnds q us ends → length ends ≤ length us
-ends_few q [] ends are = omega (arith, ap length are)
-ends_few q (v ∷ us) ends are =
-    let others : length are.0 ≤ length us = ends_few q us are.0 are.1 in
+pub end_of : (games : List (List Move)) (q : Asked) (u : Unmove) → IsEndIn games q u → IsEnd q u
+end_of games q u end = (end.0, end.2, end.3)
+
+pub all_end : (games : List (List Move)) (q : Asked) (us ends : List Unmove) → AreEnds games q us ends → All (IsEnd q) ends
+all_end games q us ends are = All-weaker (IsEndIn games q) (IsEnd q) (end_of games q) ends (all_end_in games q us ends are)
+
+pub ends_few : (games : List (List Move)) (q : Asked) (us ends : List Unmove) → AreEnds games q us ends → length ends ≤ length us
+ends_few games q [] ends are = omega (arith, ap length are)
+ends_few games q (v ∷ us) ends are =
+    let others : length are.0 ≤ length us = ends_few games q us are.0 are.1 in
     elim are.2 [
-      | inl same ↦ omega (arith, ap length same, others)
+      | inl same ↦ omega (arith, ap length same.1, others)
       | inr there ↦ omega (arith, ap length there.1, others)
     ]
 
 -- where there are as many, some game ends with each unmove
-all_of_them : (q : Asked) (us ends : List Unmove) → AreEnds q us ends → length ends ≡ length us → All (IsEnd q) us
-all_of_them q [] ends are same = All-nil (IsEnd q)
-all_of_them q (v ∷ us) ends are same =
-    let few : length are.0 ≤ length us = ends_few q us are.0 are.1 in
+all_of_them : (games : List (List Move)) (q : Asked) (us ends : List Unmove) → AreEnds games q us ends → length ends ≡ length us → All (IsEnd q) us
+all_of_them games q [] ends are same = All-nil (IsEnd q)
+all_of_them games q (v ∷ us) ends are same =
+    let few : length are.0 ≤ length us = ends_few games q us are.0 are.1 in
     elim are.2 [
-      | inl less ↦ absurd (omega (arith, ap length less, few, same))
-      | inr there ↦ All-cons (IsEnd q) v us there.0 (all_of_them q us are.0 are.1 (omega (arith, ap length there.1, same)))
+      | inl less ↦ absurd (omega (arith, ap length less.1, few, same))
+      | inr there ↦ All-cons (IsEnd q) v us (end_of games q v there.0) (all_of_them games q us are.0 are.1 (omega (arith, ap length there.1, same)))
     ]
 
 -- and no game ends otherwise
-pub whole_truth : (q : Asked) (left ends : List Unmove) → AreEnds q left ends → EndsAmong q left → length ends ≡ length left → (u : Unmove) → Contains left u ↔ IsEnd q u
-whole_truth q left ends are among same u =
-    (λ there. All-contains (IsEnd q) left u (all_of_them q left ends are same) there, λ end. subst (Contains left) end.2 (among end.0 u.mv end.1))
+pub whole_truth : (games : List (List Move)) (q : Asked) (left ends : List Unmove) → AreEnds games q left ends → EndsAmong q left → length ends ≡ length left → (u : Unmove) → Contains left u ↔ IsEnd q u
+whole_truth games q left ends are among same u =
+    (λ there. All-contains (IsEnd q) left u (all_of_them games q left ends are same) there, λ end. subst (Contains left) end.2 (among end.0 u.mv end.1))
 
 kept : (b : Bool) (v : Unmove) (us others : List Unmove) → All (Contains us) others → All (Contains (v ∷ us)) (cond b others (v ∷ others))
 kept true v us others all = All-weaker (Contains us) (Contains (v ∷ us)) (λ u there. contains-later v us u there) others all
@@ -188,22 +191,18 @@ holds_at P [] i u all there = absurd cc
 holds_at P (v ∷ us) zero u all there = subst P (same_Some _ _ there) (All-head P v us all)
 holds_at P (v ∷ us) (suc i) u all there = holds_at P us i u (All-tail P v us all) there
 
-some_then : (game : Option (List Move)) (P : Type 0) → IfSome game (λ g. P) → is_some game ≡ true → P
-some_then None P h some = absurd (both_ways false refl some)
-some_then (Some g) P h some = h
-
--- the unmove at a place is an end, since a game was found
-pub ends_found : (q : Asked) (left ends longer : List Unmove) (i : ℕ) (u : Unmove) (game : Option (List Move)) → i < length left → slice_get left i ≡ Some u → AreEnds q (take i left) ends → IfSome game (λ g. IsEnd q u) → is_some game ≡ true → longer ≡ ends ++ u ∷ [] → AreEnds q (take (i + 1) left) longer
-ends_found q left ends longer i u game inside there are end some grown =
-    subst (λ (us : List Unmove). AreEnds q us longer) (sym (up_to left i u inside (at_place left i u there)))
-    (subst (AreEnds q (take i left ++ u ∷ [])) (sym grown) (ends_more q (take i left) ends u are (some_then game (IsEnd q u) end some)))
+-- the unmove at a place is an end
+pub ends_found : (games : List (List Move)) (q : Asked) (left ends longer : List Unmove) (i : ℕ) (u : Unmove) → i < length left → slice_get left i ≡ Some u → AreEnds games q (take i left) ends → IsEndIn games q u → longer ≡ ends ++ u ∷ [] → AreEnds games q (take (i + 1) left) longer
+ends_found games q left ends longer i u inside there are end grown =
+    subst (λ (us : List Unmove). AreEnds games q us longer) (sym (up_to left i u inside (at_place left i u there)))
+    (subst (AreEnds games q (take i left ++ u ∷ [])) (sym grown) (ends_more games q (take i left) ends u are end))
 
 -- or it is passed over
-pub ends_passed : (q : Asked) (left ends : List Unmove) (i : ℕ) (u : Unmove) → i < length left → slice_get left i ≡ Some u → AreEnds q (take i left) ends → AreEnds q (take (i + 1) left) ends
-ends_passed q left ends i u inside there are =
-    subst (λ (us : List Unmove). AreEnds q us ends) (sym (up_to left i u inside (at_place left i u there))) (ends_past q (take i left) ends u are)
+pub ends_passed : (games : List (List Move)) (q : Asked) (left ends : List Unmove) (i : ℕ) (u : Unmove) → i < length left → slice_get left i ≡ Some u → AreEnds games q (take i left) ends → (IsEndIn games q u → ⊥) → AreEnds games q (take (i + 1) left) ends
+ends_passed games q left ends i u inside there are none =
+    subst (λ (us : List Unmove). AreEnds games q us ends) (sym (up_to left i u inside (at_place left i u there))) (ends_past games q (take i left) ends u are none)
 
 -- their line
-pub ends_told : (q : Asked) (left ends : List Unmove) (n : ℕ) (old new : List ℕ) → AreEnds q left ends → EndsAmong q left → n ≡ length left → new ≡ old ++ possible_line ends n → (own : List ℕ) × TellsEnds q left own × (new ≡ old ++ own)
-ends_told q left ends n old new are among counted longer =
-    (possible_line ends n, record { ends = ends; are = are; whole = whole_truth q left ends are among; text_is = ap (possible_line ends) counted }, longer)
+pub ends_told : (games : List (List Move)) (q : Asked) (left ends : List Unmove) (n : ℕ) (old new : List ℕ) → AreEnds games q left ends → EndsAmong q left → n ≡ length left → new ≡ old ++ possible_line ends n → (own : List ℕ) × TellsEnds q games left own × (new ≡ old ++ own)
+ends_told games q left ends n old new are among counted longer =
+    (possible_line ends n, record { ends = ends; are = are; whole = whole_truth games q left ends are among; text_is = ap (possible_line ends) counted }, longer)

@@ -4,6 +4,8 @@ pub mod Searching
 pub mod Together
 pub mod Leaving
 pub mod LastMoves
+pub mod Playing
+pub mod Agreeing
 pub mod Looking
 pub mod JoinedTrees
 pub mod Forcing
@@ -11,6 +13,7 @@ pub mod OpenFronts
 pub mod Staying
 pub mod Telling
 pub mod Castlings
+pub mod Gathered
 pub mod Truths
 pub mod OneMove
 pub mod Seeking

@@ -10,6 +10,7 @@ use Rattle.query_base.specs.declared.claims.Claim.TheVariants.{Illegal}
 use Rattle.line_claims.specs.Holding.{HoldsLine}
 use Rattle.line_claims.specs.declared.claims.LineClaim.{LineClaim}
 use Rattle.diagram_study.specs.Findings.{IsContradicted}
+use Rattle.diagram_study.specs.Games.{AgreesWith, IsEndIn}
 use Rattle.diagram_study.specs.Joined.{IsLineContradicted}
 use Rattle.diagram_study.specs.Possible.{IsEnd}
 use Rattle.diagram_study.specs.Studies.{other_side}
@@ -56,10 +57,25 @@ IsTrueOf q (possible us all) = All (IsEnd q) us
 IsTrueOf q (at_least n) = (g : List Move) → Reaches g q → n ≤ length g
 IsTrueOf q (other finding) = IsSo finding (Holds Illegal (other_side q)) (IsContradicted Illegal (other_side q))
 
--- The text is the lines of facts, each of which is true of the query; and behind them nothing, or what was found without demands.
+-- These games are what the facts go by: a claim is countered exactly where one of them contradicts it, and one of them ends with each of
+-- the unmoves that are called possible. So no fact gainsays another: where an unmove is called possible, that the query is illegal is
+-- countered.
+abbrev pub GoesBy : List (List Move) → Asked → Fact → Type 0
+GoesBy games q (found finding claim) = AgreesWith games claim q finding
+GoesBy games q (steps finding claim) = Unit {0}
+GoesBy games q (stuck words front) = Unit {0}
+GoesBy games q (left us all) = Unit {0}
+GoesBy games q (possible us all) = All (IsEndIn games q) us
+GoesBy games q (at_least n) = Unit {0}
+GoesBy games q (other finding) = Unit {0}
+
+-- The text is the lines of facts, each of which is true of the query, and all go by the same games; and behind them nothing, or what was
+-- found without demands.
 pub record SaysTrue (q : Asked) (text : List ℕ) : Type 0 where
   pub facts : List Fact
   pub true_ : All (IsTrueOf q) facts
+  pub games : List (List Move)
+  pub agreed : All (GoesBy games q) facts
   pub behind : List ℕ
   pub text_is : text ≡ flat_map line_of facts ++ behind
   pub plain : (behind ≡ []) ⊎ ((more : List ℕ) × (behind ≡ plain_line ++ more))

@@ -1,5 +1,6 @@
 pub mod Budgets
 pub mod Findings
+pub mod Games
 pub mod Ends
 pub mod Joined
 pub mod Rights
@@ -11,4 +12,5 @@ pub mod Possible
 pub mod Studies
 pub mod Facts
 pub mod Decisions
+pub mod Gathering
 pub mod Looks

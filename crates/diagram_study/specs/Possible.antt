@@ -6,16 +6,18 @@ use Rattle.board_base.specs.declared.unmoves.Unmove.{Unmove}
 use Rattle.query_base.specs.Asked.{Asked}
 use Rattle.query_base.specs.Reach.{Reaches}
 use Rattle.unmove_gen.specs.Predecessor.{unmove_after}
+use Rattle.diagram_study.specs.Games.{IsEndIn}
 use Rattle.diagram_study.specs.Texts.{possible_line}
 
 -- some game that reaches the query ends with the move of this unmove, and that move captured what the unmove says
 abbrev pub IsEnd : Asked → Unmove → Type 0
 IsEnd q u = (g : List Move) × Reaches (g ++ u.mv ∷ []) q × (unmove_after q.odds g u.mv ≡ u)
 
--- the ends are some of these unmoves, in order, and some game ends with each of them
-abbrev pub AreEnds : Asked → List Unmove → List Unmove → Type 0
-AreEnds q [] ends = ends ≡ []
-AreEnds q (u ∷ us) ends = (others : List Unmove) × AreEnds q us others × ((ends ≡ others) ⊎ (IsEnd q u × (ends ≡ u ∷ others)))
+-- the ends are those of these unmoves with which one of the games ends, in order
+abbrev pub AreEnds : List (List Move) → Asked → List Unmove → List Unmove → Type 0
+AreEnds games q [] ends = ends ≡ []
+AreEnds games q (u ∷ us) ends =
+    (others : List Unmove) × AreEnds games q us others × (((IsEndIn games q u → ⊥) × (ends ≡ others)) ⊎ (IsEndIn games q u × (ends ≡ u ∷ others)))
 
 -- One to eight unmoves are left, and the game of no moves doesn't reach the query.
 pub record HasFewLeft (q : Asked) (left : List Unmove) : Type 0 where
@@ -23,15 +25,15 @@ pub record HasFewLeft (q : Asked) (left : List Unmove) : Type 0 where
   pub few : length left ≤ 8
   pub elsewhere : Reaches [] q → ⊥
 
--- The line of those of the unmoves left that a game was found to end with. If they are all of them, they are exactly the ends of the games
--- that reach the query.
-pub record TellsEnds (q : Asked) (left : List Unmove) (text : List ℕ) : Type 0 where
+-- The line of those of the unmoves left with which one of these games ends. If they are all of them, they are exactly the ends of the
+-- games that reach the query.
+pub record TellsEnds (q : Asked) (games : List (List Move)) (left : List Unmove) (text : List ℕ) : Type 0 where
   pub ends : List Unmove
-  pub are : AreEnds q left ends
+  pub are : AreEnds games q left ends
   pub whole : length ends ≡ length left → (u : Unmove) → Contains left u ↔ IsEnd q u
   pub text_is : text ≡ possible_line ends (length left)
 
 -- the text of the ends: where few are left the line of those that were found, else nothing
-pub record TellsPossible (q : Asked) (left : List Unmove) (text : List ℕ) : Type 0 where
-  pub told : HasFewLeft q left → TellsEnds q left text
+pub record TellsPossible (q : Asked) (games : List (List Move)) (left : List Unmove) (text : List ℕ) : Type 0 where
+  pub told : HasFewLeft q left → TellsEnds q games left text
   pub untold : (HasFewLeft q left → ⊥) → text ≡ []

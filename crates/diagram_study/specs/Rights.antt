@@ -2,12 +2,14 @@
 use Rattle.std.specs.Prelude.{ℕ, ◌≡◌, Bool, false, cond, not, List, map, fold}
 use Rattle.std.specs.List.{All, filter}
 use Rattle.board_base.specs.Rights.{Rights, holds, with_castling, no_rights}
+use Rattle.board_base.specs.declared.moves.Move.{Move}
 use Rattle.query_base.specs.Asked.{Asked}
 use Rattle.codex_verdict.specs.Rights.{AreRights, claim_of}
 use Rattle.codex_verdict.specs.declared.kinds.Right.{Right}
 use Rattle.codex_verdict.specs.declared.kinds.Right.TheVariants.{Castling, EnPassant}
 use Rattle.diagram_study.specs.Ends.{IsStuck}
 use Rattle.diagram_study.specs.Findings.{IsFound, is_proved}
+use Rattle.diagram_study.specs.Games.{AgreesWith}
 use Rattle.diagram_study.specs.declared.findings.Finding.{Finding}
 use Rattle.diagram_study.specs.declared.rights.RightFound.{RightFound}
 
@@ -22,15 +24,16 @@ pub record AreDue (q : Asked) (due : List Right) : Type 0 where
   pub rights : AreRights q.board q.turn all
   pub due_are : due ≡ filter (λ r. not (is_demanded q r)) all
 
--- this was found of the claim that decides the right, and this is told of an open line
-pub record IsRightFound (q : Asked) (most nodes : ℕ) (f : RightFound) : Type 0 where
+-- this was found of the claim that decides the right, also by these games, and this is told of an open line
+pub record IsRightFound (q : Asked) (most nodes : ℕ) (games : List (List Move)) (f : RightFound) : Type 0 where
   pub found : IsFound q (claim_of f.right) most nodes f.finding
+  pub agrees : AgreesWith games (claim_of f.right) q f.finding
   pub stuck : IsStuck q (claim_of f.right) most nodes f.finding f.stuck
 
 -- what was found of each right that isn't demanded, in order
-pub record AreFound (q : Asked) (most nodes : ℕ) (found : List RightFound) : Type 0 where
+pub record AreFound (q : Asked) (most nodes : ℕ) (games : List (List Move)) (found : List RightFound) : Type 0 where
   pub due : AreDue q (map (λ f. f.right) found)
-  pub each : All (IsRightFound q most nodes) found
+  pub each : All (IsRightFound q most nodes games) found
 
 -- the set with the castling of a right that was found open, if it is one
 abbrev pub with_right : Right → Finding → Rights → Rights

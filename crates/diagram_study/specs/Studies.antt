@@ -15,13 +15,15 @@ use Rattle.unmove_gen.specs.Listed.{unmoves}
 use Rattle.diagram_study.specs.Ends.{IsStuck}
 use Rattle.diagram_study.specs.Findings.{IsFound, is_proved}
 use Rattle.diagram_study.specs.Rights.{AreFound, open_castlings}
-use Rattle.diagram_study.specs.Pairs.{TellsOpenPair, TellsPairs, castle_pairs}
+use Rattle.diagram_study.specs.Games.{AgreesWith}
+use Rattle.diagram_study.specs.Pairs.{ArePairsFound}
 use Rattle.diagram_study.specs.Retractions.{HasLeft, TellsLast, one_move}
 use Rattle.diagram_study.specs.Forced.{TellsForced}
 use Rattle.diagram_study.specs.Possible.{TellsPossible}
-use Rattle.diagram_study.specs.Texts.{capture_lines, castling_lines, decided_lines, left_line, length_line, other_line, plain_line}
+use Rattle.diagram_study.specs.Texts.{capture_lines, castling_lines, decided_lines, left_line, length_line, other_line, pair_lines, plain_line}
 use Rattle.diagram_study.specs.declared.findings.Finding.{Finding}
 use Rattle.diagram_study.specs.declared.findings.Finding.TheVariants.{Proved, Countered, Open, Spent}
+use Rattle.diagram_study.specs.declared.pairs.PairFound.{PairFound}
 use Rattle.diagram_study.specs.declared.rights.RightFound.{RightFound}
 
 -- the greatest length that potentials of a side's men show, and each game that reaches the query is as long
@@ -37,12 +39,13 @@ TellsLength q (Some said) text = IsLength q said × (text ≡ length_line said.a
 
 -- What is told of a position that isn't proved to be illegal: what was found of the castlings that it seems to give and that aren't
 -- demanded, of each two of them that aren't proved to be lost, of captures en passant, of the last move and of those before it, which
--- retractions are left, with which of them games end, and how long games are. Where a move may be taken back and no retraction is left, it is the array.
-pub record TellsMore (q : Asked) (most nodes : ℕ) (text : List ℕ) : Type 0 where
+-- retractions are left, with which of them games end, and how long games are. These games decide which claims are countered and which ends
+-- are possible. Where a move may be taken back and no retraction is left, it is the array.
+pub record TellsMore (q : Asked) (most nodes : ℕ) (by : List (List Move)) (text : List ℕ) : Type 0 where
   pub found : List RightFound
-  pub rights : AreFound q most nodes found
-  pub pairs : List ℕ
-  pub pairs_told : TellsPairs (TellsOpenPair q most nodes (open_castlings found)) castle_pairs pairs
+  pub rights : AreFound q most nodes by found
+  pub pairs : List PairFound
+  pub pairs_found : ArePairsFound q most nodes by (open_castlings found) pairs
   pub left : List Unmove
   pub are_left : HasLeft q most nodes left
   pub array : 1 ≤ most → left ≡ [] → Reaches [] q
@@ -51,11 +54,11 @@ pub record TellsMore (q : Asked) (most nodes : ℕ) (text : List ℕ) : Type 0 w
   pub line : List ℕ
   pub line_told : TellsForced q most nodes line
   pub possible : List ℕ
-  pub possible_told : TellsPossible q left possible
+  pub possible_told : TellsPossible q by left possible
   pub said : Option LengthText
   pub games : List ℕ
   pub games_told : TellsLength q said games
-  pub text_is : text ≡ castling_lines found ++ pairs ++ capture_lines found ++ last ++ line ++ left_line left (length (unmoves q)) ++ possible ++ games
+  pub text_is : text ≡ castling_lines found ++ pair_lines pairs ++ capture_lines found ++ last ++ line ++ left_line left (length (unmoves q)) ++ possible ++ games
 
 -- The same board with the other side to move, at the same odds, with the same rights and the same clock demanded. The double step that
 -- an en passant square demands belongs to the side to move: it isn't demanded.
@@ -70,19 +73,23 @@ pub record TellsOther (q : Asked) (most nodes : ℕ) (text : List ℕ) : Type 0 
 
 -- What follows the line of the claim that the position is illegal: where it is proved, nothing more of the position, since every claim
 -- about it holds then, but whether it is illegal with the other side to move.
-abbrev pub TellsBehind : Asked → ℕ → ℕ → Finding → List ℕ → Type 0
-TellsBehind q most nodes (Proved depth) text = TellsOther q most nodes text
-TellsBehind q most nodes Countered text = TellsMore q most nodes text
-TellsBehind q most nodes Open text = TellsMore q most nodes text
-TellsBehind q most nodes Spent text = TellsMore q most nodes text
+abbrev pub TellsBehind : Asked → ℕ → ℕ → List (List Move) → Finding → List ℕ → Type 0
+TellsBehind q most nodes by (Proved depth) text = TellsOther q most nodes text
+TellsBehind q most nodes by Countered text = TellsMore q most nodes by text
+TellsBehind q most nodes by Open text = TellsMore q most nodes by text
+TellsBehind q most nodes by Spent text = TellsMore q most nodes by text
 
--- what is told of a position: what was found of the claim that it is illegal, and what follows
+-- What is told of a position: what was found of the claim that it is illegal, and what follows. One list of games decides all of it: each
+-- claim is countered exactly where one of them contradicts it, and the last moves that are possible are exactly those that end one. So
+-- where one is possible, or a right is countered, that the position is illegal is countered too.
 pub record TellsPosition (q : Asked) (most nodes : ℕ) (finding : Finding) (text : List ℕ) : Type 0 where
+  pub by : List (List Move)
   pub found : IsFound q Illegal most nodes finding
+  pub agrees : AgreesWith by Illegal q finding
   pub stuck : Option (List Unmove)
   pub is_stuck : IsStuck q Illegal most nodes finding stuck
   pub behind : List ℕ
-  pub behind_told : TellsBehind q most nodes finding behind
+  pub behind_told : TellsBehind q most nodes by finding behind
   pub text_is : text ≡ decided_lines finding stuck Illegal ++ behind
 
 -- the query demands a right, a last move or a clock

@@ -16,6 +16,7 @@ use Rattle.line_claims.specs.declared.claims.LineClaim.{LineClaim}
 use Rattle.line_claims.specs.declared.claims.LineClaim.TheVariants.{NotBoth, Line}
 use Rattle.diagram_study.specs.declared.findings.Finding.{Finding}
 use Rattle.diagram_study.specs.declared.findings.Finding.TheVariants.{Proved, Countered, Open, Spent}
+use Rattle.diagram_study.specs.declared.pairs.PairFound.{PairFound}
 use Rattle.diagram_study.specs.declared.rights.RightFound.{RightFound}
 
 -- what was found, before the claim
@@ -68,6 +69,10 @@ steps_line finding claim = ended (finding_words finding ++ steps_words claim)
 -- the lines that tell what was found of a claim of several steps
 abbrev pub decided_steps : Finding → Option (List Unmove) → LineClaim → List ℕ
 decided_steps finding stuck claim = steps_line finding claim ++ stuck_line (steps_words claim) stuck
+
+-- the lines that tell what was found of two castlings each, in order
+unfoldable pub pair_lines : List PairFound → List ℕ
+pair_lines found = flat_map (λ f. decided_steps f.finding f.stuck (NotBoth f.first f.second)) found
 
 -- the unmoves themselves where they are at most 24
 abbrev pub few_words : List Unmove → List ℕ

@@ -1,12 +1,13 @@
-ghost use Rattle.std.specs.Prelude.{◌≡◌, [], IfOk, IsTrue, None};
+ghost use Rattle.std.specs.Prelude.{ℕ, ◌≡◌, ◌≢◌, [], IfOk, IsTrue, None, false};
 ghost use Rattle.query_base.specs.Targets.{target};
 ghost use Rattle.retro_search.specs.Refutable.{IsRefutable};
-ghost use Rattle.diagram_study.specs.Decisions.{IsDecided};
+ghost use Rattle.diagram_study.specs.Decisions.{Grows, IsAgreed, IsDecided};
 ghost use Rattle.diagram_study.specs.Findings.{IsFound, is_proved};
 
 use crate::ends::End;
 use crate::findings::Finding;
 use crate::fronts::front_of;
+use crate::games::Games;
 use crate::searchers::Searchers;
 use crate::searches::seek;
 use board_base::{Memory, UnmoveList};
@@ -36,13 +37,16 @@ fn plainly(finding: Finding) -> Decided
 /// What is found of a claim that the searches leave open, and against which no game was found.
 fn stay_open(
     searchers: &mut Searchers,
+    games: &mut Games,
     query: &Query,
     claim: &Claim,
     limits: Limits,
 ) -> Result<Decided, Memory>
     requires plain { query.now.barred ≡ None }
     requires open { IsFound query.now claim.now limits.depth limits.nodes Finding.Open }
-    ensures { IfOk result (IsDecided query.now claim.now limits.depth limits.nodes) }
+    ensures decided { IfOk result (IsDecided query.now claim.now limits.depth limits.nodes games.new.found.items) }
+    ensures unproved { IfOk result (λ d. is_proved d.finding ≡ false) }
+    ensures grows { IfOk result (λ d. Grows games.old.found.items games.new.found.items) }
 {
     unmoves_have_texts();
     let alloc = searchers.alloc;
@@ -54,14 +58,18 @@ fn stay_open(
                 stuck: Some(front),
             })
         }
-        End::Game => Ok(plainly(Finding::Countered)),
+        End::Game(game) => {
+            games.add(game)?;
+            Ok(plainly(Finding::Countered))
+        }
         End::Nowhere => Ok(plainly(Finding::Open)),
     }
 }
 
-/// What is found of a claim that the searches didn't prove, but for this: a game against it is looked for.
+/// What is found of a claim that the searches didn't prove: a game against it is looked for.
 fn look(
     searchers: &mut Searchers,
+    games: &mut Games,
     query: &Query,
     claim: &Claim,
     sought: Finding,
@@ -69,22 +77,26 @@ fn look(
 ) -> Result<Decided, Memory>
     requires plain { query.now.barred ≡ None }
     requires sought { IsFound query.now claim.now limits.depth limits.nodes sought }
-    ensures found { IfOk result (IsDecided query.now claim.now limits.depth limits.nodes) }
+    requires unproved { is_proved sought ≡ false }
+    requires unlooked { sought ≢ Finding.Countered }
+    ensures decided { IfOk result (IsDecided query.now claim.now limits.depth limits.nodes games.new.found.items) }
+    ensures unproved { IfOk result (λ d. is_proved d.finding ≡ false) }
+    ensures grows { IfOk result (λ d. Grows games.old.found.items games.new.found.items) }
 {
     let alloc = searchers.alloc;
-    let asked = target(query, claim);
-    if searchers.games.reach(alloc, &asked, limits.nodes)? {
+    if games.reach(alloc, &target(query, claim), limits.nodes)? {
         return Ok(plainly(Finding::Countered));
     }
     match sought {
-        Finding::Open => stay_open(searchers, query, claim, limits),
+        Finding::Open => stay_open(searchers, games, query, claim, limits),
         Finding::Proved(_) | Finding::Countered | Finding::Spent => Ok(plainly(sought)),
     }
 }
 
-/// What is found of a claim where the searches for a proof came to this: where they didn't prove it, a game against it is looked for.
+/// What is found of a claim where the searches for a proof came to this and didn't prove it: a game against it is looked for.
 pub(crate) fn counter(
     searchers: &mut Searchers,
+    games: &mut Games,
     query: &Query,
     claim: &Claim,
     sought: Finding,
@@ -92,13 +104,13 @@ pub(crate) fn counter(
 ) -> Result<Decided, AllocError>
     requires plain { query.now.barred ≡ None }
     requires sought { IsFound query.now claim.now limits.depth limits.nodes sought }
-    ensures found { IfOk result (IsDecided query.now claim.now limits.depth limits.nodes) }
-    ensures proved { IfOk result (λ d. IsTrue (is_proved sought) → d.finding ≡ sought) }
+    requires unproved { is_proved sought ≡ false }
+    requires unlooked { sought ≢ Finding.Countered }
+    ensures decided { IfOk result (IsDecided query.now claim.now limits.depth limits.nodes games.new.found.items) }
+    ensures unproved { IfOk result (λ d. is_proved d.finding ≡ false) }
+    ensures grows { IfOk result (λ d. Grows games.old.found.items games.new.found.items) }
 {
-    if sought.is_proved() {
-        return Ok(plainly(sought));
-    }
-    match look(searchers, query, claim, sought, limits) {
+    match look(searchers, games, query, claim, sought, limits) {
         Ok(decided) => Ok(decided),
         Err(_) => Err(AllocError),
     }
@@ -107,13 +119,32 @@ pub(crate) fn counter(
 /// What is found of the claim, by searches for a proof and for a game against it.
 pub(crate) fn decide(
     searchers: &mut Searchers,
+    games: &mut Games,
     query: &Query,
     claim: &Claim,
     limits: Limits,
 ) -> Result<Decided, AllocError>
     requires plain { query.now.barred ≡ None }
-    ensures { IfOk result (IsDecided query.now claim.now limits.depth limits.nodes) }
+    ensures decided { IfOk result (IsDecided query.now claim.now limits.depth limits.nodes games.new.found.items) }
+    ensures grows { IfOk result (λ d. Grows games.old.found.items games.new.found.items) }
 {
     let sought = seek(searchers, query, claim, limits)?;
-    counter(searchers, query, claim, sought, limits)
+    if sought.is_proved() {
+        Ok(plainly(sought))
+    } else {
+        counter(searchers, games, query, claim, sought, limits)
+    }
+}
+
+/// What is found of the claim by these games too: it is countered where one of them contradicts it.
+pub(crate) fn agreed(games: &Games, query: &Query, claim: &Claim, decided: Decided) -> Decided
+    requires plain { query.now.barred ≡ None }
+    ensures agrees { (most nodes : ℕ) → IsDecided query.now claim.now most nodes games.now.found.items decided → IsAgreed query.now claim.now most nodes games.now.found.items result }
+    ensures proved { is_proved result.finding ≡ is_proved decided.finding }
+{
+    if !decided.finding.is_proved() && games.have_one(&target(query, claim)) {
+        plainly(Finding::Countered)
+    } else {
+        decided
+    }
 }

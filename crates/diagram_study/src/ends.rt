@@ -1,4 +1,4 @@
-use board_base::UnmoveList;
+use board_base::{MoveList, UnmoveList};
 
 /// Where a search ends that doesn't prove a claim.
 #[derive(Drop)]
@@ -6,7 +6,7 @@ pub enum End {
     /// At a line of retractions that stays open.
     Line(UnmoveList),
     /// At a game that contradicts the claim.
-    Game,
+    Game(MoveList),
     /// Nowhere: the nodes were spent.
     Nowhere,
 }

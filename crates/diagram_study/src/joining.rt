@@ -1,4 +1,4 @@
-ghost use Rattle.std.specs.Prelude.{◌≡◌, ◌-◌, ◌≤◌, [], IfSome, IsTrue, None, false};
+ghost use Rattle.std.specs.Prelude.{◌≡◌, ◌≢◌, ◌-◌, ◌≤◌, [], IfSome, IsTrue, None, false};
 ghost use Rattle.std.specs.List.{All, Contains};
 ghost use Rattle.board_base.specs.Legal.{is_move};
 ghost use Rattle.query_base.specs.Reach.{Reaches};
@@ -62,6 +62,7 @@ pub(crate) fn joined_up(
     requires looked { AreLooked query.now (limits.depth - 1) limits.nodes [] seen.now.left seen.now.looked.items }
     requires sought { IsFound query.now (claim_but but) limits.depth limits.nodes sought }
     ensures found { IsFound query.now (claim_but but) limits.depth limits.nodes result }
+    ensures unlooked { sought ≢ Finding.Countered → result ≢ Finding.Countered }
     ensures sure { 1 ≤ limits.depth → (Reaches [] query.now → ⊥) → All (λ u. IsTrue (is_move but u.mv)) seen.now.left → IsTrue (is_proved result) }
 {
     if sought.is_proved() {

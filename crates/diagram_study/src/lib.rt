@@ -10,6 +10,7 @@ mod findings;
 mod forced;
 mod fronts;
 mod games;
+mod gathering;
 mod joining;
 mod line_searches;
 mod pairs;

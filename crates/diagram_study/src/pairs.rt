@@ -1,17 +1,42 @@
-ghost use Rattle.std.specs.Prelude.{List, ℕ, ◌≡◌, ◌++◌, IsTrue, None, OnOk};
+ghost use Rattle.std.specs.Prelude.{ℕ, ◌≡◌, ◌≤◌, ◌++◌, IfOk, IsTrue, None, OnOk, length, map};
+ghost use Rattle.std.specs.List.{All, filter};
 ghost use Rattle.line_claims.specs.Due.{with_both};
 ghost use Rattle.line_claims.specs.Lines.{in_order};
-ghost use Rattle.diagram_study.specs.Pairs.{TellsOpenPair, TellsPair, TellsPairs, castle_pairs};
+ghost use Rattle.diagram_study.specs.Decisions.{Grows, HasStuckPairText, IsPairAgreed, IsPairSought};
+ghost use Rattle.diagram_study.specs.Pairs.{are_both_in, castle_pairs, pair_of};
+ghost use Rattle.diagram_study.specs.Texts.{decided_steps, pair_lines};
 
-use crate::deciding::decide;
+use crate::deciding::{Decided, agreed, decide};
+use crate::findings::Finding;
+use crate::games::Games;
 use crate::searchers::Searchers;
 use crate::texts::push_decided_steps;
 use board_base::Castle::{BlackLong, BlackShort, WhiteLong, WhiteShort};
-use board_base::{Castle, CastleSet};
-use line_claims::{LineClaim, parts_make_lines_hold};
+use board_base::{Castle, CastleSet, UnmoveList};
+use line_claims::LineClaim;
 use query_base::{Claim, Query};
 use retro_search::Limits;
-use std::alloc::AllocError;
+use std::alloc::{AllocError, Global};
+
+/// Two castlings, and what is found of the claim that they aren't both kept; where that stays open, the retractions that are told of an
+/// open line.
+#[derive(Drop)]
+pub struct PairFound {
+    pub first: Castle,
+    pub second: Castle,
+    pub finding: Finding,
+    pub stuck: Option<UnmoveList>,
+}
+
+/// Each two castlings.
+const PAIRS: [(Castle, Castle); 6] = [
+    (WhiteShort, WhiteLong),
+    (WhiteShort, BlackShort),
+    (WhiteShort, BlackLong),
+    (WhiteLong, BlackShort),
+    (WhiteLong, BlackLong),
+    (BlackShort, BlackLong),
+];
 
 /// The query with both castlings added to those that it demands.
 fn with_both(query: &Query, first: Castle, second: Castle) -> Query
@@ -22,102 +47,133 @@ fn with_both(query: &Query, first: Castle, second: Castle) -> Query
     both
 }
 
-/// Adds the line of what is found of the claim that the two castlings aren't both kept: of the claim that no game keeps both.
-fn tell_pair(
+/// Those of the pairs that are in the set.
+fn pairs_in(
+    alloc: Global,
+    kept: CastleSet,
+    pairs: &[(Castle, Castle)],
+) -> Result<Vec<(Castle, Castle)>, AllocError>
+    ensures { IfOk result (λ due. due.items ≡ filter (are_both_in kept) pairs.now) }
+{
+    let mut due = Vec::new(alloc);
+    for pair in pairs {
+        if kept.has(pair.0) && kept.has(pair.1) {
+            due.push(*pair)?;
+        }
+    }
+    Ok(due)
+}
+
+/// What is found of the claim that the two castlings aren't both kept: of the claim that no game keeps both.
+fn seek_pair(
     searchers: &mut Searchers,
+    games: &mut Games,
     query: &Query,
     first: Castle,
     second: Castle,
     limits: Limits,
-    text: &mut Vec<u8>,
-) -> Result<(), AllocError>
-    requires order { IsTrue (in_order first second) }
+) -> Result<PairFound, AllocError>
     requires plain { query.now.barred ≡ None }
-    ensures { OnOk result ((own : List ℕ) × TellsPair query.now limits.depth limits.nodes first second own × (text.new.items ≡ text.old.items ++ own)) }
+    ensures first { IfOk result (λ f. f.first ≡ first) }
+    ensures second { IfOk result (λ f. f.second ≡ second) }
+    ensures sought { IfOk result (IsPairSought query.now limits.depth limits.nodes games.new.found.items) }
+    ensures grows { IfOk result (λ f. Grows games.old.found.items games.new.found.items) }
 {
-    parts_make_lines_hold();
     let both = with_both(query, first, second);
-    let decided = decide(searchers, &both, &Claim::Illegal, limits)?;
-    push_decided_steps(
-        text,
-        decided.finding,
-        &decided.stuck,
-        &LineClaim::NotBoth(first, second),
-    )
+    let decided = decide(searchers, games, &both, &Claim::Illegal, limits)?;
+    Ok(PairFound {
+        first,
+        second,
+        finding: decided.finding,
+        stuck: decided.stuck,
+    })
 }
 
-/// Adds what is found of two castlings, where neither is proved to be lost.
-fn tell_open_pair(
+/// What is found of each two of these castlings.
+pub(crate) fn seek_pairs(
     searchers: &mut Searchers,
+    games: &mut Games,
     query: &Query,
     kept: CastleSet,
-    pair: (Castle, Castle),
     limits: Limits,
-    text: &mut Vec<u8>,
-) -> Result<(), AllocError>
-    requires order { IsTrue (in_order pair.0 pair.1) }
+) -> Result<Vec<PairFound>, AllocError>
     requires plain { query.now.barred ≡ None }
-    ensures { OnOk result ((own : List ℕ) × TellsOpenPair query.now limits.depth limits.nodes kept pair own × (text.new.items ≡ text.old.items ++ own)) }
+    ensures pairs { IfOk result (λ found. map pair_of found.items ≡ filter (are_both_in kept) castle_pairs) }
+    ensures sought { IfOk result (λ found. All (IsPairSought query.now limits.depth limits.nodes games.new.found.items) found.items) }
+    ensures grows { IfOk result (λ found. Grows games.old.found.items games.new.found.items) }
 {
-    let (first, second) = pair;
-    if kept.has(first) && kept.has(second) {
-        tell_pair(searchers, query, first, second, limits, text)
-    } else {
-        Ok(())
+    let mut found = Vec::new(searchers.alloc);
+    let due = pairs_in(searchers.alloc, kept, &PAIRS)?;
+    let each = due.as_slice();
+    for pair in each {
+        found.push(seek_pair(searchers, games, query, pair.0, pair.1, limits)?)?;
+    }
+    Ok(found)
+}
+
+/// What is found of the two castlings by these games too.
+fn agreed_pair(games: &Games, query: &Query, found: PairFound) -> PairFound
+    requires plain { query.now.barred ≡ None }
+    ensures first { result.first ≡ found.first }
+    ensures second { result.second ≡ found.second }
+    ensures found { (most nodes : ℕ) → IsPairSought query.now most nodes games.now.found.items found → IsPairAgreed query.now most nodes games.now.found.items result }
+{
+    let PairFound {
+        first,
+        second,
+        finding,
+        stuck,
+    } = found;
+    let both = with_both(query, first, second);
+    let decided = agreed(games, &both, &Claim::Illegal, Decided { finding, stuck });
+    PairFound {
+        first,
+        second,
+        finding: decided.finding,
+        stuck: decided.stuck,
     }
 }
 
-/// Adds what is found of each two of the castlings that aren't proved to be lost.
-pub(crate) fn tell_pairs(
-    searchers: &mut Searchers,
+/// What is found of each two castlings by these games too.
+pub(crate) fn agreed_pairs(
+    alloc: Global,
+    games: &Games,
     query: &Query,
-    kept: CastleSet,
-    limits: Limits,
-    text: &mut Vec<u8>,
-) -> Result<(), AllocError>
+    found: Vec<PairFound>,
+) -> Result<Vec<PairFound>, AllocError>
     requires plain { query.now.barred ≡ None }
-    ensures { OnOk result ((all : List ℕ) × TellsPairs (TellsOpenPair query.now limits.depth limits.nodes kept) castle_pairs all × (text.new.items ≡ text.old.items ++ all)) }
+    ensures pairs { IfOk result (λ told. map pair_of told.items ≡ map pair_of found.items) }
+    ensures found { IfOk result (λ told. (most nodes : ℕ) → All (IsPairSought query.now most nodes games.now.found.items) found.items → All (IsPairAgreed query.now most nodes games.now.found.items) told.items) }
 {
-    tell_open_pair(
-        searchers,
-        query,
-        kept,
-        (WhiteShort, WhiteLong),
-        limits,
+    let mut told = Vec::new(alloc);
+    for each in found {
+        told.push(agreed_pair(games, query, each))?;
+    }
+    Ok(told)
+}
+
+/// Adds the line of two castlings.
+fn push_pair(text: &mut Vec<u8>, f: &PairFound) -> Result<(), AllocError>
+    requires order { IsTrue (in_order f.now.first f.now.second) }
+    requires texts { HasStuckPairText f.now }
+    ensures { OnOk result (text.new.items ≡ text.old.items ++ decided_steps f.now.finding f.now.stuck (LineClaim.NotBoth f.now.first f.now.second)) }
+{
+    push_decided_steps(
         text,
-    )?;
-    tell_open_pair(
-        searchers,
-        query,
-        kept,
-        (WhiteShort, BlackShort),
-        limits,
-        text,
-    )?;
-    tell_open_pair(
-        searchers,
-        query,
-        kept,
-        (WhiteShort, BlackLong),
-        limits,
-        text,
-    )?;
-    tell_open_pair(
-        searchers,
-        query,
-        kept,
-        (WhiteLong, BlackShort),
-        limits,
-        text,
-    )?;
-    tell_open_pair(searchers, query, kept, (WhiteLong, BlackLong), limits, text)?;
-    tell_open_pair(
-        searchers,
-        query,
-        kept,
-        (BlackShort, BlackLong),
-        limits,
-        text,
-    )?;
+        f.finding,
+        &f.stuck,
+        &LineClaim::NotBoth(f.first, f.second),
+    )
+}
+
+/// Adds the line of each two castlings.
+pub(crate) fn tell_pairs(text: &mut Vec<u8>, found: &[PairFound]) -> Result<(), AllocError>
+    requires order { All (λ f. IsTrue (in_order f.first f.second)) found.now }
+    requires texts { All HasStuckPairText found.now }
+    ensures { OnOk result (text.new.items ≡ text.old.items ++ pair_lines found.now) }
+{
+    for f in found {
+        push_pair(text, f)?;
+    }
     Ok(())
 }

@@ -1,13 +1,15 @@
-ghost use Rattle.std.specs.Prelude.{◌≡◌, ◌++◌, IfOk, IsTrue, None, OnOk};
+ghost use Rattle.std.specs.Prelude.{ℕ, ◌≡◌, ◌++◌, IfOk, IsTrue, None, OnOk, map};
 ghost use Rattle.std.specs.List.{All};
 ghost use Rattle.cert_text.specs.ClaimLines.{promotes_well};
 ghost use Rattle.codex_verdict.specs.Rights.{claim_of};
-ghost use Rattle.diagram_study.specs.Decisions.{HasStuckText};
-ghost use Rattle.diagram_study.specs.Rights.{AreDue, AreFound, is_demanded, open_castlings, with_right};
+ghost use Rattle.diagram_study.specs.Decisions.{Grows, HasStuckText, IsRightAgreed, IsRightSought};
+ghost use Rattle.diagram_study.specs.Findings.{is_proved};
+ghost use Rattle.diagram_study.specs.Rights.{AreDue, is_demanded, open_castlings, with_right};
 ghost use Rattle.diagram_study.specs.Texts.{capture_line, capture_lines, castling_line, castling_lines};
 
-use crate::deciding::decide;
+use crate::deciding::{Decided, agreed, decide};
 use crate::findings::Finding;
+use crate::games::Games;
 use crate::searchers::Searchers;
 use crate::texts::push_decided;
 use arrayvec::ArrayVec;
@@ -15,7 +17,7 @@ use board_base::{CastleSet, UnmoveList};
 use codex_verdict::{Right, claim_of, rights};
 use query_base::{Claim, Query};
 use retro_search::Limits;
-use std::alloc::AllocError;
+use std::alloc::{AllocError, Global};
 
 /// A right, and what is found of the claim that decides it; where that stays open, the retractions that are told of an open line.
 #[derive(Drop)]
@@ -53,18 +55,20 @@ fn due_rights(query: &Query) -> ArrayVec<Right, 18>
 /// What is found of each of these rights.
 pub(crate) fn seek_rights(
     searchers: &mut Searchers,
+    games: &mut Games,
     query: &Query,
     limits: Limits,
 ) -> Result<Vec<RightFound>, AllocError>
     requires plain { query.now.barred ≡ None }
-    ensures found { IfOk result (λ found. AreFound query.now limits.depth limits.nodes found.items) }
-    ensures texts { IfOk result (λ found. All HasStuckText found.items) }
+    ensures due { IfOk result (λ found. AreDue query.now (map (λ f. f.right) found.items)) }
+    ensures sought { IfOk result (λ found. All (IsRightSought query.now limits.depth limits.nodes games.new.found.items) found.items) }
+    ensures grows { IfOk result (λ found. Grows games.old.found.items games.new.found.items) }
 {
     let mut found = Vec::new(searchers.alloc);
     let due = due_rights(query);
     let each = due.as_slice();
     for right in each {
-        let decided = decide(searchers, query, &claim_of(right), limits)?;
+        let decided = decide(searchers, games, query, &claim_of(right), limits)?;
         found.push(RightFound {
             right: *right,
             finding: decided.finding,
@@ -72,6 +76,45 @@ pub(crate) fn seek_rights(
         })?;
     }
     Ok(found)
+}
+
+/// What is found of the right by these games too.
+fn agreed_right(games: &Games, query: &Query, found: RightFound) -> RightFound
+    requires plain { query.now.barred ≡ None }
+    ensures right { result.right ≡ found.right }
+    ensures proved { is_proved result.finding ≡ is_proved found.finding }
+    ensures found { (most nodes : ℕ) → IsRightSought query.now most nodes games.now.found.items found → IsRightAgreed query.now most nodes games.now.found.items result }
+{
+    let RightFound {
+        right,
+        finding,
+        stuck,
+    } = found;
+    let decided = agreed(games, query, &claim_of(&right), Decided { finding, stuck });
+    RightFound {
+        right,
+        finding: decided.finding,
+        stuck: decided.stuck,
+    }
+}
+
+/// What is found of each right by these games too.
+pub(crate) fn agreed_rights(
+    alloc: Global,
+    games: &Games,
+    query: &Query,
+    found: Vec<RightFound>,
+) -> Result<Vec<RightFound>, AllocError>
+    requires plain { query.now.barred ≡ None }
+    ensures rights { IfOk result (λ told. map (λ f. f.right) told.items ≡ map (λ f. f.right) found.items) }
+    ensures proved { IfOk result (λ told. map (λ f. is_proved f.finding) told.items ≡ map (λ f. is_proved f.finding) found.items) }
+    ensures found { IfOk result (λ told. (most nodes : ℕ) → All (IsRightSought query.now most nodes games.now.found.items) found.items → All (IsRightAgreed query.now most nodes games.now.found.items) told.items) }
+{
+    let mut told = Vec::new(alloc);
+    for each in found {
+        told.push(agreed_right(games, query, each))?;
+    }
+    Ok(told)
 }
 
 /// The castlings that aren't proved to be lost.

@@ -9,7 +9,6 @@ ghost use Rattle.diagram_study.specs.Decisions.{IsSearchEnd};
 ghost use Rattle.diagram_study.specs.Findings.{is_refuted};
 
 use crate::ends::End;
-use crate::games::Games;
 use board_base::Memory;
 use query_base::{Claim, Query};
 use retro_search::{Found, Limits, Outcome, Reasons, Searcher};
@@ -18,14 +17,13 @@ use std::alloc::Global;
 /// Of so many nodes one is visited where the balance of captures is looked for.
 const PRICED_SHARE: u32 = 10;
 
-/// The two searches of a study, and the games that it found. What one question makes them keep serves the others.
+/// The two searches of a study. What one question makes them keep serves the others.
 #[derive(Drop)]
 pub(crate) struct Searchers {
     pub(crate) alloc: Global,
     by_rule_lines: Searcher,
     /// By the balance of captures too, which is dear to look for.
     by_all: Searcher,
-    pub(crate) games: Games,
     ghost lines: { by_rule_lines ≡ RuleLines },
     ghost reasons: { by_all ≡ All },
 }
@@ -37,7 +35,6 @@ impl Searchers {
             alloc,
             by_rule_lines: Searcher::new(alloc, Reasons::RuleLines),
             by_all: Searcher::new(alloc, Reasons::All),
-            games: Games::new(alloc),
         }
     }
 
@@ -74,7 +71,7 @@ impl Searchers {
     {
         match self.by_rule_lines.settle(query, claim, limits)? {
             Found::Undecided(line) => Ok(End::Line(line)),
-            Found::Countered(_) => Ok(End::Game),
+            Found::Countered(game) => Ok(End::Game(game)),
             Found::Proved(_) => Ok(End::Nowhere),
             Found::Spent { .. } => Ok(End::Nowhere),
         }
@@ -92,7 +89,7 @@ impl Searchers {
     {
         match self.by_all.settle(query, claim, priced(limits))? {
             Found::Undecided(line) => Ok(End::Line(line)),
-            Found::Countered(_) => Ok(End::Game),
+            Found::Countered(game) => Ok(End::Game(game)),
             Found::Proved(_) => self.end_by_rule_lines(query, claim, limits),
             Found::Spent { .. } => self.end_by_rule_lines(query, claim, limits),
         }

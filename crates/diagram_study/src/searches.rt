@@ -1,4 +1,4 @@
-ghost use Rattle.std.specs.Prelude.{◌≡◌, IfOk, None};
+ghost use Rattle.std.specs.Prelude.{◌≡◌, ◌≢◌, IfOk, None};
 ghost use Rattle.diagram_study.specs.Findings.{IsFound, IsOutcome, IsProof, IsProvedAt};
 
 use crate::findings::Finding;
@@ -61,7 +61,8 @@ pub(crate) fn seek(
     limits: Limits,
 ) -> Result<Finding, AllocError>
     requires plain { query.now.barred ≡ None }
-    ensures { IfOk result (IsFound query.now claim.now limits.depth limits.nodes) }
+    ensures found { IfOk result (IsFound query.now claim.now limits.depth limits.nodes) }
+    ensures unlooked { IfOk result (λ finding. finding ≢ Finding.Countered) }
 {
     deeper_searches_refute_more();
     let outcome = search_at(searchers, query, claim, limits)?;

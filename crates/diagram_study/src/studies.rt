@@ -1,20 +1,23 @@
-ghost use Rattle.std.specs.Prelude.{List, ℕ, ◌≡◌, ◌≤◌, ◌++◌, [], IfOk, IsTrue, None, OnOk, Option};
+ghost use Rattle.std.specs.Prelude.{List, ℕ, ◌≡◌, ◌≢◌, ◌≤◌, ◌++◌, [], IfOk, IsTrue, None, OnOk, Option, false};
 ghost use Rattle.query_base.specs.Reach.{Reaches};
 ghost use Rattle.diagram_study.specs.Budgets.{IsBudget};
 ghost use Rattle.diagram_study.specs.Facts.{SaysTrue};
 ghost use Rattle.diagram_study.specs.Findings.{IsFound, is_proved};
+ghost use Rattle.diagram_study.specs.Gathering.{AreGathered};
 ghost use Rattle.diagram_study.specs.Looks.{IsSeen};
-ghost use Rattle.diagram_study.specs.Studies.{IsStudy, TellsAgain, TellsBehind, TellsLength, TellsMore, TellsOther, TellsPlain, TellsPosition, makes_demands, other_side, without_demands};
+ghost use Rattle.diagram_study.specs.Studies.{IsStudy, TellsAgain, TellsLength, TellsMore, TellsOther, TellsPlain, TellsPosition, makes_demands, other_side, without_demands};
 ghost use Rattle.length_bound.specs.declared.texts.LengthText.{LengthText};
 
-use crate::deciding::{counter, decide};
+use crate::deciding::decide;
 use crate::findings::Finding;
 use crate::forced::tell_forced;
+use crate::games::Games;
+use crate::gathering::{Gathered, agreed_all, gather};
 use crate::joining::joined_up;
 use crate::pairs::tell_pairs;
 use crate::possible::tell_possible;
 use crate::retractions::{Counted, retractions, tell_last};
-use crate::rights::{open_castlings, seek_rights, tell_captures, tell_castlings};
+use crate::rights::{tell_captures, tell_castlings};
 use crate::searchers::Searchers;
 use crate::searches::seek;
 use crate::texts::{push_decided, push_found, push_left, push_length};
@@ -35,28 +38,30 @@ fn tell_length(query: &Query, text: &mut Vec<u8>) -> Result<(), AllocError>
     }
 }
 
-/// Adds what is found of a position that isn't proved to be illegal.
+/// Adds what is found of a position that isn't proved to be illegal, but for that.
 fn tell_more(
     searchers: &mut Searchers,
+    games: &Games,
     query: &Query,
+    gathered: &Gathered,
     seen: &Counted,
     limits: Limits,
     text: &mut Vec<u8>,
 ) -> Result<(), AllocError>
     requires plain { query.now.barred ≡ None }
+    requires gathered { AreGathered query.now limits.depth limits.nodes games.now.found.items gathered.now }
     requires seen { IsSeen query.now limits.depth limits.nodes seen.now }
     requires array { 1 ≤ limits.depth → seen.now.left ≡ [] → Reaches [] query.now }
-    ensures { OnOk result ((own : List ℕ) × TellsMore query.now limits.depth limits.nodes own × (text.new.items ≡ text.old.items ++ own)) }
+    ensures { OnOk result ((own : List ℕ) × TellsMore query.now limits.depth limits.nodes games.now.found.items own × (text.new.items ≡ text.old.items ++ own)) }
 {
-    let found = seek_rights(searchers, query, limits)?;
-    let kept = open_castlings(found.as_slice());
-    tell_castlings(text, found.as_slice())?;
-    tell_pairs(searchers, query, kept, limits, text)?;
-    tell_captures(text, found.as_slice())?;
+    let rights = gathered.rights.as_slice();
+    tell_castlings(text, rights)?;
+    tell_pairs(text, gathered.pairs.as_slice())?;
+    tell_captures(text, rights)?;
     tell_last(searchers, query, seen, limits, text)?;
     tell_forced(searchers, query, &seen.left, limits, text)?;
     push_left(text, &seen.left, seen.all)?;
-    tell_possible(searchers.alloc, query, &seen.left, text)?;
+    tell_possible(searchers.alloc, games, query, &seen.left, text)?;
     tell_length(query, text)
 }
 
@@ -74,6 +79,7 @@ fn other_side(query: &Query) -> Query
 /// Adds whether the position is illegal with the other side to move.
 fn tell_other(
     searchers: &mut Searchers,
+    games: &mut Games,
     query: &Query,
     limits: Limits,
     text: &mut Vec<u8>,
@@ -81,57 +87,15 @@ fn tell_other(
     ensures { OnOk result ((own : List ℕ) × TellsOther query.now limits.depth limits.nodes own × (text.new.items ≡ text.old.items ++ own)) }
 {
     let other = other_side(query);
-    let decided = decide(searchers, &other, &Claim::Illegal, limits)?;
+    let decided = decide(searchers, games, &other, &Claim::Illegal, limits)?;
     text.extend_from_slice(b"other side ")?;
     push_found(text, decided.finding, &Claim::Illegal)
-}
-
-/// Adds what follows the line that says whether the position is illegal.
-fn tell_behind(
-    searchers: &mut Searchers,
-    query: &Query,
-    finding: Finding,
-    seen: &Counted,
-    limits: Limits,
-    text: &mut Vec<u8>,
-) -> Result<(), AllocError>
-    requires plain { query.now.barred ≡ None }
-    requires seen { IsSeen query.now limits.depth limits.nodes seen.now }
-    requires sure { 1 ≤ limits.depth → (Reaches [] query.now → ⊥) → seen.now.left ≡ [] → IsTrue (is_proved finding) }
-    ensures { OnOk result ((own : List ℕ) × TellsBehind query.now limits.depth limits.nodes finding own × (text.new.items ≡ text.old.items ++ own)) }
-{
-    match finding {
-        Finding::Proved(_) => tell_other(searchers, query, limits, text),
-        Finding::Countered => tell_more(searchers, query, seen, limits, text),
-        Finding::Open => tell_more(searchers, query, seen, limits, text),
-        Finding::Spent => tell_more(searchers, query, seen, limits, text),
-    }
-}
-
-/// Adds what is found of the position by its retractions, where the search alone doesn't prove that it is illegal.
-fn tell_seen(
-    searchers: &mut Searchers,
-    query: &Query,
-    sought: Finding,
-    limits: Limits,
-    text: &mut Vec<u8>,
-) -> Result<Finding, AllocError>
-    requires plain { query.now.barred ≡ None }
-    requires sought { IsFound query.now Claim.Illegal limits.depth limits.nodes sought }
-    ensures { IfOk result (λ finding. (own : List ℕ) × TellsPosition query.now limits.depth limits.nodes finding own × (text.new.items ≡ text.old.items ++ own)) }
-{
-    let seen = retractions(searchers, query, limits)?;
-    let joined = joined_up(query, None, sought, &seen, limits);
-    let decided = counter(searchers, query, &Claim::Illegal, joined, limits)?;
-    let finding = decided.finding;
-    push_decided(text, finding, &decided.stuck, &Claim::Illegal)?;
-    tell_behind(searchers, query, finding, &seen, limits, text)?;
-    Ok(finding)
 }
 
 /// Adds that the position is illegal, and what is found with the other side to move.
 fn tell_illegal(
     searchers: &mut Searchers,
+    games: &mut Games,
     query: &Query,
     finding: Finding,
     limits: Limits,
@@ -143,12 +107,41 @@ fn tell_illegal(
     ensures { OnOk result ((own : List ℕ) × TellsPosition query.now limits.depth limits.nodes finding own × (text.new.items ≡ text.old.items ++ own)) }
 {
     push_found(text, finding, &Claim::Illegal)?;
-    tell_other(searchers, query, limits, text)
+    tell_other(searchers, games, query, limits, text)
 }
 
-/// Adds what is found of the position: whether it is illegal, and what follows.
+/// Adds what is found of a position that isn't proved to be illegal. Games are looked for before anything is told, so that each claim is
+/// told by all of them.
+fn tell_unproved(
+    searchers: &mut Searchers,
+    games: &mut Games,
+    query: &Query,
+    sought: Finding,
+    seen: &Counted,
+    limits: Limits,
+    text: &mut Vec<u8>,
+) -> Result<Finding, AllocError>
+    requires plain { query.now.barred ≡ None }
+    requires sought { IsFound query.now Claim.Illegal limits.depth limits.nodes sought }
+    requires unproved { is_proved sought ≡ false }
+    requires unlooked { sought ≢ Finding.Countered }
+    requires seen { IsSeen query.now limits.depth limits.nodes seen.now }
+    requires array { 1 ≤ limits.depth → seen.now.left ≡ [] → Reaches [] query.now }
+    ensures { IfOk result (λ finding. (own : List ℕ) × TellsPosition query.now limits.depth limits.nodes finding own × (text.new.items ≡ text.old.items ++ own)) }
+{
+    let sought = gather(searchers, games, query, sought, &seen.left, limits)?;
+    let gathered = agreed_all(searchers.alloc, games, query, limits, sought)?;
+    let finding = gathered.illegal.finding;
+    push_decided(text, finding, &gathered.illegal.stuck, &Claim::Illegal)?;
+    tell_more(searchers, games, query, &gathered, seen, limits, text)?;
+    Ok(finding)
+}
+
+/// Adds what is found of the position: whether it is illegal, and what follows. Where the search alone doesn't prove that, the proofs of
+/// what is before its retractions may.
 fn tell_position(
     searchers: &mut Searchers,
+    games: &mut Games,
     query: &Query,
     limits: Limits,
     text: &mut Vec<u8>,
@@ -157,11 +150,17 @@ fn tell_position(
     ensures { IfOk result (λ finding. (own : List ℕ) × TellsPosition query.now limits.depth limits.nodes finding own × (text.new.items ≡ text.old.items ++ own)) }
 {
     let sought = seek(searchers, query, &Claim::Illegal, limits)?;
-    if !sought.is_proved() {
-        return tell_seen(searchers, query, sought, limits, text);
+    if sought.is_proved() {
+        tell_illegal(searchers, games, query, sought, limits, text)?;
+        return Ok(sought);
     }
-    tell_illegal(searchers, query, sought, limits, text)?;
-    Ok(sought)
+    let seen = retractions(searchers, query, limits)?;
+    let joined = joined_up(query, None, sought, &seen, limits);
+    if joined.is_proved() {
+        tell_illegal(searchers, games, query, joined, limits, text)?;
+        return Ok(joined);
+    }
+    tell_unproved(searchers, games, query, joined, &seen, limits, text)
 }
 
 /// The query demands a right, a last move or a clock.
@@ -195,6 +194,7 @@ fn without_demands(query: &Query) -> Query
 /// Adds what is found of the position without its demands.
 fn tell_plain(
     searchers: &mut Searchers,
+    games: &mut Games,
     query: &Query,
     limits: Limits,
     text: &mut Vec<u8>,
@@ -202,7 +202,7 @@ fn tell_plain(
     ensures { OnOk result ((own : List ℕ) × TellsPlain query.now limits.depth limits.nodes own × (text.new.items ≡ text.old.items ++ own)) }
 {
     text.extend_from_slice(b"without demands\n")?;
-    match tell_position(searchers, &without_demands(query), limits, text) {
+    match tell_position(searchers, games, &without_demands(query), limits, text) {
         Ok(_) => Ok(()),
         Err(why) => Err(why),
     }
@@ -211,6 +211,7 @@ fn tell_plain(
 /// Adds what is found of the position without its demands, where these make it illegal.
 fn tell_again(
     searchers: &mut Searchers,
+    games: &mut Games,
     query: &Query,
     finding: Finding,
     limits: Limits,
@@ -219,7 +220,7 @@ fn tell_again(
     ensures { OnOk result ((own : List ℕ) × TellsAgain query.now limits.depth limits.nodes finding own × (text.new.items ≡ text.old.items ++ own)) }
 {
     if finding.is_proved() && makes_demands(query) {
-        tell_plain(searchers, query, limits, text)
+        tell_plain(searchers, games, query, limits, text)
     } else {
         Ok(())
     }
@@ -249,8 +250,16 @@ pub fn study(alloc: Global, query: &Query, most: u8, nodes: u32) -> Result<Vec<u
 {
     let limits = Limits { depth: most, nodes };
     let mut searchers = Searchers::new(alloc);
+    let mut games = Games::new(alloc);
     let mut text = Vec::new(alloc);
-    let finding = tell_position(&mut searchers, query, limits, &mut text)?;
-    tell_again(&mut searchers, query, finding, limits, &mut text)?;
+    let finding = tell_position(&mut searchers, &mut games, query, limits, &mut text)?;
+    tell_again(
+        &mut searchers,
+        &mut games,
+        query,
+        finding,
+        limits,
+        &mut text,
+    )?;
     Ok(text)
 }

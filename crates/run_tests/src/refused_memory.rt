@@ -30,7 +30,7 @@ fn checks_in_no_memory(rt: HostRuntime) {
     }
 }
 
-const ROWS: [Row; 12] = [
+const ROWS: [Row; 13] = [
     BLOCKED_PAWN,
     CAPTURES,
     DOUBLE_STEP,
@@ -53,6 +53,13 @@ const ROWS: [Row; 12] = [
         status: Status::Done,
         text: b"retro 1\nclaim lost q\nfen r3k3/p1p5/Q3K3/8/8/8/8/8 w - -\nroot expand 0\n",
     },
+    // No move is taken back for a proof, so the game comes of the search for games.
+    Row {
+        words: &["settle", "0", "100"],
+        input: b"claim illegal\nrnbqkbnr/pppppppp/8/8/8/5N2/PPPPPPPP/RNBQKB1R b KQkq -\n",
+        status: Status::Countered,
+        text: b"countered g1f3\n",
+    },
     // Nobody has a king, whoever is to move.
     Row {
         words: &["study"],
@@ -65,7 +72,7 @@ const ROWS: [Row; 12] = [
         words: &["study", "2", "1000"],
         input: b"6nk/2p4p/3B1P1P/5KpP/8/8/8/8 w - -\n",
         status: Status::Done,
-        text: b"open illegal\nstuck illegal g7g5\nproved 2 ep h5g6\nproved 2 last g7g5\nleft 1 of 6 g7g5\npossible 1 of 1 g7g5\natleast 24\n",
+        text: b"countered illegal\nproved 2 ep h5g6\nproved 2 last g7g5\nleft 1 of 6 g7g5\npossible 1 of 1 g7g5\natleast 24\n",
     },
     Row {
         words: &["verdict", "1", "100"],

@@ -5,6 +5,6 @@ pub front_of-requires : goal.front_of-requires
 front_of-requires c =
     stays_listed c.target.result c.args.query.now c.args.claim.now c.args.limits.depth c.in-Line.line c.target.ensures.query (rw c.in-Line.is at c.in_ok-line.ensures)
 
-pub returns-in_ok-front-in-Line : goal.returns-in_ok-front-in-Line
-returns-in_ok-front-in-Line c =
-    stays_told c.unmoves_have_texts.ensures.promotion c.unmoves_have_texts.ensures.capture c.target.result c.args.query.now c.args.claim.now c.args.limits.depth c.args.limits.nodes c.in-Line.line c.in_ok-front-in-Line.front c.target.ensures.query c.requires.open (rw c.in-Line.is at c.in_ok-line.ensures) c.in_ok-front-in-Line.ensures
+pub returns-in_ok-front-in-Line-clause-decided : goal.returns-in_ok-front-in-Line-clause-decided
+returns-in_ok-front-in-Line-clause-decided c =
+    stays_told _ c.unmoves_have_texts.ensures.promotion c.unmoves_have_texts.ensures.capture c.target.result c.args.query.now c.args.claim.now c.args.limits.depth c.args.limits.nodes c.in-Line.line c.in_ok-front-in-Line.front c.target.ensures.query c.requires.open (rw c.in-Line.is at c.in_ok-line.ensures) c.in_ok-front-in-Line.ensures

@@ -7,7 +7,7 @@ seek-requires c = record { plain = part_plain _ _ _ c.in-Some.ensures c.loop-cla
 pub loop-claimed-preserved : goal.loop-claimed-preserved
 loop-claimed-preserved c = record {
   plain = rest_plain _ _ _ c.in-Some.ensures c.loop-claimed.invariant.plain;
-  complete = complete_more c.args.limits.depth c.args.limits.nodes _ _ _ _ _ _ _ c.loop-claimed.invariant.complete c.in-Some.ensures c.in_ok-part.ensures c.joined-finding.ensures;
+  complete = complete_more c.args.limits.depth c.args.limits.nodes _ _ _ _ _ _ _ c.loop-claimed.invariant.complete c.in-Some.ensures c.in_ok-part.ensures.found c.joined-finding.ensures;
 }
 
 pub returns : goal.returns

@@ -1,15 +1,16 @@
-use Rattle.std.proofs.Common.{[], ◌∷◌}
-use Rattle.board_base.specs.declared.castles.Castle.TheVariants.{WhiteShort, WhiteLong, BlackShort, BlackLong}
-use Rattle.diagram_study.specs.Pairs.{TellsOpenPair}
-use Rattle.diagram_study.proofs.Telling.{pairs_end, pairs_first}
+use Rattle.std.proofs.Common.{List, ◌++◌, ap, ◌∙◌, arith}
+use Rattle.std.specs.List.{flat_map}
+use Rattle.std.proofs.lemmas.List.{take_all}
+use Rattle.line_claims.specs.declared.claims.LineClaim.TheVariants.{NotBoth}
+use Rattle.diagram_study.specs.Texts.{decided_steps, pair_lines}
+use Rattle.diagram_study.specs.declared.pairs.PairFound.{PairFound}
+use Rattle.diagram_study.proofs.Steps.{piece_more}
 use Rattle.diagram_study.proofs.pairs.tell_pairs.Goals as goal
 
+pub loop-f-preserved : goal.loop-f-preserved
+loop-f-preserved c =
+    piece_more (λ (f : PairFound). decided_steps f.finding f.stuck (NotBoth f.first f.second)) c.args.text.now.items c.args.found.now c.loop-f.f-index c.f-item.result _ _ c.loop-f-test.true c.f-item.is c.loop-f.invariant c.in_ok-push_pair.ensures
+
 pub returns : goal.returns
-returns c =
-    let Tells = TellsOpenPair c.args.query.now c.args.limits.depth c.args.limits.nodes c.args.kept in
-    pairs_first Tells (WhiteShort, WhiteLong) ((WhiteShort, BlackShort) ∷ (WhiteShort, BlackLong) ∷ (WhiteLong, BlackShort) ∷ (WhiteLong, BlackLong) ∷ (BlackShort, BlackLong) ∷ []) _ _ _ c.in_ok-tell_open_pair.ensures
-    (pairs_first Tells (WhiteShort, BlackShort) ((WhiteShort, BlackLong) ∷ (WhiteLong, BlackShort) ∷ (WhiteLong, BlackLong) ∷ (BlackShort, BlackLong) ∷ []) _ _ _ c.in_ok-tell_open_pair-2.ensures
-    (pairs_first Tells (WhiteShort, BlackLong) ((WhiteLong, BlackShort) ∷ (WhiteLong, BlackLong) ∷ (BlackShort, BlackLong) ∷ []) _ _ _ c.in_ok-tell_open_pair-3.ensures
-    (pairs_first Tells (WhiteLong, BlackShort) ((WhiteLong, BlackLong) ∷ (BlackShort, BlackLong) ∷ []) _ _ _ c.in_ok-tell_open_pair-4.ensures
-    (pairs_first Tells (WhiteLong, BlackLong) ((BlackShort, BlackLong) ∷ []) _ _ _ c.in_ok-tell_open_pair-5.ensures
-    (pairs_first Tells (BlackShort, BlackLong) [] _ _ _ c.in_ok-tell_open_pair-6.ensures (pairs_end Tells _))))))
+unfolding pair_lines
+returns c = c.loop-f.invariant ∙ ap (λ (l : List PairFound). c.args.text.now.items ++ flat_map (λ (f : PairFound). decided_steps f.finding f.stuck (NotBoth f.first f.second)) l) (take_all c.loop-f.f-index c.args.found.now (omega arith))

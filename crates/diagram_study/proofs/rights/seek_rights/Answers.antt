@@ -1,5 +1,6 @@
 use Rattle.std.proofs.Common.{arith}
-use Rattle.diagram_study.proofs.Seeking.{each_more, rights_more, texts_more}
+use Rattle.diagram_study.proofs.Agreeing.{grown_on}
+use Rattle.diagram_study.proofs.Seeking.{rights_more, sought_more}
 use Rattle.diagram_study.specs.declared.rights.RightFound.{RightFound}
 use Rattle.diagram_study.proofs.rights.seek_rights.Goals as goal
 
@@ -9,6 +10,6 @@ loop-right-preserved c =
     let f : RightFound = record { right = c.right-item.result; finding = d.finding; stuck = d.stuck } in
     record {
       rights = rights_more c.as_slice-each.result.now c.loop-right.right-index f _ _ (omega arith) c.right-item.is c.loop-right.invariant.rights c.in_ok-push.ensures.items;
-      each = each_more c.args.query.now c.args.limits.depth c.args.limits.nodes f c.claim_of.result _ _ c.claim_of.ensures c.in_ok-decided.ensures.found c.in_ok-decided.ensures.stuck c.loop-right.invariant.each c.in_ok-push.ensures.items;
-      texts = texts_more f _ _ c.in_ok-decided.ensures.texts c.loop-right.invariant.texts c.in_ok-push.ensures.items;
+      sought = sought_more c.args.query.now c.args.limits.depth c.args.limits.nodes _ _ f c.claim_of.result _ _ c.claim_of.ensures c.in_ok-decided.ensures.decided c.in_ok-decided.ensures.grows c.loop-right.invariant.sought c.in_ok-push.ensures.items;
+      grows = grown_on c.loop-right.invariant.grows c.in_ok-decided.ensures.grows;
     }
