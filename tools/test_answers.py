@@ -48,6 +48,7 @@ class Answers(unittest.TestCase):
             "proved 0 illegal\nother side countered illegal",
             "countered illegal\nproved 2 lost K\ncountered lost Q\nleft 2 of 9 a2a1 b2b1xq\npossible 1 of 2 b2b1xq\natleast 20",
             "countered illegal\nproved 1 last a2a1\nleft 2 of 9 a2a1 a2a1xq\npossible 2 of 2 a2a1 a2a1xq",
+            "open illegal\nstuck illegal\nleft 1 of 9 a2a1\npossible 0 of 1",
         ):
             self.assertEqual(self.said(text), 0, text)
 
@@ -59,6 +60,8 @@ class Answers(unittest.TestCase):
             "countered illegal\nleft 1 of 9 a2a1\npossible 1 of 1 b2b1",
             "countered illegal\nleft 1 of 9 a2a1\npossible 2 of 1 a2a1",
             "countered illegal\nproved 1 last a2a1\nleft 2 of 9 a2a1 b2b1\npossible 1 of 2 b2b1",
+            "open illegal\nleft 1 of 9 a2a1\npossible 1 of 1 a2a1",
+            "spent illegal\ncountered lost K",
         ):
             self.assertGreater(self.said(text), 0, text)
 
