@@ -77,19 +77,17 @@ fn followed(case: &Case) -> Option<(usize, bool)> {
     let sketch = marked(&trim(&sketch_of(&query.board)?), case.marks);
     let closed = least_closed(query.held, &case.exact, &sketch);
     let mut steps = StepsBack::new(query.odds, &case.exact, &closed)?;
-    let mut alike = 0;
-    for text in case.labels {
+    for (alike, text) in case.labels.iter().enumerate() {
         match steps.next() {
             Some(earlier) => {
                 if !is_called(&earlier.step, text) {
                     return Some((alike, false));
                 }
-                alike += 1;
             }
             None => return Some((alike, true)),
         }
     }
-    Some((alike, steps.next().is_none()))
+    Some((case.labels.len(), steps.next().is_none()))
 }
 
 /// The steps of the first nodes of written certificates, as these list them.
