@@ -19,7 +19,9 @@ use Rattle.query_base.specs.Asked.{Asked, is_of_other_side}
 use Rattle.board_base.specs.Texts.{◌>>=◌}
 use Rattle.fen_text.specs.Ranks.{is_run, places_of, is_symbol, runs_apart, rank_places, is_rank, rank}
 use Rattle.fen_text.specs.Fen.{ranks, placement, turn, rights, en_passant, en_passant_digit, double_on, asked, from_numbers, from_en_passant, from_rights, from_turn, fen}
-use Rattle.fen_text.specs.Spelling.{symbol, run_text, rank_text, rank_of, ranks_text, turn_letter, rights_text, en_passant_text, spelling}
+use Rattle.fen_text.specs.Spelling.{symbol, run_text, rank_text, turn_letter, rights_text, en_passant_text, spelling}
+use Rattle.fen_text.specs.WrittenParts.{rank_of, ranks_text}
+use Rattle.fen_text.proofs.Spelled.{passed, spelled}
 use Rattle.fen_text.proofs.PartLemmas.{parted_next, parted_end}
 use Rattle.fen_text.proofs.RankLemmas.{run_places, run_symbol}
 use Rattle.fen_text.proofs.PlacementLemmas.{clean_rank, slash_symbol}
@@ -174,7 +176,7 @@ en_passant_back c None fits = refl
 en_passant_back c (Some m) fits =
     let back = step_back c m fits in
     let low = back.0 in
-    cond-true _ (Some (Some (double_on c (97 + file m.to - 97)))) None (and_from _ _ (and_from _ _ (le-leb 97 (97 + file m.to) (omega arith)) (le-leb (97 + file m.to) 104 (omega arith))) (eq-eqb (en_passant_digit c) (en_passant_digit c) refl))
+    ap (en_passant c) (passed c m) ∙ cond-true _ (Some (Some (double_on c (97 + file m.to - 97)))) None (and_from _ _ (and_from _ _ (le-leb 97 (97 + file m.to) (omega arith)) (le-leb (97 + file m.to) 104 (omega arith))) (eq-eqb (en_passant_digit c) (en_passant_digit c) refl))
     ∙ ap (λ (x : Move). Some (Some x)) back.1
 
 pub text_back : (b : Places) (t : Colour) (r : Rights) (e : Option Move) → length b ≡ 64 → IsTrue (is_of_other_side t e) → fen (ranks_text 7 b ++ 32 ∷ turn_letter t ∷ 32 ∷ (rights_text r ++ 32 ∷ en_passant_text t e)) ≡ Some (asked b t r e, None)
@@ -199,5 +201,4 @@ pub whole : (q : Asked) → q.barred ≡ None → asked q.board q.turn q.held q.
 whole q e = λ i. record { board = q.board; turn = q.turn; odds = no_odds; held = q.held; only = q.only; barred = sym e i; clock = None }
 
 pub read_back : (q : Asked) → length q.board ≡ 64 → q.barred ≡ None → IsTrue (is_of_other_side q.turn q.only) → fen (spelling q) ≡ Some (record q { odds = no_odds; clock = None }, None)
-unfolding spelling
-read_back q size plain fits = text_back q.board q.turn q.held q.only size fits ∙ ap (λ (x : Asked). Some (x, None)) (whole q plain)
+read_back q size plain fits = ap fen (spelled q) ∙ text_back q.board q.turn q.held q.only size fits ∙ ap (λ (x : Asked). Some (x, None)) (whole q plain)

@@ -10,7 +10,9 @@ use Rattle.std.specs.List.{list_all}
 use Rattle.board_base.specs.Squares.{number_of, squares_of}
 use Rattle.board_base.specs.SquareNumbers.{length-squares_of, number_of-lt, number_of-squares_of}
 use Rattle.fen_text.specs.Parts.{Free}
-use Rattle.fen_text.specs.Sets.{hex_digit, hex_from, hex_onto, hex_value, is_hex, is_set, is_whole, set_of, set_text}
+use Rattle.fen_text.specs.Sets.{hex_from, hex_value, is_hex, is_set, is_whole, set_of, set_text}
+use Rattle.fen_text.specs.WrittenDigits.{hex_digit, hex_onto}
+use Rattle.fen_text.proofs.HexDigits.{set_digits}
 
 -- digits
 
@@ -70,8 +72,7 @@ hex_length zero n rest = let e : length rest ≡ 0 + length rest = omega arith i
 hex_length (suc k) n rest = let more = hex_length k (n / 16) (hex_digit (n % 16) ∷ rest) in omega arith
 
 pub set_length : (set : List Bool) → length (set_text set) ≡ 16
-unfolding set_text
-set_length set = hex_length 16 (number_of set) []
+set_length set = ap length (set_digits set) ∙ hex_length 16 (number_of set) []
 
 -- sets of 64 truth values are told by their numbers
 
@@ -99,13 +100,13 @@ squares_again set size =
 
 -- the text of a set stands for it
 pub set_back : (set : List Bool) → is_whole set ≡ true → set_of (set_text set) ≡ Some set
-unfolding set_of set_text
+unfolding set_of
 set_back set whole =
     let size : length set ≡ 64 = eqb-true (length set) 64 whole in
     let n : ℕ = number_of set in
     let low : n < 16 ^ 16 = number_fits set size in
     let is : is_set (hex_onto 16 n []) ≡ true = and_from _ _ (eq-eqb (length (hex_onto 16 n [])) 16 (hex_length 16 n [])) (hex_all 16 n [] refl) in
-    cond-true (is_set (hex_onto 16 n [])) (Some (squares_of (hex_from 0 (hex_onto 16 n [])))) None is
+    ap set_of (set_digits set) ∙ cond-true (is_set (hex_onto 16 n [])) (Some (squares_of (hex_from 0 (hex_onto 16 n [])))) None is
     ∙ ap (λ (m : ℕ). Some (squares_of m)) (hex_back 16 n [] low) ∙ ap (λ (l : List Bool). Some l) (squares_again set size)
 
 -- a text is the one of a set
@@ -114,7 +115,7 @@ pub record IsTextOfSet (text : List ℕ) (set : List Bool) : Type 0 where
   pub whole : is_whole set ≡ true
 
 pub set_read : (text : List ℕ) (set : List Bool) → set_of text ≡ Some set → IsTextOfSet text set
-unfolding set_of set_text
+unfolding set_of
 set_read text set e =
     let read = cond_some (is_set text) (squares_of (hex_from 0 text)) set e in
     let parts = and_parts (length text == 16) (list_all is_hex text) read.0 in
@@ -124,7 +125,7 @@ set_read text set e =
     let low : hex_from 0 text < 2 ^ 64 = rw sixteen at below in
     let number : number_of set ≡ hex_from 0 text = ap number_of (sym read.1) ∙ number_of-squares_of (hex_from 0 text) low in
     record {
-      text_is = sym (ap (λ (m : ℕ). hex_onto 16 m []) number ∙ ap (λ (k : ℕ). hex_onto k (hex_from 0 text) []) (sym sixteen) ∙ hex_read text 0 0 [] parts.1 ∙ append-nil text);
+      text_is = sym (set_digits set ∙ ap (λ (m : ℕ). hex_onto 16 m []) number ∙ ap (λ (k : ℕ). hex_onto k (hex_from 0 text) []) (sym sixteen) ∙ hex_read text 0 0 [] parts.1 ∙ append-nil text);
       whole = eq-eqb (length set) 64 (ap length (sym read.1) ∙ length-squares_of (hex_from 0 text));
     }
 
@@ -137,8 +138,7 @@ hexes_free c (b ∷ text) low all =
     and_from _ _ (ap not (ne_eqb b c (λ e. omega arith))) (hexes_free c text low parts.1)
 
 pub set_free : (c : ℕ) (set : List Bool) → c < 48 → Free c (set_text set)
-unfolding set_text
-set_free c set low = hexes_free c (hex_onto 16 (number_of set) []) low (hex_all 16 (number_of set) [] refl)
+set_free c set low = subst (Free c) (sym (set_digits set)) (hexes_free c (hex_onto 16 (number_of set) []) low (hex_all 16 (number_of set) [] refl))
 
 -- reading
 

@@ -1,11 +1,14 @@
 -- How long the text of a query is.
-use Rattle.std.proofs.Common.{ℕ, zero, suc, ◌+◌, ◌*◌, ◌≤◌, min, Bool, true, false, List, [], ◌∷◌, ◌++◌, length, drop, arith, length-append, Option, Some, None}
+use Rattle.std.proofs.Common.{ℕ, zero, suc, ◌+◌, ◌*◌, ◌≤◌, min, Bool, true, false, List, [], ◌∷◌, ◌++◌, length, drop, sym, ap, subst, arith, length-append, Option, Some, None}
 use Rattle.std.proofs.lemmas.List.{length-take}
 use Rattle.board_base.specs.Board.{Places}
 use Rattle.board_base.specs.declared.men.Colour.{Colour}
 use Rattle.board_base.specs.declared.moves.Move.{Move}
 use Rattle.query_base.specs.Asked.{Asked}
-use Rattle.fen_text.specs.Spelling.{symbol, run_text, rank_text, rank_of, ranks_text, turn_letter, letter_if, rights_text, en_passant_text, spelling}
+use Rattle.board_base.specs.declared.men.Colour.TheVariants.{White, Black}
+use Rattle.fen_text.specs.Spelling.{symbol, run_text, rank_text, turn_letter, rights_text, en_passant_text, spelling}
+use Rattle.fen_text.specs.WrittenParts.{letter_if, rank_of, ranks_text}
+use Rattle.fen_text.proofs.Spelled.{letters_are, spelled}
 use Rattle.fen_text.proofs.WriteLemmas.{length_run}
 
 rank_bound : (ps : Places) (run : ℕ) → length (rank_text run ps) ≤ min run 1 + length ps
@@ -44,22 +47,22 @@ letters_bound k q kk qq =
     )
 
 rights_bound : (k q kk qq : Bool) → length (rights_text (record { white_short = k; white_long = q; black_short = kk; black_long = qq })) ≤ 4
-rights_bound true q kk qq = letters_bound true q kk qq
-rights_bound false true kk qq = letters_bound false true kk qq
-rights_bound false false true qq = letters_bound false false true qq
+rights_bound true q kk qq = subst (λ (l : List ℕ). length l ≤ 4) (sym (letters_are true q kk qq)) (letters_bound true q kk qq)
+rights_bound false true kk qq = subst (λ (l : List ℕ). length l ≤ 4) (sym (letters_are false true kk qq)) (letters_bound false true kk qq)
+rights_bound false false true qq = subst (λ (l : List ℕ). length l ≤ 4) (sym (letters_are false false true qq)) (letters_bound false false true qq)
 rights_bound false false false true = letters_bound false false false true
 rights_bound false false false false = omega arith
 
 en_passant_bound : (c : Colour) (only : Option Move) → length (en_passant_text c only) ≤ 2
 en_passant_bound c None = omega arith
-en_passant_bound c (Some m) = omega arith
+en_passant_bound White (Some m) = omega arith
+en_passant_bound Black (Some m) = omega arith
 
 pub spelling_bound : (q : Asked) → length (spelling q) ≤ 81
-unfolding spelling
 spelling_bound q =
     let rights : List ℕ = rights_text q.held in
     let last : List ℕ = en_passant_text q.turn q.only in
     let first = ranks_bound 7 q.board in
     let third = rights_bound q.held.white_short q.held.white_long q.held.black_short q.held.black_long in
     let fourth = en_passant_bound q.turn q.only in
-    omega (arith, length-append (ranks_text 7 q.board) (32 ∷ turn_letter q.turn ∷ 32 ∷ (rights ++ 32 ∷ last)), length-append rights (32 ∷ last))
+    omega (arith, ap length (spelled q), length-append (ranks_text 7 q.board) (32 ∷ turn_letter q.turn ∷ 32 ∷ (rights ++ 32 ∷ last)), length-append rights (32 ∷ last))

@@ -14,7 +14,9 @@ use Rattle.board_base.specs.declared.moves.Move.{Move}
 use Rattle.query_base.specs.Asked.{Asked}
 use Rattle.fen_text.specs.Ranks.{letter, is_run, places_of, is_symbol, runs_apart, rank_places, is_rank, rank}
 use Rattle.fen_text.specs.Fen.{ranks, placement, turn, mark, castle_letters, marks, is_nothing, is_dash, rights_of, rights, en_passant, en_passant_digit, double_on, number, Position, asked, from_numbers, from_en_passant, from_rights, from_turn, fen, unnumbered, fen_of_four}
-use Rattle.fen_text.specs.Spelling.{symbol, run_text, rank_text, rank_of, ranks_text, turn_letter, letter_if, rights_text, en_passant_text, spelling}
+use Rattle.fen_text.specs.Spelling.{symbol, run_text, rank_text, turn_letter, rights_text, en_passant_text, spelling}
+use Rattle.fen_text.specs.WrittenParts.{letter_if, rank_of, ranks_text}
+use Rattle.fen_text.proofs.Spelled.{letters_are, passed, spelled}
 use Rattle.fen_text.proofs.PartLemmas.{some_value, parted_known, followed}
 use Rattle.fen_text.proofs.RankLemmas.{run_places, letter_len, letter_symbol}
 use Rattle.fen_text.proofs.PlacementLemmas.{rank_length}
@@ -140,9 +142,9 @@ mark_spelled l (b ∷ text) = elim (cases_eq b l) [
 ]
 
 given_spelled : (k q kk qq : Bool) (text : List ℕ) → is_nothing text ≡ false → text ≡ letter_if k 75 ++ letter_if q 81 ++ letter_if kk 107 ++ letter_if qq 113 → text ≡ rights_text (record { white_short = k; white_long = q; black_short = kk; black_long = qq })
-given_spelled true q kk qq text some e = e
-given_spelled false true kk qq text some e = e
-given_spelled false false true qq text some e = e
+given_spelled true q kk qq text some e = e ∙ sym (letters_are true q kk qq)
+given_spelled false true kk qq text some e = e ∙ sym (letters_are false true kk qq)
+given_spelled false false true qq text some e = e ∙ sym (letters_are false false true qq)
 given_spelled false false false true text some e = e
 given_spelled false false false false text some e = absurd (true≢false (sym (ap is_nothing e) ∙ some))
 
@@ -179,7 +181,7 @@ en_passant_spelled c (f ∷ r ∷ []) o e =
     let tests = and_parts (nat_le 97 f && nat_le f 104) (r == en_passant_digit c) p.0 in
     let bounds = and_parts (nat_le 97 f) (nat_le f 104) tests.0 in
     ap (λ (b : ℕ). b ∷ r ∷ []) (over_file c f (leb-true 97 f bounds.0) (leb-true f 104 bounds.1))
-    ∙ ap (λ (b : ℕ). (97 + file (double_on c (f - 97)).to) ∷ b ∷ []) (eqb-true r (en_passant_digit c) tests.1)
+    ∙ ap (λ (b : ℕ). (97 + file (double_on c (f - 97)).to) ∷ b ∷ []) (eqb-true r (en_passant_digit c) tests.1) ∙ sym (passed c (double_on c (f - 97)))
     ∙ ap (en_passant_text c) p.1
 en_passant_spelled c (f ∷ r ∷ b ∷ text) o e = cc
 
@@ -237,12 +239,12 @@ from_turn_spelled b text q e =
     )
 
 fen_spelled : (text : List ℕ) (q : Asked) → fen text ≡ Some (q, None) → (text ≡ spelling q) × (length q.board ≡ 64)
-unfolding fen placement spelling
+unfolding fen placement
 fen_spelled text q e =
     let parts = followed 32 placement (λ b. None) from_turn text (q, None) (λ b. refl) e in
     let rest = from_turn_spelled parts.value parts.rest q parts.goes_on in
     let first = ranks_spelled 7 parts.front parts.value parts.good in (
-      parts.whole ∙ ap (λ (l : List ℕ). l ++ 32 ∷ parts.rest) (first.0 ∙ ap (ranks_text 7) rest.0) ∙ ap (λ (l : List ℕ). ranks_text 7 q.board ++ 32 ∷ l) rest.1,
+      parts.whole ∙ ap (λ (l : List ℕ). l ++ 32 ∷ parts.rest) (first.0 ∙ ap (ranks_text 7) rest.0) ∙ ap (λ (l : List ℕ). ranks_text 7 q.board ++ 32 ∷ l) rest.1 ∙ sym (spelled q),
       sym (ap length rest.0) ∙ first.1,
     )
 

@@ -1,6 +1,6 @@
 -- Sets of squares as sixteen hexadecimal digits: of the number whose bit s is 1 for each square s of the set.
-use Rattle.std.specs.Prelude.{ℕ, zero, suc, ◌+◌, ◌-◌, ◌*◌, ◌/◌, ◌%◌, Bool, cond, ◌&&◌, ◌||◌, ◌==◌, nat_lt, nat_le, List, [], ◌∷◌, length, Option, Some, None}
-use Rattle.std.specs.List.{list_all}
+use Rattle.std.specs.Prelude.{ℕ, ◌+◌, ◌-◌, ◌*◌, ◌/◌, ◌%◌, ◌^◌, Bool, cond, ◌&&◌, ◌||◌, ◌==◌, nat_le, List, [], ◌∷◌, codes, length, map, reverse, slice_index_or, Option, Some, None}
+use Rattle.std.specs.List.{list_all, range_with_len}
 use Rattle.board_base.specs.Squares.{number_of, squares_of}
 use Rattle.board_base.specs.Texts.{is_digit}
 
@@ -25,20 +25,9 @@ is_set text = (length text == 16) && list_all is_hex text
 unfoldable pub set_of : List ℕ → Option (List Bool)
 set_of text = cond (is_set text) (Some (squares_of (hex_from 0 text))) None
 
--- texts
-
--- the digit of a number below 16
-abbrev pub hex_digit : ℕ → ℕ
-hex_digit d = cond (nat_lt d 10) (d + 48) (d + 87)
-
--- the last k hexadecimal digits of n, and the text behind them
-abbrev pub hex_onto : ℕ → ℕ → List ℕ → List ℕ
-hex_onto zero n text = text
-hex_onto (suc k) n text = hex_onto k (n / 16) (hex_digit (n % 16) ∷ text)
-
--- the one text of a set
+-- the one text of a set: the sixteen hexadecimal digits of its number, the highest first
 unfoldable pub set_text : List Bool → List ℕ
-set_text set = hex_onto 16 (number_of set) []
+set_text set = map (λ k. slice_index_or (codes "0123456789abcdef") (number_of set / 16 ^ k % 16) 48) (reverse (range_with_len 0 16))
 
 -- what is known of each set of squares: it has 64 truth values
 abbrev pub is_whole : List Bool → Bool

@@ -1,5 +1,6 @@
 ghost use Rattle.std.specs.Prelude.{◌≡◌, ◌<◌, IsTrue, Some};
-ghost use Rattle.fen_text.specs.Sets.{hex_digit, hex_value, is_hex, set_of, set_text};
+ghost use Rattle.fen_text.specs.Sets.{hex_value, is_hex, set_of, set_text};
+ghost use Rattle.fen_text.specs.WrittenDigits.{hex_digit};
 
 use board_base::SquareSet;
 

@@ -1,6 +1,7 @@
 ghost use Rattle.std.specs.Prelude.{◌≡◌, ◌+◌, ◌*◌, ◌<◌, ◌≤◌, ◌++◌, ◌∷◌, [], length, slice_index_or, None, Some};
 ghost use Rattle.board_base.specs.Board.{at, no_odds};
-ghost use Rattle.fen_text.specs.Spelling.{symbol, run_text, rank_text, rank_of, ranks_text, turn_letter, letter_if, rights_text, en_passant_text, spelling};
+ghost use Rattle.fen_text.specs.Spelling.{symbol, run_text, rank_text, turn_letter, rights_text, en_passant_text, spelling};
+ghost use Rattle.fen_text.specs.WrittenParts.{letter_if, rank_of, ranks_text};
 ghost use Rattle.fen_text.specs.Fen.{castle_letter, fen};
 
 use crate::fields::digit_of;
@@ -109,6 +110,7 @@ fn push_if(given: bool, letter: u8, out: &mut ArrayVec<u8, 128>)
 }
 
 /// The letters of the castlings, or a dash.
+#[tactic(auto, using(crate::proofs::Spelled::rights_written))]
 fn write_rights(held: CastleSet, out: &mut ArrayVec<u8, 128>)
     requires room { length out.old.items + 4 < 128 }
     ensures text { out.new.items ≡ out.old.items ++ rights_text held }
@@ -139,6 +141,7 @@ pub fn turn_letter(turn: Colour) -> u8
 }
 
 /// The square that the double step crossed, or a dash.
+#[tactic(auto, using(crate::proofs::Spelled::passed))]
 fn write_en_passant(turn: Colour, only: Option<Move>, out: &mut ArrayVec<u8, 128>)
     requires room { length out.old.items + 2 < 128 }
     ensures text { out.new.items ≡ out.old.items ++ en_passant_text turn only }

@@ -1,7 +1,8 @@
 use Rattle.std.proofs.Common.{◌≡◌, ◌++◌, ◌∷◌, [], List, ℕ, ap, ◌∙◌, Some, None}
 use Rattle.board_base.specs.Board.{no_odds}
 use Rattle.query_base.specs.Asked.{Asked}
-use Rattle.fen_text.specs.Spelling.{spelling, ranks_text, rights_text, en_passant_text, turn_letter}
+use Rattle.fen_text.specs.Spelling.{spelling, rights_text, en_passant_text, turn_letter}
+use Rattle.fen_text.specs.WrittenParts.{ranks_text}
 use Rattle.fen_text.specs.Fen.{fen}
 use Rattle.fen_text.proofs.Back.{text_back, whole}
 use Rattle.fen_text.proofs.WriteLemmas.{joined}
@@ -19,7 +20,7 @@ written c =
     ∙ ap (λ (t : ℕ). ranks_text 7 c.query.inside.board ++ 32 ∷ t ∷ 32 ∷ (rights_text c.query.inside.held ++ 32 ∷ en_passant_text c.query.inside.turn c.query.inside.only)) c.turn_letter.ensures
 
 pub returns-clause-text : goal.returns-clause-text
-unfolding spelling
+unfolding spelling ranks_text
 returns-clause-text c = written c ∙ ap spelling c.query.view_is
 
 pub returns-clause-read : goal.returns-clause-read
