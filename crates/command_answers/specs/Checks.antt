@@ -1,11 +1,12 @@
 -- What `check` answers.
-use Rattle.std.specs.Prelude.{ℕ, ◌≡◌, Bool, cond, List, [], ◌∷◌, ◌++◌, codes, Option, Some, None}
+use Rattle.std.specs.Prelude.{ℕ, ◌≡◌, Bool, false, cond, List, [], ◌∷◌, ◌++◌, codes, replicate, Option, Some, None}
+use Rattle.std.specs.Bool.{beq}
+use Rattle.std.specs.Cmp.Lexicographic.{pointwise}
 use Rattle.std.specs.Fmt.{decimal}
 use Rattle.board_base.specs.Texts.{unmove_text}
 use Rattle.query_base.specs.Asked.{Asked}
 use Rattle.query_base.specs.declared.claims.Claim.{Claim}
-use Rattle.fen_text.specs.OddsLines.{is_no_odds, odds_text}
-use Rattle.fen_text.specs.ClockLines.{clock_text}
+use Rattle.fen_text.specs.Sets.{set_text}
 use Rattle.fen_text.specs.Spelling.{spelling}
 use Rattle.cert_text.specs.ClaimLines.{claim_words}
 use Rattle.cert_text.specs.Lines.{cut, ended}
@@ -20,20 +21,20 @@ use Rattle.command_answers.specs.declared.statuses.Status.TheVariants as status
 
 -- after a FEN, the odds, if there are any
 abbrev pub odds_words : List Bool → List ℕ
-odds_words o = cond (is_no_odds o) [] (32 ∷ odds_text o)
+odds_words o = cond (pointwise beq o (replicate 64 false)) [] (32 ∷ (codes "odds " ++ set_text o))
 
 -- after these, the clock, if one is demanded
 abbrev pub clock_words : Option ℕ → List ℕ
 clock_words None = []
-clock_words (Some n) = 32 ∷ clock_text n
+clock_words (Some n) = 32 ∷ (codes "clock " ++ decimal n)
 
 -- the line `accepted` with the words of a claim, the FEN, the odds and the clock
 abbrev pub accepted_words_line : List ℕ → Asked → List ℕ
 accepted_words_line claim q = ended (codes "accepted " ++ claim ++ 32 ∷ (spelling q ++ odds_words q.odds ++ clock_words q.clock))
 
--- the line that tells that the claim is accepted
+-- the line `accepted` with the claim, the FEN, the odds and the clock
 abbrev pub accepted_line : Claim → Asked → List ℕ
-accepted_line claim q = accepted_words_line (claim_words claim) q
+accepted_line claim q = (codes "accepted " ++ claim_words claim ++ 32 ∷ (spelling q ++ odds_words q.odds ++ clock_words q.clock)) ++ 10 ∷ []
 
 -- why a node does not prove its query, in a word
 abbrev pub why_word : Why → List ℕ
