@@ -10,6 +10,7 @@ import subprocess
 import sys
 import unittest
 
+import trust
 from session import TOP, pages
 
 MOST_BYTES = 20_480
@@ -95,6 +96,13 @@ class Shown(unittest.TestCase):
 
 
 class Lists(unittest.TestCase):
+    def test_a_definition_before_one_that_it_uses_is_found(self):
+        rank, ranks = ("a", "Texts", "rank"), ("a", "Texts", "ranks")
+        definitions = {rank: "rank r = r", ranks: "ranks b = map rank b"}
+        scopes = {("a", "Texts"): ({"rank": rank, "ranks": ranks}, {})}
+        self.assertEqual(trust.used_before([rank, ranks], definitions, scopes), [])
+        self.assertEqual(trust.used_before([ranks, rank], definitions, scopes), ["READING has ranks before rank, which it uses"])
+
     def test_what_must_be_believed_is_listed(self):
         for tool in ("trust.py", "believed.py"):
             done = subprocess.run([sys.executable, TOP / "tools" / tool], capture_output=True, text=True)

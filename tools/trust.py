@@ -8,10 +8,12 @@ docs/TRUST.md has the definitions of the headline, the first of HEADLINES below,
 both the list begins behind the line MARK, and what stands before it is written by hand. A definition is reached if a clause of `run`
 cites it, directly or through other definitions, as tools/believed.py finds it. The clauses stand in the order of HEADLINES, then in
 that of `run`, each with the number of the definitions that it reaches, and with those that no clause before it reaches. The cases of
-a data type stand in the entry of the type. There is a line for each definition that has no comment, and for each entry that is
-missing, old or too many, and then the exit status is 1.
+a data type stand in the entry of the type. The definitions of the headline stand in the order of READING, each behind those that it
+uses; the others by crate, lowest first. There is a line for each definition that has no comment or stands before one that it uses, for
+each entry that is missing, old or too many, and where the page of the headline is longer than MOST_BYTES: then the exit status is 1.
 """
 import argparse
+import itertools
 import pathlib
 import re
 import sys
@@ -22,6 +24,13 @@ from believed import block, cited, crates, imported, load, reached
 HEADLINES = ["accepted", "accepted_line", "proved", "settled", "proved_line", "countered", "unsettled", "decided", "measured", "bounded", "refused"]
 MARK = "<!-- The rest is written by tools/trust.py --write. -->"
 PAGE, LIST = "TRUST.md", "TRUST-LIST.md"
+MOST_BYTES = 14_336
+# The files of specs/ that the headline reaches, in the order in which one reads them.
+READING = {
+    "The rules of the game": ["board_base/Board", "board_base/Attacks", "board_base/Play", "board_base/Legal", "board_base/Game"],
+    "Claims, and what contradicts them": ["board_base/Rights", "query_base/Asked", "play_rules/Clocks", "query_base/Reach"],
+    "The line that is written": ["board_base/Texts", "fen_text/Fen", "cert_text/ClaimLines", "fen_text/Spelling", "board_base/Squares", "fen_text/Sets", "command_answers/Checks", "retro_top/Answers"],
+}
 
 
 def cited_by_run(folder, definitions):
@@ -60,6 +69,19 @@ def entry(name, said):
     return f"- `{name.strip('◌')}`: {said}{'' if said.endswith('.') else '.'}"
 
 
+def title(text):
+    """What the comment at the head of a file says."""
+    return " ".join(line[2:].strip() for line in itertools.takewhile(lambda line: line.startswith("--"), text.split("\n")))
+
+
+def file_listing(name, crate, file, specs, believed):
+    """The list of these definitions that stand in a file, under this name of it, and what is wrong with the comments."""
+    said = comments(specs[crate][file])
+    found = [one for one in said if (crate, file, one) in believed]
+    wrong = [f"{crate}/specs/{file}.antt says nothing of {one}" for one in found if not said[one]]
+    return ["", f"`{name}`. {title(specs[crate][file])}", "", *(entry(one, said[one]) for one in found)], wrong
+
+
 def listing(folders, specs, believed):
     """The list of these definitions, by crate, lowest first, and file, and what is wrong with the comments."""
     lines, wrong = [], []
@@ -67,12 +89,34 @@ def listing(folders, specs, believed):
         files = sorted({file for owner, file, _ in believed if owner == crate})
         lines += ["", f"### {crate}"] if files else []
         for file in files:
-            said = comments(specs[crate][file])
-            title = re.match(r"-- (.*)\n", specs[crate][file])
-            lines += ["", f"`{file}`. {title[1] if title else ''}", ""]
-            reached = {name for owner, place, name in believed if (owner, place) == (crate, file)}
-            lines += [entry(name, text) for name, text in said.items() if name in reached]
-            wrong += [f"{crate}/specs/{file}.antt says nothing of {name}" for name, text in said.items() if name in reached and not text]
+            more, faults = file_listing(file, crate, file, specs, believed)
+            lines += more
+            wrong += faults
+    return lines, wrong
+
+
+def used_before(read, definitions, scopes):
+    """Which definitions of a list stand before one of the list that they use."""
+    wrong = []
+    for index, one in enumerate(read):
+        later = cited(definitions[one], scopes[one[:2]], definitions) & set(read[index + 1 :])
+        wrong += [f"READING has {one[2]} before {two[2]}, which it uses" for two in sorted(later)]
+    return wrong
+
+
+def reading(specs, definitions, scopes, believed):
+    """The list of these definitions in the order of READING, and what is wrong with the comments or the order."""
+    lines, wrong, read = [], [], []
+    for heading, files in READING.items():
+        lines += ["", f"### {heading}"]
+        for name in files:
+            crate, file = name.split("/")
+            more, faults = file_listing(name, crate, file, specs, believed)
+            lines += more
+            wrong += faults
+            read += [(crate, file, one) for one in comments(specs[crate][file]) if (crate, file, one) in believed]
+    wrong += used_before(read, definitions, scopes)
+    wrong += [f"READING lacks {crate}/{file}" for crate, file in sorted({one[:2] for one in believed - set(read)})]
     return lines, wrong
 
 
@@ -89,8 +133,9 @@ def by_clause(folders, specs, definitions, scopes):
         fresh = believed - before
         before |= believed
         count = f"{len(believed)} definition{'' if len(believed) == 1 else 's'}" + ("" if len(fresh) == len(believed) else f", {len(fresh)} of them not above")
-        more, faults = listing(folders, specs, fresh)
-        pages[PAGE if name == HEADLINES[0] else LIST] += ["", f"## `{name}`: {count}", *more]
+        is_first = name == HEADLINES[0]
+        more, faults = reading(specs, definitions, scopes, fresh) if is_first else listing(folders, specs, fresh)
+        pages[PAGE if is_first else LIST] += ["", f"## `{name}`: {count}", *more]
         wrong += faults
     return pages, wrong
 
@@ -121,6 +166,8 @@ def main():
             path.write_text(front + MARK + "\n" + new)
         elif not mark or old.lstrip("\n") != new.lstrip("\n"):
             wrong += compared(page, lines, old)
+    size = (args.repo / "docs" / PAGE).stat().st_size
+    wrong += [f"docs/{PAGE} has {size} bytes, and {MOST_BYTES} at most are wanted"] if size > MOST_BYTES else []
     for fault in wrong:
         print(fault)
     entries = sum(line.startswith("- ") for lines in pages.values() for line in lines)

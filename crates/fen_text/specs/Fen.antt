@@ -1,5 +1,4 @@
--- FEN, as section 16.1 of the PGN standard describes it: placement, side to move, castling rights, the square that a double step
--- crossed, and two numbers or none, with one space between two fields.
+-- FEN, as section 16.1 of the PGN standard describes it: four fields, and two numbers or none, with one space between two.
 use Rattle.std.specs.Prelude.{ℕ, zero, suc, ◌+◌, ◌-◌, ◌*◌, Bool, true, false, cond, ◌&&◌, ◌==◌, not, nat_le, List, [], ◌∷◌, ◌++◌, length, map, slice_index_or, Option, Some, None}
 use Rattle.std.specs.List.{list_all, fold}
 use Rattle.std.specs.Option.{option_map}
@@ -36,7 +35,7 @@ abbrev pub mark : ℕ → List ℕ → Bool × List ℕ
 mark letter [] = (false, [])
 mark letter (b ∷ text) = cond (b == letter) (true, text) (false, b ∷ text)
 
--- FEN's letter of a castling: K, Q, k or q
+-- Section 16.1.3.3: the letter of a castling, K, Q, k or q
 abbrev pub castle_letter : Castle → ℕ
 castle_letter WhiteShort = 75
 castle_letter WhiteLong = 81

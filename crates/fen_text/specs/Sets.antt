@@ -25,7 +25,7 @@ is_set text = (length text == 16) && list_all is_hex text
 unfoldable pub set_of : List ℕ → Option (List Bool)
 set_of text = cond (is_set text) (Some (squares_of (hex_from 0 text))) None
 
--- the one text of a set: the sixteen hexadecimal digits of its number, the highest first
+-- the one text of a set: these digits, the highest first
 unfoldable pub set_text : List Bool → List ℕ
 set_text set = map (λ k. slice_index_or (codes "0123456789abcdef") (number_of set / 16 ^ k % 16) 48) (reverse (range_with_len 0 16))
 
