@@ -30,10 +30,10 @@ struct Ascent {
 
 /// What prices came to: how much the men cost, how often each price is paid and earned at that cost, and their homes.
 #[derive(Drop)]
-struct Outcome {
-    cost: u32,
-    white: Tally,
-    black: Tally,
+pub(crate) struct Outcome {
+    pub(crate) cost: u32,
+    pub(crate) white: Tally,
+    pub(crate) black: Tally,
     homes: Homes,
 }
 
@@ -71,7 +71,7 @@ impl Sought {
 }
 
 /// By how much each price is paid more often than it is earned and is free.
-fn slopes(white: &Tally, black: &Tally) -> [i32; 96] {
+pub(crate) fn slopes(white: &Tally, black: &Tally) -> [i32; 96] {
     let mut all = [0; 96];
     for k in 0..96 {
         all[k] = i32::from(white.times[k])
@@ -158,6 +158,27 @@ fn sixteen_from(prices: &[u8; 96], start: usize) -> [u8; 16]
     all
 }
 
+/// The prices on these places; None where there are too many gates, or a price is too great.
+pub(crate) fn prices_at(prices: &[u8; 96]) -> Option<Prices> {
+    let mut gates = [Gate { square: 0, toll: 0 }; 16];
+    let mut count = 0;
+    for i in 0..64u8 {
+        let toll = prices[32 + i as usize];
+        if toll > 0 {
+            if count == 16 {
+                return None;
+            }
+            gates[count] = Gate { square: i, toll };
+            count += 1;
+        }
+    }
+    Prices::new(
+        &sixteen_from(prices, 0),
+        &sixteen_from(prices, 16),
+        &gates[..count],
+    )
+}
+
 impl Ascent {
     /// Each capture pays one unit, and there are no gates.
     fn new() -> Ascent {
@@ -170,23 +191,7 @@ impl Ascent {
 
     /// These prices; None where there are too many gates.
     fn prices(&self) -> Option<Prices> {
-        let mut gates = [Gate { square: 0, toll: 0 }; 16];
-        let mut count = 0;
-        for i in 0..64u8 {
-            let toll = self.prices[32 + i as usize];
-            if toll > 0 {
-                if count == 16 {
-                    return None;
-                }
-                gates[count] = Gate { square: i, toll };
-                count += 1;
-            }
-        }
-        Prices::new(
-            &sixteen_from(&self.prices, 0),
-            &sixteen_from(&self.prices, 16),
-            &gates[..count],
-        )
+        prices_at(&self.prices)
     }
 
     /// Moves the prices to where the men cost more, if only by what they did at these. At most sixteen gates stay, the greatest.
@@ -264,14 +269,23 @@ fn outcome_of(
     })
 }
 
+/// What the men of both sides cost and did at the prices with which these reckon.
+pub(crate) fn ground_outcome(
+    white: &Ground,
+    black: &Ground,
+    query: &Query,
+    prices: &Prices,
+) -> Option<Outcome> {
+    outcome_of(white, black, query, prices, &[0; 32])
+}
+
 /// What flat prices came to.
 fn flat_outcome(kept: &FlatGround, query: &Query, payers: Payers) -> Option<Outcome> {
-    outcome_of(
+    ground_outcome(
         &kept.white.side,
         &kept.black.side,
         query,
         &flat_prices(payers),
-        &[0; 32],
     )
 }
 

@@ -8,6 +8,7 @@ use crate::ascent::{Sought, seek};
 use crate::flat_grounds::{FlatGround, FlatGrounds, Homes, flat_fails};
 use crate::keys::{Key, Placed, homes_by_squares, homes_by_traces, placed_men, traces_of};
 use crate::payers::{Payers, flat_prices};
+use crate::plain::seek_plain;
 use crate::standing::{StandingMen, standing_men};
 use arrayvec::ArrayVec;
 use balance_rule::{balances, is_whole};
@@ -92,6 +93,19 @@ impl PlacedMen {
     }
 }
 
+impl Sought {
+    /// The same, with plain prices in place of others if such are found.
+    fn plainly(self, query: &Query, kept: &FlatGround) -> Sought {
+        let mut sought = self;
+        if self.prices.is_some() {
+            if let Some(plain) = seek_plain(query, kept) {
+                sought.prices = Some(plain);
+            }
+        }
+        sought
+    }
+}
+
 /// What was found for the key of the position, whose men stand on these squares, or is found now, with the homes in ascending order of
 /// the squares; None where a side has more men than it began with.
 fn sought(
@@ -122,7 +136,7 @@ fn sought(
             prices: found.prices,
         });
     }
-    let found = seek(query, set, kept, standing)?;
+    let found = seek(query, set, kept, standing)?.plainly(query, &kept.both);
     if tried.len() < MOST_TRIED {
         let by_traces = Sought {
             both: men.by_traces(&found.both),

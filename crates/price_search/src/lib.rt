@@ -9,6 +9,7 @@ mod flat_grounds;
 mod keys;
 mod payers;
 mod places;
+mod plain;
 mod standing;
 mod tallies;
 mod weighing;

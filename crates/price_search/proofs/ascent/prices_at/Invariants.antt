@@ -1,5 +1,5 @@
 use Rattle.std.proofs.Common.{◌≤◌}
-use Rattle.price_search.proofs.ascent.Ascent.prices.Given as goal
+use Rattle.price_search.proofs.ascent.prices_at.Given as goal
 
 abbrev pub invariant-loop-i : goal.invariant-loop-i
 invariant-loop-i l = l.count ≤ 16
