@@ -13,6 +13,7 @@ measure.py pawns            `least` and `bound` on eight pawns, in machine instr
 measure.py unmoves          lists of retractions of eight positions, in machine instructions: builds unmoves.program likewise
 measure.py cages            a greatest frozen set and seven regions beside it, in machine instructions: builds cages.program likewise
 measure.py games FENS       the search for games to the positions of a file, a FEN of four fields a line: builds games.program likewise
+measure.py sketch           closures of sketches, their trims, homes and steps, likewise: builds sketch.program
 measure.py accounts         accounts of sketches at equal prices, anew, at other prices and again, likewise: builds accounts.program
 measure.py balance          the balance of captures at equal prices, and the search for prices, likewise: builds balance.program
 """
@@ -61,6 +62,14 @@ RETRACTED = [
 SKETCHED = [
     "8/5p2/5p2/2R5/k5P1/P2PpP2/1PP1P2P/4K2R w K -",
     "8/pbp5/1b6/8/PPPPPPP1/pprprpp1/2N1PR1n/R3K2k w Q -",
+]
+# Diagrams whose sketches are closed: those of three certificates, and two situations in which a king or a rook is out of its cage.
+CLOSED = [
+    SKETCHED[1],
+    "K3k2r/1p2p1p1/p1p1p3/2Q1Np2/3n1P2/4PRP1/PPPPRrP1/n2bqB2 w k -",
+    "1b3NrR/P1pp2pK/1p2p1RQ/5pP1/1P3p2/1P3k2/2PPP2P/N7 b - -",
+    "rnbqkbnr/pppppppp/8/8/4K3/8/PPPPPPPP/RNBQ1BNR w - -",
+    "rn2k2r/ppp1pppp/8/3p4/8/8/PPP1PPPP/RRR1K3 w q -",
 ]
 # Claims of examples/, each with the depth that settles it.
 CLAIMS = {"loyd-1859": 1, "loyd-1891": 1, "dawson-1913": 2, "benko-1996": 2, "dawson-chess-magazine-1913": 4, "barred-kings": 9}
@@ -279,6 +288,16 @@ def accounts():
             print(f"{anew:.0f} instructions for an account, {priced:.0f} for one at other prices, {same:.0f} for one more: {fen}")
 
 
+def sketch():
+    parts = "board_base query_base fen_text figures sketch_sets sketch_list sketch_walk"
+    with built("sketch", parts, ["--", SKETCHED[0], "0", "0", "0", "0"]) as program:
+        for fen in CLOSED:
+            none, *once = (instructions([program, fen, *words]) for words in ("0000", "1000", "0100", "0010", "0001"))
+            closed, trimmed, homes, walked = (each - none for each in once)
+            steps = subprocess.run([program, fen, *"0001"], capture_output=True, text=True, check=True).stdout.split()[3]
+            print(f"{closed:,} instructions to close, {trimmed:,} to trim, {homes:,} for homes, {walked:,} for {steps} steps: {fen}")
+
+
 def games(path):
     fens = [" ".join(line.split()[:4]) for line in pathlib.Path(path).read_text().splitlines() if line.strip()]
     with built("games", "board_base fen_text query_base unmove_gen game_search", ["--", "0"]) as program:
@@ -332,6 +351,8 @@ def main():
         balance()
     elif sys.argv[1:] == ["accounts"]:
         accounts()
+    elif sys.argv[1:] == ["sketch"]:
+        sketch()
     elif sys.argv[1:2] == ["games"] and len(sys.argv) == 3:
         games(sys.argv[2])
     else:

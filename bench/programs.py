@@ -24,6 +24,7 @@ WORDS = {
     "games": ["100"],
     "legal_moves": ["1"],
     "pawns": ["least", "a2b2c2d2e2f2g2h2", "1"],
+    "sketch": [CASTLED, "1", "1", "1", "1"],
     "unmoves": [CASTLED, "1"],
 }
 # What some read.

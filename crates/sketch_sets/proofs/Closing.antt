@@ -10,7 +10,6 @@ use Rattle.board_base.specs.Board.{is_in, same_kind}
 use Rattle.board_base.specs.Rights.{Rights}
 use Rattle.board_base.specs.declared.men.Colour.{Colour}
 use Rattle.board_base.specs.declared.men.Kind.{Kind}
-use Rattle.board_base.proofs.KindsOfMen.{same_kind-self}
 use Rattle.cage_rules.proofs.Filling.{in-that, is_in-that, length-that}
 use Rattle.cage_rules.proofs.Tested.{any-told, member-inside}
 use Rattle.past_sketches.specs.Clashes.{is_nowhere}
@@ -20,6 +19,7 @@ use Rattle.past_sketches.proofs.Sketches.{figure-any, kind-any}
 use Rattle.sketch_sets.specs.Leasts.{AreLike, IsClosedAbove}
 use Rattle.sketch_sets.specs.Origins.{comes_from, is_origin, widened, widened_set}
 use Rattle.sketch_sets.specs.Remade.{AreWhole, set_of, with_set}
+use Rattle.sketch_sets.proofs.SixKinds.{any-kind}
 use Rattle.sketch_sets.proofs.Sizes.{AreInside, inside-length, same-sets, smaller, total, total-most}
 use Rattle.sketch_sets.proofs.Under.{AreSomewhere, AreUnder, IsUnder, above-at, below-at, quiet-more, room-more}
 
@@ -28,14 +28,6 @@ quiet-low : (held : Rights) (T : Sketch) (c : Colour) (k : Kind) (e s : ℕ) →
 quiet-low held T c k e s h =
     let parts = and_parts (is_loose held T e s && goes_past T c k e s) (is_unguarded T c k e) h in
     ltb-true e 64 (and_parts _ _ (and_parts _ _ (and_parts (is_loose held T e s) (goes_past T c k e s) parts.0).0).0).0
-
--- a kind that passes a test
-any-kind : (kinds : List Kind) (p : Kind → Bool) → list_any p kinds ≡ true → (k : Kind) × (list_any (λ j. same_kind j k) kinds ≡ true) × (p k ≡ true)
-any-kind [] p h = absurd (both_ways false refl h)
-any-kind (j ∷ kinds) p h = elim (or_cases _ _ h) [
-  | inl first ↦ (j, or_left _ _ (same_kind-self j), first)
-  | inr later ↦ let more = any-kind kinds p later in (more.0, or_right _ _ more.1, more.2)
-]
 
 pub map-at : (h : Figure → Figure) (T : Sketch) (i : ℕ) (f : Figure) → figure_at T i ≡ Some f → figure_at (map h T) i ≡ Some (h f)
 map-at h [] i f e = cc

@@ -1,4 +1,10 @@
+pub mod Rays
+pub mod Shifting
+pub mod Combined
+pub mod Attacking
 pub mod Sets
+pub mod SixKinds
+pub mod Widening
 pub mod Rooms
 pub mod Made
 pub mod Trimming
@@ -10,5 +16,4 @@ pub mod Closing
 pub mod Touched
 pub mod Wayside
 pub mod Clashing
-pub mod Checking
 pub mod Lodging

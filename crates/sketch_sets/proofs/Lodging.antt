@@ -10,7 +10,7 @@ use Rattle.cage_rules.proofs.Filling.{is_in-that}
 use Rattle.past_sketches.specs.Clashes.{is_crowded}
 use Rattle.past_sketches.specs.Figures.{Figure, Sketch}
 use Rattle.past_sketches.specs.Homes.{has_homes, is_home, lives_within, may_be_array}
-use Rattle.sketch_sets.specs.Homes.{home_count, homes_on, is_home_on, lives_in, suffices}
+use Rattle.sketch_sets.specs.Homes.{has_like, home_count, homes_on, lives_in, suffices}
 use Rattle.sketch_sets.specs.Remade.{with_set}
 use Rattle.sketch_sets.proofs.Sets.{all-same, inside-told}
 
@@ -35,13 +35,13 @@ all-made p r h [] same = refl
 all-made p r h (x ∷ l) same = ap (λ (b : Bool). b && list_all p (map h l)) (same x) ∙ ap (λ (b : Bool). r x && b) (all-made p r h l same)
 
 lives-told : (o : List Bool) (f g : Figure) → lives_in (with_set (homes_on (array_of o)) f) (with_set (homes_on (array_of o)) g) ≡ lives_within o f g
-unfolding lives_in homes_on is_home_on
+unfolding lives_in homes_on has_like
 lives-told o f g =
     inside-told (squares_that (is_home o g)) (is_home o f)
     ∙ all-same (λ q. not (is_in (squares_that (is_home o g)) q) || is_home o f q) (λ q. not (is_home o g q) || is_home o f q) 0 64 (λ q low. ap (λ (b : Bool). not b || is_home o f q) (is_in-that (is_home o g) q (omega arith)))
 
 homes-told : (o : List Bool) (T : Sketch) (f : Figure) → suffices (map (with_set (homes_on (array_of o))) T) (with_set (homes_on (array_of o)) f) ≡ has_homes o T f
-unfolding suffices home_count homes_on is_home_on
+unfolding suffices home_count homes_on has_like
 homes-told o T f =
     ap (λ (n : ℕ). not (nat_lt n (count_by (lives_in (with_set (homes_on (array_of o)) f)) (map (with_set (homes_on (array_of o))) T)))) (count-same (is_in (squares_that (is_home o f))) (is_home o f) 0 64 (λ q low. is_in-that (is_home o f) q (omega arith)))
     ∙ ap (λ (n : ℕ). not (nat_lt (count_by (is_home o f) (range_with_len 0 64)) n)) (count-made (lives_in (with_set (homes_on (array_of o)) f)) (lives_within o f) (with_set (homes_on (array_of o))) T (lives-told o f))

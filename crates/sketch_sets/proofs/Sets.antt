@@ -5,10 +5,10 @@ use Rattle.std.specs.Prelude.{nat_lt}
 use Rattle.std.specs.List.{list_all, list_any, range_with_len}
 use Rattle.board_base.specs.Board.{is_in}
 use Rattle.board_base.specs.Squares.{number_of, squares_of}
-use Rattle.cage_rules.specs.Sets.{squares_that}
+use Rattle.cage_rules.specs.Sets.{squares_that, union}
 use Rattle.cage_rules.specs.Steps.{both, outside}
 use Rattle.cage_rules.proofs.Filling.{Filled, empty-start, filled-in, filled-out, filled-that, is_in-that}
-use Rattle.cage_rules.proofs.SetAlgebra.{is_in-both, is_in-outside, none-bits}
+use Rattle.cage_rules.proofs.SetAlgebra.{is_in-both, is_in-outside, is_in-union, none-bits}
 use Rattle.sketch_sets.specs.Tests.{is_inside, meets}
 
 -- tests that agree on the board
@@ -88,3 +88,16 @@ those-more inside p those more i j b low here made high none next before = recor
 
 pub those-end : (inside : List Bool) (p : ℕ → Bool) (those : List Bool) (i : ℕ) → 64 ≤ i → Those inside p those i → those ≡ squares_that (λ s. is_in inside s && p s)
 those-end inside p those i past done = filled-that (λ s. is_in inside s && p s) those i past done.filled
+
+-- a square of both sets, of either, and outside one
+pub told-both : (a b made : List Bool) (s : ℕ) → s < 64 → made ≡ squares_that (λ t. is_in a t && is_in b t) → is_in made s ≡ (is_in a s && is_in b s)
+told-both a b made s low e = ap (λ (l : List Bool). is_in l s) e ∙ is_in-that (λ t. is_in a t && is_in b t) s low
+
+pub told-outside : (a made : List Bool) (s : ℕ) → s < 64 → made ≡ squares_that (λ t. not (is_in a t)) → is_in made s ≡ not (is_in a s)
+told-outside a made s low e = ap (λ (l : List Bool). is_in l s) e ∙ is_in-that (λ t. not (is_in a t)) s low
+
+pub told-either : (a b made : List Bool) (s : ℕ) → s < 64 → made ≡ union a b → is_in made s ≡ (is_in a s || is_in b s)
+told-either a b made s low e = ap (λ (l : List Bool). is_in l s) e ∙ is_in-union a b s low
+
+pub told-less : (a b out made : List Bool) (s : ℕ) → s < 64 → out ≡ squares_that (λ t. not (is_in b t)) → made ≡ squares_that (λ t. is_in a t && is_in out t) → is_in made s ≡ (is_in a s && not (is_in b s))
+told-less a b out made s low eo e = told-both a out made s low e ∙ ap (λ (x : Bool). is_in a s && x) (told-outside b out s low eo)

@@ -1,33 +1,28 @@
 -- Touched squares, figure by figure.
-use Rattle.std.proofs.Common.{◌≡◌, ℕ, zero, suc, ◌+◌, ◌<◌, ◌≤◌, ◌==◌, Bool, true, false, ◌&&◌, ◌||◌, not, List, length, get_or, replicate, set, max, refl, ap, sym, ◌∙◌, arith}
-use Rattle.std.proofs.lemmas.Bool.{and_from, and_parts, both_ways, false_from_ne_true}
-use Rattle.std.specs.Prelude.{None, Option}
+use Rattle.std.proofs.Common.{◌≡◌, ℕ, ◌*◌, ◌<◌, ◌==◌, Bool, true, false, ◌&&◌, ◌||◌, not, List, length, refl, ap, sym, ◌∙◌, arith}
+use Rattle.std.proofs.lemmas.Bool.{and_from, and_parts, both_ways, eq-eqb, eqb-true, false_from_ne_true}
 use Rattle.std.specs.List.{list_all, list_any, range_with_len}
 use Rattle.general_lemmas.proofs.Truth.{same_truth}
 use Rattle.general_lemmas.proofs.Ranges.{any-found}
-use Rattle.board_base.specs.Board.{Places, is_in, no_men, same_kind}
-use Rattle.board_base.specs.Attacks.{files_apart, kind_attacks, king_distance, ranks_apart}
+use Rattle.board_base.specs.Board.{file, is_in, opponent, rank}
+use Rattle.board_base.specs.Attacks.{files_apart, kind_attacks, on_one_diagonal, on_one_line, one_ahead, ranks_apart}
 use Rattle.board_base.specs.declared.men.Colour.{Colour}
+use Rattle.board_base.specs.declared.men.Colour.TheVariants.{White, Black}
 use Rattle.board_base.specs.declared.men.Kind.{Kind}
-use Rattle.board_base.specs.declared.men.Kind.TheVariants.{Knight}
-use Rattle.board_base.specs.declared.men.Man.{Man}
-use Rattle.cage_rules.specs.Regions.{wall, walls}
-use Rattle.cage_rules.specs.Sets.{squares_that}
-use Rattle.cage_rules.proofs.Filling.{Filled, filled-end, filled-in, filled-out, filled-start}
+use Rattle.board_base.specs.declared.men.Kind.TheVariants.{Pawn, Knight, Bishop, Rook, Queen, King}
+use Rattle.board_base.proofs.Ways.{distance-sym, king_distance-sym}
+use Rattle.cage_rules.specs.Frozen.{is_next}
+use Rattle.cage_rules.proofs.SetAlgebra.{that-is}
 use Rattle.cage_rules.proofs.Tested.{any-told, member-inside}
-use Rattle.past_sketches.specs.Figures.{Figure, Sketch, is_fixed_on}
-use Rattle.past_sketches.specs.Touching.{touched_squares, touches, touches_from}
+use Rattle.past_sketches.specs.Figures.{Figure, Sketch, is_fixed_on, only_on}
+use Rattle.past_sketches.specs.Touching.{gives_check, kings_of, touched_squares, touches, touches_from}
 use Rattle.past_sketches.proofs.Sketches.{fixed-there}
-use Rattle.sketch_sets.specs.Grounds.{surely_touches, touched_by}
-
-pub touch-made : (c : Colour) (k : Kind) (q s : ℕ) (board : Places) (attacks knight : Bool) (files ranks d : ℕ) → d ≡ max files ranks → board ≡ no_men → attacks ≡ kind_attacks board c k q s → knight ≡ same_kind Knight k → files ≡ files_apart q s → ranks ≡ ranks_apart q s → (attacks && (knight || (d == 1))) ≡ touches c k q s
-unfolding touches king_distance
-touch-made c k q s board attacks knight files ranks d ed eb ea ek ef er =
-    ap (λ (n : ℕ). attacks && (knight || (n == 1))) ed
-    ∙ ap (λ (x : Bool). x && (knight || (max files ranks == 1))) (ea ∙ ap (λ (b : Places). kind_attacks b c k q s) eb)
-    ∙ ap (λ (x : Bool). kind_attacks no_men c k q s && (x || (max files ranks == 1))) ek
-    ∙ ap (λ (n : ℕ). kind_attacks no_men c k q s && (same_kind Knight k || (max n ranks == 1))) ef
-    ∙ ap (λ (n : ℕ). kind_attacks no_men c k q s && (same_kind Knight k || (max (files_apart q s) n == 1))) er
+use Rattle.figures.proofs.Singles.{in-only, only-in}
+use Rattle.sketch_sets.specs.Grounds.{is_king_there, surely_touches, touched_by}
+use Rattle.sketch_sets.specs.Shifts.{attacks_past}
+use Rattle.sketch_sets.specs.Tests.{meets, some_that}
+use Rattle.sketch_sets.proofs.Attacking.{line-touched, touches-made}
+use Rattle.sketch_sets.proofs.Shifting.{some-same}
 
 pub surely-there : (f : Figure) (q s : ℕ) → length f.squares ≡ 64 → is_fixed_on q f ≡ true → list_all (λ k. touches f.colour k q s) f.kinds ≡ surely_touches f s
 unfolding surely_touches
@@ -48,25 +43,58 @@ surely-none f s none = sym (false_from_ne_true _ (λ some.
     let it = any-told (touches_from f s) 0 64 some in
     both_ways _ (none it.0) (and_parts (is_fixed_on it.0 f) (list_all (λ k. touches f.colour k it.0 s) f.kinds) it.2).0))
 
-pub touched-made : (T : Sketch) (c : Colour) → squares_that (λ s. list_any (touched_by c s) T) ≡ touched_squares T c
+-- who touches a square from another is touched from there by his like of the other colour
+eqb-back : (a b : ℕ) → (a == b) ≡ (b == a)
+eqb-back a b = same_truth _ _ (λ h. eq-eqb b a (sym (eqb-true a b h))) (λ h. eq-eqb a b (sym (eqb-true b a h)))
+
+next-back : (e s : ℕ) → is_next e s ≡ is_next s e
+next-back e s = ap (λ (n : ℕ). n == 1) (king_distance-sym e s)
+
+line-back : (e s : ℕ) → on_one_line e s ≡ on_one_line s e
+line-back e s = ap (λ (x : Bool). x || (rank e == rank s)) (eqb-back (file e) (file s)) ∙ ap (λ (x : Bool). (file s == file e) || x) (eqb-back (rank e) (rank s))
+
+diagonal-back : (e s : ℕ) → on_one_diagonal e s ≡ on_one_diagonal s e
+diagonal-back e s = ap (λ (n : ℕ). n == ranks_apart e s) (distance-sym (file e) (file s)) ∙ ap (λ (n : ℕ). files_apart s e == n) (distance-sym (rank e) (rank s))
+
+along-back : (e s : ℕ) (a b : Bool) → a ≡ b → (a && is_next e s) ≡ (b && is_next s e)
+along-back e s a b same = ap (λ (x : Bool). x && is_next e s) same ∙ ap (λ (x : Bool). b && x) (next-back e s)
+
+touch-back : (c : Colour) (k : Kind) (e s : ℕ) → touches c k e s ≡ touches (opponent c) k s e
+unfolding touches kind_attacks
+touch-back White Pawn e s = ap (λ (n : ℕ). (one_ahead White e s && (n == 1)) && (false || is_next e s)) (distance-sym (file e) (file s)) ∙ ap (λ (x : Bool). (one_ahead White e s && (files_apart s e == 1)) && (false || x)) (next-back e s)
+touch-back Black Pawn e s = ap (λ (n : ℕ). (one_ahead Black e s && (n == 1)) && (false || is_next e s)) (distance-sym (file e) (file s)) ∙ ap (λ (x : Bool). (one_ahead Black e s && (files_apart s e == 1)) && (false || x)) (next-back e s)
+touch-back c Knight e s = ap (λ (n : ℕ). (n * ranks_apart e s == 2) && true) (distance-sym (file e) (file s)) ∙ ap (λ (n : ℕ). (files_apart s e * n == 2) && true) (distance-sym (rank e) (rank s))
+touch-back c Bishop e s = sym (line-touched e s (on_one_diagonal e s)) ∙ along-back e s (on_one_diagonal e s) (on_one_diagonal s e) (diagonal-back e s) ∙ line-touched s e (on_one_diagonal s e)
+touch-back c Rook e s = sym (line-touched e s (on_one_line e s)) ∙ along-back e s (on_one_line e s) (on_one_line s e) (line-back e s) ∙ line-touched s e (on_one_line s e)
+touch-back c Queen e s =
+    let both : (on_one_line e s || on_one_diagonal e s) ≡ (on_one_line s e || on_one_diagonal s e) = ap (λ (x : Bool). x || on_one_diagonal e s) (line-back e s) ∙ ap (λ (x : Bool). on_one_line s e || x) (diagonal-back e s) in
+    sym (line-touched e s (on_one_line e s || on_one_diagonal e s)) ∙ along-back e s (on_one_line e s || on_one_diagonal e s) (on_one_line s e || on_one_diagonal s e) both ∙ line-touched s e (on_one_line s e || on_one_diagonal s e)
+touch-back c King e s = ap (λ (x : Bool). x && (false || is_next e s)) (next-back e s) ∙ ap (λ (x : Bool). is_next s e && (false || x)) (next-back e s)
+
+some-only : (q : ℕ) (p : ℕ → Bool) → q < 64 → some_that (only_on q) p ≡ p q
+unfolding some_that
+some-only q p low = same_truth _ _
+    (λ h.
+    let it = any-told (λ s. is_in (only_on q) s && p s) 0 64 h in
+    let parts = and_parts (is_in (only_on q) it.0) (p it.0) it.2 in
+    ap p (sym (only-in q it.0 parts.0)) ∙ parts.1)
+    (λ h. any-found (λ s. is_in (only_on q) s && p s) 0 64 q (omega arith) low (and_from _ _ (in-only q low) h))
+
+pub touched-from : (c : Colour) (k : Kind) (q s : ℕ) (here fixed : List Bool) → q < 64 → here ≡ only_on q → some_that here (attacks_past k (opponent c) fixed 1 s) ≡ touches c k q s
+touched-from c k q s here fixed low is =
+    ap (λ (l : List Bool). some_that l (attacks_past k (opponent c) fixed 1 s)) is
+    ∙ some-same (only_on q) (attacks_past k (opponent c) fixed 1 s) (touches (opponent c) k s) (λ t inside. touches-made fixed (opponent c) k s t)
+    ∙ some-only q (touches (opponent c) k s) low
+    ∙ sym (touch-back c k q s)
+
+pub touched-made : (T : Sketch) (c : Colour) (made : List Bool) → length made ≡ 64 → ((s : ℕ) → s < 64 → is_in made s ≡ list_any (touched_by c s) T) → made ≡ touched_squares T c
 unfolding touched_squares surely_touches
-touched-made T c = refl
+touched-made T c made size each = that-is (λ s. list_any (touched_by c s) T) made size each
 
--- walls, square by square
-nobody : (t n : ℕ) → get_or (replicate {A = Option Man} n None) t None ≡ None
-nobody t zero = refl
-nobody zero (suc n) = refl
-nobody (suc t) (suc n) = nobody t n
+pub kings-made : (T : Sketch) (c : Colour) (made : List Bool) → length made ≡ 64 → ((q : ℕ) → q < 64 → is_in made q ≡ list_any (is_king_there c q) T) → made ≡ kings_of T c
+unfolding kings_of is_king_there
+kings-made T c made size each = that-is (λ q. list_any (is_king_there c q) T) made size each
 
-pub walls-start : (set : List Bool) (board : Places) → board ≡ no_men → Filled (λ s. wall (is_in set s)) None board 0
-walls-start set board e = filled-start (λ s. wall (is_in set s)) None board (ap length e) (λ t. ap (λ (b : Places). get_or b t None) e ∙ nobody t 64)
-
-pub walls-in : (inside : List Bool) (board : Places) (i : ℕ) (m : Option Man) → i < 64 → is_in inside i ≡ true → wall true ≡ m → Filled (λ s. wall (is_in inside s)) None board i → Filled (λ s. wall (is_in inside s)) None (set board i m) (i + 1)
-walls-in inside board i m low there e before = filled-in (λ s. wall (is_in inside s)) None board i m low (ap wall there ∙ e) before
-
-pub walls-out : (inside : List Bool) (board : Places) (i : ℕ) → is_in inside i ≡ false → Filled (λ s. wall (is_in inside s)) None board i → Filled (λ s. wall (is_in inside s)) None board (i + 1)
-walls-out inside board i out before = filled-out (λ s. wall (is_in inside s)) None board i (ap wall out) before
-
-pub walls-made : (inside : List Bool) (board : Places) (i : ℕ) → 64 ≤ i → Filled (λ s. wall (is_in inside s)) None board i → board ≡ walls inside
-unfolding walls
-walls-made inside board i past filled = filled-end (λ s. wall (is_in inside s)) None board i past filled
+pub check-made : (T : Sketch) (c : Colour) → meets (kings_of T (opponent c)) (touched_squares T c) ≡ gives_check T c
+unfolding gives_check meets
+check-made T c = refl

@@ -1,7 +1,7 @@
--- Quiet ways, test by test.
+-- Quiet ways, from the ground to the sketch.
 use Rattle.std.proofs.Common.{◌≡◌, ℕ, ◌+◌, ◌*◌, ◌<◌, ◌==◌, Bool, true, false, ◌&&◌, ◌||◌, not, List, [], ◌∷◌, map, refl, ap, sym, ◌∙◌, arith}
 use Rattle.std.specs.List.{list_any, range_with_len}
-use Rattle.std.proofs.lemmas.Bool.{and_left, lt-ltb}
+use Rattle.std.proofs.lemmas.Bool.{lt-ltb}
 use Rattle.board_base.specs.Board.{file, is_in, opponent, rank, same_kind}
 use Rattle.board_base.specs.Attacks.{kind_attacks, on_the_way, one_ahead, ranks_apart, toward}
 use Rattle.board_base.specs.Legal.{pawn_rank}
@@ -22,14 +22,10 @@ use Rattle.sketch_sets.specs.Grounds.{ground_of, kings, touched}
 use Rattle.sketch_sets.specs.Files.{gives_room, has_all_room, straight}
 use Rattle.sketch_sets.specs.Tests.{some_that}
 use Rattle.sketch_sets.specs.Origins.{comes_from, is_origin, widened, widened_set}
-use Rattle.sketch_sets.specs.Quiet.{goes_on, guards_on, pawn_on, quiet_on}
+use Rattle.sketch_sets.specs.Quiet.{goes_on, guards_on, pawn_past, quiet_on}
 use Rattle.sketch_sets.specs.Remade.{with_set}
 use Rattle.sketch_sets.specs.Wide.{from_on, origin_on, room_on, wide_on, wide_set_on}
 use Rattle.sketch_sets.proofs.Sets.{any-same}
-
-pub guards-made : (g : Ground) (c : Colour) (k : Kind) (e : ℕ) → some_that (kings g (opponent c)) (λ q. touches c k e q) ≡ guards_on g c k e
-unfolding some_that guards_on
-guards-made g c k e = refl
 
 pub way-number : (e s n a b : ℕ) → a ≡ toward (rank e) (rank s) n → b ≡ toward (file e) (file s) n → 8 * a + b ≡ on_the_way e s n
 unfolding on_the_way
@@ -41,26 +37,6 @@ five fe fs re pr ra fe' fs' re' pr' ra' a a' h1 h2 h3 h4 h5 h6 = cc
 pub straight-made : (c : Colour) (e s : ℕ) (fe fs re pr ra : ℕ) (ahead : Bool) → fe ≡ file e → fs ≡ file s → re ≡ rank e → pr ≡ pawn_rank c → ra ≡ ranks_apart e s → ahead ≡ one_ahead c e s → ((fe == fs) && (ahead || ((re == pr) && (ra == 2)))) ≡ straight c e s
 unfolding straight
 straight-made c e s fe fs re pr ra ahead h1 h2 h3 h4 h5 h6 = five fe fs re pr ra (file e) (file s) (rank e) (pawn_rank c) (ranks_apart e s) ahead (one_ahead c e s) h1 h2 h3 h4 h5 h6
-
-three : (a b d a' b' d' : Bool) → a ≡ a' → b ≡ b' → d ≡ d' → (a && (b || not d)) ≡ (a' && (b' || not d'))
-three a b d a' b' d' h1 h2 h3 = cc
-
-pub pawn-made : (g : Ground) (c : Colour) (e s : ℕ) (goes ahead over : Bool) → goes ≡ straight c e s → ahead ≡ one_ahead c e s → over ≡ is_in g.fixed (on_the_way e s 1) → (goes && (ahead || not over)) ≡ pawn_on g c e s
-unfolding pawn_on
-pawn-made g c e s goes ahead over h1 h2 h3 = three goes ahead over (straight c e s) (one_ahead c e s) (is_in g.fixed (on_the_way e s 1)) h1 h2 h3
-
--- a quiet way, test by test
-pub quiet-fixed : (g : Ground) (c : Colour) (k : Kind) (e s : ℕ) → is_in g.fixed e ≡ true → false ≡ quiet_on g c k e s
-unfolding quiet_on
-quiet-fixed g c k e s h = sym (ap (λ (x : Bool). not x && (not (is_in g.held s) && (not (guards_on g c k e) && goes_on g c k e s))) h)
-
-pub quiet-held : (g : Ground) (c : Colour) (k : Kind) (e s : ℕ) → is_in g.fixed e ≡ false → is_in g.held s ≡ true → false ≡ quiet_on g c k e s
-unfolding quiet_on
-quiet-held g c k e s h i = sym (ap (λ (x : Bool). not x && (not (is_in g.held s) && (not (guards_on g c k e) && goes_on g c k e s))) h ∙ ap (λ (x : Bool). not x && (not (guards_on g c k e) && goes_on g c k e s)) i)
-
-pub quiet-guards : (g : Ground) (c : Colour) (k : Kind) (e s : ℕ) (b : Bool) → is_in g.fixed e ≡ false → is_in g.held s ≡ false → guards_on g c k e ≡ b → (not b && goes_on g c k e s) ≡ quiet_on g c k e s
-unfolding quiet_on
-quiet-guards g c k e s b h i j = sym (ap (λ (x : Bool). not x && (not (is_in g.held s) && (not (guards_on g c k e) && goes_on g c k e s))) h ∙ ap (λ (x : Bool). not x && (not (guards_on g c k e) && goes_on g c k e s)) i ∙ ap (λ (x : Bool). not x && goes_on g c k e s) j)
 
 -- room
 pub room-officer : (exact : List Bool) (T : Sketch) (f : Figure) (k : Kind) (e : ℕ) → same_kind Pawn k ≡ false → true ≡ room_on exact T f k e
@@ -74,22 +50,6 @@ room-exact exact T f k e pawn there = sym (ap (λ (x : Bool). not x || (not (is_
 pub room-free : (exact : List Bool) (T : Sketch) (f : Figure) (k : Kind) (e : ℕ) → same_kind Pawn k ≡ true → is_in exact (file e) ≡ false → has_all_room T f e ≡ room_on exact T f k e
 unfolding room_on
 room-free exact T f k e pawn out = sym (ap (λ (x : Bool). not x || (not (is_in exact (file e)) && has_all_room T f e)) pawn ∙ ap (λ (x : Bool). not x && has_all_room T f e) out)
-
-pub from-none : (g : Ground) (exact : List Bool) (T : Sketch) (f : Figure) (e : ℕ) (k : Kind) → room_on exact T f k e ≡ false → false ≡ from_on g exact T f e k
-unfolding from_on
-from-none g exact T f e k no_room = sym (and_left _ _ no_room)
-
-pub from-some : (g : Ground) (exact : List Bool) (T : Sketch) (f : Figure) (e : ℕ) (k : Kind) → room_on exact T f k e ≡ true → some_that f.squares (λ s. quiet_on g f.colour k e s) ≡ from_on g exact T f e k
-unfolding from_on
-from-some g exact T f e k room = sym (ap (λ (x : Bool). x && some_that f.squares (λ s. quiet_on g f.colour k e s)) room)
-
-pub wide-his : (g : Ground) (exact : List Bool) (T : Sketch) (f : Figure) (e : ℕ) → is_in f.squares e ≡ true → true ≡ wide_on g exact T f e
-unfolding wide_on
-wide-his g exact T f e his = sym (ap (λ (x : Bool). x || origin_on g exact T f e) his)
-
-pub wide-other : (g : Ground) (exact : List Bool) (T : Sketch) (f : Figure) (e : ℕ) → is_in f.squares e ≡ false → origin_on g exact T f e ≡ wide_on g exact T f e
-unfolding wide_on
-wide-other g exact T f e other = sym (ap (λ (x : Bool). x || origin_on g exact T f e) other)
 
 -- from the ground to the sketch
 kings-by : (held : Rights) (T : Sketch) (c : Colour) → kings (ground_of held T) c ≡ kings_of T c
@@ -107,7 +67,7 @@ guards-told held T c k e low =
     ∙ sym (is_in-that (λ e. list_any (λ q. is_in (kings_of T (opponent c)) q && touches c k e q) (range_with_len 0 64)) e low)
 
 goes-told : (held : Rights) (T : Sketch) (c : Colour) (k : Kind) (e s : ℕ) → goes_on (ground_of held T) c k e s ≡ goes_past T c k e s
-unfolding goes_on pawn_on straight
+unfolding goes_on pawn_past straight
 goes-told held T c Pawn e s = refl
 goes-told held T c King e s = ap (λ (l : List Bool). kind_attacks (walls (fixed_squares T)) c King e s && not (is_in l s)) (touched-by held T (opponent c))
 goes-told held T c Knight e s = refl

@@ -2,12 +2,11 @@
 -- What the ways of a sketch's figures depend on.
 use Rattle.std.specs.Prelude.{ℕ, Bool, ◌&&◌, List}
 use Rattle.std.specs.List.{list_any, range_with_len}
-use Rattle.board_base.specs.Board.{opponent, same_colour}
+use Rattle.board_base.specs.Board.{same_colour}
 use Rattle.board_base.specs.Rights.{Rights}
 use Rattle.board_base.specs.declared.men.Colour.{Colour}
 use Rattle.board_base.specs.declared.men.Colour.TheVariants.{White, Black}
 use Rattle.cage_rules.specs.Frozen.{is_held_home}
-use Rattle.cage_rules.specs.Regions.{walls}
 use Rattle.cage_rules.specs.Sets.{squares_that}
 use Rattle.past_sketches.specs.Figures.{Figure, Sketch, fixed_squares}
 use Rattle.past_sketches.specs.Touching.{is_king_on, kings_of, touched_squares, touches_from}
@@ -24,14 +23,9 @@ touched_by c s f = same_colour c f.colour && surely_touches f s
 unfoldable pub is_king_there : Colour → ℕ → Figure → Bool
 is_king_there c q f = is_king_on c q f
 
--- the figure is a king of the other colour, fixed on a square that a fixed figure of this colour surely touches
-unfoldable pub is_checked : Sketch → Colour → Figure → Bool
-is_checked T c f = list_any (λ q. is_king_there (opponent c) q f && list_any (touched_by c q) T) (range_with_len 0 64)
-
 abbrev pub ground_of : Rights → Sketch → Ground
 ground_of held T = record {
   fixed = fixed_squares T;
-  walls = walls (fixed_squares T);
   held = squares_that (is_held_home held);
   white_kings = kings_of T White;
   black_kings = kings_of T Black;

@@ -7,8 +7,11 @@ use Rattle.cage_rules.specs.Sets.{squares_that}
 use Rattle.past_sketches.specs.Figures.{Figure, Sketch}
 use Rattle.sketch_sets.specs.Tests.{is_inside}
 
-unfoldable pub is_home_on : Places → Figure → ℕ → Bool
-is_home_on first f h = is_in f.squares h && list_any (λ k. is_the f.colour k (at first h)) f.kinds
+unfoldable pub has_like : Places → Figure → ℕ → Bool
+has_like first f h = list_any (λ k. is_the f.colour k (at first h)) f.kinds
+
+abbrev pub is_home_on : Places → Figure → ℕ → Bool
+is_home_on first f h = is_in f.squares h && has_like first f h
 
 unfoldable pub homes_on : Places → Figure → List Bool
 homes_on first f = squares_that (is_home_on first f)

@@ -5,6 +5,7 @@ pub mod Tests
 pub mod Remade
 pub mod Origins
 pub mod Grounds
+pub mod Shifts
 pub mod Quiet
 pub mod Wide
 pub mod Clashes

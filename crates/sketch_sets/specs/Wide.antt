@@ -16,7 +16,7 @@ unfoldable pub room_on : List Bool → Sketch → Figure → Kind → ℕ → Bo
 room_on exact T f k e = not (same_kind Pawn k) || (not (is_in exact (file e)) && has_all_room T f e)
 
 unfoldable pub from_on : Ground → List Bool → Sketch → Figure → ℕ → Kind → Bool
-from_on g exact T f e k = room_on exact T f k e && some_that f.squares (λ s. quiet_on g f.colour k e s)
+from_on g exact T f e k = room_on exact T f k e && some_that f.squares (quiet_on g f.colour k e)
 
 unfoldable pub origin_on : Ground → List Bool → Sketch → Figure → ℕ → Bool
 origin_on g exact T f e = list_any (from_on g exact T f e) f.kinds

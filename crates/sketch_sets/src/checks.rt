@@ -4,9 +4,9 @@ ghost use Rattle.past_sketches.specs.Clashes.{is_clash};
 ghost use Rattle.past_sketches.specs.Figures.{is_fixed_on};
 ghost use Rattle.past_sketches.specs.Touching.{gives_check, side_checks};
 ghost use Rattle.sketch_sets.specs.Clashes.{has_no_square, has_two};
-ghost use Rattle.sketch_sets.specs.Grounds.{is_checked};
 
-use crate::touching::{is_king_on, is_touched};
+use crate::masks::meets;
+use crate::touching::{kings_of, touched_squares};
 use board_base::{Colour, SquareSet};
 use figures::{Figure, Sketch};
 
@@ -47,35 +47,12 @@ pub fn is_clash(sketch: &Sketch) -> bool
     has_nowhere(sketch) | has_two(sketch)
 }
 
-/// Whether the figure is a king of the other colour, fixed on a square that a fixed figure of this colour surely touches.
-fn is_checked(sketch: &Sketch, colour: Colour, figure: &Figure) -> bool
-    ensures { result ≡ is_checked sketch.now colour figure.now }
-{
-    let Some(q) = figure.fixed_square() else {
-        return false;
-    };
-    let king = is_king_on(colour.other(), figure, q);
-    if !king {
-        return false;
-    }
-    is_touched(sketch, colour, q)
-}
-
-/// Whether some figure is such a king.
-fn has_checked(sketch: &Sketch, colour: Colour) -> bool
-    ensures { result ≡ list_any (is_checked sketch.now colour) sketch.now }
-{
-    sketch
-        .figures()
-        .iter()
-        .any(|figure| is_checked(sketch, colour, figure))
-}
-
 /// Whether a fixed figure of this colour surely touches a fixed enemy king.
 pub fn gives_check(sketch: &Sketch, colour: Colour) -> bool
     ensures { result ≡ gives_check sketch.now colour }
 {
-    has_checked(sketch, colour)
+    let kings = kings_of(sketch, colour.other());
+    meets(kings, touched_squares(sketch, colour))
 }
 
 /// Whether one of the figure's colour does; false if there is no figure.

@@ -1,12 +1,10 @@
-use board_base::{Board, SquareSet};
+use board_base::SquareSet;
 
 /// What the ways of a sketch's figures depend on.
 #[derive(Clone, Copy)]
 pub(crate) struct Ground {
     /// The squares on which figures are fixed.
     pub(crate) fixed: SquareSet,
-    /// A board on which exactly those are occupied.
-    pub(crate) walls: Board,
     /// The homes of the rights that are held.
     pub(crate) held: SquareSet,
     /// The squares on which kings are fixed.

@@ -2,27 +2,27 @@ ghost use Rattle.std.specs.Prelude.{◌≡◌, ◌≤◌, nat_lt, count_by, not}
 ghost use Rattle.std.specs.List.{list_all};
 ghost use Rattle.board_base.specs.Board.{same_colour};
 ghost use Rattle.past_sketches.specs.Homes.{may_be_array};
-ghost use Rattle.sketch_sets.specs.Homes.{home_count, homes_on, is_home_on, lives_in, suffices};
+ghost use Rattle.sketch_sets.specs.Homes.{has_like, home_count, homes_on, lives_in, suffices};
 
-use crate::masks::is_within;
+use crate::masks::{is_within, those_that};
 use crate::remade::with_sets;
 use board_base::{Board, Odds, Square, SquareSet, array_of, is_the};
-use figures::{Figure, Sketch, squares_that};
+use figures::{Figure, Sketch};
 
-/// Whether the figure may stand on `h`, and the board has a man of his colour and of one of his kinds there.
-fn is_home(first: &Board, figure: &Figure, h: Square) -> bool
-    ensures { result ≡ is_home_on first.now figure.now h }
+/// Whether the board has a man of the figure's colour and of one of his kinds on `h`.
+fn has_like(first: &Board, figure: &Figure, h: Square) -> bool
+    ensures { result ≡ has_like first.now figure.now h }
 {
     let colour = figure.colour;
     let place = first.at(h);
-    figure.squares.has(h) & figure.kinds.any(|kind| is_the(colour, kind, place))
+    figure.kinds.any(|kind| is_the(colour, kind, place))
 }
 
 /// The homes of the figure on a board.
 fn homes(first: &Board, figure: Figure) -> SquareSet
     ensures { result ≡ homes_on first.now figure }
 {
-    squares_that(|h| is_home(first, &figure, h))
+    those_that(figure.squares, |h| has_like(first, &figure, h))
 }
 
 /// How many squares the set has.

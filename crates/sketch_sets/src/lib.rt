@@ -11,10 +11,13 @@ mod ground;
 mod homes;
 mod masks;
 mod origins;
+mod pieces;
 mod remade;
+mod shifts;
 mod terrain;
 mod touching;
 mod trims;
+mod unions;
 mod ways;
 
 pub use checks::{gives_check, is_clash, side_checks};

@@ -2,10 +2,10 @@ ghost use Rattle.std.specs.Prelude.{◌≡◌, ◌<◌, ◌==◌, ◌&&◌, ℕ,
 ghost use Rattle.std.specs.List.{list_any, range_with_len};
 ghost use Rattle.board_base.specs.Board.{file, is_in, rank};
 ghost use Rattle.cage_rules.specs.Sets.{squares_that};
-ghost use Rattle.sketch_sets.specs.Tests.{is_inside, meets, some_that};
+ghost use Rattle.sketch_sets.specs.Tests.{is_inside, meets};
 
 use board_base::{Square, SquareSet};
-use figures::{both, is_whole, outside, with_if};
+use figures::{both, outside, with_if};
 
 /// Whether each square of the first set is in the second.
 pub(crate) fn is_within(a: SquareSet, b: SquareSet) -> bool
@@ -93,39 +93,4 @@ pub fn those_that<F: Fn(Square) -> bool>(set: SquareSet, test: F) -> SquareSet
         i = set.next_from(i + 1);
     }
     those
-}
-
-/// Whether the square with this number is in the set; none above 63 is.
-pub(crate) fn has_number(set: SquareSet, n: u8) -> bool
-    ensures { result ≡ is_in set n }
-{
-    is_whole(set);
-    match Square::new(n) {
-        Some(s) => set.has(s),
-        None => false,
-    }
-}
-
-/// Whether the square is in the set and passes the test.
-fn passes<F: Fn(Square) -> bool>(set: SquareSet, test: &F, s: Square) -> bool
-    requires { F.IsAlwaysCallable test.now }
-    ensures { (p : ℕ → Bool) → ((t : ℕ) (b : Bool) → t < 64 → F.post test.now t b → b ≡ p t) → result ≡ (is_in set s && p s) }
-{
-    if set.has(s) {
-        return test(s);
-    }
-    false
-}
-
-/// Whether some square of the set passes the test.
-pub(crate) fn any_of<F: Fn(Square) -> bool>(set: SquareSet, test: F) -> bool
-    requires { F.IsAlwaysCallable test }
-    ensures { (p : ℕ → Bool) → ((s : ℕ) (b : Bool) → s < 64 → F.post test s b → b ≡ p s) → result ≡ some_that set p }
-{
-    for i in 0..64 {
-        if passes(set, &test, Square::known(i)) {
-            return true;
-        }
-    }
-    false
 }

@@ -1,15 +1,17 @@
-ghost use Rattle.std.specs.Prelude.{◌≡◌, List, Bool, length};
-ghost use Rattle.sketch_sets.specs.Wide.{from_on, origin_on, room_on, wide_on, wide_set_on};
+ghost use Rattle.std.specs.Prelude.{◌≡◌, ◌<◌, ℕ, false};
+ghost use Rattle.board_base.specs.Board.{is_in};
+ghost use Rattle.sketch_sets.specs.Wide.{from_on, room_on, wide_set_on};
 ghost use Rattle.sketch_sets.specs.Origins.{widened};
 
 use crate::ground::Ground;
-use crate::masks::any_of;
+use crate::masks::those_that;
 use crate::remade::with_sets;
 use crate::terrain::ground_of;
 use crate::trims::all_leave_room;
-use crate::ways::{is_pawn, is_quiet};
+use crate::unions::over_kinds;
+use crate::ways::{is_pawn, quiet_origins};
 use board_base::{CastleSet, Kind, Square, SquareSet};
-use figures::{Figure, Sketch, squares_that};
+use figures::{Figure, Sketch, both, either, outside};
 
 /// Whether his file isn't exact and all leave him room on `e`, if he is a pawn.
 fn has_room(exact: &[bool; 8], sketch: &Sketch, figure: &Figure, kind: Kind, e: Square) -> bool
@@ -24,54 +26,32 @@ fn has_room(exact: &[bool; 8], sketch: &Sketch, figure: &Figure, kind: Kind, e: 
     all_leave_room(sketch, figure, e)
 }
 
-/// Whether the figure may have come from `e` to some square of his as this kind.
-fn comes_from(
+/// The squares that aren't the figure's and from which he may have come to one of his as this kind, among others that are his.
+fn origins_as(
     ground: &Ground,
     exact: &[bool; 8],
     sketch: &Sketch,
     figure: &Figure,
-    e: Square,
     kind: Kind,
-) -> bool
-    ensures { result ≡ from_on ground.now exact.now sketch.now figure.now e kind }
+) -> SquareSet
+    ensures { (e : ℕ) → e < 64 → is_in figure.now.squares e ≡ false → is_in result e ≡ from_on ground.now exact.now sketch.now figure.now e kind }
 {
-    if !has_room(exact, sketch, figure, kind, e) {
-        return false;
+    let from = quiet_origins(ground, figure.colour, kind, figure.squares);
+    if !is_pawn(kind) {
+        return from;
     }
-    let colour = figure.colour;
-    any_of(figure.squares, |s| is_quiet(ground, colour, kind, e, s))
-}
-
-/// Whether he may have come from `e` as some kind of his.
-fn is_origin(
-    ground: &Ground,
-    exact: &[bool; 8],
-    sketch: &Sketch,
-    figure: &Figure,
-    e: Square,
-) -> bool
-    ensures { result ≡ origin_on ground.now exact.now sketch.now figure.now e }
-{
-    figure
-        .kinds
-        .any(|kind| comes_from(ground, exact, sketch, figure, e, kind))
-}
-
-/// Whether `e` is a square of his, or he may have come from there.
-fn is_wide(ground: &Ground, exact: &[bool; 8], sketch: &Sketch, figure: &Figure, e: Square) -> bool
-    ensures { result ≡ wide_on ground.now exact.now sketch.now figure.now e }
-{
-    if figure.squares.has(e) {
-        return true;
-    }
-    is_origin(ground, exact, sketch, figure, e)
+    let others = both(from, outside(figure.squares));
+    those_that(others, |e| has_room(exact, sketch, figure, kind, e))
 }
 
 /// His squares, and those from which he may have come there.
 fn wide_set(ground: &Ground, exact: &[bool; 8], sketch: &Sketch, figure: Figure) -> SquareSet
     ensures { result ≡ wide_set_on ground.now exact.now sketch.now figure }
 {
-    squares_that(|e| is_wide(ground, exact, sketch, &figure, e))
+    let origins = over_kinds(figure.kinds, |kind| {
+        origins_as(ground, exact, sketch, &figure, kind)
+    });
+    either(figure.squares, origins)
 }
 
 /// A round: each figure has also the squares from which he may have come to one of his.

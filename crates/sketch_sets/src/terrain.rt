@@ -2,7 +2,7 @@ ghost use Rattle.std.specs.Prelude.{◌≡◌};
 ghost use Rattle.sketch_sets.specs.Grounds.{ground_of, kings, touched};
 
 use crate::ground::Ground;
-use crate::touching::{is_held_home, kings_of, touched_squares, walls};
+use crate::touching::{is_held_home, kings_of, touched_squares};
 use board_base::{CastleSet, Colour, SquareSet};
 use figures::{Sketch, fixed_squares, squares_that};
 
@@ -13,7 +13,6 @@ pub(crate) fn ground_of(held: CastleSet, sketch: &Sketch) -> Ground
     let fixed = fixed_squares(sketch);
     Ground {
         fixed,
-        walls: walls(fixed),
         held: squares_that(|s| is_held_home(held, s)),
         white_kings: kings_of(sketch, Colour::White),
         black_kings: kings_of(sketch, Colour::Black),

@@ -1,21 +1,17 @@
-ghost use Rattle.std.specs.Prelude.{◌≡◌, ◌==◌, ◌||◌, ◌&&◌};
-ghost use Rattle.std.specs.List.{list_any};
-ghost use Rattle.board_base.specs.Board.{same_colour, same_kind};
-ghost use Rattle.board_base.specs.declared.men.Kind.TheVariants.{Knight as AKnight};
+ghost use Rattle.std.specs.Prelude.{◌≡◌, ◌<◌, ◌==◌, ◌||◌, ◌&&◌, ℕ, not};
+ghost use Rattle.std.specs.List.{list_all};
+ghost use Rattle.board_base.specs.Board.{is_in, same_colour};
 ghost use Rattle.board_base.specs.Play.{king_home, rook_home};
 ghost use Rattle.board_base.specs.Rights.{holds};
 ghost use Rattle.cage_rules.specs.Frozen.{is_held_home};
-ghost use Rattle.cage_rules.specs.Regions.{walls};
-ghost use Rattle.cage_rules.specs.Sets.{squares_that};
 ghost use Rattle.past_sketches.specs.Touching.{kings_of, touched_squares, touches};
-ghost use Rattle.sketch_sets.specs.Grounds.{is_king_there, surely_touches, touched_by};
+ghost use Rattle.sketch_sets.specs.Grounds.{is_king_there, touched_by};
 
-use board_base::{
-    Board, Castle, CastleSet, Colour, Kind, Man, Square, SquareSet, files_between, man_attacks,
-    ranks_between,
-};
+use crate::pieces::attackers;
+use crate::unions::{over_figures, over_kinds};
+use board_base::{Castle, CastleSet, Colour, Kind, Square, SquareSet};
 use castle_history::home;
-use figures::{Figure, Sketch, squares_that};
+use figures::{Figure, Sketch, is_whole, only_on, outside};
 
 /// Whether the colours are equal.
 pub(crate) fn is_same_colour(a: Colour, b: Colour) -> bool
@@ -24,84 +20,66 @@ pub(crate) fn is_same_colour(a: Colour, b: Colour) -> bool
     a == b
 }
 
-/// Whether it is a knight.
-fn is_knight(kind: Kind) -> bool
-    ensures { result ≡ same_kind AKnight kind }
+/// The squares that a man of this colour and kind on `q` doesn't touch.
+fn not_touched(colour: Colour, kind: Kind, q: Square) -> SquareSet
+    ensures { (s : ℕ) → s < 64 → is_in result s ≡ not (touches colour kind q s) }
 {
-    match kind {
-        Kind::Knight => true,
-        _ => false,
-    }
+    let none = SquareSet::from_bits(0);
+    outside(attackers(colour.other(), kind, only_on(q), none, 1))
 }
 
-/// Whether a man of this colour and kind on `q` attacks `s`, and no square lies between.
-pub(crate) fn touches(colour: Colour, kind: Kind, q: Square, s: Square) -> bool
-    ensures { result ≡ touches colour kind q s }
-{
-    let attacks = man_attacks(&Board::empty(), Man { colour, kind }, q, s);
-    let distance = files_between(q, s).max(ranks_between(q, s));
-    attacks & (is_knight(kind) | (distance == 1))
-}
-
-/// Whether the figure is fixed on a square from which he touches `s`, whatever kind he has.
-fn surely_touches(figure: &Figure, s: Square) -> bool
-    ensures { result ≡ surely_touches figure.now s }
+/// The squares that the figure on `q` touches, whatever kind he has.
+fn touched_on(figure: &Figure, q: Square) -> SquareSet
+    ensures { (s : ℕ) → s < 64 → is_in result s ≡ list_all (λ k. touches figure.now.colour k q s) figure.now.kinds }
 {
     let colour = figure.colour;
-    let kinds = figure.kinds;
+    let left = over_kinds(figure.kinds, |kind| not_touched(colour, kind, q));
+    outside(left)
+}
+
+/// The squares that the figure surely touches, if he has this colour.
+fn touched_by(colour: Colour, figure: Figure) -> SquareSet
+    ensures { (s : ℕ) → s < 64 → is_in result s ≡ touched_by colour s figure }
+{
+    if !is_same_colour(colour, figure.colour) {
+        return SquareSet::from_bits(0);
+    }
     match figure.fixed_square() {
-        Some(q) => kinds.all(|kind| touches(colour, kind, q, s)),
-        None => false,
+        Some(q) => touched_on(&figure, q),
+        None => SquareSet::from_bits(0),
     }
 }
 
-/// Whether the figure has this colour and surely touches the square.
-fn is_touching(colour: Colour, figure: &Figure, s: Square) -> bool
-    ensures { result ≡ touched_by colour s figure.now }
-{
-    is_same_colour(colour, figure.colour) & surely_touches(figure, s)
-}
-
-/// Whether the figure is a king of this colour, fixed on `q`.
-pub(crate) fn is_king_on(colour: Colour, figure: &Figure, q: Square) -> bool
-    ensures { result ≡ is_king_there colour q figure.now }
+/// The square of the figure, if he is a king of this colour and fixed.
+fn king_square(colour: Colour, figure: Figure) -> SquareSet
+    ensures { (q : ℕ) → q < 64 → is_in result q ≡ is_king_there colour q figure }
 {
     let king = figure.kinds.is_only(Kind::King);
-    is_same_colour(colour, figure.colour) & figure.is_fixed_on(q) & king
-}
-
-/// Whether a figure of this colour surely touches the square.
-pub(crate) fn is_touched(sketch: &Sketch, colour: Colour, s: Square) -> bool
-    ensures { result ≡ list_any (touched_by colour s) sketch.now }
-{
-    sketch
-        .figures()
-        .iter()
-        .any(|figure| is_touching(colour, figure, s))
-}
-
-/// Whether a king of this colour is fixed on the square.
-fn has_king_on(sketch: &Sketch, colour: Colour, q: Square) -> bool
-    ensures { result ≡ list_any (is_king_there colour q) sketch.now }
-{
-    sketch
-        .figures()
-        .iter()
-        .any(|figure| is_king_on(colour, figure, q))
+    if !(is_same_colour(colour, figure.colour) & king) {
+        return SquareSet::from_bits(0);
+    }
+    match figure.fixed_square() {
+        Some(s) => only_on(s),
+        None => SquareSet::from_bits(0),
+    }
 }
 
 /// The squares that fixed figures of this colour touch.
 pub(crate) fn touched_squares(sketch: &Sketch, colour: Colour) -> SquareSet
     ensures { result ≡ touched_squares sketch.now colour }
 {
-    squares_that(|s| is_touched(sketch, colour, s))
+    let touched = over_figures(sketch, |figure| touched_by(colour, figure));
+    is_whole(touched);
+    touched
 }
 
 /// The squares on which kings of this colour are fixed.
 pub(crate) fn kings_of(sketch: &Sketch, colour: Colour) -> SquareSet
     ensures { result ≡ kings_of sketch.now colour }
 {
-    squares_that(|q| has_king_on(sketch, colour, q))
+    let kings = over_figures(sketch, |figure| king_square(colour, figure));
+    is_whole(kings);
+    kings
 }
 
 /// Whether the king or the rook of the castling begins on the square.
@@ -126,22 +104,4 @@ pub(crate) fn is_held_home(held: CastleSet, s: Square) -> bool
     let white = is_held_as(held, Castle::WhiteShort, s) | is_held_as(held, Castle::WhiteLong, s);
     let black = is_held_as(held, Castle::BlackShort, s) | is_held_as(held, Castle::BlackLong, s);
     white | black
-}
-
-/// The board on which exactly the squares of the set are occupied.
-pub(crate) fn walls(set: SquareSet) -> Board
-    ensures { result ≡ walls set }
-{
-    let man = Man {
-        colour: Colour::White,
-        kind: Kind::Pawn,
-    };
-    let mut board = Board::empty();
-    for i in 0..64 {
-        let s = Square::known(i);
-        if set.has(s) {
-            board.put(s, Some(man));
-        }
-    }
-    board
 }

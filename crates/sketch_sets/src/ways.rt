@@ -1,16 +1,16 @@
-ghost use Rattle.std.specs.Prelude.{◌≡◌, ◌+◌, ◌<◌, ◌≤◌};
+ghost use Rattle.std.specs.Prelude.{◌≡◌, ◌+◌, ◌<◌, ◌≤◌, ℕ};
 ghost use Rattle.board_base.specs.Attacks.{on_the_way, toward};
-ghost use Rattle.board_base.specs.Board.{same_kind};
+ghost use Rattle.board_base.specs.Board.{is_in, same_kind};
 ghost use Rattle.board_base.specs.declared.men.Kind.TheVariants.{Pawn as APawn};
-ghost use Rattle.cage_rules.specs.Frozen.{is_past_home};
 ghost use Rattle.sketch_sets.specs.Files.{straight};
-ghost use Rattle.sketch_sets.specs.Quiet.{goes_on, guards_on, pawn_on, quiet_on};
+ghost use Rattle.sketch_sets.specs.Quiet.{goes_on, guards_on, quiet_on};
+ghost use Rattle.sketch_sets.specs.Tests.{some_that};
 
 use crate::ground::Ground;
-use crate::masks::{any_of, has_number};
+use crate::pieces::{attackers, pawn_movers};
 use crate::terrain::{kings, touched};
-use crate::touching::touches;
-use board_base::{Colour, Kind, Man, Square, is_ahead, man_attacks, pawn_rank, ranks_between};
+use board_base::{Colour, Kind, Square, SquareSet, is_ahead, pawn_rank, ranks_between};
+use figures::{both, either, is_whole, outside};
 
 /// The number `k` steps on the way from `a` to `b`.
 #[tactic(auto, unfolding(board_base::specs::Attacks::toward))]
@@ -38,26 +38,6 @@ pub fn is_pawn(kind: Kind) -> bool
     }
 }
 
-/// Whether a pawn of this colour on `s` has moved, and is not to be promoted there.
-fn is_past_home(colour: Colour, s: Square) -> bool
-    ensures { result ≡ is_past_home colour s }
-{
-    match colour {
-        Colour::White => 1 < s.rank() && s.rank() < 7,
-        Colour::Black => 0 < s.rank() && s.rank() < 6,
-    }
-}
-
-/// Whether from `e` a man of this colour and kind touches the square of the fixed enemy king.
-fn guards(ground: &Ground, colour: Colour, kind: Kind, e: Square) -> bool
-    ensures { result ≡ guards_on ground.now colour kind e }
-{
-    any_of(
-        kings(ground, colour.other()),
-        |q| touches(colour, kind, e, q),
-    )
-}
-
 /// The number of the square `n` steps on the way from `e` to `s`.
 pub fn on_the_way(e: Square, s: Square, n: u8) -> u8
     requires { n < 8 }
@@ -74,43 +54,43 @@ pub fn goes_straight(colour: Colour, e: Square, s: Square) -> bool
     (e.file() == s.file()) & (is_ahead(colour, e, s) | two)
 }
 
-/// Whether a pawn goes so, over a square on which nobody is fixed if it goes two.
-fn pawn_goes(ground: &Ground, colour: Colour, e: Square, s: Square) -> bool
-    ensures { result ≡ pawn_on ground.now colour e s }
+/// The squares from which a man of this colour and kind touches the square of a fixed enemy king.
+fn guards(ground: &Ground, colour: Colour, kind: Kind) -> SquareSet
+    ensures { (e : ℕ) → e < 64 → is_in result e ≡ guards_on ground.now colour kind e }
 {
-    let over = has_number(ground.fixed, on_the_way(e, s, 1));
-    goes_straight(colour, e, s) & (is_ahead(colour, e, s) | !over)
+    let kings = kings(ground, colour.other());
+    attackers(colour, kind, kings, ground.fixed, 1)
 }
 
-/// Whether a man of this colour and kind goes from `e` to `s` past the fixed figures, a king not to a square that a fixed enemy touches.
-#[tactic(auto, unfolding(crate::specs::Quiet::goes_on))]
-fn goes(ground: &Ground, colour: Colour, kind: Kind, e: Square, s: Square) -> bool
-    ensures { result ≡ goes_on ground.now colour kind e s }
+/// The squares from which a man of this colour and kind goes to one of the set past the fixed figures, a king not to one that a fixed
+/// enemy touches.
+fn goers(ground: &Ground, colour: Colour, kind: Kind, to: SquareSet) -> SquareSet
+    ensures { (e : ℕ) → e < 64 → is_in result e ≡ some_that to (goes_on ground.now colour kind e) }
 {
+    is_whole(ground.fixed);
     match kind {
-        Kind::Pawn => is_past_home(colour, s) & pawn_goes(ground, colour, e, s),
+        Kind::Pawn => pawn_movers(colour, to, ground.fixed),
         Kind::King => {
-            let hit = touched(ground, colour.other()).has(s);
-            man_attacks(&ground.walls, Man { colour, kind }, e, s) & !hit
+            let safe = both(to, outside(touched(ground, colour.other())));
+            attackers(colour, kind, safe, ground.fixed, 7)
         }
         Kind::Knight | Kind::Bishop | Kind::Rook | Kind::Queen => {
-            man_attacks(&ground.walls, Man { colour, kind }, e, s)
+            attackers(colour, kind, to, ground.fixed, 7)
         }
     }
 }
 
-/// Whether a man of this colour and kind goes quietly from `e` to `s`.
-pub(crate) fn is_quiet(ground: &Ground, colour: Colour, kind: Kind, e: Square, s: Square) -> bool
-    ensures { result ≡ quiet_on ground.now colour kind e s }
+/// The squares from which a man of this colour and kind goes quietly to one of the set.
+pub(crate) fn quiet_origins(
+    ground: &Ground,
+    colour: Colour,
+    kind: Kind,
+    squares: SquareSet,
+) -> SquareSet
+    ensures { (e : ℕ) → e < 64 → is_in result e ≡ some_that squares (quiet_on ground.now colour kind e) }
 {
-    if ground.fixed.has(e) {
-        return false;
-    }
-    if ground.held.has(s) {
-        return false;
-    }
-    if guards(ground, colour, kind, e) {
-        return false;
-    }
-    goes(ground, colour, kind, e, s)
+    let loose = both(squares, outside(ground.held));
+    let from = goers(ground, colour, kind, loose);
+    let barred = either(ground.fixed, guards(ground, colour, kind));
+    both(from, outside(barred))
 }

@@ -4,4 +4,5 @@ pub mod Barring
 pub mod Advancing
 pub mod Raising
 pub mod Fitting
+pub mod Going
 pub mod Making

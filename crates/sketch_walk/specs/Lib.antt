@@ -1,5 +1,6 @@
 pub mod Values
 pub mod Shorts
+pub mod Goings
 pub mod Cursors
 pub mod Nests
 pub mod Walks

@@ -5,6 +5,7 @@
 
 mod before;
 mod cursors;
+mod goings;
 mod listed;
 mod places;
 mod shorts;

@@ -1,4 +1,4 @@
-use Rattle.std.proofs.Common.{◌≡◌, ◌<◌, ℕ, List, Bool, true, cond, set, ap, sym, ◌∙◌, arith}
+use Rattle.std.proofs.Common.{◌≡◌, ℕ, true, cond, set, ap, sym, ◌∙◌, arith}
 use Rattle.board_base.specs.Board.{is_in}
 use Rattle.sketch_sets.proofs.Sets.{Those, those-end, those-more, those-start}
 use Rattle.sketch_sets.proofs.masks.those_that.Goals as goal

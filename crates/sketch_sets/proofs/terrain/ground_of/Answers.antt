@@ -1,13 +1,9 @@
-use Rattle.std.proofs.Common.{◌≡◌, ap, ◌∙◌, rules}
+use Rattle.std.proofs.Common.{◌≡◌, rules}
 use Rattle.cage_rules.specs.Frozen.{is_held_home}
-use Rattle.cage_rules.specs.Regions.{walls}
 use Rattle.cage_rules.specs.Sets.{squares_that}
-use Rattle.past_sketches.specs.Figures.{fixed_squares}
 use Rattle.sketch_sets.proofs.terrain.ground_of.Goals as goal
 
 pub returns : goal.returns
 returns c =
     let h : c.squares_that.result ≡ squares_that (is_held_home c.args.held) = c.squares_that.ensures (is_held_home c.args.held) (λ s b low post. search rules) in
-    let f : c.fixed_squares-fixed.result ≡ fixed_squares c.args.sketch.now = c.fixed_squares-fixed.ensures in
-    let w : c.walls.result ≡ walls (fixed_squares c.args.sketch.now) = c.walls.ensures ∙ ap walls f in
     cc

@@ -1,9 +1,7 @@
 use Rattle.std.proofs.Common.{rules}
-use Rattle.std.specs.List.{list_any}
-use Rattle.past_sketches.specs.Touching.{kings_of}
 use Rattle.sketch_sets.specs.Grounds.{is_king_there}
+use Rattle.sketch_sets.proofs.Touched.{kings-made}
 use Rattle.sketch_sets.proofs.touching.kings_of.Goals as goal
 
 pub returns : goal.returns
-unfolding kings_of is_king_there
-returns c = c.squares_that.ensures (λ q. list_any (is_king_there c.args.colour q) c.args.sketch.now) (λ s b low post. search rules)
+returns c = kings-made c.args.sketch.now c.args.colour c.over_figures-kings.result c.is_whole.ensures (λ q low. c.over_figures-kings.ensures q (is_king_there c.args.colour q) low (λ f set post. search rules))
