@@ -1,11 +1,12 @@
-ghost use Rattle.std.specs.Prelude.{◌≡◌, ◌≤◌, IfOk, IfSome, None};
+ghost use Rattle.std.specs.Prelude.{◌≡◌, ◌≤◌, ◌⊎◌, IfOk, IfSome, IsTrue, None, length};
 ghost use Rattle.query_base.specs.Reach.{Contradicts};
-ghost use Rattle.claim_search.specs.Settlements.{IsSettlement};
+ghost use Rattle.claim_search.specs.Settlements.{IsCounterable, IsCountered, IsSettlement};
+ghost use Rattle.retro_search.specs.Answers.{IsProved};
 
 use board_base::{Memory, MoveList};
-use game_search::{FEW_QUERIES, find_game};
+use game_search::{FEW_QUERIES, MOST_QUERIES, find_game};
 use query_base::{Claim, Query, target};
-use retro_search::{Found, Limits, Reasons, Searcher};
+use retro_search::{Found, Limits, Reasons, Searcher, solve};
 use std::alloc::Global;
 
 /// How many queries the first search for a certificate visits at most.
@@ -34,14 +35,86 @@ fn game_against(
     most: u32,
 ) -> Result<Option<MoveList>, Memory>
     requires unbarred { query.now.barred ≡ None }
-    ensures { IfOk result (λ game. IfSome game (λ g. Contradicts g claim.now query.now)) }
+    ensures against { IfOk result (λ game. IfSome game (λ g. Contradicts g claim.now query.now)) }
+    ensures short { IfOk result (λ game. IfSome game (λ g. length g ≤ most)) }
 {
     let hunt = find_game(alloc, &target(query, claim), None, most)?;
     Ok(hunt.game)
 }
 
-/// What is found by the long search: a game, if one is found by looking at few queries, or what a search for a certificate within the
-/// limits comes to.
+/// A game, if one is found by looking at as many queries as the nodes leave behind the first search for one; else what the searches for a
+/// certificate left open.
+fn look_again(
+    alloc: Global,
+    query: &Query,
+    claim: &Claim,
+    limits: Limits,
+    left_open: Found,
+) -> Result<Found, Memory>
+    requires unbarred { query.now.barred ≡ None }
+    requires settlement { IsSettlement limits.depth limits.nodes claim.now query.now left_open }
+    requires uncounterable { IsCounterable limits.depth limits.nodes claim.now query.now → ⊥ }
+    ensures settlement { IfOk result (IsSettlement limits.depth limits.nodes claim.now query.now) }
+    ensures counterable { IfOk result (λ found. IsCounterable limits.depth limits.nodes claim.now query.now → IsCountered found) }
+{
+    let most = limits.nodes.saturating_sub(FEW_QUERIES).min(MOST_QUERIES);
+    match game_against(alloc, query, claim, most)? {
+        Some(game) => Ok(Found::Countered(game)),
+        None => Ok(left_open),
+    }
+}
+
+/// The same, unless a search by rule lines alone comes to a game.
+fn look_further(
+    alloc: Global,
+    query: &Query,
+    claim: &Claim,
+    limits: Limits,
+    left_open: Found,
+) -> Result<Found, Memory>
+    requires unbarred { query.now.barred ≡ None }
+    requires some_nodes { 1 ≤ limits.nodes }
+    requires settlement { IsSettlement limits.depth limits.nodes claim.now query.now left_open }
+    ensures settlement { IfOk result (IsSettlement limits.depth limits.nodes claim.now query.now) }
+    ensures counterable { IfOk result (λ found. IsCounterable limits.depth limits.nodes claim.now query.now → IsCountered found) }
+{
+    let solved = solve(alloc, query, claim, limits.depth, limits.nodes)?;
+    match solved {
+        Found::Countered(game) => Ok(Found::Countered(game)),
+        _ => look_again(alloc, query, claim, limits, left_open),
+    }
+}
+
+/// What the long searches come to: one for a certificate by all reasons, and if this leaves the claim open, those behind it.
+fn search_long(
+    alloc: Global,
+    searcher: &mut Searcher,
+    query: &Query,
+    claim: &Claim,
+    limits: Limits,
+) -> Result<Found, Memory>
+    requires unbarred { query.now.barred ≡ None }
+    requires all { searcher.old ≡ Reasons.All }
+    requires some_nodes { 1 ≤ limits.nodes }
+    ensures settlement { IfOk result (IsSettlement limits.depth limits.nodes claim.now query.now) }
+    ensures counterable { IfOk result (λ found. IsCounterable limits.depth limits.nodes claim.now query.now → IsCountered found) }
+{
+    let found = search(searcher, query, claim, limits)?;
+    if is_decided(&found) {
+        Ok(found)
+    } else {
+        look_further(alloc, query, claim, limits, found)
+    }
+}
+
+/// Whether it is a certificate or a game.
+fn is_decided(found: &Found) -> bool
+    ensures { IsTrue result → IsProved found.now ⊎ IsCountered found.now }
+{
+    matches!(found, Found::Proved(_) | Found::Countered(_))
+}
+
+/// What the searches behind the first come to: one for a game that looks at few queries, then the long ones.
 fn search_on(
     alloc: Global,
     searcher: &mut Searcher,
@@ -51,31 +124,38 @@ fn search_on(
 ) -> Result<Found, Memory>
     requires unbarred { query.now.barred ≡ None }
     requires all { searcher.old ≡ Reasons.All }
-    ensures { IfOk result (IsSettlement limits.depth limits.nodes claim.now query.now) }
+    requires some_nodes { 1 ≤ limits.nodes }
+    ensures settlement { IfOk result (IsSettlement limits.depth limits.nodes claim.now query.now) }
+    ensures counterable { IfOk result (λ found. IsCounterable limits.depth limits.nodes claim.now query.now → IsCountered found) }
 {
     match game_against(alloc, query, claim, limits.nodes.min(FEW_QUERIES))? {
         Some(game) => Ok(Found::Countered(game)),
-        None => search(searcher, query, claim, limits),
+        None => search_long(alloc, searcher, query, claim, limits),
     }
 }
 
 /// Searches for what decides the claim about the query: a certificate, by taking moves back from the claim's target, at most as many as
-/// the depth; or a game that contradicts it. First comes a search for a certificate that visits few queries, then one for a game, then
-/// one for a certificate that visits as many queries as the nodes. The search for a game looks at no more than the nodes either. The
-/// query bars no move of its own.
+/// the depth; or a game that contradicts it. First comes a search for a certificate that visits few queries, then one for a game that looks
+/// at few, then one for a certificate that visits as many queries as the nodes; where this leaves the claim open, the search by rule lines
+/// alone that `solve` makes, which may come to a game, and another one for a game. Each search for a certificate visits at most as many
+/// queries as the nodes, and those for games look together at no more. The query bars no move of its own.
 ///
 /// - `Proved` comes wherever rule lines refute the target at some depth up to that of the limits at a cost of at most their nodes, or flat
 ///   prices support it, and often elsewhere. The certificate is of this claim and this query, proves it, goes back no further than the
 ///   depth, and has at most 500,000 nodes. It has a text where the claim has one, and no text of more than 64 MiB. No game of any length
 ///   contradicts the claim.
-/// - `Countered` comes with a game that contradicts the claim, of any length.
+/// - `Countered` comes with a game that contradicts the claim. It has at most as many moves as the nodes, however low the depth is. It comes
+///   wherever `solve` within the same limits must come to a game: where the target's first open line ends at the array, and its cost is at
+///   most the nodes.
 /// - `Undecided` and `Spent` come as from a search for a certificate alone, with the line that stays open, or with how many queries were
-///   visited. They say nothing about games.
+///   visited. They say nothing about games otherwise.
 ///
 /// Want of memory is a free answer: `Memory` may take the place of each of these.
 pub fn settle(alloc: Global, query: &Query, claim: &Claim, limits: Limits) -> Result<Found, Memory>
     requires unbarred { query.now.barred ≡ None }
-    ensures { IfOk result (IsSettlement limits.depth limits.nodes claim.now query.now) }
+    requires some_nodes { 1 ≤ limits.nodes }
+    ensures settlement { IfOk result (IsSettlement limits.depth limits.nodes claim.now query.now) }
+    ensures counterable { IfOk result (λ found. IsCounterable limits.depth limits.nodes claim.now query.now → IsCountered found) }
 {
     let mut searcher = Searcher::new(alloc, Reasons::All);
     let few = Limits {

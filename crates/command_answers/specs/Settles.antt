@@ -8,6 +8,7 @@ use Rattle.query_base.specs.Targets.{target}
 use Rattle.query_base.specs.declared.claims.Claim.{Claim}
 use Rattle.cert_text.specs.Certificate.{Certificate, IsTextOf}
 use Rattle.price_search.specs.FlatPrices.{FlatPricesSupport}
+use Rattle.claim_search.specs.Settlements.{IsCounterable}
 use Rattle.retro_search.specs.Answers.{IsProofOf}
 use Rattle.retro_search.specs.SearchSizes.{IsLargeSearch}
 use Rattle.retro_search.specs.Unsettled.{IsUnpriced, StaysUnsettled, WhereRefutable}
@@ -17,7 +18,7 @@ use Rattle.command_answers.specs.Solves.{countered_line, spent_line, undecided_l
 use Rattle.command_answers.specs.Statements.{IsNoStatement, States}
 use Rattle.question_text.specs.declared.faults.InputFault.{InputFault}
 use Rattle.command_answers.specs.declared.statuses.Status.{Status}
-use Rattle.command_answers.specs.declared.statuses.Status.TheVariants.{BadInput}
+use Rattle.command_answers.specs.declared.statuses.Status.TheVariants.{BadInput, Countered}
 use Rattle.command_answers.specs.declared.statuses.Status.TheVariants as status
 
 -- The text is that of a certificate of the claim about the query, which proves it, goes back no further than the depth, and has at most
@@ -39,10 +40,11 @@ pub record TellsUnsettledLine (depth nodes : ℕ) (claim : Claim) (q : Asked) (t
   pub line_unpriced : nodes ≤ 250000 → IsUnpriced (target q claim) line
   pub text_is : text ≡ undecided_line line
 
--- the text tells a game that contradicts the claim, of any length
-pub record TellsGame (claim : Claim) (q : Asked) (text : List ℕ) : Type 0 where
+-- the text tells a game that contradicts the claim, and has at most as many moves as the nodes
+pub record TellsGame (nodes : ℕ) (claim : Claim) (q : Asked) (text : List ℕ) : Type 0 where
   pub game : List Move
   pub contradicts : Contradicts game claim q
+  pub few : length game ≤ nodes
   pub text_is : text ≡ countered_line game
 
 -- The whole search of the claim's target to the depth is larger than the nodes. Where the target is refutable by rule lines at some depth
@@ -57,12 +59,13 @@ pub record TellsSpentThere (depth nodes : ℕ) (claim : Claim) (q : Asked) (text
 abbrev pub AnswersSettling : ℕ → ℕ → Claim → Asked → Status → List ℕ → Type 0
 AnswersSettling depth nodes claim q status.Done text = TellsSettlingProof depth claim q text
 AnswersSettling depth nodes claim q status.Undecided text = TellsUnsettledLine depth nodes claim q text
-AnswersSettling depth nodes claim q status.Countered text = TellsGame claim q text
+AnswersSettling depth nodes claim q status.Countered text = TellsGame nodes claim q text
 AnswersSettling depth nodes claim q status.Spent text = TellsSpentThere depth nodes claim q text
 AnswersSettling depth nodes claim q _ text = ⊥
 
--- the status and the text with which `settle` answers these bytes
+-- The status and the text with which `settle` answers these bytes. Where a search by rule lines alone comes to a game within the same depth
+-- and nodes, as that of `solve` does, a game is told.
 abbrev pub AnswersSettle : ℕ → ℕ → List ℕ → Status → List ℕ → Type 0
 AnswersSettle depth nodes input status text =
-    ((claim : Claim) × (q : Asked) × States input claim q × AnswersSettling depth nodes claim q status text)
+    ((claim : Claim) × (q : Asked) × States input claim q × AnswersSettling depth nodes claim q status text × (IsCounterable depth nodes claim q → status ≡ Countered))
     ⊎ ((why : InputFault) × IsNoStatement input why × (status ≡ BadInput) × (text ≡ fault_line why))

@@ -1,3 +1,6 @@
+ghost use Rattle.std.specs.Prelude.{◌≡◌, ◌+◌, ◌≤◌, IfOk, IfSome, OnOk, vec_len};
+ghost use Rattle.game_search.specs.Counts.{looked_at};
+
 use crate::diagrams::{diagram_of, query_key};
 use crate::settings::{SPAN, Setting};
 use crate::valuing::{Valuer, Worth};
@@ -92,7 +95,9 @@ impl Search {
         })
     }
 
-    fn clear(&mut self, setting: &Setting) {
+    fn clear(&mut self, setting: &Setting)
+        ensures { vec_len self.new.visited ≡ 0 }
+    {
         self.states.clear();
         self.visited.clear();
         self.open.clear();
@@ -107,7 +112,9 @@ impl Search {
     }
 
     /// The bucket from which the next state is taken, and how many of its states above that one.
-    fn choose(&mut self, setting: &Setting) -> Option<(usize, u32)> {
+    fn choose(&mut self, setting: &Setting) -> Option<(usize, u32)>
+        ensures { vec_len self.new.visited ≡ vec_len self.old.visited }
+    {
         self.drawn = next_draw(self.drawn);
         let number = (self.drawn >> 33) as usize;
         let lowest = self.open.lowest()?;
@@ -139,7 +146,9 @@ impl Search {
     }
 
     /// Puts a state by, if its query is new and there is hope for it.
-    fn put_by(&mut self, setting: &Setting, query: &Query, state: State) -> Result<(), Memory> {
+    fn put_by(&mut self, setting: &Setting, query: &Query, state: State) -> Result<(), Memory>
+        ensures { vec_len self.new.visited ≡ vec_len self.old.visited }
+    {
         let diagram = diagram_of(&query.board);
         if !self.seen.add(query_key(query, &diagram)) {
             return Ok(());
@@ -159,7 +168,9 @@ impl Search {
         query: &Query,
         wants: &BothWants,
         wish: Option<&Wish>,
-    ) -> Result<BothWants, Memory> {
+    ) -> Result<BothWants, Memory>
+        ensures { vec_len self.new.visited ≡ vec_len self.old.visited }
+    {
         self.list.clear();
         let mut unmoves = Unmoves::new(query);
         let mut allowed: usize = 0;
@@ -184,7 +195,9 @@ impl Search {
         wants: &BothWants,
         depth: u32,
         wish: Option<&Wish>,
-    ) -> Result<(), Memory> {
+    ) -> Result<(), Memory>
+        ensures { OnOk result (vec_len self.new.visited ≡ vec_len self.old.visited) }
+    {
         let after = self.visited.len().saturating_sub(1).min(NONE as usize) as u32;
         let wants = self.list_unmoves(query, wants, wish)?;
         for k in 0..self.list.len() {
@@ -213,7 +226,9 @@ impl Search {
         state: &State,
         worth: &Worth,
         value: usize,
-    ) -> Result<bool, Memory> {
+    ) -> Result<bool, Memory>
+        ensures { vec_len self.new.visited ≡ vec_len self.old.visited }
+    {
         let now = bucket(worth.value, state.depth, setting);
         if state.is_planned || now <= value {
             return Ok(false);
@@ -225,7 +240,7 @@ impl Search {
         Ok(true)
     }
 
-    /// Looks at a state that was taken from a bucket.
+    /// Looks at a state that was taken from a bucket. What is expanded counts among what was looked at.
     fn visit(
         &mut self,
         setting: &Setting,
@@ -233,7 +248,9 @@ impl Search {
         wish: &Wish,
         number: u32,
         value: usize,
-    ) -> Result<Outcome, Memory> {
+    ) -> Result<Outcome, Memory>
+        ensures { IfOk result (λ outcome. vec_len self.new.visited ≡ vec_len self.old.visited + looked_at outcome) }
+    {
         let Some(state) = self.states.get(number as usize).copied() else {
             return Ok(Outcome::Passed);
         };
@@ -263,10 +280,12 @@ impl Search {
     }
 
     /// The moves from the state that was looked at last.
-    fn moves(&self, alloc: Global) -> Result<Vec<Move>, Memory> {
+    fn moves(&self, alloc: Global) -> Result<Vec<Move>, Memory>
+        ensures { IfOk result (λ moves. vec_len moves ≤ vec_len self.now.visited) }
+    {
         let mut moves = Vec::new(alloc);
         let mut place = self.visited.len().saturating_sub(1);
-        for _ in 0..self.visited.len() {
+        'steps: while moves.len() < self.visited.len() {
             let Some(visited) = self.visited.get(place) else {
                 break;
             };
@@ -291,7 +310,10 @@ impl Search {
         first: &Query,
         wish: &Wish,
         most: u32,
-    ) -> Result<Option<Vec<Move>>, Memory> {
+    ) -> Result<Option<Vec<Move>>, Memory>
+        ensures few { IfOk result (λ found. vec_len self.new.visited ≤ most) }
+        ensures short { IfOk result (λ found. IfSome found (λ moves. vec_len moves ≤ vec_len self.new.visited)) }
+    {
         self.clear(setting);
         let root = State {
             after: NONE,
@@ -300,7 +322,7 @@ impl Search {
             is_planned: false,
         };
         self.put_by(setting, first, root)?;
-        for _ in 0..most.saturating_mul(3) {
+        'visits: for _ in 0..most.saturating_mul(3) {
             if self.visited.len() >= most as usize || self.states.len() >= MOST_STATES {
                 break;
             }
@@ -319,8 +341,11 @@ impl Search {
     }
 
     /// How many queries the attempt looked at.
-    pub fn looked_at(&self) -> u32 {
-        self.visited.len().min(NONE as usize) as u32
+    pub fn looked_at(&self) -> u32
+        requires { vec_len self.now.visited ≤ 4294967295 }
+        ensures { result ≡ vec_len self.now.visited }
+    {
+        self.visited.len() as u32
     }
 }
 

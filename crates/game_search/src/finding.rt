@@ -1,4 +1,4 @@
-ghost use Rattle.std.specs.Prelude.{◌≡◌, ◌≤◌, IfOk, IfSome};
+ghost use Rattle.std.specs.Prelude.{◌≡◌, ◌≤◌, IfOk, IfSome, length};
 ghost use Rattle.query_base.specs.Reach.{EndsWith, Reaches};
 
 use crate::attempts::{Search, Wish};
@@ -27,8 +27,8 @@ pub struct Hunt {
 ///
 /// The search goes back from the query by its retractions, by theirs, and so on until it comes to the array: eight attempts, each with
 /// other prices, share `most` queries that may be looked at, of which no more than `MOST_QUERIES` are. It is bounded in memory as well,
-/// and gives the same answer each time. A game that it comes to is played through before it is told. Where none is found, nothing is
-/// said of the query. Want of memory is a free answer.
+/// and gives the same answer each time. A game that it comes to is played through before it is told; it has no more moves than queries
+/// were looked at, since each position on its way was. Where none is found, nothing is said of the query. Want of memory is a free answer.
 pub fn find_game(
     alloc: Global,
     query: &Query,
@@ -38,22 +38,32 @@ pub fn find_game(
     ensures reached { IfOk result (λ h. IfSome h.game (λ g. Reaches g query.now)) }
     ensures last { IfOk result (λ h. IfSome h.game (λ g. IfSome last (λ m. EndsWith g m))) }
     ensures few { IfOk result (λ h. h.looked_at ≤ most) }
+    ensures short { IfOk result (λ h. IfSome h.game (λ g. length g ≤ h.looked_at)) }
 {
+    let allowed = most.min(MOST_QUERIES);
+    if allowed == 0 {
+        return Ok(Hunt {
+            game: None,
+            looked_at: 0,
+        });
+    }
     let mut search = Search::new(alloc, query)?;
     let wish = Wish { last };
-    let allowed = most.min(MOST_QUERIES);
-    let mut looked_at: u32 = 0;
+    let mut left = allowed;
     for setting in ATTEMPTS {
-        let share = allowed.saturating_mul(setting.share) / SHARES;
+        let share = (allowed.saturating_mul(setting.share) / SHARES).min(left);
         let found = search.attempt(alloc, &setting, query, &wish, share)?;
-        looked_at = looked_at.saturating_add(search.looked_at()).min(most);
+        left -= search.looked_at();
         if let Some(moves) = found {
             let game = replay(alloc, query, &last, moves.as_slice())?;
-            return Ok(Hunt { game, looked_at });
+            return Ok(Hunt {
+                game,
+                looked_at: allowed - left,
+            });
         }
     }
     Ok(Hunt {
         game: None,
-        looked_at,
+        looked_at: allowed - left,
     })
 }

@@ -26,6 +26,7 @@ pub fn replay(
 ) -> Result<Option<MoveList>, Memory>
     ensures reached { IfOk result (λ found. IfSome found (λ g. Reaches g query.now)) }
     ensures last { IfOk result (λ found. IfSome found (λ g. IfSome demanded.now (λ m. EndsWith g m))) }
+    ensures same { IfOk result (λ found. IfSome found (λ g. g ≡ moves.now)) }
 {
     let mut state = State::start_of(query.odds);
     let mut game = MoveList::new(alloc);

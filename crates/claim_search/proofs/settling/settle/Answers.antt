@@ -1,6 +1,11 @@
+use Rattle.std.proofs.Common.{arith}
 use Rattle.claim_search.proofs.Deciding.{by_game}
 use Rattle.claim_search.proofs.settling.settle.Goals as goal
 
-pub returns-in-Countered : goal.returns-in-Countered
-returns-in-Countered c =
-    by_game c.args.limits.depth c.args.limits.nodes c.args.claim.now c.args.query.now c.in-Countered.game (rw c.in-Countered.is at c.in_ok-cert.ensures.settlement.countered)
+pub returns-in-Proved-clause-counterable : goal.returns-in-Proved-clause-counterable
+returns-in-Proved-clause-counterable c = λ can. absurd ((rw c.in-Proved.is at c.in_ok-cert.ensures.settlement.holds) can.game can.counter.contradicts)
+
+pub returns-in-Countered-clause-settlement : goal.returns-in-Countered-clause-settlement
+returns-in-Countered-clause-settlement c =
+    let short = rw c.in-Countered.is at c.in_ok-cert.ensures.settlement.short_game in
+    by_game c.args.limits.depth c.args.limits.nodes c.args.claim.now c.args.query.now c.in-Countered.game (rw c.in-Countered.is at c.in_ok-cert.ensures.settlement.countered) (omega (arith, short))
