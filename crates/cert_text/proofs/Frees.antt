@@ -1,5 +1,5 @@
 -- Texts without a space or a line end in them.
-use Rattle.std.proofs.Common.{◌≡◌, ℕ, zero, suc, ◌+◌, ◌%◌, ◌≤◌, ◌==◌, ◌||◌, Bool, true, false, List, [], ◌∷◌, ◌++◌, Option, Some, None, refl, arith, nat_le, nat_lt}
+use Rattle.std.proofs.Common.{◌≡◌, ℕ, zero, suc, ◌+◌, ◌%◌, ◌≤◌, ◌==◌, ◌||◌, Bool, true, false, List, [], ◌∷◌, ◌++◌, Option, Some, None, refl, sym, subst, arith, nat_le, nat_lt}
 use Rattle.std.proofs.lemmas.Bool.{and_parts, leb-true}
 use Rattle.std.proofs.lemmas.Fmt.{digits_decimal}
 use Rattle.std.specs.Fmt.{decimal}
@@ -11,10 +11,11 @@ use Rattle.board_base.specs.declared.men.Kind.TheVariants.{Pawn, Knight, Bishop,
 use Rattle.board_base.specs.declared.moves.Move.{Move}
 use Rattle.fen_text.proofs.NumberLemmas.{digits_free}
 use Rattle.query_base.specs.Asked.{Asked}
-use Rattle.fen_text.specs.Fen.{en_passant_digit}
 use Rattle.fen_text.specs.Parts.{Free}
-use Rattle.fen_text.specs.Spelling.{symbol, run_text, rank_text, rank_of, ranks_text, turn_letter, rights_text, en_passant_text, spelling}
+use Rattle.fen_text.specs.Spelling.{symbol, run_text, rank_text, turn_letter, rights_text, en_passant_text, spelling}
+use Rattle.fen_text.specs.WrittenParts.{rank_of, ranks_text}
 use Rattle.fen_text.proofs.PartLemmas.{free_append}
+use Rattle.fen_text.proofs.Spelled.{spelled}
 use Rattle.cert_text.specs.Writable.{fits_depth}
 use Rattle.cert_text.specs.NodeLines.{body_text}
 use Rattle.cert_text.specs.declared.node_lines.BodyLine.{BodyLine}
@@ -92,12 +93,12 @@ rights_free false false false false = refl
 
 en_passant_free : (c : Colour) (m : Option Move) → Free 10 (en_passant_text c m)
 en_passant_free c None = refl
-en_passant_free White (Some m) = higher 10 (97 + m.to % 8) (en_passant_digit White ∷ []) (omega arith) refl
-en_passant_free Black (Some m) = higher 10 (97 + m.to % 8) (en_passant_digit Black ∷ []) (omega arith) refl
+en_passant_free White (Some m) = higher 10 (97 + m.to % 8) (54 ∷ []) (omega arith) refl
+en_passant_free Black (Some m) = higher 10 (97 + m.to % 8) (51 ∷ []) (omega arith) refl
 
 -- the four-field text of a query has no line end
 pub spelling_free : (q : Asked) → Free 10 (spelling q)
-unfolding spelling
 spelling_free q =
-    free_append 10 (ranks_text 7 q.board) (32 ∷ turn_letter q.turn ∷ 32 ∷ (rights_text q.held ++ 32 ∷ en_passant_text q.turn q.only)) (ranks_free 7 q.board)
-    (turn_free q.turn (32 ∷ (rights_text q.held ++ 32 ∷ en_passant_text q.turn q.only)) (free_append 10 (rights_text q.held) (32 ∷ en_passant_text q.turn q.only) (rights_free q.held.white_short q.held.white_long q.held.black_short q.held.black_long) (en_passant_free q.turn q.only)))
+    subst (Free 10) (sym (spelled q))
+    (free_append 10 (ranks_text 7 q.board) (32 ∷ turn_letter q.turn ∷ 32 ∷ (rights_text q.held ++ 32 ∷ en_passant_text q.turn q.only)) (ranks_free 7 q.board)
+    (turn_free q.turn (32 ∷ (rights_text q.held ++ 32 ∷ en_passant_text q.turn q.only)) (free_append 10 (rights_text q.held) (32 ∷ en_passant_text q.turn q.only) (rights_free q.held.white_short q.held.white_long q.held.black_short q.held.black_long) (en_passant_free q.turn q.only))))
