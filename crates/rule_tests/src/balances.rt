@@ -3,7 +3,7 @@
 use balance_rule::balances;
 use board_base::{Odds, SquareSet};
 use cage_rules::greatest_as_array;
-use capture_prices::Prices;
+use capture_prices::{Gate, Prices};
 use fen_text::read_four_fields;
 use price_search::{PriceDesk, find_balance};
 use std::alloc::Global;
@@ -95,5 +95,36 @@ fn finds_prices(rt: HostRuntime) {
     ];
     for (position, found) in rows {
         assert_eq!(rt; is_found(rt.alloc(), position), Some(found), "{position}");
+    }
+}
+
+/// After T. R. Dawson, 1939. Two pawns of the e file stand in each other's way.
+const IN_THE_WAY: &str = "BB4N1/p5p1/pp2p1P1/2Ppbbp1/1P2k1nR/2P2pP1/1PrR1K2/2N5 w - -";
+
+/// The prices that are found for the position. None where it can't be read, or none are found.
+fn found_prices(alloc: Global, position: &str) -> Option<Prices> {
+    let query = read_four_fields(position.as_bytes())?;
+    let mut desk = PriceDesk::new(alloc);
+    let (_, prices) = find_balance(&query, &mut desk)?;
+    Some(prices)
+}
+
+/// Position, and the prices that are found, by an independent program: flat ones, and elsewhere those with the fewest exceptions, as Black's
+/// captures on light squares alone, or all but Black's on the e file, with a gate on e6.
+#[test]
+fn finds_plain_prices(rt: HostRuntime) {
+    let on_light = [0, 1, 0, 1, 0, 1, 0, 1, 0, 1, 0, 1, 0, 1, 0, 1];
+    let but_on_e = [1, 1, 1, 1, 1, 1, 1, 1, 0, 0, 1, 1, 1, 1, 1, 1];
+    let on_e6 = Gate {
+        square: 44,
+        toll: 1,
+    };
+    let rows: [(&str, Option<Prices>); 3] = [
+        (TWO_BISHOPS, Prices::new(&[24; 16], &[24; 16], &[])),
+        (A_KNIGHT, Prices::new(&[0; 16], &on_light, &[])),
+        (IN_THE_WAY, Prices::new(&[1; 16], &but_on_e, &[on_e6])),
+    ];
+    for (position, prices) in rows {
+        assert_eq!(rt; found_prices(rt.alloc(), position), prices, "{position}");
     }
 }
