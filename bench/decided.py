@@ -136,7 +136,7 @@ def try_last(args):
                 told[0], told[1] = told[0] + int(line.split(" ")[1]), told[1] + int(line.split(" ")[3])
         before = dict(line.split(" ", 1) for line in timed(args.program, ["unmoves"], fen + "\n")[1].splitlines()[:-1])
         for label in left[4:]:
-            word, seconds, game = decide(args.program, ["settle", "0", "4000"], before[label])
+            word, seconds, game = decide(args.program, ["settle", "0", "24000"], before[label])
             if word == "game" and not reaches([*game, label.partition("x")[0].removesuffix("ep")], fen):
                 sys.exit(f"a game that doesn't end with {label}: {fen}")
             counts.add(f"{label} to {fen}", word, seconds, game)

@@ -1,7 +1,7 @@
 -- A command succeeds only with the inputs that it asks for, and with those it does.
 use Rattle.std.proofs.Common.{◌≡◌, ℕ, List, sym, subst}
 use Rattle.std.specs.Prelude.{Option, Some, None, IfSome}
-use Rattle.retro_top.specs.Answers.{AnswersAs, IsUnspent, MustSucceed, ReadsBy, Succeeds, Suffices}
+use Rattle.retro_top.specs.Answers.{AnswersAs, IsUnspent, MustCounter, MustSucceed, ReadsBy, Succeeds, Suffices}
 use Rattle.command_answers.specs.Limits.{most_bytes}
 use Rattle.command_answers.specs.Unmoves.{ListsUnmoves}
 use Rattle.command_answers.specs.Trees.{AnswersTreeOf}
@@ -11,13 +11,13 @@ use Rattle.retro_top.proofs.Studying.{study-done}
 use Rattle.retro_top.specs.declared.commands.Command.{Command}
 use Rattle.retro_top.specs.declared.commands.Command.TheVariants.{Check, Explain, Play, San, Spell, Unmoves, Solve, Settle, Verdict, Study, Tree, Length, AtLeast, Line, Dossier, Sample}
 use Rattle.command_answers.specs.declared.statuses.Status.{Status}
-use Rattle.command_answers.specs.declared.statuses.Status.TheVariants.{Done}
+use Rattle.command_answers.specs.declared.statuses.Status.TheVariants.{Done, Countered}
 use Rattle.retro_top.proofs.Gaming.{NoGameFault, OneGame, done-game, done-moves, done-notation, play-done, san-done, spell-done}
 use Rattle.retro_top.proofs.Input.{of_left}
 use Rattle.retro_top.proofs.Asking.{done-alone, said-alone}
 use Rattle.retro_top.proofs.Searching.{OneTextEach, cheap-done, few-done}
-use Rattle.retro_top.proofs.Solving.{cheap-unspent, done-refutable, refutable-done}
-use Rattle.retro_top.proofs.Settling.{done-provable-claim, settle-done, settle-unspent}
+use Rattle.retro_top.proofs.Solving.{cheap-unspent, counterable-countered, done-refutable, refutable-done}
+use Rattle.retro_top.proofs.Settling.{done-provable-claim, settle-countered, settle-done, settle-unspent}
 use Rattle.retro_top.proofs.LineProofs.{AcceptedAreDossiers, OneDossier, done-line, done-proved-line, line-done, dossier-done, dossier-unspent}
 use Rattle.retro_top.proofs.Lengthy.{OneLength, done-length, done-shown, length-done, shown-done}
 use Rattle.retro_top.proofs.Explaining.{explain-done}
@@ -51,6 +51,12 @@ suffices-unspent one (Study depth nodes) input ending text answers enough = subs
 suffices-unspent one (Tree depth nodes) input ending text answers enough = subst IsUnspent (sym (few-done one depth nodes input ending text answers enough)) tt
 suffices-unspent one (Dossier depth nodes) input ending text answers enough = dossier-unspent depth nodes input ending text answers enough
 suffices-unspent one _ input ending text answers enough = absurd enough
+
+-- with an input with which the command must come to a game it does
+pub must-counter : (command : Command) (input : List ℕ) (ending : Status) (text : List ℕ) → AnswersAs command input ending text → MustCounter command input → ending ≡ Countered
+must-counter (Solve depth nodes) input ending text answers can = counterable-countered depth nodes input ending text answers can
+must-counter (Settle depth nodes) input ending text answers can = settle-countered depth nodes input ending text answers can
+must-counter _ input ending text answers can = absurd can
 
 -- where the command succeeds, its input is such a one
 pub done-succeeds : CertificatesProve → AcceptedAreDossiers → (command : Command) (input text : List ℕ) → AnswersAs command input Done text → Succeeds command input

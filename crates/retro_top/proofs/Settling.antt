@@ -11,8 +11,9 @@ use Rattle.cert_checker.specs.Proving.{ProvesClaim}
 use Rattle.cert_checker.proofs.Contradicted.{contradiction-reaches}
 use Rattle.retro_search.specs.Refutable.{IsRefutable}
 use Rattle.retro_search.specs.SearchSizes.{IsSmallSearch}
+use Rattle.claim_search.specs.Settlements.{IsCounterable}
 use Rattle.claim_search.proofs.Unreached.{refutable-unreached}
-use Rattle.retro_top.specs.Answers.{IsUnspent, StatesCheap, StatesPriced, StatesProved, StatesRefutable, StatesSmall}
+use Rattle.retro_top.specs.Answers.{IsUnspent, StatesCheap, StatesCounterable, StatesPriced, StatesProved, StatesRefutable, StatesSmall}
 use Rattle.command_answers.specs.Settles.{AnswersSettle, AnswersSettling}
 use Rattle.command_answers.specs.Solves.{IsCheap}
 use Rattle.command_answers.specs.declared.statuses.Status.{Status}
@@ -95,8 +96,15 @@ done-settled law depth nodes input text answers = elim answers [
   | inr none ↦ let e = none.2 in cc
 ]
 
--- where `settle` finds a game, it contradicts the claim that the input states
-pub unsettled-by : (depth nodes : ℕ) (input text : List ℕ) → AnswersSettle depth nodes input Countered text → CounteredBy input text
+-- where `solve` must come to a game, so does `settle`
+pub settle-countered : (depth nodes : ℕ) (input : List ℕ) (ending : Status) (text : List ℕ) → AnswersSettle depth nodes input ending text → StatesCounterable depth nodes input → ending ≡ Countered
+settle-countered depth nodes input ending text answers can = elim answers [
+  | inl said ↦ said.4 (stated (IsCounterable depth nodes) input can.0 said.0 can.1 said.1 can.2 said.2 can.3)
+  | inr none ↦ absurd (states-some input can.0 can.1 none.0 can.2 none.1)
+]
+
+-- the game that `settle` finds
+pub unsettled-by : (depth nodes : ℕ) (input text : List ℕ) → AnswersSettle depth nodes input Countered text → CounteredBy nodes input text
 unsettled-by depth nodes input text answers = elim answers [
   | inl said ↦ record {
     claim = said.0;
@@ -104,6 +112,7 @@ unsettled-by depth nodes input text answers = elim answers [
     game = said.3.game;
     states = said.2;
     contradicts = said.3.contradicts;
+    few = said.3.few;
     line = said.3.text_is;
   }
   | inr none ↦ let e = none.2 in cc

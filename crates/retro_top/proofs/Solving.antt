@@ -1,5 +1,5 @@
 -- Which status `solve` answers, and what it says.
-use Rattle.std.proofs.Common.{◌≡◌, inl, inr, ℕ, List, [], refl, sym, subst, arith}
+use Rattle.std.proofs.Common.{◌≡◌, ◌≤◌, length, inl, inr, ℕ, List, [], refl, sym, subst, arith}
 use Rattle.board_base.specs.declared.moves.Move.{Move}
 use Rattle.query_base.specs.Asked.{Asked}
 use Rattle.query_base.specs.Reach.{Contradicts, Holds}
@@ -8,8 +8,11 @@ use Rattle.query_base.specs.declared.claims.Claim.{Claim}
 use Rattle.cert_text.specs.Certificate.{Certificate, IsTextOf}
 use Rattle.cert_checker.specs.Proving.{ProvesClaim}
 use Rattle.retro_search.specs.Answers.{IsProofOf}
+use Rattle.retro_search.specs.Lines.{EndsAtArray}
 use Rattle.retro_search.specs.Refutable.{IsRefutable}
-use Rattle.retro_top.specs.Answers.{IsUnspent, StatesCheap, StatesRefutable}
+use Rattle.retro_search.proofs.Lines.OneLine.{line_one}
+use Rattle.claim_search.specs.Settlements.{IsCounterable}
+use Rattle.retro_top.specs.Answers.{IsUnspent, StatesCheap, StatesCounterable, StatesRefutable}
 use Rattle.command_answers.specs.Solves.{AnswersClaim, AnswersSolve, IsCheap, countered_line}
 use Rattle.command_answers.specs.Statements.{States}
 use Rattle.command_answers.specs.declared.statuses.Status.{Status}
@@ -75,16 +78,33 @@ done-solved law depth nodes input text answers = elim answers [
   | inr none ↦ let e = none.2 in cc
 ]
 
--- where `solve` finds a game, it contradicts the claim that the input states
-pub record CounteredBy (input text : List ℕ) : Type 0 where
+claim-countered : (depth nodes : ℕ) (claim : Claim) (q : Asked) (ending : Status) (text : List ℕ) → AnswersClaim depth nodes claim q ending text → IsCounterable depth nodes claim q → ending ≡ Countered
+claim-countered depth nodes claim q Done text answers can = absurd (can.counter.open_line.unrefuted answers.refutable)
+claim-countered depth nodes claim q Undecided text answers can =
+    let same : can.counter.line ≡ answers.line = line_one depth (target q claim) [] can.counter.line answers.line can.counter.open_line.first answers.undecided.open_line.first in
+    absurd (answers.undecided.elsewhere (subst (EndsAtArray (target q claim)) same can.counter.at_array))
+claim-countered depth nodes claim q Countered text answers can = refl
+claim-countered depth nodes claim q Spent text answers can = absurd (omega (arith, answers.dear.cost can.cost can.is_cost, can.cheap))
+claim-countered depth nodes claim q _ text answers can = absurd answers
+
+-- where the first open line ends at the array and the nodes suffice, a game is found
+pub counterable-countered : (depth nodes : ℕ) (input : List ℕ) (ending : Status) (text : List ℕ) → AnswersSolve depth nodes input ending text → StatesCounterable depth nodes input → ending ≡ Countered
+counterable-countered depth nodes input ending text answers can = elim answers [
+  | inl said ↦ claim-countered depth nodes said.0 said.1 ending text said.3 (stated (IsCounterable depth nodes) input can.0 said.0 can.1 said.1 can.2 said.2 can.3)
+  | inr none ↦ absurd (states-some input can.0 can.1 none.0 can.2 none.1)
+]
+
+-- where `solve` or `settle` finds a game, it contradicts the claim that the input states, and has no more moves than the nodes
+pub record CounteredBy (nodes : ℕ) (input text : List ℕ) : Type 0 where
   pub claim : Claim
   pub query : Asked
   pub game : List Move
   pub states : States input claim query
   pub contradicts : Contradicts game claim query
+  pub few : length game ≤ nodes
   pub line : text ≡ countered_line game
 
-pub countered-by : (depth nodes : ℕ) (input text : List ℕ) → AnswersSolve depth nodes input Countered text → CounteredBy input text
+pub countered-by : (depth nodes : ℕ) (input text : List ℕ) → AnswersSolve depth nodes input Countered text → CounteredBy nodes input text
 countered-by depth nodes input text answers = elim answers [
   | inl said ↦ record {
     claim = said.0;
@@ -92,6 +112,7 @@ countered-by depth nodes input text answers = elim answers [
     game = said.3.game;
     states = said.2;
     contradicts = said.3.counter.contradicts;
+    few = let less = said.3.few in omega arith;
     line = said.3.text_is;
   }
   | inr none ↦ let e = none.2 in cc

@@ -18,6 +18,7 @@ use Rattle.san_text.specs.FromArray.{Tells}
 use Rattle.cert_checker.specs.Proving.{ProvesClaim}
 use Rattle.proof_prose.specs.Prose.{Explains}
 use Rattle.price_search.specs.FlatPrices.{FlatPricesSupport}
+use Rattle.claim_search.specs.Settlements.{IsCounterable}
 use Rattle.retro_search.specs.Answers.{IsProofOf}
 use Rattle.retro_search.specs.Refutable.{IsRefutable}
 use Rattle.retro_search.specs.SearchSizes.{IsSmallSearch}
@@ -195,14 +196,27 @@ MustSucceed (Dossier depth nodes) input = StatesClearLine depth input × StatesC
 MustSucceed (Verdict depth nodes) input = AsksForCheap depth nodes input
 MustSucceed command input = Succeeds command input
 
+-- the input states a claim that a search by rule lines alone must counter: its target's first open line at the depth ends at the array,
+-- and its target has a cost of at most so many nodes
+abbrev pub StatesCounterable : ℕ → ℕ → List ℕ → Type 0
+StatesCounterable depth nodes input =
+    (claim : Claim) × (q : Asked) × States input claim q × IsCounterable depth nodes claim q
+
+-- with such an input the command must come to a game against the claim: `settle` with the same as `solve`
+abbrev pub MustCounter : Command → List ℕ → Type 0
+MustCounter (Solve depth nodes) input = StatesCounterable depth nodes input
+MustCounter (Settle depth nodes) input = StatesCounterable depth nodes input
+MustCounter command input = ⊥
+
 -- no game contradicts the claim of the input's first line about the query of the others
 abbrev pub StatesTrue : List ℕ → Type 0
 StatesTrue input = (claim : Claim) × (q : Asked) × States input claim q × Holds claim q
 
--- What was taken grew by one line, with a legal game that reaches the query that the input states a claim about, and contradicts this.
-abbrev pub WritesGameAgainst : List ℕ → Option (List ℕ) → Option (List ℕ) → Type 0
-WritesGameAgainst input old new =
-    (claim : Claim) × (q : Asked) × (game : List Move) × States input claim q × Contradicts game claim q × Appends old new (countered_line game)
+-- What was taken grew by one line, with a legal game of at most so many moves that reaches the query that the input states a claim about,
+-- and contradicts this.
+abbrev pub WritesGameAgainst : ℕ → List ℕ → Option (List ℕ) → Option (List ℕ) → Type 0
+WritesGameAgainst most input old new =
+    (claim : Claim) × (q : Asked) × (game : List Move) × States input claim q × Contradicts game claim q × (length game ≤ most) × Appends old new (countered_line game)
 
 -- No game contradicts the claim of a right that is settled: that a castling is lost which isn't permitted, or that a capture en
 -- passant is legal which is permitted.

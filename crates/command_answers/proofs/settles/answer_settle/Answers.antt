@@ -32,14 +32,14 @@ returns-in-Ok-settle c =
     IfOk-weaker c.write_found.result _ _
     (λ a told.
     let said = found-told Said c.in-Ok-settle.found a.0 a.1
-        (λ cert is text.
-        let whole = text_written (cert_of cert) _ (rw is at (of.written c.in-Ok.ensures.promotion)) text in
-        (record { cert = cert_of cert; is_proof = rw is at of.proved; is_text = whole; short = (rw is at of.short) _ whole }, λ can. absurd ((rw is at counters) can)))
-        (λ line is text.
-        (record { line = line; unsettled = rw is at of.undecided; few = rw is at of.short_line; unpriced = λ e. rw is at of.priced c.requires.limits.some_nodes e; line_unpriced = rw is at of.unpriced; text_is = text }, λ can. absurd ((rw is at counters) can)))
-        (λ game is text. (record { game = game; contradicts = rw is at of.countered; few = rw is at of.short_game; text_is = text }, λ can. refl))
-        (λ n is text.
-        (record { large = rw is at of.large; dear = rw is at of.spent; unpriced = λ e. rw is at of.priced c.requires.limits.some_nodes e; text_is = text ∙ ap (λ (k : ℕ). spent_line k) (rw is at of.visited) }, λ can. absurd ((rw is at counters) can)))
-        told in
+    (λ cert is text.
+    let whole = text_written (cert_of cert) _ (rw is at (of.written c.in-Ok.ensures.promotion)) text in
+    (record { cert = cert_of cert; is_proof = rw is at of.proved; is_text = whole; short = (rw is at of.short) _ whole }, λ can. absurd ((rw is at counters) can)))
+    (λ line is text.
+    (record { line = line; unsettled = rw is at of.undecided; few = rw is at of.short_line; unpriced = λ e. rw is at of.priced c.requires.limits.some_nodes e; line_unpriced = rw is at of.unpriced; text_is = text }, λ can. absurd ((rw is at counters) can)))
+    (λ game is text. (record { game = game; contradicts = rw is at of.countered; few = rw is at of.short_game; text_is = text }, λ can. refl))
+    (λ n is text.
+    (record { large = rw is at of.large; dear = rw is at of.spent; unpriced = λ e. rw is at of.priced c.requires.limits.some_nodes e; text_is = text ∙ ap (λ (k : ℕ). spent_line k) (rw is at of.visited) }, λ can. absurd ((rw is at counters) can)))
+    told in
     inl (claim, query, c.in-Ok.ensures.states, said.0, said.1))
     c.write_found.ensures
