@@ -1,0 +1,5 @@
+pub mod Completing
+pub mod Ending
+pub mod Coming
+pub mod Sides
+pub mod Going

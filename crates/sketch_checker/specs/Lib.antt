@@ -1,0 +1,6 @@
+pub mod Beginning
+pub mod Walks
+pub mod Placed
+pub mod Roots
+pub mod Dues
+pub mod Steering
