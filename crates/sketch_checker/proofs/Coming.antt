@@ -46,18 +46,18 @@ marks-first g o fs x lines some it = by-marks it.marks it.many it.lines_are
     by-marks [] many e = omega (arith, many, some)
     by-marks (m ∷ ms) many e = other-line (same_first e)
 
-over : (l : Line) (lines : List Line) → l ∷ lines ≡ [] → ⊥
+pub over : (l : Line) (lines : List Line) → l ∷ lines ≡ [] → ⊥
 over l lines e = cc
 
 at-frame : (g : Setting) (k m : ℕ) (ds : List Due) (fs : List Frame) (l : Line) (lines : List Line) → 0 < m → may_come None (frame k m ds ∷ fs) l ≡ false → Completes g (frame k m ds ∷ fs) (l ∷ lines) → ⊥
-at-frame g k zero ds fs l lines some none it = omega (arith, some)
-at-frame g k (suc m) ds fs (of_marks a) lines some none it = node-due g k m ds fs a lines it
-at-frame g k (suc m) ds fs (of_node x) lines some none it =
-    let both = and_parts (nat_lt 63 (length fs)) (nat_lt 0 (announced_by x.end)) (not-false _ none) in
+at-frame g k zero ds fs l lines some bar it = omega (arith, some)
+at-frame g k (suc m) ds fs (of_marks a) lines some bar it = node-due g k m ds fs a lines it
+at-frame g k (suc m) ds fs (of_node x) lines some bar it =
+    let both = and_parts (nat_lt 63 (length fs)) (nat_lt 0 (announced_by x.end)) (not-false _ bar) in
     too-deep g k m ds fs x lines (ltb-true 63 (length fs) both.0) (ltb-true 0 (announced_by x.end) both.1) it
 
 pub misplaced : (odds : List Bool) (g : Setting) (o : Option Opened) (fs : List Frame) (l : Line) (lines : List Line) → IsReady odds o fs → may_come o fs l ≡ false → FinishesAt g o fs (l ∷ lines) → ⊥
-misplaced odds g (Some o) fs (of_marks m) lines ready none it = cc
-misplaced odds g (Some o) fs (of_node x) lines ready none it = marks-first g o fs x lines ready.0 it
-misplaced odds g None [] l lines ready none it = over l lines it
-misplaced odds g None (f ∷ fs) l lines ready none it = at-frame g f.line f.announced f.due fs l lines ready.0 none it
+misplaced odds g (Some o) fs (of_marks m) lines ready bar it = cc
+misplaced odds g (Some o) fs (of_node x) lines ready bar it = marks-first g o fs x lines ready.0 it
+misplaced odds g None [] l lines ready bar it = over l lines it
+misplaced odds g None (f ∷ fs) l lines ready bar it = at-frame g f.line f.announced f.due fs l lines ready.0 bar it

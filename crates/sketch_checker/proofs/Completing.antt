@@ -110,7 +110,7 @@ module _ (g : Setting) (k c : ℕ) (end : End) (S : Sketch) (fs : List Frame) (l
   marks-told it = by-marks it.marks refl
     where
       by-marks : (ms : List Marks) → it.marks ≡ ms → AreForced g S l × CompletesOpened g (opened k c end (marked_with l.figures S)) fs lines
-      by-marks [] e = omega (arith, it.many, ap (λ (x : List Marks). length x) e)
+      by-marks [] e = let many : ⊥ = omega (arith, it.many, ap (λ (x : List Marks). length x) e) in absurd many
       by-marks (m ∷ ms) e =
           let lines_are : of_marks l ∷ lines ≡ of_marks m ∷ (map (λ m. of_marks m) ms ++ (lines_below it.reason ++ it.rest)) = it.lines_are ∙ ap (λ (x : List Marks). map (λ m. of_marks m) x ++ (lines_below it.reason ++ it.rest)) e in
           let same : m ≡ l = sym (same-marks l m (same_first lines_are)) in

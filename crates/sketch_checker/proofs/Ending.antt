@@ -23,7 +23,7 @@ module _ (g : Setting) (l j : ℕ) (S : Sketch) (fs : List Frame) (lines : List 
       no-marks : (ms : List Marks) → it.marks ≡ ms → (r : Reason) × (rest : List Line) × (end_of r ≡ e) × Ends r g S × (height_below r + length fs ≤ 65) × (lines ≡ lines_below r ++ rest) × Completes g fs rest
       no-marks [] same =
           (it.reason, it.rest, it.end, subst (λ (x : List Marks). Ends it.reason g (with_lines x S)) same it.holds, it.low, it.lines_are ∙ ap (λ (x : List Marks). map (λ m. of_marks m) x ++ (lines_below it.reason ++ it.rest)) same, it.completes)
-      no-marks (m ∷ ms) same = omega (arith, it.many, ap (λ (x : List Marks). length x) same)
+      no-marks (m ∷ ms) same = let many : ⊥ = omega (arith, it.many, ap (λ (x : List Marks). length x) same) in absurd many
 
   end-tells : (r : Reason) (rest : List Line) → Ends r g S → height_below r + length fs ≤ 65 → lines ≡ lines_below r ++ rest → Completes g fs rest → CompletesOpened g (read l (end_of r) S) fs lines
   end-tells r rest holds low lines_are done = record { marks = []; reason = r; rest = rest; many = refl; end = refl; forced = tt; holds = holds; low = low; lines_are = lines_are; completes = done }

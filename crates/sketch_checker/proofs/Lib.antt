@@ -3,3 +3,5 @@ pub mod Ending
 pub mod Coming
 pub mod Sides
 pub mod Going
+pub mod Below
+pub mod Steering

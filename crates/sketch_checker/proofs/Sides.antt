@@ -61,7 +61,7 @@ side-map c h (f ∷ S) keeps =
     omega (arith, side-cons c (h f) (map h S), side-cons c f S, side-map c h S keeps, same)
 
 pub side-append : (c : Colour) (S T : Sketch) → side c (S ++ T) ≡ side c S + side c T
-side-append c [] T = refl
+side-append c [] T = let none : side c [] ≡ 0 = refl in omega (arith, none)
 side-append c (f ∷ S) T = omega (arith, side-cons c f (S ++ T), side-cons c f S, side-append c S T)
 
 -- figures that keep their places

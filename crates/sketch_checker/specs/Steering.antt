@@ -1,11 +1,11 @@
 -- Inner: no public clause cites this file.
 -- How a walk goes on.
-use Rattle.std.specs.Prelude.{ℕ, ◌≡◌, ◌+◌, ◌<◌, ◌≤◌, ◌↔◌, Bool, List, [], ◌∷◌, length, slice_get, Option, Some, None}
+use Rattle.std.specs.Prelude.{ℕ, ◌≡◌, ◌==◌, ◌+◌, ◌<◌, ◌≤◌, ◌↔◌, Bool, false, List, [], ◌∷◌, length, slice_get, Option, Some, None}
 use Rattle.capture_prices.specs.Prices.{PriceList}
 use Rattle.past_sketches.specs.Figures.{Sketch}
 use Rattle.sketch_text.specs.declared.nodes.End.{End}
 use Rattle.sketch_proof.specs.Proofs.{Line, Setting}
-use Rattle.sketch_checker.specs.Beginning.{CanBegin}
+use Rattle.sketch_checker.specs.Able.{IsAble}
 use Rattle.sketch_checker.specs.Walks.{Completes, CompletesOpened, Due, Frame, Opened}
 use Rattle.sketch_checker.specs.Placed.{announced_by}
 use Rattle.sketch_checker.specs.declared.faults.SketchFault.{SketchFault}
@@ -22,10 +22,10 @@ abbrev pub IsOpen : List Frame → Type 0
 IsOpen [] = Unit {0}
 IsOpen (f ∷ fs) = 0 < f.announced
 
--- the sketch of each node that is due can begin
+-- the sketch of each node that is due is able
 abbrev pub AreAble : List Bool → List Due → Type 0
 AreAble o [] = Unit {0}
-AreAble o (d ∷ ds) = CanBegin o d.sketch × AreAble o ds
+AreAble o (d ∷ ds) = IsAble o d.sketch × AreAble o ds
 
 -- what is below a node, if something is
 abbrev pub AreAbleBelow : List Bool → Option Frame → Type 0
@@ -36,14 +36,19 @@ abbrev pub AllAble : List Bool → List Frame → Type 0
 AllAble o [] = Unit {0}
 AllAble o (f ∷ fs) = AreAble o f.due × AllAble o fs
 
--- An opened node has marks to come, and room for the nodes below it; else a node is due, or the walk is done. All sketches can begin.
+-- An opened node has marks to come, and room for the nodes below it; else a node is due, or the walk is done. All sketches are able.
 abbrev pub IsReady : List Bool → Option Opened → List Frame → Type 0
 IsReady o None fs = IsOpen fs × AllAble o fs
-IsReady o (Some x) fs = (0 < x.marks) × (0 < announced_by x.end → length fs < 65) × CanBegin o x.sketch × AllAble o fs
+IsReady o (Some x) fs = (0 < x.marks) × (0 < announced_by x.end → length fs < 65) × IsAble o x.sketch × AllAble o fs
 
 -- the node on this line, when all its marks are read
 abbrev pub read : ℕ → End → Sketch → Opened
 read line end S = record { line = line; marks = 0; end = end; sketch = S }
+
+-- no node is open, and none is due
+abbrev pub is_over : Option Opened → List Frame → Bool
+is_over None fs = length fs == 0
+is_over (Some o) fs = false
 
 -- it is about the end of a node
 abbrev pub IsOfEnd : SketchFault → Type 0

@@ -18,11 +18,11 @@ use figures::Sketch;
 use sketch_proof::sketch_proofs_hold;
 
 /// Goes on over these lines, and says whether the walk is at its end.
-fn finish(walk: SketchWalk, lines: &[SketchLine]) -> Result<bool, SketchFault>
-    ensures done { IfOk result (λ done. IsTrue done ↔ Finishes walk (map of_line lines.now)) }
-    ensures refused { OnErr result (Finishes walk (map of_line lines.now) → ⊥) }
+fn finish(start: SketchWalk, lines: &[SketchLine]) -> Result<bool, SketchFault>
+    ensures done { IfOk result (λ done. IsTrue done ↔ Finishes start (map of_line lines.now)) }
+    ensures refused { OnErr result (Finishes start (map of_line lines.now) → ⊥) }
 {
-    let mut walk = walk;
+    let mut walk = start;
     let mut number: u32 = 0;
     for line in lines {
         number = number.saturating_add(1);
@@ -33,8 +33,8 @@ fn finish(walk: SketchWalk, lines: &[SketchLine]) -> Result<bool, SketchFault>
 
 /// Walks over the lines of a proof that no game comes to this sketch. `Ok(true)` comes if and only if they are one, and then no game, of any
 /// length, leads at these odds to a query of this sketch that holds these rights. `Ok(false)` comes where lines are missing behind them, and
-/// else the fault of the first line that is refused. None comes if and only if a place is 127 or more, or a side has more figures than men
-/// in the array.
+/// else the fault of the first line that is refused. None comes if and only if a place is 127 or more, a side has more figures than men in
+/// the array, or some clash.
 pub fn walk_lines(
     setting: SketchSetting,
     sketch: Sketch,

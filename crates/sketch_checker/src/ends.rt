@@ -1,7 +1,7 @@
 ghost use Rattle.std.specs.Prelude.{◌≡◌, ◌↔◌, ◌<◌, Bool, IfErr, IfOk, IsTrue, List, OnErr, OnOk, Some, length};
 ghost use Rattle.sketch_account.specs.Basis.{IsClosedAt};
 ghost use Rattle.sketch_proof.specs.Proofs.{AtLine, Line as ALine, Setting as ASetting};
-ghost use Rattle.sketch_checker.specs.Beginning.{CanBegin};
+ghost use Rattle.sketch_checker.specs.Able.{IsAble};
 ghost use Rattle.sketch_checker.specs.Placed.{announced_by};
 ghost use Rattle.sketch_checker.specs.Steering.{AllAble, AreAble, AreAbleBelow, IsBelow, IsOfEnd, IsOpen, read};
 ghost use Rattle.sketch_checker.specs.Walks.{Completes, CompletesOpened, Frame as AFrame};
@@ -34,7 +34,7 @@ fn below_steps(
     count: u16,
     sketch: &Sketch,
 ) -> Result<Frame, SketchFault>
-    requires { CanBegin setting.now.odds sketch.now }
+    requires { IsAble setting.now.odds sketch.now }
     ensures frame { IfOk result (λ f. IsBelow setting.now (read line (End.Steps count) sketch.now) (Some f)) }
     ensures able { IfOk result (λ f. AreAble setting.now.odds f.due) }
     ensures fault { IfErr result IsOfEnd }
@@ -56,7 +56,7 @@ fn below_steps(
 /// What is below the node on this line, if the cases of the man on the square follow.
 fn below_split(line: u32, square: Square, sketch: &Sketch) -> Result<Frame, SketchFault>
     ensures frame { IfOk result (λ f. (g : ASetting) → IsBelow g (read line (End.Split square) sketch.now) (Some f)) }
-    ensures able { IfOk result (λ f. (o : List Bool) → CanBegin o sketch.now → AreAble o f.due) }
+    ensures able { IfOk result (λ f. (o : List Bool) → IsAble o sketch.now → AreAble o f.due) }
     ensures fault { IfErr result IsOfEnd }
     ensures refused { OnErr result ((g : ASetting) (fs : List AFrame) (lines : List ALine) → CompletesOpened g (read line (End.Split square) sketch.now) fs lines → ⊥) }
 {
@@ -81,7 +81,7 @@ fn below(
     end: End,
     sketch: &Sketch,
 ) -> Result<Option<Frame>, SketchFault>
-    requires { CanBegin setting.now.odds sketch.now }
+    requires { IsAble setting.now.odds sketch.now }
     ensures frame { IfOk result (IsBelow setting.now (read line end sketch.now)) }
     ensures able { IfOk result (AreAbleBelow setting.now.odds) }
     ensures fault { IfErr result IsOfEnd }
@@ -122,7 +122,7 @@ pub(crate) fn close(
     sketch: &Sketch,
 ) -> Result<(), SketchFault>
     requires room { 0 < announced_by end → length frames.old < 65 }
-    requires begins { CanBegin setting.now.odds sketch.now }
+    requires begins { IsAble setting.now.odds sketch.now }
     ensures done { OnOk result ((lines : List ALine) → Completes setting.now frames.new lines ↔ CompletesOpened setting.now (read line end sketch.now) frames.old lines) }
     ensures open { OnOk result (IsOpen frames.new) }
     ensures able { OnOk result (AllAble setting.now.odds frames.old → AllAble setting.now.odds frames.new) }

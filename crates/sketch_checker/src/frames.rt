@@ -56,7 +56,11 @@ impl Model for Frames {
 fn is_open(frames: &[Frame]) -> bool
     ensures { IsTrue result ↔ IsOpen (reverse frames.now) }
 {
-    frames.is_empty() || frames[frames.len() - 1].announced > 0
+    if frames.is_empty() {
+        return true;
+    }
+    let frame = &frames[frames.len() - 1];
+    frame.announced > 0
 }
 
 impl Frames {

@@ -1,6 +1,6 @@
 ghost use Rattle.std.specs.Prelude.{◌≡◌, ◌↔◌, ◌<◌, ◌∷◌, Bool, IfErr, IfOk, List, OnErr};
 ghost use Rattle.sketch_proof.specs.Proofs.{Line as ALine, of_marks};
-ghost use Rattle.sketch_checker.specs.Beginning.{CanBegin};
+ghost use Rattle.sketch_checker.specs.Able.{IsAble};
 ghost use Rattle.sketch_checker.specs.Walks.{CompletesOpened, Frame as AFrame};
 
 use crate::faults::SketchFault;
@@ -19,7 +19,7 @@ pub(crate) fn mark(
     requires { 0 < opened.now.marks }
     ensures opened { IfOk result (λ o. (fs : List AFrame) (lines : List ALine) → CompletesOpened setting.now o fs lines ↔ CompletesOpened setting.now opened.now fs (of_marks marks.now ∷ lines)) }
     ensures kept { IfOk result (λ o. o.end ≡ opened.now.end) }
-    ensures able { IfOk result (λ x. (o : List Bool) → CanBegin o opened.now.sketch → CanBegin o x.sketch) }
+    ensures able { IfOk result (λ x. (o : List Bool) → IsAble o opened.now.sketch → IsAble o x.sketch) }
     ensures fault { IfErr result (λ f. f ≡ SketchFault.Unsupported number) }
     ensures refused { OnErr result ((fs : List AFrame) (lines : List ALine) → CompletesOpened setting.now opened.now fs (of_marks marks.now ∷ lines) → ⊥) }
 {

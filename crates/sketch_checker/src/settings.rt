@@ -1,4 +1,4 @@
-ghost use Rattle.std.specs.Prelude.{◌≡◌, ◌↔◌, ◌<◌, ◌++◌, ◌∷◌, [], IsTrue, MatchOption, false, length};
+ghost use Rattle.std.specs.Prelude.{◌≡◌, ◌↔◌, ◌<◌, ◌++◌, ◌∷◌, [], IsTrue, MatchOption, false, length, slice_get};
 ghost use Rattle.std.specs.List.{Contains};
 ghost use Rattle.capture_prices.specs.Prices.{PriceList, are_prices};
 ghost use Rattle.sketch_checker.specs.Steering.{IsLineAt};
@@ -30,6 +30,27 @@ impl Default for PriceLine {
         PriceLine {
             prices: Prices::known(&[0; 16], &[0; 16], &[]),
         }
+    }
+}
+
+/// Tells the caller that each of these is a line of prices.
+fn are_known(lines: &[PriceLine])
+    ensures { (p : PriceList) → Contains lines.now p → IsTrue (are_prices p) }
+{
+    for line in lines {
+        let _ = line.prices.gates();
+    }
+}
+
+/// The line with this number, counted from 0.
+fn line_at(lines: &[PriceLine], i: usize) -> Option<Prices>
+    ensures { result ≡ slice_get lines.now i }
+{
+    if i < lines.len() {
+        let line = lines[i];
+        Some(line.prices)
+    } else {
+        None
     }
 }
 
@@ -81,9 +102,8 @@ impl SketchSetting {
     pub(crate) fn are_known(&self)
         ensures { (p : PriceList) → Contains self.now.prices p → IsTrue (are_prices p) }
     {
-        for line in self.prices.as_slice() {
-            let _ = line.prices.gates();
-        }
+        let lines = self.prices.as_slice();
+        are_known(lines);
     }
 
     /// The line of prices with this number, counted from 1.
@@ -94,11 +114,6 @@ impl SketchSetting {
         if number == 0 {
             return None;
         }
-        let i = number as usize - 1;
-        if i < lines.len() {
-            Some(lines[i].prices)
-        } else {
-            None
-        }
+        line_at(lines, number as usize - 1)
     }
 }

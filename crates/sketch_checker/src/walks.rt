@@ -1,8 +1,9 @@
-ghost use Rattle.std.specs.Prelude.{◌≡◌, ◌↔◌, ◌<◌, ◌∷◌, [], IfErr, IfOk, IsTrue, List, MatchOption, OnErr, OnOk, length};
+ghost use Rattle.std.specs.Prelude.{◌≡◌, ◌↔◌, ◌<◌, ◌∷◌, [], IfErr, IfOk, IfSome, IsSome, IsTrue, List, OnErr, OnOk, length};
 ghost use Rattle.sketch_proof.specs.Proofs.{Line as ALine, Proves};
+ghost use Rattle.sketch_checker.specs.Able.{IsAble};
 ghost use Rattle.sketch_checker.specs.Beginning.{CanBegin};
 ghost use Rattle.sketch_checker.specs.Placed.{IsPlaced, IsPlacedAt, IsWordAt, IsWordFor, announced_by, of_line};
-ghost use Rattle.sketch_checker.specs.Steering.{AllAble, IsOfEnd, IsReady};
+ghost use Rattle.sketch_checker.specs.Steering.{AllAble, IsOfEnd, IsReady, is_over};
 ghost use Rattle.sketch_checker.specs.Walks.{CompletesOpened, Finishes, FinishesAt};
 
 use crate::beginning::can_begin;
@@ -49,15 +50,20 @@ fn opened_by(
     requires { IsReady setting.now.odds opened frames.old }
     ensures opened { IfOk result (λ o. (lines : List ALine) → CompletesOpened setting.now o frames.new lines ↔ FinishesAt setting.now opened frames.old (of_line line.now ∷ lines)) }
     ensures room { IfOk result (λ o. 0 < announced_by o.end → length frames.new < 65) }
-    ensures able { IfOk result (λ o. CanBegin setting.now.odds o.sketch × AllAble setting.now.odds frames.new) }
+    ensures able { IfOk result (λ o. IsAble setting.now.odds o.sketch × AllAble setting.now.odds frames.new) }
     ensures placed { OnOk result (IsPlacedAt opened frames.old (of_line line.now)) }
     ensures word { IfErr result (IsWordAt opened frames.old (of_line line.now)) }
     ensures refused { OnErr result ((lines : List ALine) → FinishesAt setting.now opened frames.old (of_line line.now ∷ lines) → ⊥) }
 {
-    match (opened, line) {
-        (None, SketchLine::Node(node)) => open(frames, number, *node),
-        (Some(opened), SketchLine::Marks(marks)) => mark(setting, &opened, number, marks),
-        _ => Err(SketchFault::Misplaced),
+    match opened {
+        None => match line {
+            SketchLine::Node(node) => open(frames, number, *node),
+            SketchLine::Marks(_) => Err(SketchFault::Misplaced),
+        },
+        Some(opened) => match line {
+            SketchLine::Node(_) => Err(SketchFault::Misplaced),
+            SketchLine::Marks(marks) => mark(setting, &opened, number, marks),
+        },
     }
 }
 
@@ -68,7 +74,7 @@ fn go_on(
     opened: Opened,
 ) -> Result<Option<Opened>, SketchFault>
     requires room { 0 < announced_by opened.end → length frames.old < 65 }
-    requires begins { CanBegin setting.now.odds opened.sketch }
+    requires begins { IsAble setting.now.odds opened.sketch }
     requires able { AllAble setting.now.odds frames.old }
     ensures done { IfOk result (λ next. (lines : List ALine) → FinishesAt setting.now next frames.new lines ↔ CompletesOpened setting.now opened frames.old lines) }
     ensures ready { IfOk result (λ next. IsReady setting.now.odds next frames.new) }
@@ -101,11 +107,22 @@ fn take_line(
     go_on(setting, frames, next)
 }
 
+/// Whether no node is open and none is due.
+fn is_over(opened: &Option<Opened>, frames: &Frames) -> bool
+    ensures { result ≡ is_over opened.now frames.now }
+{
+    match opened {
+        Some(_) => false,
+        None => frames.len() == 0,
+    }
+}
+
 impl SketchWalk {
-    /// The walk over a proof that no game comes to this sketch, before its first line. None comes if and only if a place is 127 or more, or a
-    /// side has more figures than men in the array.
+    /// The walk over a proof that no game comes to this sketch, before its first line. None comes if and only if a place is 127 or more, a
+    /// side has more figures than men in the array, or some clash.
     pub fn new(setting: SketchSetting, sketch: Sketch) -> Option<SketchWalk>
-        ensures { MatchOption result (CanBegin setting.odds sketch → ⊥) (λ w. (lines : List ALine) → Finishes w lines ↔ Proves setting sketch lines) }
+        ensures begun { IsSome result ↔ CanBegin setting.odds sketch }
+        ensures walk { IfSome result (λ w. (lines : List ALine) → Finishes w lines ↔ Proves setting sketch lines) }
     {
         if !can_begin(setting.odds, &sketch) {
             return None;
@@ -127,7 +144,7 @@ impl SketchWalk {
     pub fn is_done(&self) -> bool
         ensures { IsTrue result ↔ Finishes self.now [] }
     {
-        self.opened.is_none() && self.frames.len() == 0
+        is_over(&self.opened, &self.frames)
     }
 
     /// Takes the next line, which has this number. If it is refused, the walk is over, and no line can follow.
@@ -147,6 +164,7 @@ impl SketchWalk {
                 Ok(())
             }
             Err(fault) => {
+                self.opened = None;
                 self.frames.stop();
                 Err(fault)
             }
