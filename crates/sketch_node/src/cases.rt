@@ -20,7 +20,7 @@ fn is_unknown(figure: &Figure) -> bool
 }
 
 /// The number, counted from 0, of the first figure fixed on `s` that may be a knight, a rook or a queen, and nothing else.
-fn first_unknown(sketch: &Sketch, s: Square) -> Option<usize>
+pub fn first_unknown(sketch: &Sketch, s: Square) -> Option<usize>
     ensures { MatchOption result ((i : ℕ) → IsUnknownOn sketch.now s i → ⊥) (λ i. IsFirstUnknown sketch.now s i) }
 {
     for (i, figure) in sketch.figures().iter().enumerate() {
@@ -42,8 +42,8 @@ fn known_if(figure: &Figure, kind: Kind, known: bool) -> Figure
     result
 }
 
-/// The sketch with this kind alone for the figure with the number `i`, counted from 0.
-fn known_at(sketch: &Sketch, i: usize, kind: Kind) -> Sketch
+/// The sketch with this kind alone for the figure with the number `i`, counted from 0, if there is one.
+pub fn known_at(sketch: &Sketch, i: usize, kind: Kind) -> Sketch
     ensures { result ≡ known_at i kind sketch.now }
 {
     let mut made = Sketch::new();

@@ -10,7 +10,7 @@ mod marks;
 mod steps;
 mod voids;
 
-pub use cases::case_of;
+pub use cases::{case_of, first_unknown, known_at};
 pub use laws::nodes_refute;
 pub use marks::marked;
 pub use steps::before_steps;

@@ -8,4 +8,6 @@ mod grounds;
 #[cfg(test)]
 mod nodes;
 #[cfg(test)]
+mod proofs;
+#[cfg(test)]
 mod steps;

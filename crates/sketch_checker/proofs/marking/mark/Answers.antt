@@ -1,0 +1,31 @@
+use Rattle.std.proofs.Common.{◌≡◌, ◌-◌, ◌<◌, ◌∷◌, ◌↔◌, Bool, List, subst, sym}
+use Rattle.sketch_proof.specs.Proofs.{Line, Setting, of_marks}
+use Rattle.sketch_checker.specs.Able.{IsAble}
+use Rattle.sketch_checker.specs.Walks.{CompletesOpened, Frame, Opened}
+use Rattle.sketch_checker.specs.Steering.{IsLineAt}
+use Rattle.sketch_checker.proofs.Completing.{opened}
+use Rattle.sketch_checker.proofs.Going.{marked-able}
+use Rattle.sketch_checker.proofs.Steering.{mark-go, mark-unforced, mark-unpriced}
+use Rattle.sketch_checker.proofs.marking.mark.Goals as goal
+
+pub returns-in_default-clause-refused : goal.returns-in_default-clause-refused
+returns-in_default-clause-refused c = mark-unpriced c.args.setting.now c.args.opened.now c.args.marks.now c.by.result c.requires c.by.ensures c.in_default.ensures
+
+pub returns-in_default-marked-clause-refused : goal.returns-in_default-marked-clause-refused
+returns-in_default-marked-clause-refused c =
+    subst (λ (g : Setting). IsLineAt g c.by.result c.in-Some.prices → (fs : List Frame) (lines : List Line) → CompletesOpened g c.args.opened.now fs (of_marks c.args.marks.now ∷ lines) → ⊥) c.setting.view_is
+    (λ line. subst (λ (o : Opened). 0 < o.marks → (fs : List Frame) (lines : List Line) → CompletesOpened (record { odds = c.setting.inside.odds; held = c.setting.inside.held; exact = c.setting.inside.exact; prices = c.setting.inside.prices.items }) o fs (of_marks c.args.marks.now ∷ lines) → ⊥) c.opened.view_is
+    (λ some. mark-unforced _ _ c.args.marks.now c.by.result c.in-Some.prices c.figures.result.now some c.by.ensures line c.figures.ensures.value c.in_default-marked.ensures.exact) c.requires)
+    c.in-Some.ensures
+
+pub returns-clause-opened : goal.returns-clause-opened
+returns-clause-opened c =
+    subst (λ (g : Setting). IsLineAt g c.by.result c.in-Some.prices → (fs : List Frame) (lines : List Line) → CompletesOpened g (opened c.opened.inside.line (c.opened.inside.marks - 1) c.opened.inside.end c.in-Some-marked.sketch) fs lines ↔ CompletesOpened g c.args.opened.now fs (of_marks c.args.marks.now ∷ lines)) c.setting.view_is
+    (λ line. subst (λ (o : Opened). 0 < o.marks → (fs : List Frame) (lines : List Line) → CompletesOpened (record { odds = c.setting.inside.odds; held = c.setting.inside.held; exact = c.setting.inside.exact; prices = c.setting.inside.prices.items }) (opened c.opened.inside.line (c.opened.inside.marks - 1) c.opened.inside.end c.in-Some-marked.sketch) fs lines ↔ CompletesOpened (record { odds = c.setting.inside.odds; held = c.setting.inside.held; exact = c.setting.inside.exact; prices = c.setting.inside.prices.items }) o fs (of_marks c.args.marks.now ∷ lines)) c.opened.view_is
+    (λ some. mark-go _ _ c.args.marks.now c.by.result c.in-Some.prices c.figures.result.now c.in-Some-marked.sketch some c.by.ensures line c.figures.ensures.value c.in-Some-marked.ensures.exact.0 c.in-Some-marked.ensures.exact.1) c.requires)
+    c.in-Some.ensures
+
+pub returns-clause-able : goal.returns-clause-able
+returns-clause-able c = λ o able.
+    subst (IsAble o) (sym c.in-Some-marked.ensures.exact.1)
+    (marked-able o c.figures.result.now c.opened.inside.sketch (subst (λ (x : Opened). IsAble o x.sketch) (sym c.opened.view_is) able))

@@ -1,0 +1,51 @@
+ghost use Rattle.std.specs.Prelude.{◌≡◌, ◌↔◌, IfOk, IfSome, IsSome, IsTrue, List, MatchResult, Ok, OnErr, Some, map, true};
+ghost use Rattle.std.specs.List.{Contains};
+ghost use Rattle.board_base.specs.declared.moves.Move.{Move};
+ghost use Rattle.capture_prices.specs.Prices.{PriceList, are_prices};
+ghost use Rattle.query_base.specs.Asked.{Asked};
+ghost use Rattle.cage_rules.specs.Reach.{LeadsTo};
+ghost use Rattle.past_sketches.specs.Figures.{sketch_of};
+ghost use Rattle.sketch_proof.specs.Proofs.{Proves};
+ghost use Rattle.sketch_checker.specs.Beginning.{CanBegin};
+ghost use Rattle.sketch_checker.specs.Placed.{of_line};
+ghost use Rattle.sketch_checker.specs.Walks.{Finishes};
+
+use crate::faults::SketchFault;
+use crate::lines::SketchLine;
+use crate::settings::SketchSetting;
+use crate::walks::SketchWalk;
+use figures::Sketch;
+use sketch_proof::sketch_proofs_hold;
+
+/// Goes on over these lines, and says whether the walk is at its end.
+fn finish(start: SketchWalk, lines: &[SketchLine]) -> Result<bool, SketchFault>
+    ensures done { IfOk result (λ done. IsTrue done ↔ Finishes start (map of_line lines.now)) }
+    ensures refused { OnErr result (Finishes start (map of_line lines.now) → ⊥) }
+{
+    let mut walk = start;
+    let mut number: u32 = 0;
+    for line in lines {
+        number = number.saturating_add(1);
+        walk.take(number, line)?;
+    }
+    Ok(walk.is_done())
+}
+
+/// Walks over the lines of a proof that no game comes to this sketch. `Ok(true)` comes if and only if they are one, and then no game, of any
+/// length, leads at these odds to a query of this sketch that holds these rights. `Ok(false)` comes where lines are missing behind them, and
+/// else the fault of the first line that is refused. None comes if and only if a place is 127 or more, a side has more figures than men in
+/// the array, or some clash.
+pub fn walk_lines(
+    setting: SketchSetting,
+    sketch: Sketch,
+    lines: &[SketchLine],
+) -> Option<Result<bool, SketchFault>>
+    ensures begun { IsSome result ↔ CanBegin setting.odds sketch }
+    ensures walked { IfSome result (λ r. MatchResult r (λ done. IsTrue done ↔ Proves setting sketch (map of_line lines.now)) (λ f. Proves setting sketch (map of_line lines.now) → ⊥)) }
+    ensures games { result ≡ Some (Ok true) → (q : Asked) → sketch ≡ sketch_of q.board → setting.held ≡ q.held → (m : List Move) → LeadsTo setting.odds m q → ⊥ }
+{
+    setting.are_known();
+    sketch_proofs_hold();
+    let walk = SketchWalk::new(setting, sketch)?;
+    Some(finish(walk, lines))
+}
