@@ -1,6 +1,5 @@
-ghost use Rattle.std.specs.Prelude.{ℕ, ◌≡◌, ◌≢◌, [], IfOk, IsTrue, None, false};
+ghost use Rattle.std.specs.Prelude.{ℕ, ◌≡◌, ◌≢◌, IfOk, None, false};
 ghost use Rattle.query_base.specs.Targets.{target};
-ghost use Rattle.retro_search.specs.Refutable.{IsRefutable};
 ghost use Rattle.diagram_study.specs.Decisions.{Grows, IsAgreed, IsDecided};
 ghost use Rattle.diagram_study.specs.Findings.{IsFound, is_proved};
 
@@ -10,9 +9,9 @@ use crate::fronts::front_of;
 use crate::games::Games;
 use crate::searchers::Searchers;
 use crate::searches::seek;
+use crate::subjects::Subject;
 use board_base::{Memory, UnmoveList};
-use query_base::{Claim, Query, target};
-use retro_search::Limits;
+use query_base::{Claim, target};
 use std::alloc::AllocError;
 use unmove_gen::unmoves_have_texts;
 
@@ -38,21 +37,20 @@ fn plainly(finding: Finding) -> Decided
 fn stay_open(
     searchers: &mut Searchers,
     games: &mut Games,
-    query: &Query,
+    subject: &Subject,
     claim: &Claim,
-    limits: Limits,
 ) -> Result<Decided, Memory>
-    requires plain { query.now.barred ≡ None }
-    requires open { IsFound query.now claim.now limits.depth limits.nodes Finding.Open }
-    ensures decided { IfOk result (IsDecided query.now claim.now limits.depth limits.nodes games.new.found.items) }
+    requires open { IsFound subject.now.query claim.now subject.now.limits.depth subject.now.limits.nodes Finding.Open }
+    ensures decided { IfOk result
+        (IsDecided subject.now.query claim.now subject.now.limits.depth subject.now.limits.nodes games.new.found.items) }
     ensures unproved { IfOk result (λ d. is_proved d.finding ≡ false) }
     ensures grows { IfOk result (λ d. Grows games.old.found.items games.new.found.items) }
 {
     unmoves_have_texts();
     let alloc = searchers.alloc;
-    match searchers.end(query, claim, limits)? {
+    match searchers.end(subject, claim)? {
         End::Line(line) => {
-            let front = front_of(alloc, &target(query, claim), &line)?;
+            let front = front_of(alloc, &target(&subject.query, claim), &line)?;
             Ok(Decided {
                 finding: Finding::Open,
                 stuck: Some(front),
@@ -70,25 +68,24 @@ fn stay_open(
 fn look(
     searchers: &mut Searchers,
     games: &mut Games,
-    query: &Query,
+    subject: &Subject,
     claim: &Claim,
     sought: Finding,
-    limits: Limits,
 ) -> Result<Decided, Memory>
-    requires plain { query.now.barred ≡ None }
-    requires sought { IsFound query.now claim.now limits.depth limits.nodes sought }
+    requires sought { IsFound subject.now.query claim.now subject.now.limits.depth subject.now.limits.nodes sought }
     requires unproved { is_proved sought ≡ false }
     requires unlooked { sought ≢ Finding.Countered }
-    ensures decided { IfOk result (IsDecided query.now claim.now limits.depth limits.nodes games.new.found.items) }
+    ensures decided { IfOk result
+        (IsDecided subject.now.query claim.now subject.now.limits.depth subject.now.limits.nodes games.new.found.items) }
     ensures unproved { IfOk result (λ d. is_proved d.finding ≡ false) }
     ensures grows { IfOk result (λ d. Grows games.old.found.items games.new.found.items) }
 {
     let alloc = searchers.alloc;
-    if games.reach(alloc, &target(query, claim), limits.nodes)? {
+    if games.reach(alloc, &target(&subject.query, claim), subject.limits.nodes)? {
         return Ok(plainly(Finding::Countered));
     }
     match sought {
-        Finding::Open => stay_open(searchers, games, query, claim, limits),
+        Finding::Open => stay_open(searchers, games, subject, claim),
         Finding::Proved(_) | Finding::Countered | Finding::Spent => Ok(plainly(sought)),
     }
 }
@@ -97,20 +94,19 @@ fn look(
 pub(crate) fn counter(
     searchers: &mut Searchers,
     games: &mut Games,
-    query: &Query,
+    subject: &Subject,
     claim: &Claim,
     sought: Finding,
-    limits: Limits,
 ) -> Result<Decided, AllocError>
-    requires plain { query.now.barred ≡ None }
-    requires sought { IsFound query.now claim.now limits.depth limits.nodes sought }
+    requires sought { IsFound subject.now.query claim.now subject.now.limits.depth subject.now.limits.nodes sought }
     requires unproved { is_proved sought ≡ false }
     requires unlooked { sought ≢ Finding.Countered }
-    ensures decided { IfOk result (IsDecided query.now claim.now limits.depth limits.nodes games.new.found.items) }
+    ensures decided { IfOk result
+        (IsDecided subject.now.query claim.now subject.now.limits.depth subject.now.limits.nodes games.new.found.items) }
     ensures unproved { IfOk result (λ d. is_proved d.finding ≡ false) }
     ensures grows { IfOk result (λ d. Grows games.old.found.items games.new.found.items) }
 {
-    match look(searchers, games, query, claim, sought, limits) {
+    match look(searchers, games, subject, claim, sought) {
         Ok(decided) => Ok(decided),
         Err(_) => Err(AllocError),
     }
@@ -120,29 +116,29 @@ pub(crate) fn counter(
 pub(crate) fn decide(
     searchers: &mut Searchers,
     games: &mut Games,
-    query: &Query,
+    subject: &Subject,
     claim: &Claim,
-    limits: Limits,
 ) -> Result<Decided, AllocError>
-    requires plain { query.now.barred ≡ None }
-    ensures decided { IfOk result (IsDecided query.now claim.now limits.depth limits.nodes games.new.found.items) }
+    ensures decided { IfOk result
+        (IsDecided subject.now.query claim.now subject.now.limits.depth subject.now.limits.nodes games.new.found.items) }
     ensures grows { IfOk result (λ d. Grows games.old.found.items games.new.found.items) }
 {
-    let sought = seek(searchers, query, claim, limits)?;
+    let sought = seek(searchers, subject, claim)?;
     if sought.is_proved() {
         Ok(plainly(sought))
     } else {
-        counter(searchers, games, query, claim, sought, limits)
+        counter(searchers, games, subject, claim, sought)
     }
 }
 
 /// What is found of the claim by these games too: it is countered where one of them contradicts it.
-pub(crate) fn agreed(games: &Games, query: &Query, claim: &Claim, decided: Decided) -> Decided
-    requires plain { query.now.barred ≡ None }
-    ensures agrees { (most nodes : ℕ) → IsDecided query.now claim.now most nodes games.now.found.items decided → IsAgreed query.now claim.now most nodes games.now.found.items result }
+pub(crate) fn agreed(games: &Games, subject: &Subject, claim: &Claim, decided: Decided) -> Decided
+    ensures agrees { (most nodes : ℕ) →
+        IsDecided subject.now.query claim.now most nodes games.now.found.items decided →
+        IsAgreed subject.now.query claim.now most nodes games.now.found.items result }
     ensures proved { is_proved result.finding ≡ is_proved decided.finding }
 {
-    if !decided.finding.is_proved() && games.have_one(&target(query, claim)) {
+    if !decided.finding.is_proved() && games.have_one(&target(&subject.query, claim)) {
         plainly(Finding::Countered)
     } else {
         decided

@@ -62,7 +62,8 @@ pub(crate) fn front_of(
     line: &UnmoveList,
 ) -> Result<UnmoveList, Memory>
     requires { AreListed query.now line.now }
-    ensures { IfOk result (λ l. (number : ℕ) × IsCut query.now line.now number × (l ≡ take number line.now)) }
+    ensures { IfOk result (λ l. (number : ℕ) × IsCut query.now line.now number
+        × (l ≡ take number line.now)) }
 {
     let number = number_told(query, line);
     first_of(alloc, line, number)

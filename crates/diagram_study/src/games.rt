@@ -104,7 +104,8 @@ impl Games {
 
     /// Whether one of the games reaches the query, or one that is found by looking at so many queries at most.
     pub(crate) fn reach(&mut self, alloc: Global, query: &Query, most: u32) -> Result<bool, Memory>
-        ensures found { IfOk result (λ found. IsTrue found → IsReachedIn self.new.found.items query.now) }
+        ensures found { IfOk result
+            (λ found. IsTrue found → IsReachedIn self.new.found.items query.now) }
         ensures grows { IfOk result (λ found. Grows self.old.found.items self.new.found.items) }
     {
         if self.have_one(query) {

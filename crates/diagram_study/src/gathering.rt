@@ -1,4 +1,4 @@
-ghost use Rattle.std.specs.Prelude.{◌≡◌, ◌≢◌, IfOk, None, false};
+ghost use Rattle.std.specs.Prelude.{◌≡◌, ◌≢◌, IfOk, false};
 ghost use Rattle.std.specs.List.{All, Contains};
 ghost use Rattle.unmove_gen.specs.Listed.{unmoves};
 ghost use Rattle.diagram_study.specs.Findings.{IsFound, is_proved};
@@ -11,10 +11,10 @@ use crate::pairs::{PairFound, agreed_pairs, seek_pairs};
 use crate::possible::look_for_ends;
 use crate::rights::{RightFound, agreed_rights, open_castlings, seek_rights};
 use crate::searchers::Searchers;
+use crate::subjects::Subject;
 use board_base::UnmoveList;
 use line_claims::parts_make_lines_hold;
-use query_base::{Claim, Query};
-use retro_search::Limits;
+use query_base::Claim;
 use std::alloc::{AllocError, Global};
 
 /// What is found of the claims about a position that isn't proved to be illegal.
@@ -29,23 +29,21 @@ pub struct Gathered {
 pub(crate) fn gather(
     searchers: &mut Searchers,
     games: &mut Games,
-    query: &Query,
+    subject: &Subject,
     sought: Finding,
     left: &UnmoveList,
-    limits: Limits,
 ) -> Result<Gathered, AllocError>
-    requires plain { query.now.barred ≡ None }
-    requires sought { IsFound query.now Claim.Illegal limits.depth limits.nodes sought }
+    requires sought { IsFound subject.now.query Claim.Illegal subject.now.limits.depth subject.now.limits.nodes sought }
     requires unproved { is_proved sought ≡ false }
     requires unlooked { sought ≢ Finding.Countered }
-    requires listed { All (Contains (unmoves query.now)) left.now }
-    ensures { IfOk result (AreSought query.now limits.depth limits.nodes games.new.found.items) }
+    requires listed { All (Contains (unmoves subject.now.query)) left.now }
+    ensures { IfOk result (AreSought subject.now.query subject.now.limits.depth subject.now.limits.nodes games.new.found.items) }
 {
-    let illegal = counter(searchers, games, query, &Claim::Illegal, sought, limits)?;
-    let rights = seek_rights(searchers, games, query, limits)?;
+    let illegal = counter(searchers, games, subject, &Claim::Illegal, sought)?;
+    let rights = seek_rights(searchers, games, subject)?;
     let kept = open_castlings(rights.as_slice());
-    let pairs = seek_pairs(searchers, games, query, kept, limits)?;
-    look_for_ends(searchers.alloc, games, query, left)?;
+    let pairs = seek_pairs(searchers, games, subject, kept)?;
+    look_for_ends(searchers.alloc, games, &subject.query, left)?;
     Ok(Gathered {
         illegal,
         rights,
@@ -57,13 +55,11 @@ pub(crate) fn gather(
 pub(crate) fn agreed_all(
     alloc: Global,
     games: &Games,
-    query: &Query,
-    limits: Limits,
+    subject: &Subject,
     gathered: Gathered,
 ) -> Result<Gathered, AllocError>
-    requires plain { query.now.barred ≡ None }
-    requires sought { AreSought query.now limits.depth limits.nodes games.now.found.items gathered }
-    ensures { IfOk result (AreGathered query.now limits.depth limits.nodes games.now.found.items) }
+    requires sought { AreSought subject.now.query subject.now.limits.depth subject.now.limits.nodes games.now.found.items gathered }
+    ensures { IfOk result (AreGathered subject.now.query subject.now.limits.depth subject.now.limits.nodes games.now.found.items) }
 {
     parts_make_lines_hold();
     let Gathered {
@@ -71,9 +67,9 @@ pub(crate) fn agreed_all(
         rights,
         pairs,
     } = gathered;
-    let illegal = agreed(games, query, &Claim::Illegal, illegal);
-    let rights = agreed_rights(alloc, games, query, rights)?;
-    let pairs = agreed_pairs(alloc, games, query, pairs)?;
+    let illegal = agreed(games, subject, &Claim::Illegal, illegal);
+    let rights = agreed_rights(alloc, games, subject, rights)?;
+    let pairs = agreed_pairs(alloc, games, subject, pairs)?;
     Ok(Gathered {
         illegal,
         rights,

@@ -9,15 +9,17 @@ ghost use Rattle.diagram_study.specs.declared.retractions.Looked.{Looked as ALoo
 
 use crate::findings::Finding;
 use crate::retractions::{Counted, Looked};
+use crate::subjects::Subject;
 use board_base::{Move, is_move};
-use query_base::{Query, is_array};
-use retro_search::{Limits, Outcome};
+use query_base::is_array;
+use retro_search::Outcome;
 
 /// The greatest height of the trees that refute what is before these unmoves, but those of the move, if one is given. None where the
 /// search didn't refute one of them.
 fn greatest_height(looked: &[Looked], but: &Option<Move>) -> Option<u8>
     ensures heights { IfSome result (λ height. AreHeights but.now looked.now height) }
-    ensures left { result ≡ None → (l : ALooked) × Contains looked.now l × (is_move but.now l.unmove.mv ≡ false) × (is_refuted l.outcome ≡ false) }
+    ensures left { result ≡ None → (l : ALooked) × Contains looked.now l
+        × (is_move but.now l.unmove.mv ≡ false) × (is_refuted l.outcome ≡ false) }
 {
     let mut greatest: u8 = 0;
     for seen in looked {
@@ -34,13 +36,15 @@ fn greatest_height(looked: &[Looked], but: &Option<Move>) -> Option<u8>
 
 /// The height of a tree for the query with this move barred, if one is given, that is joined of those for what is before its unmoves: one
 /// more than the greatest of theirs.
-fn joined_height(query: &Query, but: &Option<Move>, seen: &Counted, limits: Limits) -> Option<u8>
-    requires plain { query.now.barred ≡ None }
-    requires looked { AreLooked query.now (limits.depth - 1) limits.nodes [] seen.now.left seen.now.looked.items }
-    ensures proof { IfSome result (λ height. HasProof (record query.now { barred = but.now }) height limits.depth) }
-    ensures sure { result ≡ None → 1 ≤ limits.depth → (Reaches [] query.now → ⊥) → All (λ u. IsTrue (is_move but.now u.mv)) seen.now.left → ⊥ }
+fn joined_height(subject: &Subject, but: &Option<Move>, seen: &Counted) -> Option<u8>
+    requires looked { AreLooked subject.now.query (subject.now.limits.depth - 1) subject.now.limits.nodes [] seen.now.left seen.now.looked.items }
+    ensures proof { IfSome result
+        (λ height. HasProof (record subject.now.query { barred = but.now }) height subject.now.limits.depth) }
+    ensures sure { result ≡ None → 1 ≤ subject.now.limits.depth →
+        (Reaches [] subject.now.query → ⊥) →
+        All (λ u. IsTrue (is_move but.now u.mv)) seen.now.left → ⊥ }
 {
-    if limits.depth == 0 || is_array(query) {
+    if subject.limits.depth == 0 || is_array(&subject.query) {
         return None;
     }
     match greatest_height(seen.looked.as_slice(), but) {
@@ -52,23 +56,22 @@ fn joined_height(query: &Query, but: &Option<Move>, seen: &Counted, limits: Limi
 /// What is found of the claim that the move was the last, or without one that the position is illegal, where the search alone came to
 /// this: where it came to no proof, one may be joined of those that refute what is before the unmoves.
 pub(crate) fn joined_up(
-    query: &Query,
+    subject: &Subject,
     but: Option<Move>,
     sought: Finding,
     seen: &Counted,
-    limits: Limits,
 ) -> Finding
-    requires plain { query.now.barred ≡ None }
-    requires looked { AreLooked query.now (limits.depth - 1) limits.nodes [] seen.now.left seen.now.looked.items }
-    requires sought { IsFound query.now (claim_but but) limits.depth limits.nodes sought }
-    ensures found { IsFound query.now (claim_but but) limits.depth limits.nodes result }
+    requires looked { AreLooked subject.now.query (subject.now.limits.depth - 1) subject.now.limits.nodes [] seen.now.left seen.now.looked.items }
+    requires sought { IsFound subject.now.query (claim_but but) subject.now.limits.depth subject.now.limits.nodes sought }
+    ensures found { IsFound subject.now.query (claim_but but) subject.now.limits.depth subject.now.limits.nodes result }
     ensures unlooked { sought ≢ Finding.Countered → result ≢ Finding.Countered }
-    ensures sure { 1 ≤ limits.depth → (Reaches [] query.now → ⊥) → All (λ u. IsTrue (is_move but u.mv)) seen.now.left → IsTrue (is_proved result) }
+    ensures sure { 1 ≤ subject.now.limits.depth → (Reaches [] subject.now.query → ⊥) →
+        All (λ u. IsTrue (is_move but u.mv)) seen.now.left → IsTrue (is_proved result) }
 {
     if sought.is_proved() {
         return sought;
     }
-    match joined_height(query, &but, seen, limits) {
+    match joined_height(subject, &but, seen) {
         Some(height) => Finding::Proved(height),
         None => sought,
     }

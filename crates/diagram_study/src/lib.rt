@@ -20,6 +20,7 @@ mod rights;
 mod searchers;
 mod searches;
 mod studies;
+mod subjects;
 mod texts;
 
 pub use findings::Finding;

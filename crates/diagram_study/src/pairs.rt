@@ -1,4 +1,4 @@
-ghost use Rattle.std.specs.Prelude.{ℕ, ◌≡◌, ◌≤◌, ◌++◌, IfOk, IsTrue, None, OnOk, length, map};
+ghost use Rattle.std.specs.Prelude.{ℕ, ◌≡◌, ◌++◌, IfOk, IsTrue, OnOk, map};
 ghost use Rattle.std.specs.List.{All, filter};
 ghost use Rattle.line_claims.specs.Due.{with_both};
 ghost use Rattle.line_claims.specs.Lines.{in_order};
@@ -10,12 +10,12 @@ use crate::deciding::{Decided, agreed, decide};
 use crate::findings::Finding;
 use crate::games::Games;
 use crate::searchers::Searchers;
+use crate::subjects::Subject;
 use crate::texts::push_decided_steps;
 use board_base::Castle::{BlackLong, BlackShort, WhiteLong, WhiteShort};
 use board_base::{Castle, CastleSet, UnmoveList};
 use line_claims::LineClaim;
 use query_base::{Claim, Query};
-use retro_search::Limits;
 use std::alloc::{AllocError, Global};
 
 /// Two castlings, and what is found of the claim that they aren't both kept; where that stays open, the retractions that are told of an
@@ -68,19 +68,22 @@ fn pairs_in(
 fn seek_pair(
     searchers: &mut Searchers,
     games: &mut Games,
-    query: &Query,
+    subject: &Subject,
     first: Castle,
     second: Castle,
-    limits: Limits,
 ) -> Result<PairFound, AllocError>
-    requires plain { query.now.barred ≡ None }
     ensures first { IfOk result (λ f. f.first ≡ first) }
     ensures second { IfOk result (λ f. f.second ≡ second) }
-    ensures sought { IfOk result (IsPairSought query.now limits.depth limits.nodes games.new.found.items) }
+    ensures sought { IfOk result
+        (IsPairSought subject.now.query subject.now.limits.depth subject.now.limits.nodes games.new.found.items) }
     ensures grows { IfOk result (λ f. Grows games.old.found.items games.new.found.items) }
 {
-    let both = with_both(query, first, second);
-    let decided = decide(searchers, games, &both, &Claim::Illegal, limits)?;
+    let query = with_both(&subject.query, first, second);
+    let both = Subject {
+        query,
+        limits: subject.limits,
+    };
+    let decided = decide(searchers, games, &both, &Claim::Illegal)?;
     Ok(PairFound {
         first,
         second,
@@ -93,30 +96,31 @@ fn seek_pair(
 pub(crate) fn seek_pairs(
     searchers: &mut Searchers,
     games: &mut Games,
-    query: &Query,
+    subject: &Subject,
     kept: CastleSet,
-    limits: Limits,
 ) -> Result<Vec<PairFound>, AllocError>
-    requires plain { query.now.barred ≡ None }
-    ensures pairs { IfOk result (λ found. map pair_of found.items ≡ filter (are_both_in kept) castle_pairs) }
-    ensures sought { IfOk result (λ found. All (IsPairSought query.now limits.depth limits.nodes games.new.found.items) found.items) }
+    ensures pairs { IfOk result
+        (λ found. map pair_of found.items ≡ filter (are_both_in kept) castle_pairs) }
+    ensures sought { IfOk result
+        (λ found. All (IsPairSought subject.now.query subject.now.limits.depth subject.now.limits.nodes games.new.found.items) found.items) }
     ensures grows { IfOk result (λ found. Grows games.old.found.items games.new.found.items) }
 {
     let mut found = Vec::new(searchers.alloc);
     let due = pairs_in(searchers.alloc, kept, &PAIRS)?;
     let each = due.as_slice();
     for pair in each {
-        found.push(seek_pair(searchers, games, query, pair.0, pair.1, limits)?)?;
+        found.push(seek_pair(searchers, games, subject, pair.0, pair.1)?)?;
     }
     Ok(found)
 }
 
 /// What is found of the two castlings by these games too.
-fn agreed_pair(games: &Games, query: &Query, found: PairFound) -> PairFound
-    requires plain { query.now.barred ≡ None }
+fn agreed_pair(games: &Games, subject: &Subject, found: PairFound) -> PairFound
     ensures first { result.first ≡ found.first }
     ensures second { result.second ≡ found.second }
-    ensures found { (most nodes : ℕ) → IsPairSought query.now most nodes games.now.found.items found → IsPairAgreed query.now most nodes games.now.found.items result }
+    ensures found { (most nodes : ℕ) →
+        IsPairSought subject.now.query most nodes games.now.found.items found →
+        IsPairAgreed subject.now.query most nodes games.now.found.items result }
 {
     let PairFound {
         first,
@@ -124,7 +128,11 @@ fn agreed_pair(games: &Games, query: &Query, found: PairFound) -> PairFound
         finding,
         stuck,
     } = found;
-    let both = with_both(query, first, second);
+    let query = with_both(&subject.query, first, second);
+    let both = Subject {
+        query,
+        limits: subject.limits,
+    };
     let decided = agreed(games, &both, &Claim::Illegal, Decided { finding, stuck });
     PairFound {
         first,
@@ -138,16 +146,18 @@ fn agreed_pair(games: &Games, query: &Query, found: PairFound) -> PairFound
 pub(crate) fn agreed_pairs(
     alloc: Global,
     games: &Games,
-    query: &Query,
+    subject: &Subject,
     found: Vec<PairFound>,
 ) -> Result<Vec<PairFound>, AllocError>
-    requires plain { query.now.barred ≡ None }
     ensures pairs { IfOk result (λ told. map pair_of told.items ≡ map pair_of found.items) }
-    ensures found { IfOk result (λ told. (most nodes : ℕ) → All (IsPairSought query.now most nodes games.now.found.items) found.items → All (IsPairAgreed query.now most nodes games.now.found.items) told.items) }
+    ensures found { IfOk result
+        (λ told. (most nodes : ℕ) →
+        All (IsPairSought subject.now.query most nodes games.now.found.items) found.items →
+        All (IsPairAgreed subject.now.query most nodes games.now.found.items) told.items) }
 {
     let mut told = Vec::new(alloc);
     for each in found {
-        told.push(agreed_pair(games, query, each))?;
+        told.push(agreed_pair(games, subject, each))?;
     }
     Ok(told)
 }

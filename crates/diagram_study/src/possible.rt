@@ -100,7 +100,8 @@ fn tell_ends(
     requires listed { All (Contains (unmoves query.now)) left.now }
     requires among { EndsAmong query.now left.now }
     requires texts { All (λ u. IsTrue (has_text u)) left.now }
-    ensures { OnOk result ((own : List ℕ) × TellsEnds query.now games.now.found.items left.now own × (text.new.items ≡ text.old.items ++ own)) }
+    ensures { OnOk result ((own : List ℕ) × TellsEnds query.now games.now.found.items left.now own
+        × (text.new.items ≡ text.old.items ++ own)) }
 {
     let ends = ends_among(alloc, games, query, left)?;
     push_possible(text, &ends, left.len())
@@ -117,7 +118,9 @@ pub(crate) fn tell_possible(
     requires listed { All (Contains (unmoves query.now)) left.now }
     requires among { EndsAmong query.now left.now }
     requires texts { All (λ u. IsTrue (has_text u)) left.now }
-    ensures { OnOk result ((own : List ℕ) × TellsPossible query.now games.now.found.items left.now own × (text.new.items ≡ text.old.items ++ own)) }
+    ensures { OnOk result ((own : List ℕ)
+        × TellsPossible query.now games.now.found.items left.now own
+        × (text.new.items ≡ text.old.items ++ own)) }
 {
     if has_few_left(query, left) {
         tell_ends(alloc, games, query, left, text)

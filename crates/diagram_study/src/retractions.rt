@@ -10,9 +10,10 @@ ghost use Rattle.diagram_study.specs.Retractions.{HasLeft, TellsLast, TellsMove,
 use crate::joining::joined_up;
 use crate::searchers::{Searchers, is_refuted};
 use crate::searches::{search_at, seek};
+use crate::subjects::Subject;
 use crate::texts::push_found;
 use board_base::{Move, Unmove, UnmoveList, is_move};
-use query_base::{Claim, Query};
+use query_base::Claim;
 use retro_search::{Limits, Outcome};
 use std::alloc::AllocError;
 use unmove_gen::{Unmoves, few_unmoves, last_moves_are_listed, pred, unmoves_have_texts};
@@ -35,32 +36,36 @@ pub struct Counted {
 /// The unmoves of the query whose predecessors the search doesn't refute.
 pub(crate) fn retractions(
     searchers: &mut Searchers,
-    query: &Query,
-    limits: Limits,
+    subject: &Subject,
 ) -> Result<Counted, AllocError>
-    requires plain { query.now.barred ≡ None }
-    ensures left { IfOk result (λ r. HasLeft query.now limits.depth limits.nodes r.left) }
-    ensures looked { IfOk result (λ r. AreLooked query.now (limits.depth - 1) limits.nodes [] r.left r.looked.items) }
-    ensures all { IfOk result (λ r. r.all ≡ length (unmoves query.now)) }
+    ensures left { IfOk result
+        (λ r. HasLeft subject.now.query subject.now.limits.depth subject.now.limits.nodes r.left) }
+    ensures looked { IfOk result
+        (λ r. AreLooked subject.now.query (subject.now.limits.depth - 1) subject.now.limits.nodes [] r.left r.looked.items) }
+    ensures all { IfOk result (λ r. r.all ≡ length (unmoves subject.now.query)) }
     ensures few { IfOk result (λ r. length r.left ≤ 143360) }
     ensures texts { IfOk result (λ r. All (λ u. IsTrue (has_text u)) r.left) }
 {
     few_unmoves();
     unmoves_have_texts();
     last_moves_are_listed();
-    let below = limits.depth.saturating_sub(1);
+    let below = subject.limits.depth.saturating_sub(1);
+    let nearer = Limits {
+        depth: below,
+        nodes: subject.limits.nodes,
+    };
     let mut looked = Vec::new(searchers.alloc);
     let mut left = UnmoveList::new(searchers.alloc);
     let mut all: u32 = 0;
-    let mut unmoves = Unmoves::new(query);
+    let mut unmoves = Unmoves::new(&subject.query);
     while let Some(u) = unmoves.next() {
         all += 1;
-        let before = pred(query, &u);
-        let nearer = Limits {
-            depth: below,
-            nodes: limits.nodes,
+        let before = pred(&subject.query, &u);
+        let earlier = Subject {
+            query: before,
+            limits: nearer,
         };
-        let outcome = search_at(searchers, &before, &Claim::Illegal, nearer)?;
+        let outcome = search_at(searchers, &earlier, &Claim::Illegal)?;
         looked.push(Looked { unmove: u, outcome })?;
         if !is_refuted(outcome) {
             match left.push(u) {
@@ -107,21 +112,21 @@ fn one_move(left: &UnmoveList) -> Option<Move>
 /// Adds the line that this was the last move, which it is of all unmoves that are left, where that is proved.
 fn tell_move(
     searchers: &mut Searchers,
-    query: &Query,
+    subject: &Subject,
     m: &Move,
     seen: &Counted,
-    limits: Limits,
     text: &mut Vec<u8>,
 ) -> Result<(), AllocError>
     requires promotion { IsTrue (can_promote m.now.promo) }
-    requires plain { query.now.barred ≡ None }
-    requires looked { AreLooked query.now (limits.depth - 1) limits.nodes [] seen.now.left seen.now.looked.items }
+    requires looked { AreLooked subject.now.query (subject.now.limits.depth - 1) subject.now.limits.nodes [] seen.now.left seen.now.looked.items }
     requires all { All (λ u. IsTrue (is_move (Some m.now) u.mv)) seen.now.left }
-    ensures { OnOk result ((own : List ℕ) × TellsMove query.now limits.depth limits.nodes m.now own × (text.new.items ≡ text.old.items ++ own)) }
+    ensures { OnOk result ((own : List ℕ)
+        × TellsMove subject.now.query subject.now.limits.depth subject.now.limits.nodes m.now own
+        × (text.new.items ≡ text.old.items ++ own)) }
 {
     let claim = Claim::Last(*m);
-    let sought = seek(searchers, query, &claim, limits)?;
-    let finding = joined_up(query, Some(*m), sought, seen, limits);
+    let sought = seek(searchers, subject, &claim)?;
+    let finding = joined_up(subject, Some(*m), sought, seen);
     if finding.is_proved() {
         push_found(text, finding, &claim)
     } else {
@@ -132,18 +137,17 @@ fn tell_move(
 /// Adds what is found of the last move, where only one is left.
 pub(crate) fn tell_last(
     searchers: &mut Searchers,
-    query: &Query,
+    subject: &Subject,
     seen: &Counted,
-    limits: Limits,
     text: &mut Vec<u8>,
 ) -> Result<(), AllocError>
     requires texts { All (λ u. IsTrue (has_text u)) seen.now.left }
-    requires plain { query.now.barred ≡ None }
-    requires looked { AreLooked query.now (limits.depth - 1) limits.nodes [] seen.now.left seen.now.looked.items }
-    ensures { OnOk result ((own : List ℕ) × TellsLast query.now limits.depth limits.nodes (one_move seen.now.left) own × (text.new.items ≡ text.old.items ++ own)) }
+    requires looked { AreLooked subject.now.query (subject.now.limits.depth - 1) subject.now.limits.nodes [] seen.now.left seen.now.looked.items }
+    ensures { OnOk result ((own : List ℕ)
+        × TellsLast subject.now.query subject.now.limits.depth subject.now.limits.nodes (one_move seen.now.left) own × (text.new.items ≡ text.old.items ++ own)) }
 {
     match one_move(&seen.left) {
-        Some(m) => tell_move(searchers, query, &m, seen, limits, text),
+        Some(m) => tell_move(searchers, subject, &m, seen, text),
         None => Ok(()),
     }
 }

@@ -1,4 +1,4 @@
-ghost use Rattle.std.specs.Prelude.{ℕ, ◌≡◌, ◌++◌, IfOk, IsTrue, None, OnOk, map};
+ghost use Rattle.std.specs.Prelude.{ℕ, ◌≡◌, ◌++◌, IfOk, IsTrue, OnOk, map};
 ghost use Rattle.std.specs.List.{All};
 ghost use Rattle.cert_text.specs.ClaimLines.{promotes_well};
 ghost use Rattle.codex_verdict.specs.Rights.{claim_of};
@@ -11,12 +11,12 @@ use crate::deciding::{Decided, agreed, decide};
 use crate::findings::Finding;
 use crate::games::Games;
 use crate::searchers::Searchers;
+use crate::subjects::Subject;
 use crate::texts::push_decided;
 use arrayvec::ArrayVec;
 use board_base::{CastleSet, UnmoveList};
 use codex_verdict::{Right, claim_of, rights};
 use query_base::{Claim, Query};
-use retro_search::Limits;
 use std::alloc::{AllocError, Global};
 
 /// A right, and what is found of the claim that decides it; where that stays open, the retractions that are told of an open line.
@@ -56,19 +56,18 @@ fn due_rights(query: &Query) -> ArrayVec<Right, 18>
 pub(crate) fn seek_rights(
     searchers: &mut Searchers,
     games: &mut Games,
-    query: &Query,
-    limits: Limits,
+    subject: &Subject,
 ) -> Result<Vec<RightFound>, AllocError>
-    requires plain { query.now.barred ≡ None }
-    ensures due { IfOk result (λ found. AreDue query.now (map (λ f. f.right) found.items)) }
-    ensures sought { IfOk result (λ found. All (IsRightSought query.now limits.depth limits.nodes games.new.found.items) found.items) }
+    ensures due { IfOk result (λ found. AreDue subject.now.query (map (λ f. f.right) found.items)) }
+    ensures sought { IfOk result
+        (λ found. All (IsRightSought subject.now.query subject.now.limits.depth subject.now.limits.nodes games.new.found.items) found.items) }
     ensures grows { IfOk result (λ found. Grows games.old.found.items games.new.found.items) }
 {
     let mut found = Vec::new(searchers.alloc);
-    let due = due_rights(query);
+    let due = due_rights(&subject.query);
     let each = due.as_slice();
     for right in each {
-        let decided = decide(searchers, games, query, &claim_of(right), limits)?;
+        let decided = decide(searchers, games, subject, &claim_of(right))?;
         found.push(RightFound {
             right: *right,
             finding: decided.finding,
@@ -79,18 +78,24 @@ pub(crate) fn seek_rights(
 }
 
 /// What is found of the right by these games too.
-fn agreed_right(games: &Games, query: &Query, found: RightFound) -> RightFound
-    requires plain { query.now.barred ≡ None }
+fn agreed_right(games: &Games, subject: &Subject, found: RightFound) -> RightFound
     ensures right { result.right ≡ found.right }
     ensures proved { is_proved result.finding ≡ is_proved found.finding }
-    ensures found { (most nodes : ℕ) → IsRightSought query.now most nodes games.now.found.items found → IsRightAgreed query.now most nodes games.now.found.items result }
+    ensures found { (most nodes : ℕ) →
+        IsRightSought subject.now.query most nodes games.now.found.items found →
+        IsRightAgreed subject.now.query most nodes games.now.found.items result }
 {
     let RightFound {
         right,
         finding,
         stuck,
     } = found;
-    let decided = agreed(games, query, &claim_of(&right), Decided { finding, stuck });
+    let decided = agreed(
+        games,
+        subject,
+        &claim_of(&right),
+        Decided { finding, stuck },
+    );
     RightFound {
         right,
         finding: decided.finding,
@@ -102,17 +107,21 @@ fn agreed_right(games: &Games, query: &Query, found: RightFound) -> RightFound
 pub(crate) fn agreed_rights(
     alloc: Global,
     games: &Games,
-    query: &Query,
+    subject: &Subject,
     found: Vec<RightFound>,
 ) -> Result<Vec<RightFound>, AllocError>
-    requires plain { query.now.barred ≡ None }
-    ensures rights { IfOk result (λ told. map (λ f. f.right) told.items ≡ map (λ f. f.right) found.items) }
-    ensures proved { IfOk result (λ told. map (λ f. is_proved f.finding) told.items ≡ map (λ f. is_proved f.finding) found.items) }
-    ensures found { IfOk result (λ told. (most nodes : ℕ) → All (IsRightSought query.now most nodes games.now.found.items) found.items → All (IsRightAgreed query.now most nodes games.now.found.items) told.items) }
+    ensures rights { IfOk result
+        (λ told. map (λ f. f.right) told.items ≡ map (λ f. f.right) found.items) }
+    ensures proved { IfOk result
+        (λ told. map (λ f. is_proved f.finding) told.items ≡ map (λ f. is_proved f.finding) found.items) }
+    ensures found { IfOk result
+        (λ told. (most nodes : ℕ) →
+        All (IsRightSought subject.now.query most nodes games.now.found.items) found.items →
+        All (IsRightAgreed subject.now.query most nodes games.now.found.items) told.items) }
 {
     let mut told = Vec::new(alloc);
     for each in found {
-        told.push(agreed_right(games, query, each))?;
+        told.push(agreed_right(games, subject, each))?;
     }
     Ok(told)
 }

@@ -1,4 +1,4 @@
-ghost use Rattle.std.specs.Prelude.{◌≡◌, ◌<◌, ◌≤◌, [], IfOk, IsTrue, None};
+ghost use Rattle.std.specs.Prelude.{◌≡◌, ◌<◌, ◌≤◌, [], IfOk, IsTrue};
 ghost use Rattle.price_search.specs.FlatPrices.{FlatPricesSupport};
 ghost use Rattle.retro_search.specs.Outcomes.{HasProof, IfRefuted};
 ghost use Rattle.retro_search.specs.Refutable.{IsRefutable};
@@ -9,6 +9,7 @@ ghost use Rattle.diagram_study.specs.Decisions.{IsSearchEnd};
 ghost use Rattle.diagram_study.specs.Findings.{is_refuted};
 
 use crate::ends::End;
+use crate::subjects::Subject;
 use board_base::Memory;
 use query_base::{Claim, Query};
 use retro_search::{Found, Limits, Outcome, Reasons, Searcher};
@@ -41,11 +42,19 @@ impl Searchers {
     /// Searches for a refutation of the query by rule lines; and where these leave it open, or cost too much, by the balance of captures
     /// too, as far back but with a tenth of the nodes. Where flat prices support the query, and any may be visited, it is refuted.
     pub(crate) fn refute(&mut self, query: &Query, limits: Limits) -> Result<Outcome, Memory>
-        ensures refuted { IfOk result (λ outcome. IfRefuted outcome (λ height. HasProof query.now height limits.depth)) }
-        ensures stays_open { IfOk result (λ outcome. outcome ≡ Outcome.Open → IsRefutable query.now limits.depth [] → ⊥) }
-        ensures spent { IfOk result (λ outcome. outcome ≡ Outcome.Spent → WhereRefutable query.now limits.depth (λ n. limits.nodes < n)) }
-        ensures large { IfOk result (λ outcome. outcome ≡ Outcome.Spent → IsLargeSearch query.now limits.depth limits.nodes) }
-        ensures priced { IfOk result (λ outcome. 1 ≤ limits.nodes → FlatPricesSupport query.now → IsTrue (is_refuted outcome)) }
+        ensures refuted { IfOk result
+            (λ outcome. IfRefuted outcome (λ height. HasProof query.now height limits.depth)) }
+        ensures stays_open { IfOk result
+            (λ outcome. outcome ≡ Outcome.Open → IsRefutable query.now limits.depth [] → ⊥) }
+        ensures spent { IfOk result
+            (λ outcome. outcome ≡ Outcome.Spent →
+            WhereRefutable query.now limits.depth (λ n. limits.nodes < n)) }
+        ensures large { IfOk result
+            (λ outcome. outcome ≡ Outcome.Spent →
+            IsLargeSearch query.now limits.depth limits.nodes) }
+        ensures priced { IfOk result
+            (λ outcome. 1 ≤ limits.nodes → FlatPricesSupport query.now →
+            IsTrue (is_refuted outcome)) }
     {
         let by_rule_lines = self.by_rule_lines.refute(query, limits)?;
         if is_refuted(by_rule_lines) {
@@ -60,16 +69,14 @@ impl Searchers {
     }
 
     /// Where the search by rule lines ends.
-    fn end_by_rule_lines(
-        &mut self,
-        query: &Query,
-        claim: &Claim,
-        limits: Limits,
-    ) -> Result<End, Memory>
-        requires plain { query.now.barred ≡ None }
-        ensures { IfOk result (IsSearchEnd query.now claim.now limits.depth limits.nodes) }
+    fn end_by_rule_lines(&mut self, subject: &Subject, claim: &Claim) -> Result<End, Memory>
+        ensures { IfOk result
+            (IsSearchEnd subject.now.query claim.now subject.now.limits.depth subject.now.limits.nodes) }
     {
-        match self.by_rule_lines.settle(query, claim, limits)? {
+        match self
+            .by_rule_lines
+            .settle(&subject.query, claim, subject.limits)?
+        {
             Found::Undecided(line) => Ok(End::Line(line)),
             Found::Countered(game) => Ok(End::Game(game)),
             Found::Proved(_) => Ok(End::Nowhere),
@@ -78,20 +85,18 @@ impl Searchers {
     }
 
     /// Where the search ends that leaves the claim open: the one by all reasons, or else the one by rule lines.
-    pub(crate) fn end(
-        &mut self,
-        query: &Query,
-        claim: &Claim,
-        limits: Limits,
-    ) -> Result<End, Memory>
-        requires plain { query.now.barred ≡ None }
-        ensures { IfOk result (IsSearchEnd query.now claim.now limits.depth limits.nodes) }
+    pub(crate) fn end(&mut self, subject: &Subject, claim: &Claim) -> Result<End, Memory>
+        ensures { IfOk result
+            (IsSearchEnd subject.now.query claim.now subject.now.limits.depth subject.now.limits.nodes) }
     {
-        match self.by_all.settle(query, claim, priced(limits))? {
+        match self
+            .by_all
+            .settle(&subject.query, claim, priced(subject.limits))?
+        {
             Found::Undecided(line) => Ok(End::Line(line)),
             Found::Countered(game) => Ok(End::Game(game)),
-            Found::Proved(_) => self.end_by_rule_lines(query, claim, limits),
-            Found::Spent { .. } => self.end_by_rule_lines(query, claim, limits),
+            Found::Proved(_) => self.end_by_rule_lines(subject, claim),
+            Found::Spent { .. } => self.end_by_rule_lines(subject, claim),
         }
     }
 }

@@ -20,6 +20,7 @@ use crate::retractions::{Counted, retractions, tell_last};
 use crate::rights::{tell_captures, tell_castlings};
 use crate::searchers::Searchers;
 use crate::searches::seek;
+use crate::subjects::Subject;
 use crate::texts::{push_decided, push_found, push_left, push_length};
 use board_base::{Castle, CastleSet};
 use length_bound::{longest, shown_lengths_hold};
@@ -29,7 +30,8 @@ use std::alloc::{AllocError, Global};
 
 /// Adds the line of the length of the games, where it can be told.
 fn tell_length(query: &Query, text: &mut Vec<u8>) -> Result<(), AllocError>
-    ensures { OnOk result ((own : List ℕ) × (said : Option LengthText) × TellsLength query.now said own × (text.new.items ≡ text.old.items ++ own)) }
+    ensures { OnOk result ((own : List ℕ) × (said : Option LengthText)
+        × TellsLength query.now said own × (text.new.items ≡ text.old.items ++ own)) }
 {
     shown_lengths_hold();
     match longest(query) {
@@ -42,27 +44,27 @@ fn tell_length(query: &Query, text: &mut Vec<u8>) -> Result<(), AllocError>
 fn tell_more(
     searchers: &mut Searchers,
     games: &Games,
-    query: &Query,
+    subject: &Subject,
     gathered: &Gathered,
     seen: &Counted,
-    limits: Limits,
     text: &mut Vec<u8>,
 ) -> Result<(), AllocError>
-    requires plain { query.now.barred ≡ None }
-    requires gathered { AreGathered query.now limits.depth limits.nodes games.now.found.items gathered.now }
-    requires seen { IsSeen query.now limits.depth limits.nodes seen.now }
-    requires array { 1 ≤ limits.depth → seen.now.left ≡ [] → Reaches [] query.now }
-    ensures { OnOk result ((own : List ℕ) × TellsMore query.now limits.depth limits.nodes games.now.found.items own × (text.new.items ≡ text.old.items ++ own)) }
+    requires gathered { AreGathered subject.now.query subject.now.limits.depth subject.now.limits.nodes games.now.found.items gathered.now }
+    requires seen { IsSeen subject.now.query subject.now.limits.depth subject.now.limits.nodes seen.now }
+    requires array { 1 ≤ subject.now.limits.depth → seen.now.left ≡ [] →
+        Reaches [] subject.now.query }
+    ensures { OnOk result ((own : List ℕ)
+        × TellsMore subject.now.query subject.now.limits.depth subject.now.limits.nodes games.now.found.items own × (text.new.items ≡ text.old.items ++ own)) }
 {
     let rights = gathered.rights.as_slice();
     tell_castlings(text, rights)?;
     tell_pairs(text, gathered.pairs.as_slice())?;
     tell_captures(text, rights)?;
-    tell_last(searchers, query, seen, limits, text)?;
-    tell_forced(searchers, query, &seen.left, limits, text)?;
+    tell_last(searchers, subject, seen, text)?;
+    tell_forced(searchers, subject, &seen.left, text)?;
     push_left(text, &seen.left, seen.all)?;
-    tell_possible(searchers.alloc, games, query, &seen.left, text)?;
-    tell_length(query, text)
+    tell_possible(searchers.alloc, games, &subject.query, &seen.left, text)?;
+    tell_length(&subject.query, text)
 }
 
 /// The same board with the other side to move: without the double step that an en passant square demands.
@@ -80,14 +82,19 @@ fn other_side(query: &Query) -> Query
 fn tell_other(
     searchers: &mut Searchers,
     games: &mut Games,
-    query: &Query,
-    limits: Limits,
+    subject: &Subject,
     text: &mut Vec<u8>,
 ) -> Result<(), AllocError>
-    ensures { OnOk result ((own : List ℕ) × TellsOther query.now limits.depth limits.nodes own × (text.new.items ≡ text.old.items ++ own)) }
+    ensures { OnOk result ((own : List ℕ)
+        × TellsOther subject.now.query subject.now.limits.depth subject.now.limits.nodes own
+        × (text.new.items ≡ text.old.items ++ own)) }
 {
-    let other = other_side(query);
-    let decided = decide(searchers, games, &other, &Claim::Illegal, limits)?;
+    let query = other_side(&subject.query);
+    let other = Subject {
+        query,
+        limits: subject.limits,
+    };
+    let decided = decide(searchers, games, &other, &Claim::Illegal)?;
     text.extend_from_slice(b"other side ")?;
     push_found(text, decided.finding, &Claim::Illegal)
 }
@@ -96,18 +103,17 @@ fn tell_other(
 fn tell_illegal(
     searchers: &mut Searchers,
     games: &mut Games,
-    query: &Query,
+    subject: &Subject,
     finding: Finding,
-    limits: Limits,
     text: &mut Vec<u8>,
 ) -> Result<(), AllocError>
-    requires plain { query.now.barred ≡ None }
-    requires found { IsFound query.now Claim.Illegal limits.depth limits.nodes finding }
+    requires found { IsFound subject.now.query Claim.Illegal subject.now.limits.depth subject.now.limits.nodes finding }
     requires proved { IsTrue (is_proved finding) }
-    ensures { OnOk result ((own : List ℕ) × TellsPosition query.now limits.depth limits.nodes finding own × (text.new.items ≡ text.old.items ++ own)) }
+    ensures { OnOk result ((own : List ℕ)
+        × TellsPosition subject.now.query subject.now.limits.depth subject.now.limits.nodes finding own × (text.new.items ≡ text.old.items ++ own)) }
 {
     push_found(text, finding, &Claim::Illegal)?;
-    tell_other(searchers, games, query, limits, text)
+    tell_other(searchers, games, subject, text)
 }
 
 /// Adds what is found of a position that isn't proved to be illegal. Games are looked for before anything is told, so that each claim is
@@ -115,25 +121,25 @@ fn tell_illegal(
 fn tell_unproved(
     searchers: &mut Searchers,
     games: &mut Games,
-    query: &Query,
+    subject: &Subject,
     sought: Finding,
     seen: &Counted,
-    limits: Limits,
     text: &mut Vec<u8>,
 ) -> Result<Finding, AllocError>
-    requires plain { query.now.barred ≡ None }
-    requires sought { IsFound query.now Claim.Illegal limits.depth limits.nodes sought }
+    requires sought { IsFound subject.now.query Claim.Illegal subject.now.limits.depth subject.now.limits.nodes sought }
     requires unproved { is_proved sought ≡ false }
     requires unlooked { sought ≢ Finding.Countered }
-    requires seen { IsSeen query.now limits.depth limits.nodes seen.now }
-    requires array { 1 ≤ limits.depth → seen.now.left ≡ [] → Reaches [] query.now }
-    ensures { IfOk result (λ finding. (own : List ℕ) × TellsPosition query.now limits.depth limits.nodes finding own × (text.new.items ≡ text.old.items ++ own)) }
+    requires seen { IsSeen subject.now.query subject.now.limits.depth subject.now.limits.nodes seen.now }
+    requires array { 1 ≤ subject.now.limits.depth → seen.now.left ≡ [] →
+        Reaches [] subject.now.query }
+    ensures { IfOk result (λ finding. (own : List ℕ)
+        × TellsPosition subject.now.query subject.now.limits.depth subject.now.limits.nodes finding own × (text.new.items ≡ text.old.items ++ own)) }
 {
-    let sought = gather(searchers, games, query, sought, &seen.left, limits)?;
-    let gathered = agreed_all(searchers.alloc, games, query, limits, sought)?;
+    let sought = gather(searchers, games, subject, sought, &seen.left)?;
+    let gathered = agreed_all(searchers.alloc, games, subject, sought)?;
     let finding = gathered.illegal.finding;
     push_decided(text, finding, &gathered.illegal.stuck, &Claim::Illegal)?;
-    tell_more(searchers, games, query, &gathered, seen, limits, text)?;
+    tell_more(searchers, games, subject, &gathered, seen, text)?;
     Ok(finding)
 }
 
@@ -142,25 +148,24 @@ fn tell_unproved(
 fn tell_position(
     searchers: &mut Searchers,
     games: &mut Games,
-    query: &Query,
-    limits: Limits,
+    subject: &Subject,
     text: &mut Vec<u8>,
 ) -> Result<Finding, AllocError>
-    requires plain { query.now.barred ≡ None }
-    ensures { IfOk result (λ finding. (own : List ℕ) × TellsPosition query.now limits.depth limits.nodes finding own × (text.new.items ≡ text.old.items ++ own)) }
+    ensures { IfOk result (λ finding. (own : List ℕ)
+        × TellsPosition subject.now.query subject.now.limits.depth subject.now.limits.nodes finding own × (text.new.items ≡ text.old.items ++ own)) }
 {
-    let sought = seek(searchers, query, &Claim::Illegal, limits)?;
+    let sought = seek(searchers, subject, &Claim::Illegal)?;
     if sought.is_proved() {
-        tell_illegal(searchers, games, query, sought, limits, text)?;
+        tell_illegal(searchers, games, subject, sought, text)?;
         return Ok(sought);
     }
-    let seen = retractions(searchers, query, limits)?;
-    let joined = joined_up(query, None, sought, &seen, limits);
+    let seen = retractions(searchers, subject)?;
+    let joined = joined_up(subject, None, sought, &seen);
     if joined.is_proved() {
-        tell_illegal(searchers, games, query, joined, limits, text)?;
+        tell_illegal(searchers, games, subject, joined, text)?;
         return Ok(joined);
     }
-    tell_unproved(searchers, games, query, joined, &seen, limits, text)
+    tell_unproved(searchers, games, subject, joined, &seen, text)
 }
 
 /// The query demands a right, a last move or a clock.
@@ -195,14 +200,20 @@ fn without_demands(query: &Query) -> Query
 fn tell_plain(
     searchers: &mut Searchers,
     games: &mut Games,
-    query: &Query,
-    limits: Limits,
+    subject: &Subject,
     text: &mut Vec<u8>,
 ) -> Result<(), AllocError>
-    ensures { OnOk result ((own : List ℕ) × TellsPlain query.now limits.depth limits.nodes own × (text.new.items ≡ text.old.items ++ own)) }
+    ensures { OnOk result ((own : List ℕ)
+        × TellsPlain subject.now.query subject.now.limits.depth subject.now.limits.nodes own
+        × (text.new.items ≡ text.old.items ++ own)) }
 {
     text.extend_from_slice(b"without demands\n")?;
-    match tell_position(searchers, games, &without_demands(query), limits, text) {
+    let query = without_demands(&subject.query);
+    let plain = Subject {
+        query,
+        limits: subject.limits,
+    };
+    match tell_position(searchers, games, &plain, text) {
         Ok(_) => Ok(()),
         Err(why) => Err(why),
     }
@@ -212,15 +223,15 @@ fn tell_plain(
 fn tell_again(
     searchers: &mut Searchers,
     games: &mut Games,
-    query: &Query,
+    subject: &Subject,
     finding: Finding,
-    limits: Limits,
     text: &mut Vec<u8>,
 ) -> Result<(), AllocError>
-    ensures { OnOk result ((own : List ℕ) × TellsAgain query.now limits.depth limits.nodes finding own × (text.new.items ≡ text.old.items ++ own)) }
+    ensures { OnOk result ((own : List ℕ)
+        × TellsAgain subject.now.query subject.now.limits.depth subject.now.limits.nodes finding own × (text.new.items ≡ text.old.items ++ own)) }
 {
-    if finding.is_proved() && makes_demands(query) {
-        tell_plain(searchers, games, query, limits, text)
+    if finding.is_proved() && makes_demands(&subject.query) {
+        tell_plain(searchers, games, subject, text)
     } else {
         Ok(())
     }
@@ -248,18 +259,14 @@ pub fn study(alloc: Global, query: &Query, most: u8, nodes: u32) -> Result<Vec<u
     ensures study { IfOk result (λ text. IsStudy query.now most nodes text.items) }
     ensures true_ { IfOk result (λ text. SaysTrue query.now text.items) }
 {
-    let limits = Limits { depth: most, nodes };
+    let subject = &Subject {
+        query: *query,
+        limits: Limits { depth: most, nodes },
+    };
     let mut searchers = Searchers::new(alloc);
     let mut games = Games::new(alloc);
     let mut text = Vec::new(alloc);
-    let finding = tell_position(&mut searchers, &mut games, query, limits, &mut text)?;
-    tell_again(
-        &mut searchers,
-        &mut games,
-        query,
-        finding,
-        limits,
-        &mut text,
-    )?;
+    let finding = tell_position(&mut searchers, &mut games, subject, &mut text)?;
+    tell_again(&mut searchers, &mut games, subject, finding, &mut text)?;
     Ok(text)
 }

@@ -44,7 +44,6 @@ fn solve_by_all(
 ) -> Result<Option<Vec<u8>>, Memory>
     requires unbarred { query.now.barred ≡ None }
     requires promotion { IsTrue (promotes_well claim.now) }
-    requires some_nodes { 1 ≤ limits.nodes }
     ensures proof { IfOk result (λ found. IfSome found (λ text. IsPartText limits.depth text.items (claim.now, query.now))) }
     ensures unpriced { IfOk result (λ found. found ≡ None → IsPartPriced (claim.now, query.now) → ⊥) }
 {
@@ -65,7 +64,6 @@ pub(crate) fn solve_part(
 ) -> Result<PartAnswer, Memory>
     requires unbarred { query.now.barred ≡ None }
     requires promotion { IsTrue (promotes_well claim.now) }
-    requires some_nodes { 1 ≤ limits.nodes }
     ensures proof { IfOk result (λ part. IfProof part (λ text. IsPartProof limits.depth limits.nodes text.items (claim.now, query.now))) }
     ensures open { IfOk result (λ part. IfOpen part (IsPartOpen limits.depth (claim.now, query.now))) }
     ensures dear { IfOk result (λ part. IfDear part (IsPartDear limits.depth limits.nodes (claim.now, query.now))) }

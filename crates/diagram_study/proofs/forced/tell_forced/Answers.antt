@@ -3,10 +3,12 @@ use Rattle.diagram_study.proofs.Forcing.{next_is}
 use Rattle.diagram_study.proofs.Telling.{forced_untold}
 use Rattle.diagram_study.proofs.forced.tell_forced.Goals as goal
 
-pub forced_steps-requires-clause-first : goal.forced_steps-requires-clause-first
-forced_steps-requires-clause-first c =
-    next_is c.args.query.now c.args.limits.depth c.args.limits.nodes c.args.left.now c.in_ok-first.first c.requires.texts c.in_ok-first.ensures
+pub forced_steps-requires : goal.forced_steps-requires
+forced_steps-requires c = record {
+  first =
+      next_is c.args.subject.now.query c.args.subject.now.limits.depth c.args.subject.now.limits.nodes c.args.left.now c.in_ok-first.first c.requires.texts c.in_ok-first.ensures;
+}
 
 pub returns-then-len-lt2 : goal.returns-then-len-lt2
 returns-then-len-lt2 c =
-    forced_untold c.args.query.now c.args.limits.depth c.args.limits.nodes c.in_ok-steps.steps.items c.args.text.now.items c.in_ok-steps.ensures.forced (omega (arith, c.len.ensures, c.if-len-lt2.true))
+    forced_untold c.args.subject.now.query c.args.subject.now.limits.depth c.args.subject.now.limits.nodes c.in_ok-steps.steps.items c.args.text.now.items c.in_ok-steps.ensures.forced (omega (arith, c.len.ensures, c.if-len-lt2.true))

@@ -15,10 +15,10 @@ returns c =
     let two = grown_on c.in_ok-pairs.ensures.grows last in
     let all = grown_on c.in_ok-rights.ensures.grows two in
     record {
-      illegal = decided_grown c.args.query.now Illegal c.args.limits.depth c.args.limits.nodes _ _ c.in_ok-illegal.illegal all c.in_ok-illegal.ensures.decided;
+      illegal = decided_grown c.args.subject.now.query Illegal c.args.subject.now.limits.depth c.args.subject.now.limits.nodes _ _ c.in_ok-illegal.illegal all c.in_ok-illegal.ensures.decided;
       unproved = c.in_ok-illegal.ensures.unproved;
       due = c.in_ok-rights.ensures.due;
-      rights = sought_grown c.args.query.now c.args.limits.depth c.args.limits.nodes _ _ c.in_ok-rights.rights.items two c.in_ok-rights.ensures.sought;
+      rights = sought_grown c.args.subject.now.query c.args.subject.now.limits.depth c.args.subject.now.limits.nodes _ _ c.in_ok-rights.rights.items two c.in_ok-rights.ensures.sought;
       are_pairs = c.in_ok-pairs.ensures.pairs ∙ ap (λ (k : Rights). filter (are_both_in k) castle_pairs) (c.open_castlings-kept.ensures ∙ ap (λ (l : List RightFound). open_castlings l) c.as_slice.ensures.value);
-      pairs = pairs_grown c.args.query.now c.args.limits.depth c.args.limits.nodes _ _ c.in_ok-pairs.pairs.items last c.in_ok-pairs.ensures.sought;
+      pairs = pairs_grown c.args.subject.now.query c.args.subject.now.limits.depth c.args.subject.now.limits.nodes _ _ c.in_ok-pairs.pairs.items last c.in_ok-pairs.ensures.sought;
     }

@@ -8,7 +8,7 @@ use Rattle.diagram_study.proofs.line_searches.seek_line.Given as goal
 abbrev pub invariant-loop-claimed : goal.invariant-loop-claimed
 invariant-loop-claimed l = record {
   plain : All (λ part. part.1.barred ≡ None) l.due;
-  complete : Completes l.limits.depth l.limits.nodes (parts_due l.claim l.query) l.due l.finding;
+  complete : Completes l.subject.limits.depth l.subject.limits.nodes (parts_due l.claim l.subject.query) l.due l.finding;
 }
 
 abbrev pub decreases-loop-claimed : goal.decreases-loop-claimed

@@ -13,7 +13,7 @@ loop-each-preserved c =
     let next : into_iter_items at.each-iterator ≡ was ∷ into_iter_items c.next.new.self = c.in-Some.ensures.steps.0 in
     record {
       pairs = told_more pair_of _ _ _ _ was c.agreed_pair.result _ (same_pair c.agreed_pair.result was c.agreed_pair.ensures.first c.agreed_pair.ensures.second) c.in_ok-push.ensures.items next at.invariant.pairs;
-      found = λ most nodes all. each_told (IsPairSought c.args.query.now most nodes games) (IsPairAgreed c.args.query.now most nodes games) _ _ _ _ was c.agreed_pair.result (c.agreed_pair.ensures.found most nodes) c.in_ok-push.ensures.items next (at.invariant.found most nodes all);
+      found = λ most nodes all. each_told (IsPairSought c.args.subject.now.query most nodes games) (IsPairAgreed c.args.subject.now.query most nodes games) _ _ _ _ was c.agreed_pair.result (c.agreed_pair.ensures.found most nodes) c.in_ok-push.ensures.items next (at.invariant.found most nodes all);
       len = let len = at.invariant.len in let gone = c.in-Some.ensures.steps.1 in let short = ap length next in omega arith;
     }
 

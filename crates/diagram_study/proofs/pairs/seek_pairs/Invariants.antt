@@ -7,6 +7,6 @@ use Rattle.diagram_study.proofs.pairs.seek_pairs.Given as goal
 abbrev pub invariant-loop-pair : goal.invariant-loop-pair
 invariant-loop-pair l = record {
   pairs : map pair_of l.found.items ≡ take l.pair-index l.each;
-  sought : All (IsPairSought l.query l.limits.depth l.limits.nodes l.games.found.items) l.found.items;
+  sought : All (IsPairSought l.subject.query l.subject.limits.depth l.subject.limits.nodes l.games.found.items) l.found.items;
   grows : Grows l.initial.games.found.items l.games.found.items;
 }

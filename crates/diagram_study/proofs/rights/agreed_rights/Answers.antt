@@ -15,7 +15,7 @@ loop-each-preserved c =
     record {
       rights = told_more (λ (f : RightFound). f.right) _ _ _ _ was c.agreed_right.result _ c.agreed_right.ensures.right c.in_ok-push.ensures.items next at.invariant.rights;
       proved = told_more (λ (f : RightFound). is_proved f.finding) _ _ _ _ was c.agreed_right.result _ c.agreed_right.ensures.proved c.in_ok-push.ensures.items next at.invariant.proved;
-      found = λ most nodes all. each_told (IsRightSought c.args.query.now most nodes games) (IsRightAgreed c.args.query.now most nodes games) _ _ _ _ was c.agreed_right.result (c.agreed_right.ensures.found most nodes) c.in_ok-push.ensures.items next (at.invariant.found most nodes all);
+      found = λ most nodes all. each_told (IsRightSought c.args.subject.now.query most nodes games) (IsRightAgreed c.args.subject.now.query most nodes games) _ _ _ _ was c.agreed_right.result (c.agreed_right.ensures.found most nodes) c.in_ok-push.ensures.items next (at.invariant.found most nodes all);
       len = let len = at.invariant.len in let gone = c.in-Some.ensures.steps.1 in let short = ap length next in omega arith;
     }
 

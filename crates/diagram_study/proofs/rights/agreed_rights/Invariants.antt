@@ -9,6 +9,6 @@ abbrev pub invariant-loop-each : goal.invariant-loop-each
 invariant-loop-each l = record {
   rights : map (λ f. f.right) l.told.items ++ map (λ f. f.right) (into_iter_items l.each-iterator) ≡ map (λ f. f.right) l.fn.found.items;
   proved : map (λ f. is_proved f.finding) l.told.items ++ map (λ f. is_proved f.finding) (into_iter_items l.each-iterator) ≡ map (λ f. is_proved f.finding) l.fn.found.items;
-  found : (most nodes : ℕ) → All (IsRightSought l.query most nodes l.games.found.items) l.fn.found.items → All (IsRightAgreed l.query most nodes l.games.found.items) l.told.items × All (IsRightSought l.query most nodes l.games.found.items) (into_iter_items l.each-iterator);
+  found : (most nodes : ℕ) → All (IsRightSought l.subject.query most nodes l.games.found.items) l.fn.found.items → All (IsRightAgreed l.subject.query most nodes l.games.found.items) l.told.items × All (IsRightSought l.subject.query most nodes l.games.found.items) (into_iter_items l.each-iterator);
   len : into_iter_len l.each-iterator ≡ length (into_iter_items l.each-iterator);
 }

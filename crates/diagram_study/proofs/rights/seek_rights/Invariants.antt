@@ -6,6 +6,6 @@ use Rattle.diagram_study.proofs.rights.seek_rights.Given as goal
 abbrev pub invariant-loop-right : goal.invariant-loop-right
 invariant-loop-right l = record {
   rights : map (λ f. f.right) l.found.items ≡ take l.right-index l.each;
-  sought : All (IsRightSought l.query l.limits.depth l.limits.nodes l.games.found.items) l.found.items;
+  sought : All (IsRightSought l.subject.query l.subject.limits.depth l.subject.limits.nodes l.games.found.items) l.found.items;
   grows : Grows l.initial.games.found.items l.games.found.items;
 }

@@ -5,7 +5,7 @@ use Rattle.diagram_study.proofs.searches.least_depth.Goals as goal
 pub loop-least-preserved : goal.loop-least-preserved
 loop-least-preserved c =
     let proved = rw c.in-Refuted.is at c.in_ok-outcome.ensures in
-    raised c.args.query.now c.args.claim.now (c.loop-least.least - 1) c.args.limits.depth c.in-Refuted.height (omega (arith, c.loop-least.invariant.proof.low)) proved
+    raised c.args.subject.now.query c.args.claim.now (c.loop-least.least - 1) c.args.subject.now.limits.depth c.in-Refuted.height (omega (arith, c.loop-least.invariant.proof.low)) proved
 
 pub loop-least-smaller : goal.loop-least-smaller
 loop-least-smaller c =
@@ -14,11 +14,11 @@ loop-least-smaller c =
 
 pub returns-in-Open : goal.returns-in-Open
 returns-in-Open c =
-    least_by_open c.deeper_searches_refute_more.ensures.refutable c.args.query.now c.args.claim.now c.args.limits.depth c.args.limits.nodes c.loop-least.least c.loop-least.invariant (rw c.in-Open.is at c.in_ok-outcome.ensures).0 (rw c.in-Open.is at c.in_ok-outcome.ensures).1
+    least_by_open c.deeper_searches_refute_more.ensures.refutable c.args.subject.now.query c.args.claim.now c.args.subject.now.limits.depth c.args.subject.now.limits.nodes c.loop-least.least c.loop-least.invariant (rw c.in-Open.is at c.in_ok-outcome.ensures).0 (rw c.in-Open.is at c.in_ok-outcome.ensures).1
 
 pub returns-in-Spent : goal.returns-in-Spent
 returns-in-Spent c =
-    least_by_spent c.args.query.now c.args.claim.now c.args.limits.depth c.args.limits.nodes c.loop-least.least c.loop-least.invariant (rw c.in-Spent.is at c.in_ok-outcome.ensures).0 (rw c.in-Spent.is at c.in_ok-outcome.ensures).1
+    least_by_spent c.args.subject.now.query c.args.claim.now c.args.subject.now.limits.depth c.args.subject.now.limits.nodes c.loop-least.least c.loop-least.invariant (rw c.in-Spent.is at c.in_ok-outcome.ensures).0 (rw c.in-Spent.is at c.in_ok-outcome.ensures).1
 
 pub returns : goal.returns
-returns c = least_by_none c.args.query.now c.args.claim.now c.args.limits.depth c.args.limits.nodes c.loop-least.least c.loop-least.invariant (omega arith)
+returns c = least_by_none c.args.subject.now.query c.args.claim.now c.args.subject.now.limits.depth c.args.subject.now.limits.nodes c.loop-least.least c.loop-least.invariant (omega arith)

@@ -2,7 +2,7 @@ use Rattle.diagram_study.specs.Findings.{IsProvedAt}
 use Rattle.diagram_study.proofs.searches.least_depth.Given as goal
 
 abbrev pub invariant-loop-least : goal.invariant-loop-least
-invariant-loop-least l = IsProvedAt l.query l.claim l.limits.depth l.least
+invariant-loop-least l = IsProvedAt l.subject.query l.claim l.subject.limits.depth l.least
 
 abbrev pub decreases-loop-least : goal.decreases-loop-least
 decreases-loop-least l = l.least

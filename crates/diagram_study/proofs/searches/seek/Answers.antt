@@ -5,4 +5,4 @@ use Rattle.diagram_study.proofs.searches.seek.Goals as goal
 pub returns-in-Open-clause-found : goal.returns-in-Open-clause-found
 returns-in-Open-clause-found c =
     let unrefuted = rw c.in-Open.is at c.in_ok-outcome.ensures in
-    (λ k small refutable. unrefuted.0 (c.deeper_searches_refute_more.ensures.refutable (target c.args.query.now c.args.claim.now) k c.args.limits.depth [] small refutable), unrefuted.1)
+    (λ k small refutable. unrefuted.0 (c.deeper_searches_refute_more.ensures.refutable (target c.args.subject.now.query c.args.claim.now) k c.args.subject.now.limits.depth [] small refutable), unrefuted.1)

@@ -27,18 +27,18 @@ tell_pairs-requires-clause-texts c = All-same HasStuckPairText _ _ c.as_slice.en
 
 pub tell_captures-requires-clause-promotions : goal.tell_captures-requires-clause-promotions
 tell_captures-requires-clause-promotions c =
-    All-same (λ (f : RightFound). IsTrue (promotes_well (claim_of f.right))) _ _ c.as_slice-rights.ensures.value (found_told c.args.query.now c.args.gathered.now.rights.items c.requires.gathered.rights.due)
+    All-same (λ (f : RightFound). IsTrue (promotes_well (claim_of f.right))) _ _ c.as_slice-rights.ensures.value (found_told c.args.subject.now.query c.args.gathered.now.rights.items c.requires.gathered.rights.due)
 
 pub tell_captures-requires-clause-texts : goal.tell_captures-requires-clause-texts
 tell_captures-requires-clause-texts c = All-same HasStuckText _ _ c.as_slice-rights.ensures.value c.requires.gathered.texts
 
 pub tell_possible-requires-clause-listed : goal.tell_possible-requires-clause-listed
-tell_possible-requires-clause-listed c = let has = c.requires.seen.left in left_listed c.args.query.now _ _ _ c.args.seen.now.left has.are
+tell_possible-requires-clause-listed c = let has = c.requires.seen.left in left_listed c.args.subject.now.query _ _ _ c.args.seen.now.left has.are
 
 pub returns : goal.returns
 returns c =
     ok_then c.tell_length.result _ _
-    (more_told c.args.query.now c.args.limits.depth c.args.limits.nodes c.args.games.now.found.items c.args.gathered.now.rights.items c.args.gathered.now.pairs.items c.args.seen.now.left c.args.seen.now.all _ _ _ _ _ _ _ _ _
+    (more_told c.args.subject.now.query c.args.subject.now.limits.depth c.args.subject.now.limits.nodes c.args.games.now.found.items c.args.gathered.now.rights.items c.args.gathered.now.pairs.items c.args.seen.now.left c.args.seen.now.all _ _ _ _ _ _ _ _ _
     c.requires.gathered.rights
     c.requires.gathered.pairs
     c.requires.seen.left

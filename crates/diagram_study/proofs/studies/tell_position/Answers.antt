@@ -8,6 +8,6 @@ use Rattle.diagram_study.proofs.studies.tell_position.Goals as goal
 
 pub tell_unproved-requires-clause-array : goal.tell_unproved-requires-clause-array
 tell_unproved-requires-clause-array c =
-    array_then c.args.query.now c.args.limits.depth c.in_ok-seen.seen.left (is_proved c.joined_up-joined.result)
+    array_then c.args.subject.now.query c.args.subject.now.limits.depth c.in_ok-seen.seen.left (is_proved c.joined_up-joined.result)
     (λ some elsewhere empty. c.joined_up-joined.ensures.sure some elsewhere (all_none (λ (u : Unmove). IsTrue (is_move None u.mv)) c.in_ok-seen.seen.left empty))
     (sym c.is_proved-2.ensures ∙ c.if-is_proved-2.false)
