@@ -113,8 +113,8 @@ fn found_prices(alloc: Global, position: &str) -> Option<Prices> {
 /// captures on light squares alone, or all but Black's on the e file, with a gate on e6.
 #[test]
 fn finds_plain_prices(rt: HostRuntime) {
-    let on_light = [0, 1, 0, 1, 0, 1, 0, 1, 0, 1, 0, 1, 0, 1, 0, 1];
-    let but_on_e = [1, 1, 1, 1, 1, 1, 1, 1, 0, 0, 1, 1, 1, 1, 1, 1];
+    let on_light: [u8; 16] = [0, 1, 0, 1, 0, 1, 0, 1, 0, 1, 0, 1, 0, 1, 0, 1];
+    let but_on_e: [u8; 16] = [1, 1, 1, 1, 1, 1, 1, 1, 0, 0, 1, 1, 1, 1, 1, 1];
     let on_e6 = Gate {
         square: 44,
         toll: 1,
