@@ -122,7 +122,7 @@ fn walked(proof: &Proof, edit: Edit) -> Option<End> {
 }
 
 /// Certificates for Retrograde Analysis 51, L'Alfiere, 1922, Taegliche Rundschau, 1913, fifteen sketches of Prager Presse and one of Teplitz,
-/// the first hundred nodes of one for Cas and of another for Teplitz, and situations that a composer sees at a glance.
+/// and situations that a composer sees at a glance.
 #[test]
 fn proofs_are_accepted(rt: HostRuntime) {
     let proofs = [
@@ -864,602 +864,6 @@ fn proofs_are_accepted(rt: HostRuntime) {
             end: End::Done,
         },
         Proof {
-            name: "Cas, the first hundred nodes",
-            fen: "8/2Pp1ppP/1bpp1pp1/P7/p5NP/5P1N/P3P2P/R3K2k w Q -",
-            files: NO_FILES,
-            rows: &[
-                Row {
-                    white: [
-                        24, 24, 24, 24, 24, 24, 24, 24, 24, 24, 24, 24, 24, 24, 24, 24,
-                    ],
-                    black: [
-                        24, 24, 24, 24, 24, 24, 24, 24, 24, 24, 24, 24, 24, 24, 24, 24,
-                    ],
-                    gates: &[],
-                },
-                Row {
-                    white: [
-                        24, 21, 24, 23, 24, 24, 24, 24, 28, 24, 24, 24, 24, 24, 24, 24,
-                    ],
-                    black: [
-                        21, 24, 24, 24, 24, 25, 24, 24, 24, 24, 25, 24, 24, 25, 24, 24,
-                    ],
-                    gates: &[],
-                },
-                Row {
-                    white: [
-                        24, 21, 24, 22, 24, 22, 24, 22, 30, 22, 29, 24, 24, 24, 24, 24,
-                    ],
-                    black: [
-                        21, 24, 24, 24, 24, 24, 26, 24, 24, 24, 24, 24, 24, 25, 24, 24,
-                    ],
-                    gates: &[],
-                },
-                Row {
-                    white: [
-                        24, 21, 24, 22, 24, 22, 24, 23, 27, 24, 27, 24, 26, 24, 24, 24,
-                    ],
-                    black: [
-                        21, 24, 24, 24, 24, 25, 25, 24, 24, 24, 25, 24, 24, 24, 24, 24,
-                    ],
-                    gates: &[],
-                },
-                Row {
-                    white: [
-                        24, 18, 24, 21, 24, 18, 24, 23, 28, 24, 28, 24, 28, 24, 28, 24,
-                    ],
-                    black: [
-                        24, 24, 24, 24, 24, 24, 24, 24, 24, 24, 24, 24, 24, 24, 24, 24,
-                    ],
-                    gates: &[],
-                },
-                Row {
-                    white: [
-                        24, 24, 24, 24, 24, 24, 24, 24, 24, 24, 24, 24, 24, 24, 24, 24,
-                    ],
-                    black: [
-                        24, 24, 24, 24, 24, 24, 30, 24, 24, 24, 18, 24, 24, 24, 24, 24,
-                    ],
-                    gates: &[],
-                },
-            ],
-            lines: &[
-                "now marks 1 steps 31",
-                "mark 1 7 8 9 10 13 18",
-                "g2xh3p2 closed 1",
-                "g2xh3b2 closed 1",
-                "g2xh3nrq2 closed 1",
-                "g3xh4p2 closed 1",
-                "g3xh4b2 closed 1",
-                "g3xh4nrq2 marks 1 steps 28",
-                "mark 1 11 23",
-                "b4xa5p closed 1",
-                "b4xa5b closed 1",
-                "b4xa5nrq marks 1 steps 25",
-                "mark 5 12 24",
-                "b7xc6p closed 5",
-                "b7xc6b closed 5",
-                "b7xc6nrq closed 5",
-                "e7xd6p void",
-                "e7xd6b void",
-                "e7xd6nrq void",
-                "e7xf6p closed 5",
-                "e7xf6b closed 5",
-                "e7xf6nrq closed 5",
-                "h7xg6p closed 5",
-                "h7xg6b closed 5",
-                "h7xg6nrq closed 5",
-                "g2xh3p3 void",
-                "g2xh3b3 void",
-                "g2xh3nrq3 void",
-                "g3xh4p2 closed 5",
-                "g3xh4b2 closed 5",
-                "g3xh4nrq2 closed 5",
-                "g4xh5p2 closed 5",
-                "g4xh5b2 closed 5",
-                "g4xh5nrq2 closed 5",
-                "g5xh6p2 closed 5",
-                "g5xh6b2 closed 5",
-                "g5xh6nrq2 closed 5",
-                "g5xh6ep2 void",
-                "b7xc6p closed 1",
-                "b7xc6b closed 1",
-                "b7xc6nrq closed 1",
-                "e7xd6p void",
-                "e7xd6b void",
-                "e7xd6nrq void",
-                "e7xf6p closed 1",
-                "e7xf6b closed 1",
-                "e7xf6nrq closed 1",
-                "h7xg6p closed 1",
-                "h7xg6b marks 1 steps 24",
-                "mark 5 24",
-                "b4xa5p closed 5",
-                "b4xa5b closed 5",
-                "b4xa5nrq closed 5",
-                "b7xc6p closed 5",
-                "b7xc6b closed 5",
-                "b7xc6nrq closed 5",
-                "e7xd6p void",
-                "e7xd6b void",
-                "e7xd6nrq void",
-                "e7xf6p closed 5",
-                "e7xf6b closed 5",
-                "e7xf6nrq closed 5",
-                "g2xh3p2 void",
-                "g2xh3b2 void",
-                "g2xh3nrq2 void",
-                "g3xh4p1 closed 5",
-                "g3xh4b1 closed 5",
-                "g3xh4nrq1 closed 5",
-                "g4xh5p1 closed 5",
-                "g4xh5b1 closed 5",
-                "g4xh5nrq1 closed 5",
-                "g5xh6p1 void",
-                "g5xh6b1 closed 5",
-                "g5xh6nrq1 marks 1 steps 27",
-                "mark 5 25",
-                "b4xa5p closed 5",
-                "b4xa5b closed 5",
-                "b4xa5nrq closed 5",
-                "b7xc6p closed 5",
-                "b7xc6b closed 5",
-                "b7xc6nrq closed 5",
-                "e7xd6p void",
-                "e7xd6b void",
-                "e7xd6nrq void",
-                "e7xf6p closed 5",
-                "e7xf6b closed 5",
-                "e7xf6nrq closed 5",
-                "f2xg3p3 void",
-                "f2xg3b3 void",
-                "f2xg3nrq3 void",
-                "f3xg4p2 closed 5",
-                "f3xg4b2 closed 5",
-                "f3xg4nrq2 closed 5",
-                "h3xg4p1 closed 5",
-                "h3xg4b1 closed 5",
-                "h3xg4nrq1 closed 5",
-                "f4xg5p2 closed 5",
-                "f4xg5b2 closed 5",
-                "f4xg5nrq2 marks 1 steps 21",
-                "mark 4 26",
-                "b4xa5p closed 4",
-                "b4xa5b closed 4",
-                "b4xa5nrq closed 4",
-                "b7xc6p closed 4",
-                "b7xc6b closed 4",
-                "b7xc6nrq closed 4",
-            ],
-            end: End::Open,
-        },
-        Proof {
-            name: "Teplitz, the first hundred nodes",
-            fen: "2B3K1/PPp3Np/p3p2P/1p1PPN2/3pqQ1P/3PPRrk/5ppr/7n b - -",
-            files: NO_FILES,
-            rows: &[
-                Row {
-                    white: [
-                        25, 26, 26, 26, 24, 24, 26, 25, 26, 26, 24, 24, 24, 24, 26, 26,
-                    ],
-                    black: [
-                        21, 23, 21, 22, 23, 23, 22, 23, 23, 23, 24, 23, 23, 24, 24, 24,
-                    ],
-                    gates: &[
-                        Gate {
-                            square: 41,
-                            toll: 1,
-                        },
-                        Gate {
-                            square: 49,
-                            toll: 1,
-                        },
-                    ],
-                },
-                Row {
-                    white: [
-                        24, 24, 24, 24, 24, 24, 24, 24, 24, 24, 24, 24, 24, 24, 24, 24,
-                    ],
-                    black: [
-                        17, 22, 17, 24, 22, 24, 24, 24, 24, 24, 24, 24, 24, 24, 24, 24,
-                    ],
-                    gates: &[
-                        Gate {
-                            square: 27,
-                            toll: 9,
-                        },
-                        Gate {
-                            square: 35,
-                            toll: 9,
-                        },
-                        Gate {
-                            square: 40,
-                            toll: 9,
-                        },
-                        Gate {
-                            square: 41,
-                            toll: 9,
-                        },
-                        Gate {
-                            square: 48,
-                            toll: 9,
-                        },
-                        Gate {
-                            square: 49,
-                            toll: 9,
-                        },
-                    ],
-                },
-                Row {
-                    white: [
-                        25, 24, 25, 24, 24, 24, 25, 24, 25, 25, 24, 24, 24, 24, 24, 25,
-                    ],
-                    black: [
-                        22, 23, 22, 24, 23, 24, 24, 24, 24, 24, 24, 24, 24, 24, 24, 24,
-                    ],
-                    gates: &[
-                        Gate {
-                            square: 40,
-                            toll: 3,
-                        },
-                        Gate {
-                            square: 48,
-                            toll: 3,
-                        },
-                    ],
-                },
-                Row {
-                    white: [
-                        24, 24, 24, 24, 24, 24, 24, 24, 24, 24, 24, 24, 24, 24, 24, 24,
-                    ],
-                    black: [
-                        16, 22, 16, 24, 22, 24, 24, 24, 24, 24, 24, 24, 24, 24, 24, 24,
-                    ],
-                    gates: &[
-                        Gate {
-                            square: 14,
-                            toll: 10,
-                        },
-                        Gate {
-                            square: 22,
-                            toll: 10,
-                        },
-                        Gate {
-                            square: 40,
-                            toll: 10,
-                        },
-                        Gate {
-                            square: 41,
-                            toll: 10,
-                        },
-                        Gate {
-                            square: 48,
-                            toll: 10,
-                        },
-                    ],
-                },
-                Row {
-                    white: [
-                        24, 24, 24, 24, 24, 24, 24, 24, 24, 24, 24, 24, 24, 24, 24, 24,
-                    ],
-                    black: [
-                        16, 22, 16, 24, 22, 24, 24, 24, 24, 24, 24, 24, 24, 24, 24, 24,
-                    ],
-                    gates: &[
-                        Gate {
-                            square: 22,
-                            toll: 10,
-                        },
-                        Gate {
-                            square: 30,
-                            toll: 10,
-                        },
-                        Gate {
-                            square: 40,
-                            toll: 10,
-                        },
-                        Gate {
-                            square: 41,
-                            toll: 10,
-                        },
-                        Gate {
-                            square: 48,
-                            toll: 10,
-                        },
-                    ],
-                },
-                Row {
-                    white: [
-                        24, 24, 24, 24, 24, 24, 24, 24, 24, 24, 24, 24, 24, 24, 24, 24,
-                    ],
-                    black: [
-                        16, 22, 16, 24, 22, 24, 24, 24, 24, 24, 24, 24, 24, 24, 24, 24,
-                    ],
-                    gates: &[
-                        Gate {
-                            square: 30,
-                            toll: 10,
-                        },
-                        Gate {
-                            square: 38,
-                            toll: 10,
-                        },
-                        Gate {
-                            square: 40,
-                            toll: 10,
-                        },
-                        Gate {
-                            square: 41,
-                            toll: 10,
-                        },
-                        Gate {
-                            square: 48,
-                            toll: 10,
-                        },
-                    ],
-                },
-                Row {
-                    white: [
-                        24, 24, 24, 24, 24, 24, 24, 24, 24, 24, 24, 24, 24, 24, 24, 24,
-                    ],
-                    black: [
-                        24, 24, 24, 24, 24, 24, 24, 24, 24, 24, 24, 24, 24, 24, 24, 24,
-                    ],
-                    gates: &[
-                        Gate {
-                            square: 14,
-                            toll: 6,
-                        },
-                        Gate {
-                            square: 22,
-                            toll: 6,
-                        },
-                    ],
-                },
-                Row {
-                    white: [
-                        24, 24, 24, 24, 24, 24, 24, 24, 24, 24, 24, 24, 24, 24, 24, 24,
-                    ],
-                    black: [
-                        24, 24, 24, 24, 24, 24, 24, 24, 24, 24, 24, 24, 24, 24, 24, 24,
-                    ],
-                    gates: &[
-                        Gate {
-                            square: 30,
-                            toll: 6,
-                        },
-                        Gate {
-                            square: 38,
-                            toll: 6,
-                        },
-                    ],
-                },
-                Row {
-                    white: [
-                        18, 24, 24, 24, 24, 24, 24, 30, 24, 24, 24, 24, 24, 24, 24, 24,
-                    ],
-                    black: [
-                        18, 20, 18, 24, 20, 24, 24, 24, 24, 24, 24, 24, 24, 24, 24, 24,
-                    ],
-                    gates: &[
-                        Gate {
-                            square: 13,
-                            toll: 10,
-                        },
-                        Gate {
-                            square: 21,
-                            toll: 10,
-                        },
-                        Gate {
-                            square: 40,
-                            toll: 10,
-                        },
-                        Gate {
-                            square: 41,
-                            toll: 10,
-                        },
-                        Gate {
-                            square: 48,
-                            toll: 10,
-                        },
-                    ],
-                },
-                Row {
-                    white: [
-                        24, 24, 24, 24, 24, 24, 24, 24, 24, 24, 24, 24, 24, 24, 24, 24,
-                    ],
-                    black: [
-                        16, 22, 16, 24, 22, 24, 24, 24, 24, 24, 24, 24, 24, 24, 24, 24,
-                    ],
-                    gates: &[
-                        Gate {
-                            square: 21,
-                            toll: 10,
-                        },
-                        Gate {
-                            square: 29,
-                            toll: 10,
-                        },
-                        Gate {
-                            square: 40,
-                            toll: 10,
-                        },
-                        Gate {
-                            square: 41,
-                            toll: 10,
-                        },
-                        Gate {
-                            square: 48,
-                            toll: 10,
-                        },
-                    ],
-                },
-                Row {
-                    white: [
-                        24, 24, 24, 24, 24, 24, 24, 24, 24, 24, 24, 24, 24, 24, 24, 24,
-                    ],
-                    black: [
-                        24, 24, 24, 24, 24, 24, 24, 24, 24, 24, 24, 24, 24, 24, 24, 24,
-                    ],
-                    gates: &[
-                        Gate {
-                            square: 21,
-                            toll: 6,
-                        },
-                        Gate {
-                            square: 29,
-                            toll: 6,
-                        },
-                    ],
-                },
-                Row {
-                    white: [
-                        24, 24, 24, 24, 24, 24, 24, 24, 24, 24, 24, 24, 24, 24, 24, 24,
-                    ],
-                    black: [
-                        16, 22, 16, 24, 22, 24, 24, 24, 24, 24, 24, 24, 24, 24, 24, 24,
-                    ],
-                    gates: &[
-                        Gate {
-                            square: 13,
-                            toll: 10,
-                        },
-                        Gate {
-                            square: 21,
-                            toll: 10,
-                        },
-                        Gate {
-                            square: 40,
-                            toll: 10,
-                        },
-                        Gate {
-                            square: 41,
-                            toll: 10,
-                        },
-                        Gate {
-                            square: 48,
-                            toll: 10,
-                        },
-                    ],
-                },
-            ],
-            lines: &[
-                "now marks 2 steps 72",
-                "mark 1 1 4 7 8 11 12 17 21 22 24 26",
-                "mark 2 2 3 5 10 19",
-                "d2xe3p3 void",
-                "d2xe3b3 void",
-                "d2xe3nrq3 void",
-                "f2xe3p1 closed 1",
-                "f2xe3b1 marks 1 steps 45",
-                "mark 3 16 28",
-                "g2xh3p1 closed 3",
-                "g2xh3b1 marks 1 steps 15",
-                "mark 3 20 29",
-                "c6xb5p1 closed 3",
-                "c6xb5b1 closed 3",
-                "c6xb5nrq1 closed 3",
-                "c4xd5p1 closed 3",
-                "c4xd5b1 closed 3",
-                "c4xd5nrq1 marks 1 steps 6",
-                "mark 3 15 30",
-                "c6xb5p1 closed 3",
-                "c6xb5b1 closed 3",
-                "c6xb5nrq1 closed 3",
-                "b7xa6p closed 3",
-                "b7xa6b closed 3",
-                "b7xa6nrq marks 1 steps 9",
-                "mark 3 31",
-                "a6xb5p closed 3",
-                "a6xb5p1 void",
-                "a6xb5b closed 3",
-                "a6xb5b1 void",
-                "a6xb5nrq closed 3",
-                "a6xb5nrq1 void",
-                "c6xb5p1 closed 3",
-                "c6xb5b1 closed 3",
-                "c6xb5nrq1 closed 3",
-                "e4xd5p1 closed 3",
-                "e4xd5p2 closed 3",
-                "e4xd5b1 closed 3",
-                "e4xd5b2 closed 3",
-                "e4xd5nrq1 closed 3",
-                "e4xd5nrq2 closed 3",
-                "b7xa6p closed 3",
-                "b7xa6b closed 3",
-                "b7xa6nrq marks 1 steps 18",
-                "mark 3 30",
-                "a6xb5p closed 3",
-                "a6xb5p1 void",
-                "a6xb5b closed 3",
-                "a6xb5b1 void",
-                "a6xb5nrq closed 3",
-                "a6xb5nrq1 void",
-                "c6xb5p1 closed 3",
-                "c6xb5b1 closed 3",
-                "c6xb5nrq1 closed 3",
-                "c4xd5p1 closed 3",
-                "c4xd5b1 closed 3",
-                "c4xd5nrq1 marks 1 steps 9",
-                "mark 3 15 31",
-                "a6xb5p closed 3",
-                "a6xb5p1 void",
-                "a6xb5b closed 3",
-                "a6xb5b1 void",
-                "a6xb5nrq closed 3",
-                "a6xb5nrq1 void",
-                "c6xb5p1 closed 3",
-                "c6xb5b1 closed 3",
-                "c6xb5nrq1 closed 3",
-                "e4xd5p1 closed 3",
-                "e4xd5p2 closed 3",
-                "e4xd5b1 closed 3",
-                "e4xd5b2 closed 3",
-                "e4xd5nrq1 closed 3",
-                "e4xd5nrq2 closed 3",
-                "g2xh3nrq1 marks 1 steps 15",
-                "mark 3 20 29",
-                "c6xb5p1 closed 3",
-                "c6xb5b1 closed 3",
-                "c6xb5nrq1 closed 3",
-                "c4xd5p1 closed 3",
-                "c4xd5b1 marks 1 steps 6",
-                "mark 3 15 30",
-                "c6xb5p1 closed 3",
-                "c6xb5b1 closed 3",
-                "c6xb5nrq1 closed 3",
-                "b7xa6p closed 3",
-                "b7xa6b closed 3",
-                "b7xa6nrq marks 1 steps 9",
-                "mark 3 31",
-                "a6xb5p closed 3",
-                "a6xb5p1 void",
-                "a6xb5b closed 3",
-                "a6xb5b1 void",
-                "a6xb5nrq closed 3",
-                "a6xb5nrq1 void",
-                "c6xb5p1 closed 3",
-                "c6xb5b1 closed 3",
-                "c6xb5nrq1 closed 3",
-                "c4xd5nrq1 closed 3",
-                "e4xd5p1 closed 3",
-                "e4xd5p2 closed 3",
-                "e4xd5b1 closed 3",
-                "e4xd5b2 closed 3",
-                "e4xd5nrq1 closed 3",
-                "e4xd5nrq2 closed 3",
-                "b7xa6p closed 3",
-                "b7xa6b closed 3",
-                "b7xa6nrq marks 1 steps 18",
-                "mark 3 30",
-                "a6xb5p closed 3",
-                "a6xb5p1 void",
-                "a6xb5b closed 3",
-                "a6xb5b1 void",
-            ],
-            end: End::Open,
-        },
-        Proof {
             name: "a king who can't have left his cage",
             fen: "rnbqkbnr/pppppppp/8/8/4K3/8/PPPPPPPP/RNBQ1BNR w - -",
             files: NO_FILES,
@@ -1500,6 +904,624 @@ fn proofs_are_accepted(rt: HostRuntime) {
             proof.name
         );
     }
+}
+
+/// The first hundred nodes of a certificate for Cas.
+#[test]
+fn first_nodes_of_cas_are_accepted(rt: HostRuntime) {
+    let proof = Proof {
+        name: "Cas, the first hundred nodes",
+        fen: "8/2Pp1ppP/1bpp1pp1/P7/p5NP/5P1N/P3P2P/R3K2k w Q -",
+        files: NO_FILES,
+        rows: &[
+            Row {
+                white: [
+                    24, 24, 24, 24, 24, 24, 24, 24, 24, 24, 24, 24, 24, 24, 24, 24,
+                ],
+                black: [
+                    24, 24, 24, 24, 24, 24, 24, 24, 24, 24, 24, 24, 24, 24, 24, 24,
+                ],
+                gates: &[],
+            },
+            Row {
+                white: [
+                    24, 21, 24, 23, 24, 24, 24, 24, 28, 24, 24, 24, 24, 24, 24, 24,
+                ],
+                black: [
+                    21, 24, 24, 24, 24, 25, 24, 24, 24, 24, 25, 24, 24, 25, 24, 24,
+                ],
+                gates: &[],
+            },
+            Row {
+                white: [
+                    24, 21, 24, 22, 24, 22, 24, 22, 30, 22, 29, 24, 24, 24, 24, 24,
+                ],
+                black: [
+                    21, 24, 24, 24, 24, 24, 26, 24, 24, 24, 24, 24, 24, 25, 24, 24,
+                ],
+                gates: &[],
+            },
+            Row {
+                white: [
+                    24, 21, 24, 22, 24, 22, 24, 23, 27, 24, 27, 24, 26, 24, 24, 24,
+                ],
+                black: [
+                    21, 24, 24, 24, 24, 25, 25, 24, 24, 24, 25, 24, 24, 24, 24, 24,
+                ],
+                gates: &[],
+            },
+            Row {
+                white: [
+                    24, 18, 24, 21, 24, 18, 24, 23, 28, 24, 28, 24, 28, 24, 28, 24,
+                ],
+                black: [
+                    24, 24, 24, 24, 24, 24, 24, 24, 24, 24, 24, 24, 24, 24, 24, 24,
+                ],
+                gates: &[],
+            },
+            Row {
+                white: [
+                    24, 24, 24, 24, 24, 24, 24, 24, 24, 24, 24, 24, 24, 24, 24, 24,
+                ],
+                black: [
+                    24, 24, 24, 24, 24, 24, 30, 24, 24, 24, 18, 24, 24, 24, 24, 24,
+                ],
+                gates: &[],
+            },
+        ],
+        lines: &[
+            "now marks 1 steps 31",
+            "mark 1 7 8 9 10 13 18",
+            "g2xh3p2 closed 1",
+            "g2xh3b2 closed 1",
+            "g2xh3nrq2 closed 1",
+            "g3xh4p2 closed 1",
+            "g3xh4b2 closed 1",
+            "g3xh4nrq2 marks 1 steps 28",
+            "mark 1 11 23",
+            "b4xa5p closed 1",
+            "b4xa5b closed 1",
+            "b4xa5nrq marks 1 steps 25",
+            "mark 5 12 24",
+            "b7xc6p closed 5",
+            "b7xc6b closed 5",
+            "b7xc6nrq closed 5",
+            "e7xd6p void",
+            "e7xd6b void",
+            "e7xd6nrq void",
+            "e7xf6p closed 5",
+            "e7xf6b closed 5",
+            "e7xf6nrq closed 5",
+            "h7xg6p closed 5",
+            "h7xg6b closed 5",
+            "h7xg6nrq closed 5",
+            "g2xh3p3 void",
+            "g2xh3b3 void",
+            "g2xh3nrq3 void",
+            "g3xh4p2 closed 5",
+            "g3xh4b2 closed 5",
+            "g3xh4nrq2 closed 5",
+            "g4xh5p2 closed 5",
+            "g4xh5b2 closed 5",
+            "g4xh5nrq2 closed 5",
+            "g5xh6p2 closed 5",
+            "g5xh6b2 closed 5",
+            "g5xh6nrq2 closed 5",
+            "g5xh6ep2 void",
+            "b7xc6p closed 1",
+            "b7xc6b closed 1",
+            "b7xc6nrq closed 1",
+            "e7xd6p void",
+            "e7xd6b void",
+            "e7xd6nrq void",
+            "e7xf6p closed 1",
+            "e7xf6b closed 1",
+            "e7xf6nrq closed 1",
+            "h7xg6p closed 1",
+            "h7xg6b marks 1 steps 24",
+            "mark 5 24",
+            "b4xa5p closed 5",
+            "b4xa5b closed 5",
+            "b4xa5nrq closed 5",
+            "b7xc6p closed 5",
+            "b7xc6b closed 5",
+            "b7xc6nrq closed 5",
+            "e7xd6p void",
+            "e7xd6b void",
+            "e7xd6nrq void",
+            "e7xf6p closed 5",
+            "e7xf6b closed 5",
+            "e7xf6nrq closed 5",
+            "g2xh3p2 void",
+            "g2xh3b2 void",
+            "g2xh3nrq2 void",
+            "g3xh4p1 closed 5",
+            "g3xh4b1 closed 5",
+            "g3xh4nrq1 closed 5",
+            "g4xh5p1 closed 5",
+            "g4xh5b1 closed 5",
+            "g4xh5nrq1 closed 5",
+            "g5xh6p1 void",
+            "g5xh6b1 closed 5",
+            "g5xh6nrq1 marks 1 steps 27",
+            "mark 5 25",
+            "b4xa5p closed 5",
+            "b4xa5b closed 5",
+            "b4xa5nrq closed 5",
+            "b7xc6p closed 5",
+            "b7xc6b closed 5",
+            "b7xc6nrq closed 5",
+            "e7xd6p void",
+            "e7xd6b void",
+            "e7xd6nrq void",
+            "e7xf6p closed 5",
+            "e7xf6b closed 5",
+            "e7xf6nrq closed 5",
+            "f2xg3p3 void",
+            "f2xg3b3 void",
+            "f2xg3nrq3 void",
+            "f3xg4p2 closed 5",
+            "f3xg4b2 closed 5",
+            "f3xg4nrq2 closed 5",
+            "h3xg4p1 closed 5",
+            "h3xg4b1 closed 5",
+            "h3xg4nrq1 closed 5",
+            "f4xg5p2 closed 5",
+            "f4xg5b2 closed 5",
+            "f4xg5nrq2 marks 1 steps 21",
+            "mark 4 26",
+            "b4xa5p closed 4",
+            "b4xa5b closed 4",
+            "b4xa5nrq closed 4",
+            "b7xc6p closed 4",
+            "b7xc6b closed 4",
+            "b7xc6nrq closed 4",
+        ],
+        end: End::Open,
+    };
+    assert_eq!(rt;
+        walked(&proof, Edit::Nothing),
+        Some(proof.end),
+        "{}",
+        proof.name
+    );
+}
+
+/// The first hundred nodes of a certificate for Teplitz.
+#[test]
+fn first_nodes_of_teplitz_are_accepted(rt: HostRuntime) {
+    let proof = Proof {
+        name: "Teplitz, the first hundred nodes",
+        fen: "2B3K1/PPp3Np/p3p2P/1p1PPN2/3pqQ1P/3PPRrk/5ppr/7n b - -",
+        files: NO_FILES,
+        rows: &[
+            Row {
+                white: [
+                    25, 26, 26, 26, 24, 24, 26, 25, 26, 26, 24, 24, 24, 24, 26, 26,
+                ],
+                black: [
+                    21, 23, 21, 22, 23, 23, 22, 23, 23, 23, 24, 23, 23, 24, 24, 24,
+                ],
+                gates: &[
+                    Gate {
+                        square: 41,
+                        toll: 1,
+                    },
+                    Gate {
+                        square: 49,
+                        toll: 1,
+                    },
+                ],
+            },
+            Row {
+                white: [
+                    24, 24, 24, 24, 24, 24, 24, 24, 24, 24, 24, 24, 24, 24, 24, 24,
+                ],
+                black: [
+                    17, 22, 17, 24, 22, 24, 24, 24, 24, 24, 24, 24, 24, 24, 24, 24,
+                ],
+                gates: &[
+                    Gate {
+                        square: 27,
+                        toll: 9,
+                    },
+                    Gate {
+                        square: 35,
+                        toll: 9,
+                    },
+                    Gate {
+                        square: 40,
+                        toll: 9,
+                    },
+                    Gate {
+                        square: 41,
+                        toll: 9,
+                    },
+                    Gate {
+                        square: 48,
+                        toll: 9,
+                    },
+                    Gate {
+                        square: 49,
+                        toll: 9,
+                    },
+                ],
+            },
+            Row {
+                white: [
+                    25, 24, 25, 24, 24, 24, 25, 24, 25, 25, 24, 24, 24, 24, 24, 25,
+                ],
+                black: [
+                    22, 23, 22, 24, 23, 24, 24, 24, 24, 24, 24, 24, 24, 24, 24, 24,
+                ],
+                gates: &[
+                    Gate {
+                        square: 40,
+                        toll: 3,
+                    },
+                    Gate {
+                        square: 48,
+                        toll: 3,
+                    },
+                ],
+            },
+            Row {
+                white: [
+                    24, 24, 24, 24, 24, 24, 24, 24, 24, 24, 24, 24, 24, 24, 24, 24,
+                ],
+                black: [
+                    16, 22, 16, 24, 22, 24, 24, 24, 24, 24, 24, 24, 24, 24, 24, 24,
+                ],
+                gates: &[
+                    Gate {
+                        square: 14,
+                        toll: 10,
+                    },
+                    Gate {
+                        square: 22,
+                        toll: 10,
+                    },
+                    Gate {
+                        square: 40,
+                        toll: 10,
+                    },
+                    Gate {
+                        square: 41,
+                        toll: 10,
+                    },
+                    Gate {
+                        square: 48,
+                        toll: 10,
+                    },
+                ],
+            },
+            Row {
+                white: [
+                    24, 24, 24, 24, 24, 24, 24, 24, 24, 24, 24, 24, 24, 24, 24, 24,
+                ],
+                black: [
+                    16, 22, 16, 24, 22, 24, 24, 24, 24, 24, 24, 24, 24, 24, 24, 24,
+                ],
+                gates: &[
+                    Gate {
+                        square: 22,
+                        toll: 10,
+                    },
+                    Gate {
+                        square: 30,
+                        toll: 10,
+                    },
+                    Gate {
+                        square: 40,
+                        toll: 10,
+                    },
+                    Gate {
+                        square: 41,
+                        toll: 10,
+                    },
+                    Gate {
+                        square: 48,
+                        toll: 10,
+                    },
+                ],
+            },
+            Row {
+                white: [
+                    24, 24, 24, 24, 24, 24, 24, 24, 24, 24, 24, 24, 24, 24, 24, 24,
+                ],
+                black: [
+                    16, 22, 16, 24, 22, 24, 24, 24, 24, 24, 24, 24, 24, 24, 24, 24,
+                ],
+                gates: &[
+                    Gate {
+                        square: 30,
+                        toll: 10,
+                    },
+                    Gate {
+                        square: 38,
+                        toll: 10,
+                    },
+                    Gate {
+                        square: 40,
+                        toll: 10,
+                    },
+                    Gate {
+                        square: 41,
+                        toll: 10,
+                    },
+                    Gate {
+                        square: 48,
+                        toll: 10,
+                    },
+                ],
+            },
+            Row {
+                white: [
+                    24, 24, 24, 24, 24, 24, 24, 24, 24, 24, 24, 24, 24, 24, 24, 24,
+                ],
+                black: [
+                    24, 24, 24, 24, 24, 24, 24, 24, 24, 24, 24, 24, 24, 24, 24, 24,
+                ],
+                gates: &[
+                    Gate {
+                        square: 14,
+                        toll: 6,
+                    },
+                    Gate {
+                        square: 22,
+                        toll: 6,
+                    },
+                ],
+            },
+            Row {
+                white: [
+                    24, 24, 24, 24, 24, 24, 24, 24, 24, 24, 24, 24, 24, 24, 24, 24,
+                ],
+                black: [
+                    24, 24, 24, 24, 24, 24, 24, 24, 24, 24, 24, 24, 24, 24, 24, 24,
+                ],
+                gates: &[
+                    Gate {
+                        square: 30,
+                        toll: 6,
+                    },
+                    Gate {
+                        square: 38,
+                        toll: 6,
+                    },
+                ],
+            },
+            Row {
+                white: [
+                    18, 24, 24, 24, 24, 24, 24, 30, 24, 24, 24, 24, 24, 24, 24, 24,
+                ],
+                black: [
+                    18, 20, 18, 24, 20, 24, 24, 24, 24, 24, 24, 24, 24, 24, 24, 24,
+                ],
+                gates: &[
+                    Gate {
+                        square: 13,
+                        toll: 10,
+                    },
+                    Gate {
+                        square: 21,
+                        toll: 10,
+                    },
+                    Gate {
+                        square: 40,
+                        toll: 10,
+                    },
+                    Gate {
+                        square: 41,
+                        toll: 10,
+                    },
+                    Gate {
+                        square: 48,
+                        toll: 10,
+                    },
+                ],
+            },
+            Row {
+                white: [
+                    24, 24, 24, 24, 24, 24, 24, 24, 24, 24, 24, 24, 24, 24, 24, 24,
+                ],
+                black: [
+                    16, 22, 16, 24, 22, 24, 24, 24, 24, 24, 24, 24, 24, 24, 24, 24,
+                ],
+                gates: &[
+                    Gate {
+                        square: 21,
+                        toll: 10,
+                    },
+                    Gate {
+                        square: 29,
+                        toll: 10,
+                    },
+                    Gate {
+                        square: 40,
+                        toll: 10,
+                    },
+                    Gate {
+                        square: 41,
+                        toll: 10,
+                    },
+                    Gate {
+                        square: 48,
+                        toll: 10,
+                    },
+                ],
+            },
+            Row {
+                white: [
+                    24, 24, 24, 24, 24, 24, 24, 24, 24, 24, 24, 24, 24, 24, 24, 24,
+                ],
+                black: [
+                    24, 24, 24, 24, 24, 24, 24, 24, 24, 24, 24, 24, 24, 24, 24, 24,
+                ],
+                gates: &[
+                    Gate {
+                        square: 21,
+                        toll: 6,
+                    },
+                    Gate {
+                        square: 29,
+                        toll: 6,
+                    },
+                ],
+            },
+            Row {
+                white: [
+                    24, 24, 24, 24, 24, 24, 24, 24, 24, 24, 24, 24, 24, 24, 24, 24,
+                ],
+                black: [
+                    16, 22, 16, 24, 22, 24, 24, 24, 24, 24, 24, 24, 24, 24, 24, 24,
+                ],
+                gates: &[
+                    Gate {
+                        square: 13,
+                        toll: 10,
+                    },
+                    Gate {
+                        square: 21,
+                        toll: 10,
+                    },
+                    Gate {
+                        square: 40,
+                        toll: 10,
+                    },
+                    Gate {
+                        square: 41,
+                        toll: 10,
+                    },
+                    Gate {
+                        square: 48,
+                        toll: 10,
+                    },
+                ],
+            },
+        ],
+        lines: &[
+            "now marks 2 steps 72",
+            "mark 1 1 4 7 8 11 12 17 21 22 24 26",
+            "mark 2 2 3 5 10 19",
+            "d2xe3p3 void",
+            "d2xe3b3 void",
+            "d2xe3nrq3 void",
+            "f2xe3p1 closed 1",
+            "f2xe3b1 marks 1 steps 45",
+            "mark 3 16 28",
+            "g2xh3p1 closed 3",
+            "g2xh3b1 marks 1 steps 15",
+            "mark 3 20 29",
+            "c6xb5p1 closed 3",
+            "c6xb5b1 closed 3",
+            "c6xb5nrq1 closed 3",
+            "c4xd5p1 closed 3",
+            "c4xd5b1 closed 3",
+            "c4xd5nrq1 marks 1 steps 6",
+            "mark 3 15 30",
+            "c6xb5p1 closed 3",
+            "c6xb5b1 closed 3",
+            "c6xb5nrq1 closed 3",
+            "b7xa6p closed 3",
+            "b7xa6b closed 3",
+            "b7xa6nrq marks 1 steps 9",
+            "mark 3 31",
+            "a6xb5p closed 3",
+            "a6xb5p1 void",
+            "a6xb5b closed 3",
+            "a6xb5b1 void",
+            "a6xb5nrq closed 3",
+            "a6xb5nrq1 void",
+            "c6xb5p1 closed 3",
+            "c6xb5b1 closed 3",
+            "c6xb5nrq1 closed 3",
+            "e4xd5p1 closed 3",
+            "e4xd5p2 closed 3",
+            "e4xd5b1 closed 3",
+            "e4xd5b2 closed 3",
+            "e4xd5nrq1 closed 3",
+            "e4xd5nrq2 closed 3",
+            "b7xa6p closed 3",
+            "b7xa6b closed 3",
+            "b7xa6nrq marks 1 steps 18",
+            "mark 3 30",
+            "a6xb5p closed 3",
+            "a6xb5p1 void",
+            "a6xb5b closed 3",
+            "a6xb5b1 void",
+            "a6xb5nrq closed 3",
+            "a6xb5nrq1 void",
+            "c6xb5p1 closed 3",
+            "c6xb5b1 closed 3",
+            "c6xb5nrq1 closed 3",
+            "c4xd5p1 closed 3",
+            "c4xd5b1 closed 3",
+            "c4xd5nrq1 marks 1 steps 9",
+            "mark 3 15 31",
+            "a6xb5p closed 3",
+            "a6xb5p1 void",
+            "a6xb5b closed 3",
+            "a6xb5b1 void",
+            "a6xb5nrq closed 3",
+            "a6xb5nrq1 void",
+            "c6xb5p1 closed 3",
+            "c6xb5b1 closed 3",
+            "c6xb5nrq1 closed 3",
+            "e4xd5p1 closed 3",
+            "e4xd5p2 closed 3",
+            "e4xd5b1 closed 3",
+            "e4xd5b2 closed 3",
+            "e4xd5nrq1 closed 3",
+            "e4xd5nrq2 closed 3",
+            "g2xh3nrq1 marks 1 steps 15",
+            "mark 3 20 29",
+            "c6xb5p1 closed 3",
+            "c6xb5b1 closed 3",
+            "c6xb5nrq1 closed 3",
+            "c4xd5p1 closed 3",
+            "c4xd5b1 marks 1 steps 6",
+            "mark 3 15 30",
+            "c6xb5p1 closed 3",
+            "c6xb5b1 closed 3",
+            "c6xb5nrq1 closed 3",
+            "b7xa6p closed 3",
+            "b7xa6b closed 3",
+            "b7xa6nrq marks 1 steps 9",
+            "mark 3 31",
+            "a6xb5p closed 3",
+            "a6xb5p1 void",
+            "a6xb5b closed 3",
+            "a6xb5b1 void",
+            "a6xb5nrq closed 3",
+            "a6xb5nrq1 void",
+            "c6xb5p1 closed 3",
+            "c6xb5b1 closed 3",
+            "c6xb5nrq1 closed 3",
+            "c4xd5nrq1 closed 3",
+            "e4xd5p1 closed 3",
+            "e4xd5p2 closed 3",
+            "e4xd5b1 closed 3",
+            "e4xd5b2 closed 3",
+            "e4xd5nrq1 closed 3",
+            "e4xd5nrq2 closed 3",
+            "b7xa6p closed 3",
+            "b7xa6b closed 3",
+            "b7xa6nrq marks 1 steps 18",
+            "mark 3 30",
+            "a6xb5p closed 3",
+            "a6xb5p1 void",
+            "a6xb5b closed 3",
+            "a6xb5b1 void",
+        ],
+        end: End::Open,
+    };
+    assert_eq!(rt;
+        walked(&proof, Edit::Nothing),
+        Some(proof.end),
+        "{}",
+        proof.name
+    );
 }
 
 /// That of L'Alfiere.
@@ -1641,10 +1663,6 @@ fn changed_proofs_are_refused(rt: HostRuntime) {
             "a mark of nobody",
             Edit::Put(1, "mark 1 4 6 13 14 15 16 17 18 32"),
             End::Refused(1, second),
-        ),
-        (
-            Edit::Put(1, "mark 1 4"),
-            End::Refused(2, stray),
         ),
         (
             "no step",
