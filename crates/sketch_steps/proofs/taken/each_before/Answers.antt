@@ -1,4 +1,4 @@
-use Rattle.std.proofs.Common.{◌≡◌, ◌≤◌, [], ◌∷◌, length, length-append, take, ap, sym, ◌∙◌, subst, arith, not, rules}
+use Rattle.std.proofs.Common.{◌≤◌, [], ◌∷◌, length, length-append, take, ap, ◌∙◌, subst, arith, not, rules}
 use Rattle.std.specs.List.{list_all}
 use Rattle.past_sketches.specs.Figures.{Sketch, each_changed}
 use Rattle.sketch_steps.specs.Cleared.{changed_of, clears}
