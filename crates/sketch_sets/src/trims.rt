@@ -13,10 +13,7 @@ use figures::{Figure, Sketch, both, fixed_squares, outside};
 pub fn is_pawn_beside(e: Square, figure: &Figure) -> bool
     ensures { result ≡ is_beside e figure.now }
 {
-    if !figure.kinds.is_only(Kind::Pawn) {
-        return false;
-    }
-    is_within(figure.squares, file_squares(e.file()))
+    figure.kinds.is_only(Kind::Pawn) & is_within(figure.squares, file_squares(e.file()))
 }
 
 /// Whether the figure may stand on a lower rank than `e`.

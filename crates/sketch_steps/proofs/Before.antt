@@ -9,9 +9,11 @@ use Rattle.board_base.specs.declared.men.Colour.{Colour}
 use Rattle.board_base.specs.declared.men.Kind.{Kind}
 use Rattle.board_base.specs.declared.men.Kind.TheVariants.{Pawn}
 use Rattle.cage_rules.specs.Sets.{squares_that}
+use Rattle.cage_rules.proofs.Filling.{is_in-that}
+use Rattle.cage_rules.proofs.SetAlgebra.{same-that}
 use Rattle.past_sketches.specs.Figures.{Figure, IsRearranged, Sketch, each_changed, figure_at, only_on}
 use Rattle.past_sketches.specs.Steps.{Step, back_by, changed_by, taken_back, victim_on, victims}
-use Rattle.sketch_steps.specs.Cleared.{bystander_of, changed_of, clears, pawn_of}
+use Rattle.sketch_steps.specs.Cleared.{bystander_of, bystander_with, changed_of, changed_with, clears, pawn_of}
 use Rattle.sketch_steps.specs.Places.{before_by, before_step, can_go_back, fits_before, fits_by, has_home, has_low_place, others_first, recounted}
 use Rattle.sketch_steps.proofs.Rearranging.{moved-behind, moved-recounted}
 use Rattle.sketch_sets.proofs.Under.{all-figure}
@@ -25,9 +27,9 @@ pub clear-made : (c : Colour) (x : Step) (s n a b ra w be ah : ℕ) → n ≡ s 
 unfolding clears
 clear-made c x s n a b ra w be ah h1 h2 h3 h4 h5 h6 h7 = eight n a b ra w be ah s x.from x.to (ranks_apart x.from x.to) (on_the_way x.from x.to 1) (behind c x.to) (ahead c x.to) x.passing h1 h2 h3 h4 h5 h6 h7
 
-pub bystander-made : (c : Colour) (x : Step) (f : Figure) (set : List Bool) (place : ℕ) → set ≡ squares_that (λ s. is_in f.squares s && not (clears c x s)) → place ≡ 2 * f.place + 1 → record f { squares = set; place = place } ≡ bystander_of c x f
-unfolding bystander_of clears
-bystander-made c x f set place a b = ap (λ (l : List Bool). record f { squares = l; place = place }) a ∙ ap (λ (n : ℕ). record f { squares = squares_that (λ s. is_in f.squares s && not (clears c x s)); place = n }) b
+pub bystander-made : (kept : List Bool) (f : Figure) (set : List Bool) (place : ℕ) → set ≡ squares_that (λ s. is_in f.squares s && is_in kept s) → place ≡ 2 * f.place + 1 → record f { squares = set; place = place } ≡ bystander_with kept f
+unfolding bystander_with
+bystander-made kept f set place a b = ap (λ (l : List Bool). record f { squares = l; place = place }) a ∙ ap (λ (n : ℕ). record f { squares = squares_that (λ s. is_in f.squares s && is_in kept s); place = n }) b
 
 pub pawn-made : (x : Step) (f : Figure) (kinds : List Kind) (set : List Bool) (place : ℕ) → kinds ≡ Pawn ∷ [] → set ≡ only_on x.from → place ≡ 2 * x.place → record f { kinds = kinds; squares = set; place = place } ≡ pawn_of x f
 unfolding pawn_of
@@ -41,13 +43,21 @@ unfolding figure
 victim-made f k s c kinds set place a b d e = ap (λ (x : Colour). figure x kinds set place) a ∙ ap (λ (x : List Kind). figure (opponent f.colour) x set place) b ∙ ap (λ (x : List Bool). figure (opponent f.colour) (k ∷ []) x place) d ∙ ap (λ (x : ℕ). figure (opponent f.colour) (k ∷ []) (only_on s) x) e
 
 -- figure by figure
-pub changed-here : (c : Colour) (x : Step) (i : ℕ) (f : Figure) → (i == x.by) ≡ true → pawn_of x f ≡ changed_of c x i f
-unfolding changed_of pawn_of bystander_of
-changed-here c x i f h = sym (ap (λ (b : Bool). cond b (pawn_of x f) (bystander_of c x f)) h)
+pub changed-here : (kept : List Bool) (x : Step) (i : ℕ) (f : Figure) → (i == x.by) ≡ true → pawn_of x f ≡ changed_with kept x i f
+unfolding changed_with
+changed-here kept x i f h = sym (ap (λ (b : Bool). cond b (pawn_of x f) (bystander_with kept f)) h)
 
-pub changed-other : (c : Colour) (x : Step) (i : ℕ) (f : Figure) → (i == x.by) ≡ false → bystander_of c x f ≡ changed_of c x i f
-unfolding changed_of bystander_of pawn_of
-changed-other c x i f h = sym (ap (λ (b : Bool). cond b (pawn_of x f) (bystander_of c x f)) h)
+pub changed-other : (kept : List Bool) (x : Step) (i : ℕ) (f : Figure) → (i == x.by) ≡ false → bystander_with kept f ≡ changed_with kept x i f
+unfolding changed_with
+changed-other kept x i f h = sym (ap (λ (b : Bool). cond b (pawn_of x f) (bystander_with kept f)) h)
+
+bystander-same : (c : Colour) (x : Step) (kept : List Bool) (f : Figure) → kept ≡ squares_that (λ s. not (clears c x s)) → bystander_with kept f ≡ bystander_of c x f
+unfolding bystander_with bystander_of clears
+bystander-same c x kept f e = ap (λ (l : List Bool). record f { squares = l; place = 2 * f.place + 1 }) (same-that (λ s. is_in f.squares s && is_in kept s) (λ s. is_in f.squares s && not (clears c x s)) (λ s low. ap (λ (b : Bool). is_in f.squares s && b) (ap (λ (l : List Bool). is_in l s) e ∙ is_in-that (λ t. not (clears c x t)) s low)))
+
+pub changed-same : (c : Colour) (x : Step) (kept : List Bool) (i : ℕ) (f : Figure) → kept ≡ squares_that (λ s. not (clears c x s)) → changed_with kept x i f ≡ changed_of c x i f
+unfolding changed_with changed_of pawn_of bystander_of
+changed-same c x kept i f e = ap (λ (g : Figure). cond (i == x.by) (pawn_of x f) g) (bystander-same c x kept f e)
 
 each-push : (h : ℕ → Figure → Figure) (k : ℕ) (S : Sketch) (f : Figure) → each_changed h k (S ++ f ∷ []) ≡ each_changed h k S ++ h (k + length S) f ∷ []
 each-push h k [] f = ap (λ (n : ℕ). h n f ∷ []) (let e : k ≡ k + 0 = omega arith in e)

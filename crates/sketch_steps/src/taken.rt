@@ -3,14 +3,14 @@ ghost use Rattle.std.specs.List.{list_all};
 ghost use Rattle.board_base.specs.Play.{ahead, behind};
 ghost use Rattle.past_sketches.specs.Figures.{Figure as AFigure, IsRearranged, each_changed};
 ghost use Rattle.past_sketches.specs.Steps.{changed_by, taken_back, victim_on, victims};
-ghost use Rattle.sketch_steps.specs.Cleared.{bystander_of, changed_of, clears, listed, pawn_of};
+ghost use Rattle.sketch_steps.specs.Cleared.{bystander_with, changed_with, clears, listed, pawn_of};
 ghost use Rattle.sketch_steps.specs.Places.{before_step, can_go_back, fits_before, has_home, has_low_place, others_first};
 
 use crate::places::recounted;
 use crate::steps::Step;
-use board_base::{Colour, Kind, Square, ranks_between};
-use figures::{Figure, KindSet, Sketch, only_on};
-use sketch_sets::{on_the_way, those_that};
+use board_base::{Colour, Kind, Square, SquareSet, ranks_between};
+use figures::{Figure, KindSet, Sketch, both, only_on, squares_that};
+use sketch_sets::on_the_way;
 
 /// The number of the square ahead of `s`, as pawns of this colour go.
 pub fn ahead(colour: Colour, s: Square) -> u8
@@ -42,15 +42,15 @@ fn clears(colour: Colour, step: &Step, s: Square) -> bool
     (n == step.from.index()) | (n == step.to.index()) | over | past
 }
 
-/// The figure before a step that he didn't make.
-fn bystander(colour: Colour, step: &Step, figure: &Figure) -> Figure
+/// The figure before a step that he didn't make and that left others these squares.
+fn bystander(kept: SquareSet, figure: &Figure) -> Figure
     requires { figure.now.place < 127 }
-    ensures { result ≡ bystander_of colour step.now figure.now }
+    ensures { result ≡ bystander_with kept figure.now }
 {
     Figure {
         colour: figure.colour,
         kinds: figure.kinds,
-        squares: those_that(figure.squares, |s| !clears(colour, step, s)),
+        squares: both(figure.squares, kept),
         marked: figure.marked,
         place: 2 * figure.place + 1,
     }
@@ -84,16 +84,16 @@ pub fn victim_on(figure: &Figure, kind: Kind, s: Square) -> Figure
     }
 }
 
-/// The figure with this number before the step.
-fn changed(colour: Colour, step: &Step, i: usize, figure: &Figure) -> Figure
+/// The figure with this number before the step, which left others these squares.
+fn changed(kept: SquareSet, step: &Step, i: usize, figure: &Figure) -> Figure
     requires step { step.now.place < 128 }
     requires figure { figure.now.place < 127 }
-    ensures { result ≡ changed_of colour step.now i figure.now }
+    ensures { result ≡ changed_with kept step.now i figure.now }
 {
     if i == step.by as usize {
         return pawn_before(step, figure);
     }
-    bystander(colour, step, figure)
+    bystander(kept, figure)
 }
 
 /// The man whom the figure took with the step, if there is one.
@@ -162,9 +162,10 @@ pub fn each_before(colour: Colour, sketch: &Sketch, step: &Step) -> Sketch
     requires figures { IsTrue (list_all has_low_place sketch.now) }
     ensures { result ≡ each_changed (changed_by colour step.now) 0 sketch.now }
 {
+    let kept = squares_that(|s| !clears(colour, step, s));
     let mut before = Sketch::new();
     for (i, figure) in sketch.figures().iter().enumerate() {
-        before.push(changed(colour, step, i, figure));
+        before.push(changed(kept, step, i, figure));
     }
     before
 }

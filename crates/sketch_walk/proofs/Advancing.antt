@@ -4,10 +4,11 @@ use Rattle.std.specs.Prelude.{MatchOption, None, Option, Some}
 use Rattle.past_sketches.specs.Figures.{Figure, Sketch, figure_at}
 use Rattle.past_sketches.specs.Steps.{is_step}
 use Rattle.sketch_list.specs.Listed.{Earlier, Listed, is_sound, may_be_above, may_take, sketch_before, step_for}
+use Rattle.sketch_walk.specs.Goings.{may_go}
 use Rattle.sketch_walk.specs.Nests.{after_place, after_square, after_victim, after_way, left}
 use Rattle.sketch_walk.specs.Walks.{Ended, found_at, left_of, may_come, way_at}
 use Rattle.sketch_walk.specs.declared.cursors.Cursor.{Cursor}
-use Rattle.sketch_walk.proofs.Barring.{no-higher, no-origin, no-square, no-step, no-victim, one-step}
+use Rattle.sketch_walk.proofs.Barring.{no-going, no-higher, no-origin, no-square, no-step, no-victim, one-step}
 use Rattle.sketch_walk.proofs.Nesting.{left-in, left-past, square-skipped, victim-skipped, way-skipped}
 
 pub all-walked : (o exact : List Bool) (T : Sketch) (c : Cursor) → length T ≤ c.by → left_of o exact T c ≡ []
@@ -33,6 +34,10 @@ module _ (o exact : List Bool) (T : Sketch) (c next : Cursor) (f : Figure) (foun
   pub past-victim : may_take o T f way.victim ≡ false → left (found_at o exact T) (length T) next ≡ after_victim (found_at o exact T) (length T) c → left_of o exact T c ≡ left_of o exact T next
   unfolding left_of
   past-victim none e = victim-skipped (found_at o exact T) (length T) c here (λ n high. no-victim o exact T f c.by c.to c.way c.victim found none n) ∙ sym e
+
+  pub past-going : may_go exact f way ≡ false → left (found_at o exact T) (length T) next ≡ after_victim (found_at o exact T) (length T) c → left_of o exact T c ≡ left_of o exact T next
+  unfolding left_of
+  past-going off e = victim-skipped (found_at o exact T) (length T) c here (λ n high. no-going o exact T f c.by c.to c.way c.victim c.above found off n) ∙ sym e
 
   pub past-counts : may_be_above T f way ≡ false → left (found_at o exact T) (length T) next ≡ after_victim (found_at o exact T) (length T) c → left_of o exact T c ≡ left_of o exact T next
   unfolding left_of

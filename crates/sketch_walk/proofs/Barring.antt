@@ -11,7 +11,9 @@ use Rattle.past_sketches.specs.Steps.{Step, arrives, has_squares, is_step, made_
 use Rattle.sketch_steps.specs.Arrivals.{arrives_on}
 use Rattle.sketch_list.specs.Listed.{Listed, count_from, is_advance, is_open, is_sound, may_be_above, may_take, sketch_before, step_for}
 use Rattle.sketch_list.proofs.Listing.{by-told, inside-told}
+use Rattle.sketch_walk.specs.Goings.{may_go}
 use Rattle.sketch_walk.specs.Walks.{found_at, found_by, if_open, may_come, way_at}
+use Rattle.sketch_walk.proofs.Going.{never-step, still-off}
 
 -- a step that may have been made
 made-squares : (T : Sketch) (f : Figure) (x : Step) → may_have_made T f x ≡ true → (has_squares T f x ≡ true) × (arrives f x.to ≡ true)
@@ -123,6 +125,11 @@ module _ (o exact : List Bool) (T : Sketch) (f : Figure) where
 
   pub no-victim : (i t w v : ℕ) → figure_at T i ≡ Some f → may_take o T f (way_at i f t w v 0).victim ≡ false → (n : ℕ) → found_at o exact T i t w v n ≡ []
   no-victim i t w v found none n = found-here i t w v n found ∙ found-none (way_at i f t w v n) (shut-taken (way_at i f t w v n) none)
+
+  pub no-going : (i t w v m : ℕ) → figure_at T i ≡ Some f → may_go exact f (way_at i f t w v m) ≡ false → (n : ℕ) → found_at o exact T i t w v n ≡ []
+  no-going i t w v m found off n =
+      let y : Listed = way_at i f t w v n in
+      found-here i t w v n found ∙ found-none y (shut-unless y (λ both. both_ways (is_step exact T (step_for T f y)) (never-step exact T f y found (still-off exact f (way_at i f t w v m) n off)) (and_parts (is_step exact T (step_for T f y)) (is_sound (sketch_before T f y) f) both).0))
 
   -- who can't be above n can't be above more
   none-higher : (y : Listed) (n : ℕ) → y.above ≤ n → may_be_above T f y ≡ false → may_be_above T f (record y { above = n }) ≡ false

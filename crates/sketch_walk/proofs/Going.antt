@@ -50,12 +50,17 @@ step-found : (T : Sketch) (f : Figure) (y : Listed) → figure_at T y.by ≡ Som
 unfolding step_for
 step-found T f y e = e
 
-pub no-step : (exact : List Bool) (T : Sketch) (f : Figure) (y : Listed) → figure_at T y.by ≡ Some f → may_go exact f y ≡ false → is_step exact T (step_for T f y) ≡ false
+pub never-step : (exact : List Bool) (T : Sketch) (f : Figure) (y : Listed) → figure_at T y.by ≡ Some f → may_go exact f y ≡ false → is_step exact T (step_for T f y) ≡ false
 unfolding is_step
-no-step exact T f y found off = false_from_ne_true _ (λ h. elim (or_cases (may_have_made T f (step_for T f y)) (may_have_gone exact T f (step_for T f y)) (sym (made-by exact T f (step_for T f y) (figure_at T (step_for T f y).by) (step-found T f y found)) ∙ h)) [
+never-step exact T f y found off = false_from_ne_true _ (λ h. elim (or_cases (may_have_made T f (step_for T f y)) (may_have_gone exact T f (step_for T f y)) (sym (made-by exact T f (step_for T f y) (figure_at T (step_for T f y).by) (step-found T f y found)) ∙ h)) [
   | inl made ↦ both_ways _ off (made-goes exact T f y made)
   | inr gone ↦ both_ways _ off (gone-goes exact T f y gone)
 ])
+
+-- how many pawns are above doesn't matter
+pub still-off : (exact : List Bool) (f : Figure) (y : Listed) (n : ℕ) → may_go exact f y ≡ false → may_go exact f (record y { above = n }) ≡ false
+unfolding may_go
+still-off exact f y n off = off
 
 -- test by test
 pub may-exact : (exact : List Bool) (f : Figure) (y : Listed) → is_in exact (file y.from) ≡ true → true ≡ may_go exact f y

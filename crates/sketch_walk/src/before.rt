@@ -7,7 +7,6 @@ ghost use Rattle.sketch_steps.specs.Cleared.{listed};
 ghost use Rattle.sketch_steps.specs.Places.{has_low_place};
 ghost use Rattle.sketch_list.specs.Listed.{figures_before, is_passed, is_sound, sketch_before, step_for, victims_as};
 
-use crate::goings::may_go;
 use crate::listed::Listed;
 use crate::places::step_for;
 use board_base::{Kind, Square};
@@ -88,9 +87,6 @@ pub(crate) fn sound_before(
     requires room { length sketch.now + length (victims_as figure.now listed.now.to listed.now.victim) < 33 }
     ensures { SomeIff result (IsTrue (is_step exact.now sketch.now (step_for sketch.now figure.now listed.now) && is_sound (sketch_before sketch.now figure.now listed.now) figure.now)) (sketch_before sketch.now figure.now listed.now) }
 {
-    if !may_go(exact, figure, listed) {
-        return None;
-    }
     let step = step_for(sketch, figure, listed);
     if !is_step(exact, sketch, &step) {
         return None;

@@ -8,6 +8,7 @@ ghost use Rattle.sketch_walk.specs.Walks.{Ended, Finding, left_of, way_at};
 
 use crate::before::sound_before;
 use crate::cursors::{Cursor, past_place, past_square, past_victim, past_way};
+use crate::goings::may_go;
 use crate::listed::{Earlier, Listed};
 use crate::places::may_be_above;
 use crate::shorts::{Shorts, takes_so};
@@ -43,6 +44,12 @@ fn look_at(
     ensures later { number_of cursor < number_of result.next }
 {
     if !takes_so(shorts, figure, step.victim) {
+        return Look {
+            found: None,
+            next: past_victim(cursor),
+        };
+    }
+    if !may_go(exact, figure, step) {
         return Look {
             found: None,
             next: past_victim(cursor),

@@ -1,6 +1,5 @@
-use Rattle.std.proofs.Common.{◌≡◌, ◌&&◌, ◌==◌, ℕ, Bool, true, false, ap, sym, ◌∙◌, subst}
-use Rattle.std.proofs.lemmas.Bool.{and_left}
-use Rattle.std.specs.List.{list_all, range_with_len}
+use Rattle.std.proofs.Common.{◌≡◌, ◌&&◌, ◌==◌, ℕ, Bool, ap, ◌∙◌, subst}
+use Rattle.std.specs.List.{list_all}
 use Rattle.board_base.specs.Board.{file, same_kind}
 use Rattle.board_base.specs.declared.men.Kind.TheVariants.{Pawn}
 use Rattle.cage_rules.specs.Sets.{squares_that}
@@ -10,12 +9,8 @@ use Rattle.sketch_sets.specs.Tests.{is_inside}
 use Rattle.sketch_sets.proofs.Sets.{inside-told}
 use Rattle.sketch_sets.proofs.trims.is_pawn_beside.Goals as goal
 
-pub returns-then-not-is_only : goal.returns-then-not-is_only
-unfolding is_beside
-returns-then-not-is_only c = subst (λ (f : Figure). false ≡ is_beside c.args.e f) c.figure.view_is (sym (and_left (list_all (same_kind Pawn) c.figure.inside.kinds) _ (sym c.is_only.ensures ∙ c.if-not-is_only.true)))
-
 pub returns : goal.returns
 unfolding is_beside
-returns c = subst (λ (f : Figure). c.is_within.result ≡ is_beside c.args.e f) c.figure.view_is
-    (ap (λ (b : Bool). b && c.is_within.result) (sym c.if-not-is_only.false ∙ c.is_only.ensures)
+returns c = subst (λ (f : Figure). (c.is_only.result && c.is_within.result) ≡ is_beside c.args.e f) c.figure.view_is
+    (ap (λ (b : Bool). b && c.is_within.result) c.is_only.ensures
     ∙ ap (λ (b : Bool). list_all (same_kind Pawn) c.figure.inside.kinds && b) (c.is_within.ensures ∙ ap (is_inside c.figure.inside.squares) (c.file_squares.ensures ∙ ap (λ (n : ℕ). squares_that (λ q. file q == n)) c.file.ensures) ∙ inside-told c.figure.inside.squares (λ q. file q == file c.args.e)))

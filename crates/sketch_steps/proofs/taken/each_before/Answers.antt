@@ -1,9 +1,9 @@
-use Rattle.std.proofs.Common.{◌≡◌, ◌≤◌, [], ◌∷◌, length, length-append, take, ap, sym, ◌∙◌, subst, arith}
+use Rattle.std.proofs.Common.{◌≤◌, [], ◌∷◌, length, length-append, take, ap, ◌∙◌, subst, arith, not, rules}
 use Rattle.std.specs.List.{list_all}
 use Rattle.past_sketches.specs.Figures.{Sketch, each_changed}
-use Rattle.sketch_steps.specs.Cleared.{changed_of}
+use Rattle.sketch_steps.specs.Cleared.{changed_of, clears}
 use Rattle.sketch_steps.specs.Places.{has_low_place}
-use Rattle.sketch_steps.proofs.Before.{each-more, each-told, low-item}
+use Rattle.sketch_steps.proofs.Before.{changed-same, each-more, each-told, low-item}
 use Rattle.sketch_steps.proofs.taken.each_before.Goals as goal
 
 pub changed-requires-clause-figure : goal.changed-requires-clause-figure
@@ -13,7 +13,7 @@ changed-requires-clause-figure c =
 pub loop-i-preserved : goal.loop-i-preserved
 loop-i-preserved c = record {
   size = omega (arith, ap length c.push.ensures, length-append c.loop-i.before (c.changed.result ∷ []), c.loop-i.invariant.size);
-  made = each-more c.args.colour c.args.step.now c.figures-figure-items.result.now c.loop-i.i c.figure-item.result c.changed.result [] c.loop-i.before c.push.new.self c.loop-i-test.true c.figure-item.is c.changed.ensures c.loop-i.invariant.made c.push.ensures;
+  made = each-more c.args.colour c.args.step.now c.figures-figure-items.result.now c.loop-i.i c.figure-item.result c.changed.result [] c.loop-i.before c.push.new.self c.loop-i-test.true c.figure-item.is (c.changed.ensures ∙ changed-same c.args.colour c.args.step.now c.squares_that-kept.result c.loop-i.i c.figure-item.result (c.squares_that-kept.ensures (λ s. not (clears c.args.colour c.args.step.now s)) (λ s b low post. search rules))) c.loop-i.invariant.made c.push.ensures;
 }
 
 pub returns : goal.returns

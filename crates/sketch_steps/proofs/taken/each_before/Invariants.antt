@@ -6,5 +6,5 @@ use Rattle.sketch_steps.proofs.taken.each_before.Given as goal
 abbrev pub invariant-loop-i : goal.invariant-loop-i
 invariant-loop-i l = record {
   size : length l.before ≡ l.i;
-  made : l.before ≡ each_changed (changed_of l.colour l.step) 0 (take l.i l.figure-items);
+  made : l.before ≡ each_changed (changed_of l.fn.colour l.step) 0 (take l.i l.figure-items);
 }

@@ -6,7 +6,6 @@ use Rattle.board_base.specs.Play.{ahead}
 use Rattle.sketch_steps.proofs.Before.{low-at}
 use Rattle.sketch_list.specs.Listed.{Listed, is_sound, sketch_before, step_for}
 use Rattle.sketch_walk.proofs.Fitting.{passed-home}
-use Rattle.sketch_walk.proofs.Going.{no-step}
 use Rattle.sketch_walk.proofs.Making.{not-both, not-first, sketch-made, step-by, step-passing, step-to}
 use Rattle.sketch_walk.proofs.before.sound_before.Goals as goal
 
@@ -23,9 +22,6 @@ figures_before-requires-clause-home c = λ passed.
     let y : Listed = c.args.listed.now in
     let made : is_step c.args.exact.now T (step_for T f y) ≡ true = ap (is_step c.args.exact.now T) (sym c.step_for-step.ensures.value) ∙ sym c.is_step.ensures ∙ c.if-not-is_step.false in
     subst (λ t. ahead f.colour t < 64) (step-to T f y) (passed-home c.args.exact.now T f (step_for T f y) (ap (figure_at T) (step-by T f y) ∙ c.requires.figure) made (step-passing T f y ∙ passed))
-
-pub returns-then-not-may_go : goal.returns-then-not-may_go
-returns-then-not-may_go c = not-first _ _ (no-step c.args.exact.now c.args.sketch.now c.args.figure.now c.args.listed.now c.requires.figure (sym c.may_go.ensures ∙ c.if-not-may_go.true))
 
 pub returns-then-not-is_step : goal.returns-then-not-is_step
 returns-then-not-is_step c = not-first _ _ (ap (is_step c.args.exact.now c.args.sketch.now) (sym c.step_for-step.ensures.value) ∙ sym c.is_step.ensures ∙ c.if-not-is_step.true)

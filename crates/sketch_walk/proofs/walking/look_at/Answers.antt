@@ -2,10 +2,11 @@ use Rattle.std.proofs.Common.{◌≡◌, ◌<◌, ◌∷◌, ◌&&◌, ℕ, true
 use Rattle.past_sketches.specs.Figures.{Figure, Sketch}
 use Rattle.past_sketches.specs.Steps.{is_step}
 use Rattle.sketch_list.specs.Listed.{Listed, is_sound, may_be_above, sketch_before, step_for}
+use Rattle.sketch_walk.specs.Goings.{may_go}
 use Rattle.sketch_walk.specs.Nests.{Finds, after_place, left}
 use Rattle.sketch_walk.specs.Shorts.{takes_so}
 use Rattle.sketch_walk.specs.Walks.{found_at, left_of, way_at}
-use Rattle.sketch_walk.proofs.Advancing.{past-counts, past-place, past-victim, place-found}
+use Rattle.sketch_walk.proofs.Advancing.{past-counts, past-going, past-place, past-victim, place-found}
 use Rattle.sketch_walk.proofs.Fitting.{takes-told, victim-fits}
 use Rattle.sketch_walk.proofs.walking.look_at.Goals as goal
 
@@ -15,6 +16,12 @@ returns-then-not-takes_so-clause-found c = λ o are.
     let f : Figure = c.args.figure.now in
     let never : takes_so c.args.shorts f (way_at c.args.cursor.by f c.args.cursor.to c.args.cursor.way c.args.cursor.victim c.args.cursor.above).victim ≡ false = ap (λ (y : Listed). takes_so c.args.shorts f y.victim) (sym (c.step.view_is ∙ c.requires.step)) ∙ sym c.takes_so.ensures ∙ c.if-not-takes_so.true in
     past-victim o c.args.exact.now T c.args.cursor c.past_victim.result f c.requires.figure c.requires.here (sym (takes-told o T c.args.shorts f _ are) ∙ never) (c.past_victim.ensures.left (found_at o c.args.exact.now T) (length T) c.requires.here)
+
+pub returns-then-not-may_go-clause-found : goal.returns-then-not-may_go-clause-found
+returns-then-not-may_go-clause-found c = λ o are.
+    let T : Sketch = c.args.sketch.now in
+    let f : Figure = c.args.figure.now in
+    past-going o c.args.exact.now T c.args.cursor c.past_victim-then-not-may_go.result f c.requires.figure c.requires.here (ap (may_go c.args.exact.now f) (sym c.requires.step) ∙ sym c.may_go.ensures ∙ c.if-not-may_go.true) (c.past_victim-then-not-may_go.ensures.left (found_at o c.args.exact.now T) (length T) c.requires.here)
 
 pub returns-then-not-may_be_above-clause-found : goal.returns-then-not-may_be_above-clause-found
 returns-then-not-may_be_above-clause-found c = λ o are.
