@@ -9,4 +9,4 @@ mod questions;
 pub use faults::InputFault;
 pub use input_lines::split_first_line;
 pub use positions::read_lone_position;
-pub use questions::{Question, read_lone_question, read_question};
+pub use questions::{Position, Question, read_lone_question, read_question};

@@ -11,14 +11,22 @@ use board_base::Odds;
 use fen_text::{at_demands, read_clock, read_fen, read_odds};
 use query_base::Query;
 
-/// The query of an input's first lines, and what follows them.
+/// The query of an input's first lines, and what follows them. It bars no move of its own.
 #[derive(Clone, Copy)]
 pub struct Question<'a> {
     pub query: Query,
-    /// How many lines it has: that of the FEN, and those of odds and clock where they are there.
+    /// How many lines it has: that of the FEN, and those of odds and clock if they are there.
     pub lines: u32,
     /// What follows these lines.
     pub rest: &'a [u8],
+    pub ghost plain: { query.barred ≡ None },
+}
+
+/// The query of an input that has its lines and no more. It bars no move of its own.
+#[derive(Clone, Copy)]
+pub struct Position {
+    pub query: Query,
+    pub ghost plain: { query.barred ≡ None },
 }
 
 fn begins_as_odds(line: &[u8]) -> bool
@@ -95,7 +103,6 @@ pub(crate) fn read_position(
     ensures rest { IfOk result (λ question. question.rest.now ≡ after_first input.now) }
     ensures short { IfOk result (λ question. length question.rest.now ≤ length input.now) }
     ensures lines { IfOk result (λ question. question.lines ≡ before + 1) }
-    ensures plain { IfOk result (λ question. question.query.barred ≡ None) }
     ensures none { IfErr result (IsNoPosition odds clock before input.now) }
 {
     if input.is_empty() {
@@ -126,7 +133,6 @@ pub fn read_question(input: &[u8]) -> Result<Question<'_>, InputFault>
     ensures rest { IfOk result (λ question. question.rest.now ≡ after_question input.now) }
     ensures short { IfOk result (λ question. length question.rest.now ≤ length input.now) }
     ensures lines { IfOk result (λ question. question.lines ≡ before_fen input.now + 1) }
-    ensures plain { IfOk result (λ question. question.query.barred ≡ None) }
     ensures no_question { IfErr result (IsNoQuestion input.now) }
 {
     let Some((odds, odds_lines, behind)) = take_odds(input) else {
@@ -142,16 +148,17 @@ pub fn read_question(input: &[u8]) -> Result<Question<'_>, InputFault>
 
 /// The query of an input that has its lines and no more. `BadLine` and `BadFen` come as from `read_question`, and `BadLine` where
 /// another line follows.
-pub fn read_lone_question(input: &[u8]) -> Result<Query, InputFault>
+pub fn read_lone_question(input: &[u8]) -> Result<Position, InputFault>
     requires { length input.now ≤ 67_108_864 }
-    ensures asked { IfOk result (AsksAlone input.now) }
-    ensures plain { IfOk result (λ query. query.barred ≡ None) }
+    ensures asked { IfOk result (λ position. AsksAlone input.now position.query) }
     ensures no_question { IfErr result (IsNoLoneQuestion input.now) }
 {
     match read_question(input) {
         Ok(question) => {
             if question.rest.is_empty() {
-                Ok(question.query)
+                Ok(Position {
+                    query: question.query,
+                })
             } else {
                 Err(InputFault::BadLine {
                     line: question.lines + 1,

@@ -29,13 +29,13 @@ returns-in-Ok-settle c =
       claim,
       query,
       c.in-Ok.ensures.states,
-      found-told (AnswersSettling c.args.depth c.args.nodes claim query) c.in-Ok-settle.found a.0 a.1
+      found-told (AnswersSettling c.args.limits.depth c.args.limits.nodes claim query) c.in-Ok-settle.found a.0 a.1
           (λ cert is text.
           let whole = text_written (cert_of cert) _ (rw is at (of.written c.in-Ok.ensures.promotion)) text in
           record { cert = cert_of cert; is_proof = rw is at of.proved; is_text = whole; short = (rw is at of.short) _ whole })
-          (λ line is text. record { line = line; unsettled = rw is at of.undecided; few = rw is at of.short_line; unpriced = λ e. rw is at of.priced c.requires.limits.some_nodes e; line_unpriced = rw is at of.unpriced; text_is = text })
+          (λ line is text. record { line = line; unsettled = rw is at of.undecided; few = rw is at of.short_line; unpriced = λ e. rw is at of.priced c.args.limits.some e; line_unpriced = rw is at of.unpriced; text_is = text })
           (λ game is text. record { game = game; contradicts = rw is at of.countered; text_is = text })
-          (λ n is text. record { large = rw is at of.large; dear = rw is at of.spent; unpriced = λ e. rw is at of.priced c.requires.limits.some_nodes e; text_is = text ∙ ap (λ (k : ℕ). spent_line k) (rw is at of.visited) })
+          (λ n is text. record { large = rw is at of.large; dear = rw is at of.spent; unpriced = λ e. rw is at of.priced c.args.limits.some e; text_is = text ∙ ap (λ (k : ℕ). spent_line k) (rw is at of.visited) })
           told,
     ))
     c.write_found.ensures
