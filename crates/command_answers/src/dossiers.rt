@@ -1,6 +1,6 @@
-ghost use Rattle.std.specs.Prelude.{◌≡◌, ◌≤◌, IfOk, None, codes, length};
+ghost use Rattle.std.specs.Prelude.{◌≡◌, ◌≤◌, IfOk, codes, length};
 ghost use Rattle.line_claims.specs.Lines.{HasLine};
-ghost use Rattle.command_answers.specs.Limits.{AreLimits, most_bytes};
+ghost use Rattle.command_answers.specs.Limits.{most_bytes};
 ghost use Rattle.command_answers.specs.Dossiers.{AnswersDossier, AnswersLineClaim};
 ghost use Rattle.command_answers.specs.Lines.{step_line};
 ghost use Rattle.command_answers.specs.Plays.{number_line};
@@ -11,6 +11,7 @@ use crate::statements::{LineStatement, read_line_statement};
 use crate::statuses::Status;
 use crate::told::refused_step;
 use dossier_search::{Dossier, solve_line};
+use retro_search::Limits;
 use std::alloc::{AllocError, Global};
 
 /// The line that tells which part isn't proved.
@@ -31,15 +32,18 @@ fn write_unlisted(alloc: Global, step: u8) -> Result<Vec<u8>, AllocError>
 fn answer_line_claim(
     alloc: Global,
     statement: &LineStatement,
-    depth: u8,
-    nodes: u32,
+    limits: Limits,
 ) -> Result<(Status, Vec<u8>), AllocError>
-    requires plain { statement.now.query.barred ≡ None }
-    requires lined { HasLine statement.now.claim }
-    requires limits { AreLimits depth nodes }
-    ensures { IfOk result (λ a. AnswersLineClaim depth nodes statement.now.claim statement.now.query a.0 a.1.items) }
+    requires { HasLine statement.now.claim }
+    ensures { IfOk result (λ a. AnswersLineClaim limits.depth limits.nodes statement.now.claim statement.now.query a.0 a.1.items) }
 {
-    let found = match solve_line(alloc, &statement.query, &statement.claim, depth, nodes) {
+    let found = match solve_line(
+        alloc,
+        &statement.query,
+        &statement.claim,
+        limits.depth,
+        limits.nodes,
+    ) {
         Ok(found) => found,
         Err(_) => return Err(AllocError),
     };
@@ -47,25 +51,22 @@ fn answer_line_claim(
         Dossier::Written(text) => Ok((Status::Done, text)),
         Dossier::Unlisted { step } => Ok((Status::Refused, write_unlisted(alloc, step)?)),
         Dossier::Undecided { part } => Ok((Status::Undecided, write_open_part(alloc, part)?)),
-        Dossier::Spent { .. } => Ok((Status::Spent, write_spent(alloc, nodes)?)),
+        Dossier::Spent { .. } => Ok((Status::Spent, write_spent(alloc, limits.nodes)?)),
     }
 }
 
-/// The status and the text with which `dossier` answers these bytes: each part is searched as by `solve`, going back at most `depth`
-/// moves, from 0 to 64, and visiting at most `nodes` queries, from 1 to 500,000. A part that this leaves open is searched as by
-/// `settle` too, and one that is too dear with nothing taken back.
+/// The status and the text with which `dossier` answers these bytes: each part is searched as by `solve` within these limits. A part that
+/// this leaves open is searched as by `settle` too, and one that is too dear with nothing taken back.
 pub fn answer_dossier(
     alloc: Global,
-    depth: u8,
-    nodes: u32,
+    limits: Limits,
     input: &[u8],
 ) -> Result<(Status, Vec<u8>), AllocError>
-    requires short { length input.now ≤ most_bytes }
-    requires limits { AreLimits depth nodes }
-    ensures { IfOk result (λ a. AnswersDossier depth nodes input.now a.0 a.1.items) }
+    requires { length input.now ≤ most_bytes }
+    ensures { IfOk result (λ a. AnswersDossier limits.depth limits.nodes input.now a.0 a.1.items) }
 {
     match read_line_statement(input) {
-        Ok(statement) => answer_line_claim(alloc, &statement, depth, nodes),
+        Ok(statement) => answer_line_claim(alloc, &statement, limits),
         Err(why) => Ok((Status::BadInput, write_fault(alloc, why)?)),
     }
 }

@@ -1,4 +1,4 @@
-ghost use Rattle.std.specs.Prelude.{◌≡◌, ◌≢◌, ◌≤◌, ◌+◌, Err, IfOk, length};
+ghost use Rattle.std.specs.Prelude.{◌≡◌, ◌≢◌, ◌≤◌, ◌+◌, Err, IfOk};
 ghost use Rattle.retro_ports.specs.Causes.{Rose};
 ghost use Rattle.retro_ports.specs.Ends.{ReadSome};
 ghost use Rattle.command_answers.specs.Limits.{most_bytes};
@@ -14,17 +14,19 @@ use arrayvec::ArrayVec;
 use dossier_checker::{
     DossierRefused, accepted_lines_are_written, check_dossier, unlisted_in_parts_have_texts,
 };
-use retro_ports::{ReadAllFault, Source};
+use retro_ports::{Source, Unread};
 
 /// The status and the line with which `line` answers what the source gives, of at most 67,108,864 bytes. It takes no memory.
 #[inline(never)]
-pub fn answer_line<S: Source>(src: &mut S) -> Result<(Status, ArrayVec<u8, 512>), ReadAllFault>
-    ensures answer { IfOk result (λ a. ReadsAll most_bytes (S.left src.old) (S.left src.new) (λ input. AnswersLine input a.0 a.1.items)) }
-    ensures remembers { result ≢ Err ReadAllFault.Memory }
-    ensures too_long { result ≡ Err ReadAllFault.TooLong → ReadSome (S.left src.old) (S.left src.new) (λ n. n ≡ most_bytes + 1) }
-    ensures failed { result ≡ Err ReadAllFault.Failed → ReadSome (S.left src.old) (S.left src.new) (λ n. n ≤ most_bytes) }
-    ensures cause { result ≡ Err ReadAllFault.Failed → Rose (S.faults src.old) (S.faults src.new) }
-    ensures kept { result ≢ Err ReadAllFault.Failed → S.faults src.new ≡ S.faults src.old }
+pub fn answer_line<S: Source>(src: &mut S) -> Result<(Status, ArrayVec<u8, 512>), Unread>
+    ensures answer { IfOk result
+        (λ a. ReadsAll most_bytes (S.left src.old) (S.left src.new) (λ input. AnswersLine input a.0 a.1.items)) }
+    ensures too_long { result ≡ Err Unread.TooLong →
+        ReadSome (S.left src.old) (S.left src.new) (λ n. n ≡ most_bytes + 1) }
+    ensures failed { result ≡ Err Unread.Failed →
+        ReadSome (S.left src.old) (S.left src.new) (λ n. n ≤ most_bytes) }
+    ensures cause { result ≡ Err Unread.Failed → Rose (S.faults src.old) (S.faults src.new) }
+    ensures kept { result ≢ Err Unread.Failed → S.faults src.new ≡ S.faults src.old }
     ensures later { S.faults src.old ≤ S.faults src.new }
 {
     accepted_lines_are_written();
@@ -44,7 +46,7 @@ pub fn answer_line<S: Source>(src: &mut S) -> Result<(Status, ArrayVec<u8, 512>)
             Ok((Status::Refused, part_line_refusal(part, line, word(why))))
         }
         Err(DossierRefused::Other { part }) => Ok((Status::Refused, part_refusal(part, b"other"))),
-        Err(DossierRefused::TooLong) => Err(ReadAllFault::TooLong),
-        Err(DossierRefused::ReadFault) => Err(ReadAllFault::Failed),
+        Err(DossierRefused::TooLong) => Err(Unread::TooLong),
+        Err(DossierRefused::ReadFault) => Err(Unread::Failed),
     }
 }

@@ -1,5 +1,5 @@
 ghost use Rattle.std.specs.Prelude.{◌≤◌, IfOk, length};
-ghost use Rattle.command_answers.specs.Limits.{AreLimits, most_bytes};
+ghost use Rattle.command_answers.specs.Limits.{most_bytes};
 ghost use Rattle.command_answers.specs.Settles.{AnswersSettle};
 
 use crate::questions::write_fault;
@@ -12,29 +12,22 @@ use retro_search::Limits;
 use std::alloc::{AllocError, Global};
 use unmove_gen::unmoves_have_texts;
 
-/// The status and the text with which `settle` answers these bytes: for a certificate it goes back at most `depth` moves, from 0 to 64,
-/// and visits at most `nodes` queries, from 1 to 500,000; for a game it looks at no more.
+/// The status and the text with which `settle` answers these bytes, by a search for a certificate within these limits; for a game it looks
+/// at no more queries.
 pub fn answer_settle(
     alloc: Global,
-    depth: u8,
-    nodes: u32,
+    limits: Limits,
     input: &[u8],
 ) -> Result<(Status, Text), AllocError>
-    requires short { length input.now ≤ most_bytes }
-    requires limits { AreLimits depth nodes }
-    ensures { IfOk result (λ a. AnswersSettle depth nodes input.now a.0 a.1) }
+    requires { length input.now ≤ most_bytes }
+    ensures { IfOk result (λ a. AnswersSettle limits.depth limits.nodes input.now a.0 a.1) }
 {
     let statement = match read_statement(input) {
         Ok(statement) => statement,
         Err(why) => return Ok((Status::BadInput, Text::of_lines(write_fault(alloc, why)?))),
     };
     unmoves_have_texts();
-    match settle(
-        alloc,
-        &statement.query,
-        &statement.claim,
-        Limits { depth, nodes },
-    ) {
+    match settle(alloc, &statement.query, &statement.claim, limits) {
         Ok(found) => write_found(alloc, found),
         Err(_) => Err(AllocError),
     }

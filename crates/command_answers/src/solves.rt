@@ -4,7 +4,7 @@ ghost use Rattle.board_base.specs.Texts.{can_promote, move_text, unmove_text};
 ghost use Rattle.cert_text.specs.Certificate.{HasText};
 ghost use Rattle.cert_text.specs.SeenCert.{cert_of};
 ghost use Rattle.retro_search.specs.Answers.{IfCountered, IfProved, IfUndecided};
-ghost use Rattle.command_answers.specs.Limits.{AreLimits, most_bytes};
+ghost use Rattle.command_answers.specs.Limits.{most_bytes};
 ghost use Rattle.command_answers.specs.Solves.{AnswersSolve, countered_line, spent_line, undecided_line};
 ghost use Rattle.command_answers.specs.Told.{IsSpelled, TellsFound};
 
@@ -14,7 +14,7 @@ use crate::statuses::Status;
 use crate::texts::Text;
 use arrayvec::ArrayVec;
 use board_base::{Move, MoveList, Unmove, UnmoveList, write_move, write_unmove};
-use retro_search::{Found, solve};
+use retro_search::{Found, Limits, solve};
 use std::alloc::{AllocError, Global};
 use unmove_gen::unmoves_have_texts;
 
@@ -97,24 +97,27 @@ pub(crate) fn write_found(alloc: Global, found: Found) -> Result<(Status, Text),
     }
 }
 
-/// The status and the text with which `solve` answers these bytes: it goes back at most `depth` moves, from 0 to 64, and visits at most
-/// `nodes` queries, from 1 to 500,000.
+/// The status and the text with which `solve` answers these bytes, by a search within these limits.
 pub fn answer_solve(
     alloc: Global,
-    depth: u8,
-    nodes: u32,
+    limits: Limits,
     input: &[u8],
 ) -> Result<(Status, Text), AllocError>
-    requires short { length input.now ≤ most_bytes }
-    requires limits { AreLimits depth nodes }
-    ensures { IfOk result (λ a. AnswersSolve depth nodes input.now a.0 a.1) }
+    requires { length input.now ≤ most_bytes }
+    ensures { IfOk result (λ a. AnswersSolve limits.depth limits.nodes input.now a.0 a.1) }
 {
     let statement = match read_statement(input) {
         Ok(statement) => statement,
         Err(why) => return Ok((Status::BadInput, Text::of_lines(write_fault(alloc, why)?))),
     };
     unmoves_have_texts();
-    match solve(alloc, &statement.query, &statement.claim, depth, nodes) {
+    match solve(
+        alloc,
+        &statement.query,
+        &statement.claim,
+        limits.depth,
+        limits.nodes,
+    ) {
         Ok(found) => write_found(alloc, found),
         Err(_) => Err(AllocError),
     }

@@ -8,13 +8,14 @@ ghost use Rattle.command_answers.specs.Statements.{IsNoLineStatement, IsNoStatem
 use cert_text::{one_text_of_a_claim, read_claim};
 use line_claims::{LineClaim, read_line_claim};
 use query_base::{Claim, Query};
-use question_text::{InputFault, read_lone_question, split_first_line};
+use question_text::{InputFault, Position, read_lone_question, split_first_line};
 
 /// A claim, and the query that it is about.
 #[derive(Clone, Copy)]
 pub struct Statement {
     pub claim: Claim,
     pub query: Query,
+    pub ghost plain: { query.barred ≡ None },
 }
 
 /// A claim of several steps, and the query that it is about.
@@ -22,17 +23,17 @@ pub struct Statement {
 pub struct LineStatement {
     pub claim: LineClaim,
     pub query: Query,
+    pub ghost plain: { query.barred ≡ None },
 }
 
 /// The query of the lines behind a claim. `BadLine`, counted from the claim on, and `BadFen` come as from `read_lone_question`.
-fn read_behind(rest: &[u8]) -> Result<Query, InputFault>
+fn read_behind(rest: &[u8]) -> Result<Position, InputFault>
     requires { length rest.now ≤ most_bytes }
-    ensures asked { IfOk result (AsksAlone rest.now) }
-    ensures plain { IfOk result (λ query. query.barred ≡ None) }
+    ensures asked { IfOk result (λ position. AsksAlone rest.now position.query) }
     ensures none { IfErr result (IsNoneBehind rest.now) }
 {
     match read_lone_question(rest) {
-        Ok(query) => Ok(query),
+        Ok(position) => Ok(position),
         Err(InputFault::BadLine { line }) => Err(InputFault::BadLine { line: line + 1 }),
         Err(InputFault::BadFen(fault)) => Err(InputFault::BadFen(fault)),
     }
@@ -45,7 +46,6 @@ pub fn read_statement(input: &[u8]) -> Result<Statement, InputFault>
     requires { length input.now ≤ most_bytes }
     ensures states { IfOk result (λ s. States input.now s.claim s.query) }
     ensures promotion { IfOk result (λ s. IsTrue (promotes_well s.claim)) }
-    ensures plain { IfOk result (λ s. s.query.barred ≡ None) }
     ensures no_statement { IfErr result (IsNoStatement input.now) }
 {
     one_text_of_a_claim();
@@ -54,7 +54,10 @@ pub fn read_statement(input: &[u8]) -> Result<Statement, InputFault>
         return Err(InputFault::BadLine { line: 1 });
     };
     match read_behind(rest) {
-        Ok(query) => Ok(Statement { claim, query }),
+        Ok(position) => Ok(Statement {
+            claim,
+            query: position.query,
+        }),
         Err(why) => Err(why),
     }
 }
@@ -65,7 +68,6 @@ pub fn read_line_statement(input: &[u8]) -> Result<LineStatement, InputFault>
     requires { length input.now ≤ most_bytes }
     ensures states { IfOk result (λ s. StatesLine input.now s.claim s.query) }
     ensures lined { IfOk result (λ s. HasLine s.claim) }
-    ensures plain { IfOk result (λ s. s.query.barred ≡ None) }
     ensures no_statement { IfErr result (IsNoLineStatement input.now) }
 {
     let (first, rest) = split_first_line(input);
@@ -73,7 +75,10 @@ pub fn read_line_statement(input: &[u8]) -> Result<LineStatement, InputFault>
         return Err(InputFault::BadLine { line: 1 });
     };
     match read_behind(rest) {
-        Ok(query) => Ok(LineStatement { claim, query }),
+        Ok(position) => Ok(LineStatement {
+            claim,
+            query: position.query,
+        }),
         Err(why) => Err(why),
     }
 }

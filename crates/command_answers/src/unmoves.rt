@@ -80,7 +80,7 @@ pub fn answer_unmoves(alloc: Global, input: &[u8]) -> Result<(Status, Text), All
     ensures { IfOk result (λ a. AnswersUnmoves input.now a.0 a.1) }
 {
     match read_lone_question(input) {
-        Ok(query) => Ok((Status::Done, Text::of_unmoves(query))),
+        Ok(position) => Ok((Status::Done, Text::of_unmoves(position.query))),
         Err(why) => Ok((Status::BadInput, Text::of_lines(write_fault(alloc, why)?))),
     }
 }

@@ -1,8 +1,8 @@
-ghost use Rattle.std.specs.Prelude.{◌≡◌, ◌≤◌, ◌++◌, IfOk, MatchOption, None, length};
+ghost use Rattle.std.specs.Prelude.{◌≡◌, ◌≤◌, ◌++◌, IfOk, MatchOption, length};
 ghost use Rattle.std.specs.List.{All};
 ghost use Rattle.codex_verdict.specs.Rights.{claim_of};
 ghost use Rattle.codex_verdict.specs.Verdicts.{Promotes, verdict_text};
-ghost use Rattle.command_answers.specs.Limits.{AreLimits, most_bytes};
+ghost use Rattle.command_answers.specs.Limits.{most_bytes};
 ghost use Rattle.retro_search.specs.Lone.{IsDear};
 ghost use Rattle.command_answers.specs.Verdicts.{AnswersPosition, AnswersVerdict, Each, IsSettled, verdicts_text};
 ghost use Rattle.command_answers.specs.Told.{HasDearRight};
@@ -12,24 +12,26 @@ use crate::solves::write_spent;
 use crate::statuses::Status;
 use arrayvec::ArrayVec;
 use codex_verdict::{Right, claim_of, rights, verdict_line};
-use query_base::Query;
-use question_text::read_lone_question;
-use retro_search::{Found, solve};
+use question_text::{Position, read_lone_question};
+use retro_search::{Found, Limits, solve};
 use std::alloc::{AllocError, Global};
 
 /// Whether the right's claim is settled; None where the search was spent.
 fn decide(
     alloc: Global,
-    query: &Query,
+    position: &Position,
     right: &Right,
-    depth: u8,
-    nodes: u32,
+    limits: Limits,
 ) -> Result<Option<bool>, AllocError>
-    requires plain { query.now.barred ≡ None }
-    requires limits { AreLimits depth nodes }
-    ensures { IfOk result (λ o. MatchOption o (IsDear depth nodes (claim_of right.now) query.now) (IsSettled query.now depth nodes right.now)) }
+    ensures { IfOk result (λ o. MatchOption o (IsDear limits.depth limits.nodes (claim_of right.now) position.now.query) (IsSettled position.now.query limits.depth limits.nodes right.now)) }
 {
-    let found = match solve(alloc, query, &claim_of(right), depth, nodes) {
+    let found = match solve(
+        alloc,
+        &position.query,
+        &claim_of(right),
+        limits.depth,
+        limits.nodes,
+    ) {
         Ok(found) => found,
         Err(_) => return Err(AllocError),
     };
@@ -43,19 +45,16 @@ fn decide(
 /// Which of the rights are settled, each by a search of its own; None where one of these was spent.
 fn decide_all(
     alloc: Global,
-    query: &Query,
+    position: &Position,
     rights: &[Right],
-    depth: u8,
-    nodes: u32,
+    limits: Limits,
 ) -> Result<Option<ArrayVec<bool, 18>>, AllocError>
-    requires plain { query.now.barred ≡ None }
-    requires few { length rights.now ≤ 18 }
-    requires limits { AreLimits depth nodes }
-    ensures { IfOk result (λ o. MatchOption o (HasDearRight depth nodes query.now rights.now) (λ settled. Each (IsSettled query.now depth nodes) rights.now settled.items)) }
+    requires { length rights.now ≤ 18 }
+    ensures { IfOk result (λ o. MatchOption o (HasDearRight limits.depth limits.nodes position.now.query rights.now) (λ settled. Each (IsSettled position.now.query limits.depth limits.nodes) rights.now settled.items)) }
 {
     let mut all: ArrayVec<bool, 18> = ArrayVec::new();
     for right in rights {
-        match decide(alloc, query, right, depth, nodes)? {
+        match decide(alloc, position, right, limits)? {
             Some(settled) => all.push(settled),
             None => return Ok(None),
         }
@@ -99,38 +98,32 @@ fn write_verdicts(
 /// What is said of the rights that the position seems to give.
 fn answer_position(
     alloc: Global,
-    query: &Query,
-    depth: u8,
-    nodes: u32,
+    position: &Position,
+    limits: Limits,
 ) -> Result<(Status, Vec<u8>), AllocError>
-    requires plain { query.now.barred ≡ None }
-    requires limits { AreLimits depth nodes }
-    ensures { IfOk result (λ a. AnswersPosition depth nodes query.now a.0 a.1.items) }
+    ensures { IfOk result (λ a. AnswersPosition limits.depth limits.nodes position.now.query a.0 a.1.items) }
 {
-    let rights = rights(query);
-    match decide_all(alloc, query, rights.as_slice(), depth, nodes)? {
+    let rights = rights(&position.query);
+    match decide_all(alloc, position, rights.as_slice(), limits)? {
         Some(settled) => Ok((
             Status::Done,
-            write_verdicts(alloc, rights.as_slice(), settled.as_slice(), depth)?,
+            write_verdicts(alloc, rights.as_slice(), settled.as_slice(), limits.depth)?,
         )),
-        None => Ok((Status::Spent, write_spent(alloc, nodes)?)),
+        None => Ok((Status::Spent, write_spent(alloc, limits.nodes)?)),
     }
 }
 
-/// The status and the text with which `verdict` answers these bytes: for each right it goes back at most `depth` moves, from 0 to 64,
-/// and visits at most `nodes` queries, from 1 to 500,000.
+/// The status and the text with which `verdict` answers these bytes, by a search within these limits for each right.
 pub fn answer_verdict(
     alloc: Global,
-    depth: u8,
-    nodes: u32,
+    limits: Limits,
     input: &[u8],
 ) -> Result<(Status, Vec<u8>), AllocError>
-    requires short { length input.now ≤ most_bytes }
-    requires limits { AreLimits depth nodes }
-    ensures { IfOk result (λ a. AnswersVerdict depth nodes input.now a.0 a.1.items) }
+    requires { length input.now ≤ most_bytes }
+    ensures { IfOk result (λ a. AnswersVerdict limits.depth limits.nodes input.now a.0 a.1.items) }
 {
     match read_lone_question(input) {
-        Ok(query) => answer_position(alloc, &query, depth, nodes),
+        Ok(position) => answer_position(alloc, &position, limits),
         Err(why) => Ok((Status::BadInput, write_fault(alloc, why)?)),
     }
 }

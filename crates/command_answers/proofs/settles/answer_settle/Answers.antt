@@ -28,7 +28,7 @@ returns-in-Ok-settle c =
     let counters = c.in-Ok-settle.ensures.counterable in
     let claim = c.in-Ok.statement.claim in
     let query = c.in-Ok.statement.query in
-    let Said = λ (s : Status) (text : List ℕ). AnswersSettling c.args.depth c.args.nodes claim query s text × (IsCounterable c.args.depth c.args.nodes claim query → s ≡ status.Countered) in
+    let Said = λ (s : Status) (text : List ℕ). AnswersSettling c.args.limits.depth c.args.limits.nodes claim query s text × (IsCounterable c.args.limits.depth c.args.limits.nodes claim query → s ≡ status.Countered) in
     IfOk-weaker c.write_found.result _ _
     (λ a told.
     let said = found-told Said c.in-Ok-settle.found a.0 a.1
@@ -36,10 +36,10 @@ returns-in-Ok-settle c =
     let whole = text_written (cert_of cert) _ (rw is at (of.written c.in-Ok.ensures.promotion)) text in
     (record { cert = cert_of cert; is_proof = rw is at of.proved; is_text = whole; short = (rw is at of.short) _ whole }, λ can. absurd ((rw is at counters) can)))
     (λ line is text.
-    (record { line = line; unsettled = rw is at of.undecided; few = rw is at of.short_line; unpriced = λ e. rw is at of.priced c.requires.limits.some_nodes e; line_unpriced = rw is at of.unpriced; text_is = text }, λ can. absurd ((rw is at counters) can)))
+    (record { line = line; unsettled = rw is at of.undecided; few = rw is at of.short_line; unpriced = λ e. rw is at of.priced c.args.limits.some e; line_unpriced = rw is at of.unpriced; text_is = text }, λ can. absurd ((rw is at counters) can)))
     (λ game is text. (record { game = game; contradicts = rw is at of.countered; few = rw is at of.short_game; text_is = text }, λ can. refl))
     (λ n is text.
-    (record { large = rw is at of.large; dear = rw is at of.spent; unpriced = λ e. rw is at of.priced c.requires.limits.some_nodes e; text_is = text ∙ ap (λ (k : ℕ). spent_line k) (rw is at of.visited) }, λ can. absurd ((rw is at counters) can)))
+    (record { large = rw is at of.large; dear = rw is at of.spent; unpriced = λ e. rw is at of.priced c.args.limits.some e; text_is = text ∙ ap (λ (k : ℕ). spent_line k) (rw is at of.visited) }, λ can. absurd ((rw is at counters) can)))
     told in
     inl (claim, query, c.in-Ok.ensures.states, said.0, said.1))
     c.write_found.ensures

@@ -19,12 +19,12 @@ write_found-requires-clause-proved c = c.in-Ok-solve.ensures.answer.written c.in
 
 pub write_found-requires-clause-undecided : goal.write_found-requires-clause-undecided
 write_found-requires-clause-undecided c =
-    if_undecided _ _ _ (λ (line : List Unmove) (said : IsUndecided line (target c.in-Ok.statement.query c.in-Ok.statement.claim) c.args.depth). first_open-spelled (spelled c.unmoves_have_texts.ensures.promotion c.unmoves_have_texts.ensures.capture) _ _ _ _ said.open_line.first) c.in-Ok-solve.ensures.undecided
+    if_undecided _ _ _ (λ (line : List Unmove) (said : IsUndecided line (target c.in-Ok.statement.query c.in-Ok.statement.claim) c.args.limits.depth). first_open-spelled (spelled c.unmoves_have_texts.ensures.promotion c.unmoves_have_texts.ensures.capture) _ _ _ _ said.open_line.first) c.in-Ok-solve.ensures.undecided
 
 pub write_found-requires-clause-countered : goal.write_found-requires-clause-countered
 write_found-requires-clause-countered c =
     if_countered _ _ _
-    (λ (game : List Move) (counter : IsCounter game c.in-Ok.statement.claim c.in-Ok.statement.query c.args.depth). subst (All (λ (m : Move). IsTrue (can_promote m.promo))) (sym counter.forwards_is)
+    (λ (game : List Move) (counter : IsCounter game c.in-Ok.statement.claim c.in-Ok.statement.query c.args.limits.depth). subst (All (λ (m : Move). IsTrue (can_promote m.promo))) (sym counter.forwards_is)
     (forwards-spelled counter.line (first_open-spelled (spelled c.unmoves_have_texts.ensures.promotion c.unmoves_have_texts.ensures.capture) _ _ _ _ counter.open_line.first)))
     c.in-Ok-solve.ensures.countered
 
@@ -38,7 +38,7 @@ returns-in-Ok-solve c =
       claim,
       query,
       c.in-Ok.ensures.states,
-      found-told (AnswersClaim c.args.depth c.args.nodes claim query) c.in-Ok-solve.found a.0 a.1
+      found-told (AnswersClaim c.args.limits.depth c.args.limits.nodes claim query) c.in-Ok-solve.found a.0 a.1
           (λ cert is text. record {
             cert = cert_of cert;
             is_proof = rw is at of.answer.proved;

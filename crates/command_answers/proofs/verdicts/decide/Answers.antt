@@ -8,12 +8,12 @@ use Rattle.command_answers.proofs.verdicts.decide.Goals as goal
 
 pub returns : goal.returns
 returns c =
-    subst (λ (claim : Claim). IsDear c.args.depth c.args.nodes claim c.args.query.now) c.claim_of.ensures (rw c.in-Spent.is at c.in-Ok.ensures.spent)
+    subst (λ (claim : Claim). IsDear c.args.limits.depth c.args.limits.nodes claim c.args.position.now.query) c.claim_of.ensures (rw c.in-Spent.is at c.in-Ok.ensures.spent)
 
 pub returns-in-Proved : goal.returns-in-Proved
 returns-in-Proved c =
     let refutable = (rw c.in-Proved.is at c.in-Ok.ensures.exactly).0 tt in
     let holds = rw c.in-Proved.is at c.in-Ok.ensures.answer.holds in
     let afforded = rw c.in-Proved.is at c.in-Ok.ensures.afforded in
-    let said = subst (λ (claim : Claim). IsRefutable (target c.args.query.now claim) c.args.depth [] × Holds claim c.args.query.now × IsAfforded c.args.depth c.args.nodes claim c.args.query.now) c.claim_of.ensures (refutable, holds, afforded) in
+    let said = subst (λ (claim : Claim). IsRefutable (target c.args.position.now.query claim) c.args.limits.depth [] × Holds claim c.args.position.now.query × IsAfforded c.args.limits.depth c.args.limits.nodes claim c.args.position.now.query) c.claim_of.ensures (refutable, holds, afforded) in
     record { exactly = (λ is. said.0, λ is. refl); holds = λ is. said.1; afforded = λ is. said.2 }
