@@ -1,5 +1,6 @@
-ghost use Rattle.std.specs.Prelude.{[], ◌≡◌, IfOk};
-ghost use Rattle.command_answers.specs.Statuses.{IsSilent};
+ghost use Rattle.std.specs.Prelude.{[], ◌≡◌, IfOk, IsTrue, map, string_bytes};
+ghost use Rattle.command_answers.specs.Statuses.{IsAnswer, IsSilent};
+ghost use Rattle.run_driver.specs.Runs.{Runs};
 
 use retro_ports::{MemSink, MemSource};
 use retro_top::{Status, run};
@@ -35,7 +36,9 @@ pub const WHOLE: Ports = Ports {
     failing_write: None,
 };
 
-fn words_of(alloc: Global, words: &[&str]) -> Result<Vec<String>, AllocError> {
+fn words_of(alloc: Global, words: &[&str]) -> Result<Vec<String>, AllocError>
+    ensures { IfOk result (λ v. map string_bytes v.items ≡ map (λ w. w.now) words.now) }
+{
     let mut all = Vec::new(alloc);
     for word in words {
         all.push(String::from_str(alloc, word)?)?;
@@ -52,7 +55,8 @@ fn at_most_one(alloc: Global, number: Option<u32>) -> Result<Vec<u32>, AllocErro
     Ok(numbers)
 }
 
-/// The status and the sink of a run with these words on this input. At a status without an answer the sink has taken nothing.
+/// The status and the sink of a run with these words on this input. The sink took the text that answers the input; at a status without an
+/// answer it took nothing, and at a failed write a part of the text.
 pub fn run_on(
     alloc: Global,
     words: &[&str],
@@ -60,6 +64,7 @@ pub fn run_on(
     ports: Ports,
 ) -> Result<(Status, MemSink), AllocError>
     ensures silent { IfOk result (λ ran. IsSilent ran.0 → ran.1.taken ≡ []) }
+    ensures answer { IfOk result (λ ran. IsAnswer ran.0 → Runs (map (λ w. w.now) words.now) input.now ran.0 ran.1.taken) }
 {
     let words = words_of(alloc, words)?;
     let bytes = Vec::from_slice(alloc, input)?;
@@ -74,8 +79,13 @@ pub fn run_on(
     Ok((status, sink))
 }
 
-/// Whether the row's words on its input end with its status and its text.
-pub fn is_answered(alloc: Global, row: &Row, ports: Ports) -> Result<bool, AllocError> {
+/// Whether the row's words on its input end with its status and its text. If its status is an answer, the text is one then.
+pub fn is_answered(alloc: Global, row: &Row, ports: Ports) -> Result<bool, AllocError>
+    ensures { IfOk result (λ yes. IsTrue yes → IsAnswer row.now.status → Runs (map (λ w. w.now) row.now.words.now) row.now.input.now row.now.status row.now.text.now) }
+{
     let (status, sink) = run_on(alloc, row.words, row.input, ports)?;
-    Ok(status == row.status && sink.taken() == row.text)
+    if status != row.status {
+        return Ok(false);
+    }
+    Ok(sink.taken() == row.text)
 }

@@ -1,0 +1,22 @@
+-- What a run in memory answers.
+use Rattle.std.specs.Prelude.{ℕ, ◌≡◌, ◌≤◌, List, [], length}
+use Rattle.command_answers.specs.Limits.{most_bytes}
+use Rattle.command_answers.specs.declared.statuses.Status.{Status}
+use Rattle.retro_top.specs.Answers.{AnswersAs}
+use Rattle.retro_top.specs.Commands.{AreWordsOf, IsInRange}
+use Rattle.retro_top.specs.declared.commands.Command.{Command}
+use Rattle.retro_top.specs.declared.commands.Command.TheVariants.{Sample}
+
+-- what a command reads of an input: all of it, and `sample` nothing
+abbrev pub read_by : Command → List ℕ → List ℕ
+read_by (Sample start games plies) input = []
+read_by command input = input
+
+-- The words call a command with numbers in their ranges, it reads at most 64 MiB of the input, and this status and this text answer what
+-- it reads.
+pub record Runs (words : List (List ℕ)) (input : List ℕ) (status : Status) (text : List ℕ) : Type 0 where
+  pub command : Command
+  pub words_are : AreWordsOf words command
+  pub in_range : IsInRange command
+  pub short : length (read_by command input) ≤ most_bytes
+  pub answers : AnswersAs command (read_by command input) status text
