@@ -895,6 +895,31 @@ fn proofs_are_accepted(rt: HostRuntime) {
             lines: &["now closed 1"],
             end: End::Done,
         },
+        Proof {
+            name: "three rooks before a king that has never moved",
+            fen: "rn2k2r/ppp1pppp/8/3p4/8/8/PPP1PPPP/RRR1K3 w q -",
+            files: NO_FILES,
+            rows: &[FLAT],
+            lines: &[
+                "now marks 1 steps 6",
+                "mark 1 21 23",
+                "c6xd5p1 closed 1",
+                "c6xd5b1 closed 1",
+                "c6xd5nrq1 marks 1 steps 3",
+                "mark 1 24",
+                "d7xc6p closed 1",
+                "d7xc6b closed 1",
+                "d7xc6nrq closed 1",
+                "e6xd5p1 closed 1",
+                "e6xd5b1 closed 1",
+                "e6xd5nrq1 marks 1 steps 3",
+                "mark 1 24",
+                "d7xe6p closed 1",
+                "d7xe6b closed 1",
+                "d7xe6nrq closed 1",
+            ],
+            end: End::Done,
+        },
     ];
     for proof in &proofs {
         assert_eq!(rt;
