@@ -211,7 +211,10 @@ def study(program, path):
             total.update(more)
     every = sum(own.values())
     visited, asked = calls["static_rules::closing::close"], calls["price_search::keys::placed_men"] // 2
-    print(f"{len(fens)} diagrams, {every:,} instructions, {visited:,} positions visited, {asked:,} asked for prices, {every // max(asked, 1):,} instructions for each of these")
+    games = inner["game_search::finding::find_game"]
+    rest = every - games
+    print(f"{len(fens)} diagrams, {every:,} instructions, {games:,} of them for games, {visited:,} positions visited, {asked:,} asked for prices")
+    print(f"without those for games {rest // max(visited, 1):,} for each that is visited, {rest // max(asked, 1):,} for each that is asked")
     for title, counts in (("alone", own), ("with what they call", inner)):
         for name, cost in counts.most_common(40):
             print(f"{100 * cost / every:5.1f} of a hundred {title}: {name}, {calls[name]:,} calls")
