@@ -15,5 +15,5 @@ returns-clause-answer c = λ is.
     let whole = ap (λ s. s.left) c.new-source.ensures ∙ c.in_ok-bytes.ensures.items in
     let fresh = ap (λ s. s.taken) c.in-Ok.ensures in
     let ran = subst (λ (l : List ℕ). ReadsFor words most_bytes (Some c.args.input.now) (Some left) (λ read. WritesAnswer words read status (Some l) (Some taken))) fresh
-        (subst (λ (l : List ℕ). ReadsFor words most_bytes (Some l) (Some left) (λ read. WritesAnswer words read status (Some c.in-Ok.sink.taken) (Some taken))) whole (c.run-status.ensures.answer is)) in
+    (subst (λ (l : List ℕ). ReadsFor words most_bytes (Some l) (Some left) (λ read. WritesAnswer words read status (Some c.in-Ok.sink.taken) (Some taken))) whole (c.run-status.ensures.answer is)) in
     subst (λ (l : List (List ℕ)). Runs l c.args.input.now status taken) (ap (map string_bytes) c.deref.ensures.value ∙ c.in_ok-words.ensures) (answered words c.args.input.now taken status left ran)
