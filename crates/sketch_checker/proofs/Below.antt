@@ -1,13 +1,12 @@
 -- What is below a node, for each end.
-use Rattle.std.proofs.Common.{◌≡◌, ℕ, ◌<◌, ◌≤◌, ◌↔◌, inl, inr, Bool, true, false, List, [], ◌∷◌, length, map, refl, ap, sym, ◌∙◌, subst, arith}
+use Rattle.std.proofs.Common.{◌≡◌, ℕ, inl, inr, Bool, true, false, List, [], ◌∷◌, map, refl, ap, sym, ◌∙◌, subst, arith}
 use Rattle.std.proofs.lemmas.Bool.{cases_Bool, ltb-false, ltb-true}
-use Rattle.std.specs.Prelude.{Option, Some, None, nat_lt, slice_get}
+use Rattle.std.specs.Prelude.{Some, None, nat_lt, slice_get}
 use Rattle.std.specs.List.{Contains}
 use Rattle.general_lemmas.proofs.Lists.{contains-first, contains-later}
 use Rattle.capture_prices.specs.Prices.{PriceList}
 use Rattle.past_sketches.specs.Figures.{Sketch}
 use Rattle.past_sketches.specs.Homes.{may_be_array}
-use Rattle.past_sketches.specs.Known.{known_at}
 use Rattle.sketch_account.specs.Basis.{IsClosedAt}
 use Rattle.sketch_list.specs.Listed.{Earlier, earlier}
 use Rattle.sketch_node.specs.Nodes.{IsFirstUnknown, IsLeastAbove, IsUnknownOn, IsVoid}
@@ -16,7 +15,8 @@ use Rattle.sketch_walk.specs.Values.{can_step_back}
 use Rattle.sketch_text.specs.declared.labels.Officer.TheVariants.{Knight}
 use Rattle.sketch_text.specs.declared.nodes.End.TheVariants.{Void, Closed, Steps, Split}
 use Rattle.board_base.specs.declared.men.Kind.TheVariants as kind
-use Rattle.sketch_proof.specs.Proofs.{AtLine, Line, Setting}
+use Rattle.sketch_text.specs.Trees.{Line}
+use Rattle.sketch_proof.specs.Proofs.{AtLine, Setting}
 use Rattle.sketch_checker.specs.Able.{IsAble}
 use Rattle.sketch_checker.specs.Walks.{Completes, CompletesOpened, Frame}
 use Rattle.sketch_checker.specs.Dues.{cases_from, due_of}

@@ -1,14 +1,15 @@
 -- Where a line may not come, no lines with it complete a walk.
-use Rattle.std.proofs.Common.{◌≡◌, ℕ, zero, suc, ◌+◌, ◌<◌, ◌≤◌, inl, inr, Bool, true, false, ◌&&◌, not, List, [], ◌∷◌, ◌++◌, length, map, max, Option, Some, None, ap, sym, ◌∙◌, arith}
+use Rattle.std.proofs.Common.{◌≡◌, ℕ, zero, suc, ◌+◌, ◌<◌, Bool, false, not, List, [], ◌∷◌, ◌++◌, length, map, Option, Some, None, arith}
 use Rattle.std.proofs.lemmas.Bool.{and_parts, ltb-true, not-false}
 use Rattle.std.specs.Prelude.{nat_lt}
 use Rattle.general_lemmas.proofs.Lists.{same_first}
 use Rattle.sketch_text.specs.Marks.{Marks}
 use Rattle.sketch_text.specs.declared.nodes.SketchNode.{SketchNode}
-use Rattle.sketch_proof.specs.Proofs.{Line, Nodes, Reason, Setting, closed, count, end_of, height, height_below, height_each, lines_below, more, none, of_marks, of_node, split, steps, void}
+use Rattle.sketch_text.specs.Trees.{Line, Nodes, Reason, closed, count, end_of, height_below, height_each, lines_below, more, none, of_marks, of_node, split, steps, void}
+use Rattle.sketch_proof.specs.Proofs.{Setting}
 use Rattle.sketch_checker.specs.Walks.{Completes, CompletesOpened, Due, Frame, FinishesAt, Opened}
 use Rattle.sketch_checker.specs.Placed.{IsNext, announced_by, may_come}
-use Rattle.sketch_checker.specs.Steering.{IsOpen, IsReady}
+use Rattle.sketch_checker.specs.Steering.{IsReady}
 use Rattle.sketch_checker.proofs.Completing.{frame, node-due, node-told, none-due}
 
 -- behind a node with more below it some nodes are lower

@@ -1,12 +1,13 @@
 -- What the line of a node, and a line of marks, do to the lines that complete a walk.
-use Rattle.std.proofs.Common.{◌≡◌, ℕ, zero, suc, ◌+◌, ◌≤◌, ◌↔◌, List, [], ◌∷◌, ◌++◌, append_assoc, length, map, max, refl, ap, sym, ◌∙◌, subst, arith}
+use Rattle.std.proofs.Common.{◌≡◌, ℕ, suc, ◌+◌, ◌≤◌, ◌↔◌, List, [], ◌∷◌, ◌++◌, append_assoc, length, map, max, refl, ap, sym, ◌∙◌, subst, arith}
 use Rattle.general_lemmas.proofs.Lists.{same_first, same_rest}
 use Rattle.past_sketches.specs.Figures.{Sketch}
 use Rattle.sketch_node.specs.Nodes.{marked_with}
 use Rattle.sketch_text.specs.Marks.{Marks}
 use Rattle.sketch_text.specs.declared.nodes.End.{End}
 use Rattle.sketch_text.specs.declared.nodes.SketchNode.{SketchNode}
-use Rattle.sketch_proof.specs.Proofs.{AreAllForced, AreForced, Ends, Holds, Line, Node, Nodes, Setting, count, end_of, height, height_each, lines_below, lines_each, lines_of, more, node, none, of_marks, of_node, with_lines}
+use Rattle.sketch_text.specs.Trees.{Line, Node, Nodes, count, end_of, height, height_each, lines_below, lines_each, lines_of, more, node, none, of_marks, of_node}
+use Rattle.sketch_proof.specs.Proofs.{AreAllForced, AreForced, Ends, Holds, Setting, with_lines}
 use Rattle.sketch_checker.specs.Walks.{AreDue, Completes, CompletesOpened, Due, Frame, Opened}
 
 abbrev pub frame : ℕ → ℕ → List Due → Frame

@@ -9,7 +9,8 @@ use Rattle.sketch_text.specs.Marks.{Marks}
 use Rattle.sketch_text.specs.declared.labels.Officer.TheVariants.{Knight}
 use Rattle.sketch_text.specs.declared.nodes.End.{End}
 use Rattle.sketch_text.specs.declared.nodes.End.TheVariants.{Void, Closed, Steps, Split}
-use Rattle.sketch_proof.specs.Proofs.{AtLine, Ends, HoldEach, Line, Nodes, Reason, Setting, closed, count, end_of, height_below, height_each, lines_below, lines_each, lines_of, more, none, of_marks, split, steps, void, with_lines}
+use Rattle.sketch_text.specs.Trees.{Line, Nodes, Reason, closed, count, end_of, height_below, height_each, lines_below, lines_each, lines_of, more, none, of_marks, split, steps, void}
+use Rattle.sketch_proof.specs.Proofs.{AtLine, Ends, HoldEach, Setting, with_lines}
 use Rattle.sketch_checker.specs.Walks.{AreDue, Completes, CompletesOpened, Frame}
 use Rattle.sketch_checker.specs.Dues.{cases_from, due_of}
 use Rattle.sketch_checker.specs.Steering.{read}

@@ -1,24 +1,23 @@
 -- How frames are taken off and put on.
-use Rattle.std.proofs.Common.{◌≡◌, ℕ, zero, suc, ◌+◌, ◌-◌, ◌<◌, ◌≤◌, ◌==◌, ◌&&◌, ◌↔◌, inl, inr, Bool, true, false, List, [], ◌∷◌, ◌++◌, append-nil, length, map, refl, ap, sym, ◌∙◌, subst, arith}
+use Rattle.std.proofs.Common.{◌≡◌, ℕ, zero, suc, ◌+◌, ◌-◌, ◌<◌, ◌≤◌, ◌&&◌, ◌↔◌, Bool, true, List, [], ◌∷◌, ◌++◌, append-nil, length, map, refl, ap, sym, ◌∙◌, subst, arith}
 use Rattle.std.proofs.lemmas.Bool.{and_parts, both_ways, eqb-true, ltb-true}
 use Rattle.std.specs.Prelude.{Err, MatchOption, Ok, OnErr, Option, Result, Some, None, nat_lt, slice_get}
 use Rattle.std.specs.List.{All}
 use Rattle.capture_prices.specs.Prices.{PriceList}
 use Rattle.sketch_text.specs.Marks.{Marks}
-use Rattle.sketch_text.specs.declared.labels.Label.{Label}
 use Rattle.sketch_text.specs.declared.nodes.End.{End}
 use Rattle.sketch_text.specs.declared.nodes.SketchNode.{SketchNode}
 use Rattle.past_sketches.specs.Figures.{Sketch}
 use Rattle.sketch_text.specs.declared.labels.Label.TheVariants.{Now}
-use Rattle.sketch_proof.specs.Proofs.{Line, Node, Nodes, AreForced, Proves, Setting, count, height, height_each, lines_below, lines_each, lines_of, more, none, of_marks, of_node}
-use Rattle.sketch_checker.specs.Able.{IsAble}
+use Rattle.sketch_text.specs.Trees.{Line, lines_below, lines_of, more, none, of_marks, of_node}
+use Rattle.sketch_proof.specs.Proofs.{AreForced, Proves, Setting}
 use Rattle.sketch_checker.specs.Walks.{Completes, CompletesOpened, Due, Frame, FinishesAt, Opened}
 use Rattle.sketch_node.specs.Nodes.{IsMarkable, marked_with}
 use Rattle.sketch_checker.specs.Placed.{IsNext, announced_by}
-use Rattle.sketch_checker.specs.Steering.{AllAble, AreAble, IsLineAt, IsOpen, IsReady, is_over, read}
+use Rattle.sketch_checker.specs.Steering.{AllAble, IsLineAt, IsOpen, IsReady, is_over, read}
 use Rattle.sketch_checker.proofs.Completing.{all-done, frame, line-due, marks-tells, marks-told, more-due, node-tells, node-told, none-due, opened}
 use Rattle.sketch_checker.proofs.Coming.{other-label, over, too-deep}
-use Rattle.sketch_checker.proofs.Going.{begins-able, marked-able}
+use Rattle.sketch_checker.proofs.Going.{begins-able}
 use Rattle.sketch_checker.specs.Beginning.{CanBegin}
 use Rattle.sketch_checker.proofs.Below.{at-line, line-at, no-line}
 

@@ -3,7 +3,7 @@ use Rattle.std.specs.Prelude.{ℕ, ◌≡◌, Bool, true, false, ◌&&◌, not, 
 use Rattle.sketch_text.specs.declared.labels.Label.{Label}
 use Rattle.sketch_text.specs.declared.nodes.End.{End}
 use Rattle.sketch_text.specs.declared.nodes.End.TheVariants.{Void, Closed, Steps, Split}
-use Rattle.sketch_proof.specs.Proofs.{Line, of_marks, of_node}
+use Rattle.sketch_text.specs.Trees.{Line, of_marks, of_node}
 use Rattle.sketch_checker.specs.Walks.{Due, Frame, Opened, Walk}
 use Rattle.sketch_checker.specs.declared.faults.SketchFault.{SketchFault}
 use Rattle.sketch_checker.specs.declared.faults.SketchFault.TheVariants.{Misplaced, Stray, Unsupported}

@@ -4,7 +4,8 @@ use Rattle.std.specs.Prelude.{ℕ, ◌≡◌, ◌==◌, ◌+◌, ◌<◌, ◌≤
 use Rattle.capture_prices.specs.Prices.{PriceList}
 use Rattle.past_sketches.specs.Figures.{Sketch}
 use Rattle.sketch_text.specs.declared.nodes.End.{End}
-use Rattle.sketch_proof.specs.Proofs.{Line, Setting}
+use Rattle.sketch_text.specs.Trees.{Line}
+use Rattle.sketch_proof.specs.Proofs.{Setting}
 use Rattle.sketch_checker.specs.Able.{IsAble}
 use Rattle.sketch_checker.specs.Walks.{Completes, CompletesOpened, Due, Frame, Opened}
 use Rattle.sketch_checker.specs.Placed.{announced_by}

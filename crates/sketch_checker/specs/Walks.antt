@@ -4,7 +4,8 @@ use Rattle.past_sketches.specs.Figures.{Sketch}
 use Rattle.sketch_text.specs.Marks.{Marks}
 use Rattle.sketch_text.specs.declared.labels.Label.{Label}
 use Rattle.sketch_text.specs.declared.nodes.End.{End}
-use Rattle.sketch_proof.specs.Proofs.{AreAllForced, Ends, Holds, Line, Nodes, Reason, Setting, count, end_of, height_below, height_each, lines_below, lines_each, more, none, of_marks, with_lines}
+use Rattle.sketch_text.specs.Trees.{Line, Nodes, Reason, count, end_of, height_below, height_each, lines_below, lines_each, more, none, of_marks}
+use Rattle.sketch_proof.specs.Proofs.{AreAllForced, Ends, Holds, Setting, with_lines}
 
 -- a node that is due: its label, and the sketch to which no game may come
 pub record Due : Type 0 where

@@ -1,7 +1,5 @@
 ghost use Rattle.std.specs.Prelude.{◌≡◌, ◌↔◌, IfOk, IfSome, IsSome, IsTrue, List, MatchResult, Ok, OnErr, Some, map, true};
-ghost use Rattle.std.specs.List.{Contains};
 ghost use Rattle.board_base.specs.declared.moves.Move.{Move};
-ghost use Rattle.capture_prices.specs.Prices.{PriceList, are_prices};
 ghost use Rattle.query_base.specs.Asked.{Asked};
 ghost use Rattle.cage_rules.specs.Reach.{LeadsTo};
 ghost use Rattle.past_sketches.specs.Figures.{sketch_of};

@@ -1,6 +1,7 @@
-ghost use Rattle.std.specs.Prelude.{◌≡◌, ◌↔◌, ◌<◌, Bool, IfErr, IfOk, IsTrue, List, OnErr, OnOk, Some, length};
+ghost use Rattle.std.specs.Prelude.{◌↔◌, ◌<◌, Bool, IfErr, IfOk, IsTrue, List, OnErr, OnOk, Some, length};
 ghost use Rattle.sketch_account.specs.Basis.{IsClosedAt};
-ghost use Rattle.sketch_proof.specs.Proofs.{AtLine, Line as ALine, Setting as ASetting};
+ghost use Rattle.sketch_text.specs.Trees.{Line as ALine};
+ghost use Rattle.sketch_proof.specs.Proofs.{AtLine, Setting as ASetting};
 ghost use Rattle.sketch_checker.specs.Able.{IsAble};
 ghost use Rattle.sketch_checker.specs.Placed.{announced_by};
 ghost use Rattle.sketch_checker.specs.Steering.{AllAble, AreAble, AreAbleBelow, IsBelow, IsOfEnd, IsOpen, read};

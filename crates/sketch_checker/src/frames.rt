@@ -1,5 +1,6 @@
 ghost use Rattle.std.specs.Prelude.{◌≡◌, ◌↔◌, ◌<◌, ◌≤◌, ◌∷◌, [], Bool, IfErr, IsTrue, List, MatchOption, OnErr, OnOk, length, reverse};
-ghost use Rattle.sketch_proof.specs.Proofs.{Line as ALine, Setting as ASetting};
+ghost use Rattle.sketch_text.specs.Trees.{Line as ALine};
+ghost use Rattle.sketch_proof.specs.Proofs.{Setting as ASetting};
 ghost use Rattle.sketch_checker.specs.Steering.{AllAble, IsOfEnd, IsOpen};
 ghost use Rattle.sketch_checker.specs.Walks.{Completes};
 

@@ -1,5 +1,5 @@
 ghost use Rattle.std.specs.Prelude.{◌≡◌, ◌↔◌, ◌<◌, ◌∷◌, Bool, IfErr, IfOk, List, OnErr};
-ghost use Rattle.sketch_proof.specs.Proofs.{Line as ALine, of_marks};
+ghost use Rattle.sketch_text.specs.Trees.{Line as ALine, of_marks};
 ghost use Rattle.sketch_checker.specs.Able.{IsAble};
 ghost use Rattle.sketch_checker.specs.Walks.{CompletesOpened, Frame as AFrame};
 

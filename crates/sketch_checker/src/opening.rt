@@ -1,5 +1,6 @@
 ghost use Rattle.std.specs.Prelude.{◌≡◌, ◌↔◌, ◌<◌, ◌+◌, ◌&&◌, ◌∷◌, Bool, IfErr, IfOk, IsTrue, List, None, OnErr, OnOk, length, nat_lt};
-ghost use Rattle.sketch_proof.specs.Proofs.{Line as ALine, Setting as ASetting, of_node};
+ghost use Rattle.sketch_text.specs.Trees.{Line as ALine, of_node};
+ghost use Rattle.sketch_proof.specs.Proofs.{Setting as ASetting};
 ghost use Rattle.sketch_checker.specs.Able.{IsAble};
 ghost use Rattle.sketch_checker.specs.Dues.{due_by};
 ghost use Rattle.sketch_checker.specs.Placed.{IsNext, IsPlacedAt, IsWordAt, announced_by};

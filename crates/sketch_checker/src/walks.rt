@@ -1,5 +1,6 @@
 ghost use Rattle.std.specs.Prelude.{◌≡◌, ◌↔◌, ◌<◌, ◌∷◌, [], IfErr, IfOk, IfSome, IsSome, IsTrue, List, OnErr, OnOk, length};
-ghost use Rattle.sketch_proof.specs.Proofs.{Line as ALine, Proves};
+ghost use Rattle.sketch_text.specs.Trees.{Line as ALine};
+ghost use Rattle.sketch_proof.specs.Proofs.{Proves};
 ghost use Rattle.sketch_checker.specs.Able.{IsAble};
 ghost use Rattle.sketch_checker.specs.Beginning.{CanBegin};
 ghost use Rattle.sketch_checker.specs.Placed.{IsPlaced, IsPlacedAt, IsWordAt, IsWordFor, announced_by, of_line};

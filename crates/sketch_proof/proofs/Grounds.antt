@@ -11,7 +11,7 @@ use Rattle.board_base.specs.declared.men.Kind.TheVariants.{Pawn}
 use Rattle.play_rules.specs.Laws.{is_end}
 use Rattle.play_rules.specs.Reach.{IsWithin}
 use Rattle.cage_rules.specs.Frozen.{is_held_home}
-use Rattle.cage_rules.specs.Sets.{all_lists, each_set, squares_that}
+use Rattle.cage_rules.specs.Sets.{all_lists, each_set}
 use Rattle.cage_rules.proofs.Filling.{in-that, is_in-that, length-that}
 use Rattle.cage_rules.proofs.SetAlgebra.{lists-tell, lists-told}
 use Rattle.cage_rules.proofs.Tested.{at_board, member-inside}

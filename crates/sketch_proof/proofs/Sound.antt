@@ -1,9 +1,9 @@
 -- What holds refutes.
-use Rattle.std.proofs.Common.{◌≡◌, ℕ, inl, inr, Bool, true, List, [], ◌∷◌, subst}
+use Rattle.std.proofs.Common.{◌≡◌, ℕ, inl, inr, true, List, [], ◌∷◌, subst}
 use Rattle.std.proofs.lemmas.List.Elements.{All-weaker}
 use Rattle.std.proofs.lemmas.Option.{get_or_from_slice_get, slice_get_within}
 use Rattle.std.specs.Prelude.{Some, slice_get}
-use Rattle.std.specs.List.{All, Contains}
+use Rattle.std.specs.List.{Contains}
 use Rattle.general_lemmas.proofs.Lists.{contains-cases, contains-first, contains-later, contains-none}
 use Rattle.board_base.specs.declared.men.Kind.TheVariants.{Knight, Rook, Queen}
 use Rattle.capture_prices.specs.Prices.{PriceList, are_prices}
@@ -18,7 +18,8 @@ use Rattle.sketch_text.specs.declared.labels.Label.{Label}
 use Rattle.sketch_text.specs.declared.labels.Label.TheVariants.{Case}
 use Rattle.sketch_text.specs.declared.labels.Officer.TheVariants as officer
 use Rattle.sketch_proof.specs.Labelled.{label_for}
-use Rattle.sketch_proof.specs.Proofs.{AreAllForced, AreForced, AtLine, Ends, HoldEach, Holds, Node, Nodes, Reason, Setting, closed, more, node, none, split, steps, void, with_lines}
+use Rattle.sketch_text.specs.Trees.{Node, Nodes, Reason, closed, more, node, none, split, steps, void}
+use Rattle.sketch_proof.specs.Proofs.{AreAllForced, AreForced, Ends, HoldEach, Holds, Setting, with_lines}
 use Rattle.sketch_proof.proofs.Standing.{closed-closes, markable-forces, void-closes}
 use Rattle.sketch_proof.proofs.Whole.{AreWhole, earlier-whole, known-whole, lines-whole, marked-whole}
 

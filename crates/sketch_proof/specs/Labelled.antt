@@ -6,7 +6,6 @@ use Rattle.sketch_list.specs.declared.steps.Victim.{Victim as WhoFell}
 use Rattle.sketch_list.specs.declared.steps.Victim.TheVariants.{Nobody, TakenPawn, TakenBishop, TakenOther, PassedPawn}
 use Rattle.sketch_text.specs.declared.labels.Label.{Label}
 use Rattle.sketch_text.specs.declared.labels.Label.TheVariants.{Step}
-use Rattle.sketch_text.specs.declared.labels.StepLabel.{StepLabel}
 use Rattle.sketch_text.specs.declared.labels.Taken.TheVariants as taken
 use Rattle.sketch_text.specs.declared.labels.Victim.TheVariants as victim
 use Rattle.sketch_text.specs.declared.labels.Way.{Way}

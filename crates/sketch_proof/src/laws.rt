@@ -6,7 +6,8 @@ ghost use Rattle.query_base.specs.Asked.{Asked};
 ghost use Rattle.cage_rules.specs.Reach.{LeadsTo};
 ghost use Rattle.past_sketches.specs.Figures.{sketch_of};
 ghost use Rattle.sketch_node.specs.Nodes.{HasTree};
-ghost use Rattle.sketch_proof.specs.Proofs.{Line, Proves, Setting};
+ghost use Rattle.sketch_text.specs.Trees.{Line};
+ghost use Rattle.sketch_proof.specs.Proofs.{Proves, Setting};
 
 /// The law of proofs of sketches: if some lines, with prices that are prices, prove that no game comes to a query's sketch, a tree refutes
 /// it (`tree`). So no game of any length leads to the query at these odds, where the rights are those that it holds (`queries`).

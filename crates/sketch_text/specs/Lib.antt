@@ -1,4 +1,5 @@
 pub mod Labels
 pub mod Nodes
 pub mod Marks
+pub mod Trees
 pub mod Heads

@@ -1,7 +1,8 @@
-use Rattle.std.proofs.Common.{◌≡◌, List, map, subst, sym}
+use Rattle.std.proofs.Common.{List, map, subst, sym}
 use Rattle.std.specs.Prelude.{Some}
 use Rattle.sketch_text.specs.declared.nodes.End.TheVariants.{Steps}
-use Rattle.sketch_proof.specs.Proofs.{Line, Setting}
+use Rattle.sketch_text.specs.Trees.{Line}
+use Rattle.sketch_proof.specs.Proofs.{Setting}
 use Rattle.sketch_checker.specs.Able.{IsAble}
 use Rattle.sketch_checker.specs.Walks.{CompletesOpened, Frame}
 use Rattle.sketch_checker.specs.Dues.{due_of}

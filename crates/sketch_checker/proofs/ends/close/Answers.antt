@@ -1,6 +1,6 @@
 use Rattle.std.proofs.Common.{List, subst}
 use Rattle.std.proofs.lemmas.Result.{on_err_weaker, on_ok_weaker}
-use Rattle.sketch_proof.specs.Proofs.{Line}
+use Rattle.sketch_text.specs.Trees.{Line}
 use Rattle.sketch_checker.specs.Walks.{CompletesOpened}
 use Rattle.sketch_checker.specs.Steering.{AreAbleBelow, IsBelow, read}
 use Rattle.sketch_checker.proofs.Steering.{err-anyway}

@@ -1,6 +1,7 @@
-use Rattle.std.proofs.Common.{◌<◌, ◌∷◌, List, ap, arith}
+use Rattle.std.proofs.Common.{◌∷◌, List, ap, arith}
 use Rattle.std.proofs.lemmas.Result.{on_ok_weaker}
-use Rattle.sketch_proof.specs.Proofs.{Line, Setting}
+use Rattle.sketch_text.specs.Trees.{Line}
+use Rattle.sketch_proof.specs.Proofs.{Setting}
 use Rattle.sketch_checker.specs.Walks.{Completes, Frame}
 use Rattle.sketch_checker.proofs.Steering.{err-anyway, left-over, taken-off}
 use Rattle.sketch_checker.proofs.frames.go_below.Goals as goal

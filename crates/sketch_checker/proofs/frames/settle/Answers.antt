@@ -1,6 +1,7 @@
 use Rattle.std.proofs.Common.{List}
 use Rattle.std.proofs.lemmas.Bool.{both_ways}
-use Rattle.sketch_proof.specs.Proofs.{Line, Setting}
+use Rattle.sketch_text.specs.Trees.{Line}
+use Rattle.sketch_proof.specs.Proofs.{Setting}
 use Rattle.sketch_checker.specs.Walks.{Completes}
 use Rattle.sketch_checker.proofs.Steering.{err-anyway, frames-able, frames-left, frames-step}
 use Rattle.sketch_checker.proofs.frames.settle.Goals as goal

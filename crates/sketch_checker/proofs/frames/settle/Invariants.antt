@@ -1,5 +1,6 @@
 use Rattle.std.proofs.Common.{◌↔◌, Bool, List, length}
-use Rattle.sketch_proof.specs.Proofs.{Line, Setting}
+use Rattle.sketch_text.specs.Trees.{Line}
+use Rattle.sketch_proof.specs.Proofs.{Setting}
 use Rattle.sketch_checker.specs.Steering.{AllAble}
 use Rattle.sketch_checker.specs.Walks.{Completes}
 use Rattle.sketch_checker.proofs.frames.settle.Given as goal

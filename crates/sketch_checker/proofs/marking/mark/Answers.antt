@@ -1,5 +1,6 @@
-use Rattle.std.proofs.Common.{◌≡◌, ◌-◌, ◌<◌, ◌∷◌, ◌↔◌, Bool, List, subst, sym}
-use Rattle.sketch_proof.specs.Proofs.{Line, Setting, of_marks}
+use Rattle.std.proofs.Common.{◌-◌, ◌<◌, ◌∷◌, ◌↔◌, List, subst, sym}
+use Rattle.sketch_text.specs.Trees.{Line, of_marks}
+use Rattle.sketch_proof.specs.Proofs.{Setting}
 use Rattle.sketch_checker.specs.Able.{IsAble}
 use Rattle.sketch_checker.specs.Walks.{CompletesOpened, Frame, Opened}
 use Rattle.sketch_checker.specs.Steering.{IsLineAt}

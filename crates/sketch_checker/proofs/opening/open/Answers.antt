@@ -1,6 +1,7 @@
-use Rattle.std.proofs.Common.{◌≡◌, ◌∷◌, ◌↔◌, Bool, List, subst, sym}
+use Rattle.std.proofs.Common.{◌∷◌, ◌↔◌, Bool, List, subst, sym}
 use Rattle.std.specs.Prelude.{IfOk, OnErr}
-use Rattle.sketch_proof.specs.Proofs.{Line, Setting, of_node}
+use Rattle.sketch_text.specs.Trees.{Line, of_node}
+use Rattle.sketch_proof.specs.Proofs.{Setting}
 use Rattle.sketch_checker.specs.Able.{IsAble}
 use Rattle.sketch_checker.specs.Steering.{AllAble}
 use Rattle.sketch_checker.specs.Walks.{Completes, CompletesOpened, Frame}

@@ -1,5 +1,6 @@
 use Rattle.std.proofs.Common.{◌≡◌, ◌<◌, ◌∷◌, ◌↔◌, List, subst, sym}
-use Rattle.sketch_proof.specs.Proofs.{Line, Setting, of_node}
+use Rattle.sketch_text.specs.Trees.{Line, of_node}
+use Rattle.sketch_proof.specs.Proofs.{Setting}
 use Rattle.sketch_checker.specs.Dues.{due_by}
 use Rattle.sketch_checker.specs.Walks.{Completes, CompletesOpened, Due, Frame}
 use Rattle.sketch_checker.proofs.Completing.{opened}

@@ -1,4 +1,4 @@
-use Rattle.std.proofs.Common.{◌≡◌, IsTrue, take}
+use Rattle.std.proofs.Common.{IsTrue, take}
 use Rattle.std.specs.List.{Contains}
 use Rattle.capture_prices.specs.Prices.{PriceList, are_prices}
 use Rattle.sketch_checker.proofs.settings.are_known.Given as goal

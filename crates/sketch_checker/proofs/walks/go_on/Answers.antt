@@ -1,5 +1,5 @@
 use Rattle.std.proofs.Common.{List, subst, sym}
-use Rattle.sketch_proof.specs.Proofs.{Line}
+use Rattle.sketch_text.specs.Trees.{Line}
 use Rattle.sketch_checker.specs.Walks.{CompletesOpened, Opened}
 use Rattle.sketch_checker.proofs.Steering.{all-read, err-anyway}
 use Rattle.sketch_checker.proofs.walks.go_on.Goals as goal

@@ -1,4 +1,4 @@
-use Rattle.std.proofs.Common.{◌≡◌, [], ◌∷◌, List, reverse, ap, ◌∙◌}
+use Rattle.std.proofs.Common.{[], ◌∷◌, List, reverse, ap, ◌∙◌}
 use Rattle.general_lemmas.proofs.Lasts.{pushed}
 use Rattle.sketch_checker.specs.Walks.{Frame}
 use Rattle.sketch_checker.proofs.Completing.{frame}

@@ -1,4 +1,4 @@
-use Rattle.std.proofs.Common.{◌≡◌, subst}
+use Rattle.std.proofs.Common.{subst}
 use Rattle.std.specs.Prelude.{MatchOption}
 use Rattle.capture_prices.specs.Prices.{PriceList}
 use Rattle.sketch_proof.specs.Proofs.{Setting}

@@ -1,6 +1,6 @@
-use Rattle.std.proofs.Common.{◌≡◌, ◌↔◌, [], ◌∷◌, List, ap, refl, ◌∙◌, sym, subst}
+use Rattle.std.proofs.Common.{◌↔◌, [], ◌∷◌, List, ap, refl, ◌∙◌, sym, subst}
 use Rattle.sketch_text.specs.declared.labels.Label.TheVariants.{Now}
-use Rattle.sketch_proof.specs.Proofs.{Line, Proves, Setting}
+use Rattle.sketch_proof.specs.Proofs.{Proves, Setting}
 use Rattle.sketch_checker.specs.Beginning.{CanBegin}
 use Rattle.sketch_checker.specs.Walks.{Completes, Frame}
 use Rattle.sketch_checker.proofs.Completing.{frame}
