@@ -1,4 +1,4 @@
-ghost use Rattle.std.specs.Prelude.{◌≡◌, false};
+ghost use Rattle.std.specs.Prelude.{◌≡◌, ◌↔◌, IsTrue, false};
 ghost use Rattle.retro_search.specs.Runs.{IsReady};
 ghost use Rattle.retro_search.specs.Tidy.{IsFresh};
 
@@ -55,5 +55,12 @@ impl Run {
             memo: Memo::off(alloc),
             desk: PriceDesk::new(alloc),
         }
+    }
+
+    /// Whether no query may be visited any more.
+    pub(crate) fn is_spent(&self) -> bool
+        ensures { IsTrue result ↔ (self.now.left ≡ 0) }
+    {
+        self.left == 0
     }
 }

@@ -117,7 +117,7 @@ pub(crate) fn search(
     ensures paid { run.old.reasons ≡ Reasons.RuleLines → IfErr result (λ stop. (ps : List Asked) (n : ℕ) → IsGood ps n query.now depth (reverse ancestors.old.items) run.old → IfSpent stop (IsPaid ps (reverse ancestors.old.items) run.old.left run.old.memo)) }
     ensures small { run.old.reasons ≡ Reasons.RuleLines → IfErr result (λ stop. (ps : List Asked) (n : ℕ) → IsGood ps n query.now depth (reverse ancestors.old.items) run.old → IfTooLarge stop ⊥) }
 {
-    if run.left == 0 {
+    if run.is_spent() {
         return Err(Unrefuted::Spent);
     }
     run.left -= 1;

@@ -1,4 +1,4 @@
-use Rattle.std.proofs.Common.{◌≡◌, ℕ, inl, inr, List, [], ◌∷◌, ◌+◌, ◌-◌, ◌≤◌, length, reverse, sym, ap, ◌∙◌, subst, true≢false, arith, length-append}
+use Rattle.std.proofs.Common.{◌≡◌, ℕ, Bool, IsTrue, false, ◌↔◌, inl, inr, List, [], ◌∷◌, ◌+◌, ◌-◌, ◌≤◌, length, reverse, sym, ap, ◌∙◌, subst, true≢false, arith, length-append}
 use Rattle.std.proofs.lemmas.Bool.{both_ways}
 use Rattle.std.proofs.lemmas.List.Elements.{All-contains, Contains-append_right}
 use Rattle.std.specs.List.{Contains}
@@ -33,6 +33,10 @@ use Rattle.retro_search.proofs.Lines.OpenEnds.{leaf_unsettled}
 use Rattle.retro_search.proofs.Pricing as pricing
 use Rattle.retro_search.proofs.Pricing.{further, leaf_unpriced, over_balance, stop_unpriced}
 use Rattle.retro_search.proofs.searching.+searching.Goals as goal
+
+-- where it isn't told that none is left, some is
+some_left : (b : Bool) (left : ℕ) → IsTrue b ↔ (left ≡ 0) → b ≡ false → left ≡ 0 → ⊥
+some_left b left told unsaid empty = both_ways b unsaid (told.1 empty)
 
 pub expand-loop-unmove-init : goal.expand-loop-unmove-init
 expand-loop-unmove-init t c = record {
@@ -96,7 +100,7 @@ pub expand-returns-in-Err-add-clause-deep : goal.expand-returns-in-Err-add-claus
 expand-returns-in-Err-add-clause-deep t c = no_open c.in-Err-add.stop _ c.in-Err-add.ensures.closed
 
 pub search-returns-in-Err-clause-deep : goal.search-returns-in-Err-clause-deep
-search-returns-in-Err-clause-deep t c = if_open c.in-Err.stop _ _ (λ line short. omega (arith, short, c.if-run-eq0.false, c.by_balance.ensures.same.left)) c.in-Err.ensures.deep
+search-returns-in-Err-clause-deep t c = if_open c.in-Err.stop _ _ (λ line short. omega (arith, short, (some_left c.is_spent.result _ c.is_spent.ensures c.if-is_spent.false), c.by_balance.ensures.same.left)) c.in-Err.ensures.deep
 
 pub expand-returns-in-Err-add-clause-unrefuted : goal.expand-returns-in-Err-add-clause-unrefuted
 expand-returns-in-Err-add-clause-unrefuted t c by = no_open c.in-Err-add.stop _ c.in-Err-add.ensures.closed
@@ -126,11 +130,11 @@ search-returns-then-depth-eq0-clause-unrefuted t c by =
 
 pub search-returns-in-Some-find-clause-cost : goal.search-returns-in-Some-find-clause-cost
 search-returns-in-Some-find-clause-cost t c =
-    ok_always c.taken.result _ (λ ref n h. omega (arith, cost_positive c.args.depth c.args.query.now (reverse c.args.ancestors.now.items) n h, c.if-run-eq0.false))
+    ok_always c.taken.result _ (λ ref n h. omega (arith, cost_positive c.args.depth c.args.query.now (reverse c.args.ancestors.now.items) n h, (some_left c.is_spent.result _ c.is_spent.ensures c.if-is_spent.false)))
 
 pub search-returns-in-Some-by_balance-clause-cost : goal.search-returns-in-Some-by_balance-clause-cost
 search-returns-in-Some-by_balance-clause-cost t c =
-    ok_always c.kept_alone.result _ (λ ref n h. omega (arith, cost_positive c.args.depth c.args.query.now (reverse c.args.ancestors.now.items) n h, c.if-run-eq0.false, c.by_balance.ensures.same.left, c.kept_alone.ensures.on.1))
+    ok_always c.kept_alone.result _ (λ ref n h. omega (arith, cost_positive c.args.depth c.args.query.now (reverse c.args.ancestors.now.items) n h, (some_left c.is_spent.result _ c.is_spent.ensures c.if-is_spent.false), c.by_balance.ensures.same.left, c.kept_alone.ensures.on.1))
 
 pub search-returns-then-keep_alone-clause-cost : goal.search-returns-then-keep_alone-clause-cost
 search-returns-then-keep_alone-clause-cost t c ref n h =
@@ -139,7 +143,7 @@ search-returns-then-keep_alone-clause-cost t c ref n h =
     let elsewhere : Reaches [] q → ⊥ = λ here. both_ways _ c.if-at_array.false (c.is_array-at_array.ensures.1 here) in
     let left : c.by_balance.new.run.left ≡ c.args.run.now.left - 1 = c.by_balance.ensures.same.left in
     let below : WhereEachRefutable q (c.args.depth - 1) above (λ m. c.args.run.now.left - 1 ≤ c.expand.new.run.left + m) = subst (λ (l : ℕ). WhereEachRefutable q (c.args.depth - 1) above (λ m. l ≤ c.expand.new.run.left + m)) left c.in-Ok.ensures.cost in
-    let own = own_ok c.args.depth q above c.args.run.now.left c.expand.new.run.left c.if-depth-eq0.false c.if-run-eq0.false (unshut-here _ _ _ c.deref.ensures.value c.in_default.ensures.shut) elsewhere below ref n h in
+    let own = own_ok c.args.depth q above c.args.run.now.left c.expand.new.run.left c.if-depth-eq0.false (some_left c.is_spent.result _ c.is_spent.ensures c.if-is_spent.false) (unshut-here _ _ _ c.deref.ensures.value c.in_default.ensures.shut) elsewhere below ref n h in
     let same : c.keep_alone.new.run.left ≡ c.expand.new.run.left = c.keep_alone.ensures.on.1 in
     omega (arith, own, same)
 
@@ -156,7 +160,7 @@ search-returns-in-Err-clause-spent t c =
     let q : Asked = c.args.query.now in
     let above : List Asked = reverse c.args.ancestors.now.items in
     let elsewhere : Reaches [] q → ⊥ = λ here. both_ways _ c.if-at_array.false (c.is_array-at_array.ensures.1 here) in
-    if_spent c.in-Err.stop _ _ (λ cost. own_spent c.args.run.now.reasons c.args.depth q above c.args.run.now.left c.if-depth-eq0.false c.if-run-eq0.false (unshut-here _ _ _ c.deref.ensures.value c.in_default.ensures.shut) elsewhere (λ counted m sums. let s = cost (subst (λ (r : Reasons). AreCounted r q (c.args.depth - 1) above) (sym c.by_balance.ensures.same.reasons) counted) m sums in omega (arith, s, c.by_balance.ensures.same.left))) c.in-Err.ensures.spent
+    if_spent c.in-Err.stop _ _ (λ cost. own_spent c.args.run.now.reasons c.args.depth q above c.args.run.now.left c.if-depth-eq0.false (some_left c.is_spent.result _ c.is_spent.ensures c.if-is_spent.false) (unshut-here _ _ _ c.deref.ensures.value c.in_default.ensures.shut) elsewhere (λ counted m sums. let s = cost (subst (λ (r : Reasons). AreCounted r q (c.args.depth - 1) above) (sym c.by_balance.ensures.same.reasons) counted) m sums in omega (arith, s, c.by_balance.ensures.same.left))) c.in-Err.ensures.spent
 
 pub expand-returns-in-Err-search-clause-paid : goal.expand-returns-in-Err-search-clause-paid
 expand-returns-in-Err-search-clause-paid t c by ps m g =
@@ -178,15 +182,15 @@ pub expand-returns-clause-well : goal.expand-returns-clause-well
 expand-returns-clause-well t c by ps m g =
     good_all ps m c.args.query.now c.args.below _ c.loop-unmove.unmoves c.loop-unmove.children c.loop-unmove.run c.args.run.now c.finish.result g (c.loop-unmove.invariant.well by ps m g) c.in_default.ensures.0 c.finish.ensures.tree c.finish.ensures.lean c.finish.ensures.lines
 
-pub search-returns-then-run-eq0-clause-paid : goal.search-returns-then-run-eq0-clause-paid
-search-returns-then-run-eq0-clause-paid t c by ps n g = paid_at_none ps _ c.args.run.now g.fits c.if-run-eq0.true
+pub search-returns-then-is_spent-clause-paid : goal.search-returns-then-is_spent-clause-paid
+search-returns-then-is_spent-clause-paid t c by ps n g = paid_at_none ps _ c.args.run.now g.fits (c.is_spent.ensures.0 c.if-is_spent.true)
 
 pub search-returns-in-Some-clause-well : goal.search-returns-in-Some-clause-well
 search-returns-in-Some-clause-well t c by ps n g =
     let q : Asked = c.args.query.now in
     let own = subst (λ (l : List Asked). (IsCovered q (reverse l) → ⊥) → (c.in-Some.found.lean ≡ 0) × IsEager (tree_of c.in-Some.found.node) q) c.deref.ensures.value c.in-Some.ensures.lone in
     let is = subst (λ (l : List Asked). IsRefutation c.in-Some.found q 0 (reverse l)) c.deref.ensures.value c.in-Some.ensures.shut in
-    shut_well ps n q c.args.depth (reverse c.args.ancestors.now.items) c.args.run.now c.in-Some.found c.if-run-eq0.false g is c.in-Some.ensures.one c.in-Some.ensures.lined own
+    shut_well ps n q c.args.depth (reverse c.args.ancestors.now.items) c.args.run.now c.in-Some.found (some_left c.is_spent.result _ c.is_spent.ensures c.if-is_spent.false) g is c.in-Some.ensures.one c.in-Some.ensures.lined own
 
 -- the tree that is kept for the query
 kept-lined : (run : Run) (k : Kept) → KeepsRuleLines run.memo → Contains (values run.memo.trees) k → IsByRuleLines (tree_of k.node)
@@ -195,7 +199,7 @@ kept-lined run k keeps among = All-contains (λ x. IsByRuleLines (tree_of x.node
 pub search-returns-in-Some-find-clause-well : goal.search-returns-in-Some-find-clause-well
 search-returns-in-Some-find-clause-well t c by =
     let lined = kept-lined c.args.run.now c.in-Some-find.kept.now (c.requires.lined by) c.in-Some-find.ensures.among.1 in
-    if_ok_both c.taken.result _ _ _ (λ found tree numbers ps n g. kept_well ps n c.args.query.now c.args.depth (reverse c.args.ancestors.now.items) c.args.run.now found c.in-Some-find.kept.now c.if-run-eq0.false g c.requires.sound c.in-Some-find.ensures.among.0 c.in-Some-find.ensures.among.1 lined tree numbers.0 numbers.2) c.taken.ensures.tree c.taken.ensures.numbers
+    if_ok_both c.taken.result _ _ _ (λ found tree numbers ps n g. kept_well ps n c.args.query.now c.args.depth (reverse c.args.ancestors.now.items) c.args.run.now found c.in-Some-find.kept.now (some_left c.is_spent.result _ c.is_spent.ensures c.if-is_spent.false) g c.requires.sound c.in-Some-find.ensures.among.0 c.in-Some-find.ensures.among.1 lined tree numbers.0 numbers.2) c.taken.ensures.tree c.taken.ensures.numbers
 
 pub search-returns-in-Some-find-clause-lined : goal.search-returns-in-Some-find-clause-lined
 search-returns-in-Some-find-clause-lined t c by =
@@ -212,7 +216,7 @@ search-returns-then-keep_alone-clause-well t c by ps n g =
     let same : c.by_balance.new.run ≡ visited c.args.run.now = (c.by_balance.ensures.lines by).1 in
     let well = c.in-Ok.ensures.well (c.by_balance.ensures.same.reasons ∙ by) ps b.0 (subst (λ (r : Run). IsGoodBelow ps b.0 q (c.args.depth - 1) above r) (sym same) b.2) in
     let on = c.keep_alone.ensures.on in
-    well_at ps n b.0 q c.args.depth above c.args.run.now c.expand.new.run c.keep_alone.new.run c.in-Ok.found c.if-depth-eq0.false c.if-run-eq0.false b.1 g b.2 (subst (λ (r : Run). GoesWellBelow ps b.0 q (c.args.depth - 1) above c.in-Ok.found r c.expand.new.run) same well) on.1 (c.keep_alone.ensures.kept c.if-keep_alone.true) on.0.mode
+    well_at ps n b.0 q c.args.depth above c.args.run.now c.expand.new.run c.keep_alone.new.run c.in-Ok.found c.if-depth-eq0.false (some_left c.is_spent.result _ c.is_spent.ensures c.if-is_spent.false) b.1 g b.2 (subst (λ (r : Run). GoesWellBelow ps b.0 q (c.args.depth - 1) above c.in-Ok.found r c.expand.new.run) same well) on.1 (c.keep_alone.ensures.kept c.if-keep_alone.true) on.0.mode
 
 pub search-returns-in-Err-clause-paid : goal.search-returns-in-Err-clause-paid
 search-returns-in-Err-clause-paid t c by ps n g =
@@ -223,7 +227,7 @@ search-returns-in-Err-clause-paid t c by ps n g =
     let b = good_at ps n q c.args.depth above c.args.run.now c.if-depth-eq0.false g (unshut-here _ _ _ c.deref.ensures.value c.in_default.ensures.shut) elsewhere c.requires.sound missed in
     let same : c.by_balance.new.run ≡ visited c.args.run.now = (c.by_balance.ensures.lines by).1 in
     let paid = c.in-Err.ensures.paid (c.by_balance.ensures.same.reasons ∙ by) ps b.0 (subst (λ (r : Run). IsGoodBelow ps b.0 q (c.args.depth - 1) above r) (sym same) b.2) in
-    if_spent c.in-Err.stop (IsPaid ps above (c.args.run.now.left - 1 + 1) c.args.run.now.memo) (IsPaid ps above c.args.run.now.left c.args.run.now.memo) (paid_at ps above c.args.run.now c.if-run-eq0.false) (subst (λ (r : Run). IfSpent c.in-Err.stop (IsPaid ps above (r.left + 1) r.memo)) same paid)
+    if_spent c.in-Err.stop (IsPaid ps above (c.args.run.now.left - 1 + 1) c.args.run.now.memo) (IsPaid ps above c.args.run.now.left c.args.run.now.memo) (paid_at ps above c.args.run.now (some_left c.is_spent.result _ c.is_spent.ensures c.if-is_spent.false)) (subst (λ (r : Run). IfSpent c.in-Err.stop (IsPaid ps above (r.left + 1) r.memo)) same paid)
 
 pub search-returns-in-Err-clause-small : goal.search-returns-in-Err-clause-small
 search-returns-in-Err-clause-small t c by ps n g =
@@ -281,21 +285,21 @@ expand-returns-in-Err-add-clause-outsized t c = if_spent c.in-Err-add.stop _ _ (
 pub expand-returns-clause-size : goal.expand-returns-clause-size
 expand-returns-clause-size t c = sized_all c.args.query.now c.args.below _ c.loop-unmove.unmoves c.loop-unmove.run.left c.args.run.now.left c.loop-unmove.invariant.sized
 
-pub search-returns-then-run-eq0-clause-outsized : goal.search-returns-then-run-eq0-clause-outsized
-search-returns-then-run-eq0-clause-outsized t c n h =
-    omega (arith, size_positive c.args.depth c.args.query.now (reverse c.args.ancestors.now.items) n h, c.if-run-eq0.true)
+pub search-returns-then-is_spent-clause-outsized : goal.search-returns-then-is_spent-clause-outsized
+search-returns-then-is_spent-clause-outsized t c n h =
+    omega (arith, size_positive c.args.depth c.args.query.now (reverse c.args.ancestors.now.items) n h, (c.is_spent.ensures.0 c.if-is_spent.true))
 
 pub search-returns-in-Some-clause-size : goal.search-returns-in-Some-clause-size
 search-returns-in-Some-clause-size t c n h =
-    omega (arith, size_positive c.args.depth c.args.query.now (reverse c.args.ancestors.now.items) n h, c.if-run-eq0.false)
+    omega (arith, size_positive c.args.depth c.args.query.now (reverse c.args.ancestors.now.items) n h, (some_left c.is_spent.result _ c.is_spent.ensures c.if-is_spent.false))
 
 pub search-returns-in-Some-find-clause-size : goal.search-returns-in-Some-find-clause-size
 search-returns-in-Some-find-clause-size t c =
-    ok_always c.taken.result _ (λ n h. omega (arith, size_positive c.args.depth c.args.query.now (reverse c.args.ancestors.now.items) n h, c.if-run-eq0.false))
+    ok_always c.taken.result _ (λ n h. omega (arith, size_positive c.args.depth c.args.query.now (reverse c.args.ancestors.now.items) n h, (some_left c.is_spent.result _ c.is_spent.ensures c.if-is_spent.false)))
 
 pub search-returns-in-Some-by_balance-clause-size : goal.search-returns-in-Some-by_balance-clause-size
 search-returns-in-Some-by_balance-clause-size t c =
-    ok_always c.kept_alone.result _ (λ n h. omega (arith, size_positive c.args.depth c.args.query.now (reverse c.args.ancestors.now.items) n h, c.if-run-eq0.false, c.by_balance.ensures.same.left, c.kept_alone.ensures.on.1))
+    ok_always c.kept_alone.result _ (λ n h. omega (arith, size_positive c.args.depth c.args.query.now (reverse c.args.ancestors.now.items) n h, (some_left c.is_spent.result _ c.is_spent.ensures c.if-is_spent.false), c.by_balance.ensures.same.left, c.kept_alone.ensures.on.1))
 
 pub search-returns-then-keep_alone-clause-size : goal.search-returns-then-keep_alone-clause-size
 search-returns-then-keep_alone-clause-size t c n h =
@@ -303,7 +307,7 @@ search-returns-then-keep_alone-clause-size t c n h =
     let above : List Asked = reverse c.args.ancestors.now.items in
     let elsewhere : Reaches [] q → ⊥ = λ here. both_ways _ c.if-at_array.false (c.is_array-at_array.ensures.1 here) in
     let left : c.by_balance.new.run.left ≡ c.args.run.now.left - 1 = c.by_balance.ensures.same.left in
-    let own = sized_ok c.args.depth q above c.args.run.now.left c.by_balance.new.run.left c.expand.new.run.left c.if-depth-eq0.false c.if-run-eq0.false left (unshut-here _ _ _ c.deref.ensures.value c.in_default.ensures.shut) elsewhere c.in-Ok.ensures.size n h in
+    let own = sized_ok c.args.depth q above c.args.run.now.left c.by_balance.new.run.left c.expand.new.run.left c.if-depth-eq0.false (some_left c.is_spent.result _ c.is_spent.ensures c.if-is_spent.false) left (unshut-here _ _ _ c.deref.ensures.value c.in_default.ensures.shut) elsewhere c.in-Ok.ensures.size n h in
     let same : c.keep_alone.new.run.left ≡ c.expand.new.run.left = c.keep_alone.ensures.on.1 in
     omega (arith, own, same)
 
@@ -313,4 +317,4 @@ search-returns-in-Err-clause-outsized t c =
     let above : List Asked = reverse c.args.ancestors.now.items in
     let elsewhere : Reaches [] q → ⊥ = λ here. both_ways _ c.if-at_array.false (c.is_array-at_array.ensures.1 here) in
     let left : c.by_balance.new.run.left ≡ c.args.run.now.left - 1 = c.by_balance.ensures.same.left in
-    if_spent c.in-Err.stop _ _ (outsized c.args.depth q above c.args.run.now.left c.by_balance.new.run.left c.if-depth-eq0.false c.if-run-eq0.false left (unshut-here _ _ _ c.deref.ensures.value c.in_default.ensures.shut) elsewhere) c.in-Err.ensures.outsized
+    if_spent c.in-Err.stop _ _ (outsized c.args.depth q above c.args.run.now.left c.by_balance.new.run.left c.if-depth-eq0.false (some_left c.is_spent.result _ c.is_spent.ensures c.if-is_spent.false) left (unshut-here _ _ _ c.deref.ensures.value c.in_default.ensures.shut) elsewhere) c.in-Err.ensures.outsized
