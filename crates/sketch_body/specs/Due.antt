@@ -1,5 +1,5 @@
 -- The lines below the first of a sketch, one after another, without their ends.
-use Rattle.std.specs.Prelude.{ℕ, zero, suc, ◌≡◌, ◌+◌, ◌-◌, ◌==◌, Bool, true, false, cond, ◌&&◌, ◌||◌, not, nat_le, nat_lt, List, [], ◌∷◌, length, Option, Some, None}
+use Rattle.std.specs.Prelude.{ℕ, zero, suc, ◌≡◌, ◌+◌, ◌-◌, Bool, true, false, cond, ◌&&◌, not, nat_le, nat_lt, List, [], ◌∷◌, length, Option, Some, None}
 use Rattle.std.specs.Option.{option_map, option_and_then}
 use Rattle.price_text.specs.PriceTexts.{prices_of}
 use Rattle.sketch_text.specs.Heads.{Head}
@@ -43,10 +43,15 @@ abbrev pub fits_label : ℕ → Label → Bool
 fits_label zero label = is_now label
 fits_label (suc depth) label = not (is_now label)
 
+-- if there are any, this is so
+abbrev pub if_any : ℕ → Bool → Bool
+if_any zero so = true
+if_any (suc n) so = so
+
 -- The node may stand at this depth: its label fits, it has nodes below it only if the depth is below 64, and marks only if there are lines
 -- of prices.
 abbrev pub fits_depth : ℕ → ℕ → SketchNode → Bool
-fits_depth P depth x = fits_label depth x.label && (((announced x.end == 0) || nat_lt depth 64) && ((x.marks == 0) || nat_lt 0 P))
+fits_depth P depth x = fits_label depth x.label && (if_any (announced x.end) (nat_lt depth 64) && if_any x.marks (nat_lt 0 P))
 
 -- what is due after a node
 abbrev pub after_node : ℕ → List ℕ → SketchNode → Option Due
@@ -98,9 +103,15 @@ gone_on r i = option_and_then (charged (r.units + charge i)) (next r.due i)
 abbrev pub step : Reading → List ℕ → Option (Item × Reading)
 step r text = option_and_then (λ i. option_map (λ s. (i, s)) (gone_on r i)) (read_as r.due.prices r.due.wanted r.due.marks text)
 
--- nothing is due
+-- no line of prices, no line of marks and no node is due
+abbrev pub is_done : ℕ → ℕ → List ℕ → Bool
+is_done zero zero [] = true
+is_done zero zero (n ∷ nodes) = false
+is_done zero (suc marks) nodes = false
+is_done (suc wanted) marks nodes = false
+
 abbrev pub is_over : Due → Bool
-is_over d = (d.wanted == 0) && ((d.marks == 0) && (length d.nodes == 0))
+is_over d = is_done d.wanted d.marks d.nodes
 
 -- these texts, which say these, lead from one reading to another
 abbrev pub Leads : Reading → List (List ℕ) → List Item → Reading → Type 0
