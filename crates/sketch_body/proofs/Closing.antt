@@ -18,7 +18,7 @@ use Rattle.sketch_text.proofs.NodeTexts.{node_read, node_stands}
 use Rattle.sketch_body.specs.Bodies.{Item, SayEach, Says, of_line, of_prices}
 use Rattle.sketch_body.specs.Due.{Due, after, after_node, announced, charge, fits_depth, fits_label, if_any, next, settled}
 use Rattle.sketch_body.specs.Texts.{is_item, item_text}
-use Rattle.sketch_body.proofs.Charges.{charges, charges_both}
+use Rattle.sketch_body.proofs.Charged.{charges, charges_both}
 use Rattle.sketch_body.proofs.Runs.{at, run, so_if}
 use Rattle.sketch_body.proofs.Settling.{settled_twice}
 

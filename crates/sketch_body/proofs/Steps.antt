@@ -13,7 +13,7 @@ use Rattle.sketch_text.specs.Trees.{of_marks, of_node}
 use Rattle.sketch_text.specs.declared.nodes.SketchNode.{SketchNode}
 use Rattle.sketch_body.specs.Bodies.{Item, SayEach, Says, most_units, of_line, of_prices}
 use Rattle.sketch_body.specs.Due.{Due, Leads, Reading, after, announced, charge, charged, fits_depth, gone_on, next, read_as, settled, step}
-use Rattle.sketch_body.proofs.Charges.{charges}
+use Rattle.sketch_body.proofs.Charged.{charges}
 use Rattle.sketch_body.proofs.Runs.{run}
 
 -- what is read is said

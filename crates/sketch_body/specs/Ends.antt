@@ -1,8 +1,8 @@
 -- Sketches that are read to their ends.
-use Rattle.std.specs.Prelude.{ℕ, ◌≡◌, ◌+◌, ◌≤◌, List, [], length, Some}
+use Rattle.std.specs.Prelude.{ℕ, ◌≡◌, ◌+◌, ◌≤◌, true, List, [], length, Some}
 use Rattle.sketch_text.specs.Heads.{Head}
 use Rattle.sketch_body.specs.Bodies.{AreTextsOf, Body, Item, head_of, items_of, most_units, units_of}
-use Rattle.sketch_body.specs.Due.{Leads, Reading, start}
+use Rattle.sketch_body.specs.Due.{Leads, Reading, is_over, start}
 
 -- behind the first line of a sketch, and sketches with so many units, these texts say these and lead there
 pub record ReadsTo (units : ℕ) (h : Head) (texts : List (List ℕ)) (items : List Item) (last : Reading) : Type 0 where
@@ -22,3 +22,9 @@ pub record EndsAs (units : ℕ) (h : Head) (texts : List (List ℕ)) (items : Li
   pub texts_are : AreTextsOf texts b
   pub last_is : last ≡ ended units b
   pub few : units + units_of b ≤ most_units
+
+-- these lines end the reading, and its units stay
+pub record IsEnding (r : Reading) (texts : List (List ℕ)) (items : List Item) (last : Reading) : Type 0 where
+  pub leads : Leads r texts items last
+  pub over : is_over last.due ≡ true
+  pub units_are : last.units ≡ r.units
