@@ -1,19 +1,18 @@
 -- Potentials and their texts.
 use Rattle.std.proofs.Common.{◌≡◌, ℕ, ◌+◌, ◌<◌, ◌≤◌, ◌==◌, Bool, true, false, cond, not, List, [], ◌∷◌, ◌++◌, length, map, take, set, Option, Some, None, Bor, inl, inr, refl, sym, ap, ◌∙◌, arith, append-nil, append_assoc, length-append, nat_le, take_all}
-use Rattle.std.specs.Prelude.{codes, ℤ, MatchOption, is_some}
+use Rattle.std.specs.Prelude.{codes, ℤ, is_some}
 use Rattle.std.proofs.lemmas.Bool.{and_parts, and_from, cond-true, cond-false, cases_Bool, eq-eqb, eqb-true, le-leb, leb-true, lt-leb, ne_eqb, not-true, not_from_false}
 use Rattle.std.proofs.lemmas.List.{length-map, length-set, take_more_set}
 use Rattle.std.proofs.lemmas.List.Folds.{list_all-append}
-use Rattle.std.proofs.lemmas.List.Splits.{slice_split-cons_no, length-slice_split, join_with_byte-slice_split}
+use Rattle.std.proofs.lemmas.List.Splits.{join_with_byte-slice_split}
 use Rattle.std.proofs.lemmas.Option.{same_Some, option_and_then_some}
 use Rattle.std.proofs.lemmas.Slice.Eq.{bytes_eq-Decides}
 use Rattle.std.specs.Fmt.{signed_decimal}
-use Rattle.std.specs.List.{join_with_byte, list_all, onto_first}
+use Rattle.std.specs.List.{join_with_byte, list_all}
 use Rattle.std.specs.Option.{option_map, option_and_then}
 use Rattle.general_lemmas.proofs.Options.{when}
 use Rattle.board_base.specs.Potentials.{Duals, duals}
 use Rattle.fen_text.specs.Parts.{Free}
-use Rattle.fen_text.proofs.PartLemmas.{free_append}
 use Rattle.fen_text.specs.Numbers.{number}
 use Rattle.price_text.specs.Words.{is_slash, words}
 use Rattle.price_text.proofs.WordLemmas.{all_back_words, are_free, joined_free, left, some_words}

@@ -1,11 +1,11 @@
 -- The units of lines, and what is charged for them.
-use Rattle.std.proofs.Common.{◌≡◌, ℕ, ◌+◌, ◌-◌, ◌<◌, List, [], ◌∷◌, ◌++◌, length, map, refl, sym, ap, ◌∙◌, arith}
+use Rattle.std.proofs.Common.{◌≡◌, ℕ, ◌+◌, ◌-◌, List, [], ◌∷◌, ◌++◌, length, map, refl, arith}
 use Rattle.std.specs.List.{sum_by}
 use Rattle.std.proofs.lemmas.List.Sums.{sum_by-append, sum_by-cons}
 use Rattle.capture_prices.specs.Prices.{PriceList}
 use Rattle.sketch_text.specs.Marks.{Marks}
 use Rattle.sketch_text.specs.Trees.{Line, Node, Nodes, Reason, closed, count, end_of, lines_below, lines_each, lines_of, more, node, none, of_marks, of_node, split, steps, void}
-use Rattle.sketch_body.specs.Bodies.{Item, dearness, of_line, of_prices, units_of_line}
+use Rattle.sketch_body.specs.Bodies.{Item, of_prices, units_of_line}
 use Rattle.sketch_body.specs.Due.{announced, charge}
 use Rattle.sketch_body.proofs.Runs.{Able, able_both, items}
 

@@ -1,12 +1,11 @@
 -- Whatever is due, some lines end it, at no more units.
-use Rattle.std.proofs.Common.{◌≡◌, ℕ, zero, suc, ◌+◌, ◌<◌, ◌≤◌, ◌&&◌, Bool, true, cond, List, [], ◌∷◌, ◌++◌, length, map, replicate, nat_le, nat_lt, refl, sym, ap, ◌∙◌, subst, arith, add-zero}
-use Rattle.std.specs.Prelude.{Option, Some, None}
+use Rattle.std.proofs.Common.{◌≡◌, ℕ, zero, suc, ◌+◌, ◌<◌, ◌≤◌, true, List, [], ◌∷◌, ◌++◌, length, map, replicate, nat_lt, refl, sym, ap, ◌∙◌, subst, arith}
+use Rattle.std.specs.Prelude.{Some, None}
 use Rattle.std.specs.Option.{option_and_then}
 use Rattle.std.proofs.lemmas.Bool.{and_from, and_parts, cond-true, le-leb, ltb-true}
 use Rattle.std.proofs.lemmas.Option.{cond_some, same_Some}
-use Rattle.capture_prices.specs.Prices.{PriceList, are_prices, priced}
+use Rattle.capture_prices.specs.Prices.{priced}
 use Rattle.price_text.proofs.PriceTexts.{prices_back, prices_read}
-use Rattle.sketch_text.specs.Marks.{Marks, is_mark}
 use Rattle.sketch_text.specs.Trees.{of_marks, of_node}
 use Rattle.sketch_text.specs.declared.labels.Label.{Label}
 use Rattle.sketch_text.specs.declared.labels.Label.TheVariants.{Now, Step}
@@ -16,7 +15,7 @@ use Rattle.sketch_text.specs.declared.nodes.SketchNode.{SketchNode}
 use Rattle.sketch_text.proofs.MarkTexts.{mark_read, mark_stands}
 use Rattle.sketch_text.proofs.NodeTexts.{node_read, node_stands}
 use Rattle.sketch_body.specs.Bodies.{Item, SayEach, Says, of_line, of_prices}
-use Rattle.sketch_body.specs.Due.{Due, after, after_node, announced, charge, fits_depth, fits_label, if_any, next, settled}
+use Rattle.sketch_body.specs.Due.{Due, after, after_node, announced, charge, fits_depth, fits_label, if_any, settled}
 use Rattle.sketch_body.specs.Texts.{is_item, item_text}
 use Rattle.sketch_body.proofs.Charged.{charges, charges_both}
 use Rattle.sketch_body.proofs.Runs.{at, run, so_if}

@@ -1,17 +1,17 @@
 -- Lines that are all that is due are those of trees.
-use Rattle.std.proofs.Common.{◌≡◌, ℕ, zero, suc, ◌+◌, Bool, true, false, cond, List, [], ◌∷◌, ◌++◌, length, map, refl, sym, ap, ◌∙◌, subst, arith, append_assoc, append-nil}
+use Rattle.std.proofs.Common.{◌≡◌, ℕ, zero, suc, ◌+◌, Bool, true, false, cond, List, [], ◌∷◌, ◌++◌, length, map, refl, sym, ap, ◌∙◌, arith, append_assoc, append-nil}
 use Rattle.std.specs.Prelude.{Option, Some, None}
 use Rattle.std.specs.Option.{option_and_then}
 use Rattle.std.proofs.lemmas.Option.{same_Some}
 use Rattle.capture_prices.specs.Prices.{PriceList}
 use Rattle.sketch_text.specs.Marks.{Marks}
-use Rattle.sketch_text.specs.Trees.{Line, Node, Nodes, Reason, closed, count, end_of, lines_below, lines_each, lines_of, more, node, none, of_marks, of_node, split, steps, void}
+use Rattle.sketch_text.specs.Trees.{Line, Nodes, Reason, closed, count, end_of, lines_below, lines_each, lines_of, more, node, none, of_marks, of_node, split, steps, void}
 use Rattle.sketch_text.specs.declared.nodes.End.{End}
 use Rattle.sketch_text.specs.declared.nodes.End.TheVariants.{Void, Closed, Steps, Split}
 use Rattle.sketch_text.specs.declared.nodes.SketchNode.{SketchNode}
 use Rattle.sketch_body.specs.Bodies.{Item, of_line, of_prices}
 use Rattle.sketch_body.specs.Due.{Due, announced, fits_depth, settled}
-use Rattle.sketch_body.proofs.Runs.{Fits, FitsBelow, FitsEach, at, items, line_of, run}
+use Rattle.sketch_body.proofs.Runs.{FitsBelow, FitsEach, at, items, line_of, run}
 
 -- the lines of the nodes that are due, at each depth
 abbrev pub Fills : ℕ → List ℕ → List Line → Type 0
@@ -88,8 +88,8 @@ with_node P c nodes x is fits f =
         beside.1,
         omega arith,
         ap (λ (z : SketchNode). of_node z ∷ (marks ++ f.lines)) (sym same)
-        ∙ ap (λ (l : List Line). of_node y ∷ (marks ++ l)) (below.3 ∙ ap (λ (l : List Line). lines_each below.0 ++ l) beside.3 ∙ ap (λ (l : List Line). l ++ (lines_each beside.0 ++ beside.1)) (sym r.lines))
-        ∙ ap (λ (l : List Line). of_node y ∷ l) (grouped marks (lines_below r.reason) (lines_each beside.0) beside.1),
+            ∙ ap (λ (l : List Line). of_node y ∷ (marks ++ l)) (below.3 ∙ ap (λ (l : List Line). lines_each below.0 ++ l) beside.3 ∙ ap (λ (l : List Line). l ++ (lines_each beside.0 ++ beside.1)) (sym r.lines))
+            ∙ ap (λ (l : List Line). of_node y ∷ l) (grouped marks (lines_below r.reason) (lines_each beside.0) beside.1),
         ((ap (fits_depth P (length nodes)) same ∙ fits, r.fits), beside.4),
         beside.5,
       );

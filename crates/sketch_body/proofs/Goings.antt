@@ -1,11 +1,11 @@
 -- What the program goes on by.
-use Rattle.std.proofs.Common.{◌≡◌, ℕ, zero, suc, ◌+◌, ◌-◌, ◌<◌, ◌≤◌, Bool, true, false, cond, List, [], ◌∷◌, ◌++◌, length, map, nat_le, nat_lt, refl, sym, ap, ◌∙◌, arith}
+use Rattle.std.proofs.Common.{◌≡◌, ℕ, zero, suc, ◌+◌, ◌-◌, ◌<◌, ◌≤◌, true, false, List, [], ◌∷◌, length, nat_le, refl, sym, ap, ◌∙◌, arith}
 use Rattle.std.specs.Prelude.{Option, Some, None}
-use Rattle.std.specs.Option.{option_and_then, option_map}
+use Rattle.std.specs.Option.{option_and_then}
 use Rattle.std.proofs.lemmas.Bool.{cond-true, cond-false, le-leb, lt-leb}
 use Rattle.sketch_text.specs.declared.nodes.SketchNode.{SketchNode}
 use Rattle.sketch_body.specs.Bodies.{Item, most_units}
-use Rattle.sketch_body.specs.Due.{Due, Reading, after_node, announced, charge, charged, fits_depth, gone_on, next, read_as, settled, step}
+use Rattle.sketch_body.specs.Due.{Due, Reading, after_node, announced, charge, charged, fits_depth, gone_on, next, settled}
 
 -- taking a node
 

@@ -1,15 +1,15 @@
 -- Readings and the sketches that they end as.
-use Rattle.std.proofs.Common.{◌≡◌, ℕ, zero, suc, ◌+◌, ◌<◌, ◌≤◌, Bool, true, false, cond, List, [], ◌∷◌, ◌++◌, length, map, nat_le, refl, sym, ap, ◌∙◌, subst, arith, append-nil}
+use Rattle.std.proofs.Common.{◌≡◌, ℕ, zero, suc, ◌+◌, ◌<◌, ◌≤◌, true, List, [], ◌∷◌, ◌++◌, length, map, nat_le, refl, sym, ap, ◌∙◌, subst, arith, append-nil}
 use Rattle.std.specs.Prelude.{◌↔◌, Option, Some, None}
 use Rattle.std.specs.List.{sum_by}
 use Rattle.std.specs.Option.{option_and_then, option_map}
 use Rattle.std.proofs.lemmas.Bool.{and_from, and_parts, cond-true, le-leb, leb-true}
-use Rattle.std.proofs.lemmas.Option.{cond_some, same_Some}
+use Rattle.std.proofs.lemmas.Option.{cond_some}
 use Rattle.capture_prices.specs.Prices.{PriceList}
 use Rattle.general_lemmas.proofs.Lists.{same_rest}
 use Rattle.sketch_text.specs.Heads.{Head}
 use Rattle.sketch_text.specs.Marks.{Marks}
-use Rattle.sketch_text.specs.Trees.{Line, Node, Nodes, Reason, count, height, height_below, lines_each, lines_of, more, node, none, of_marks, of_node}
+use Rattle.sketch_text.specs.Trees.{Line, Node, Nodes, count, height, lines_each, lines_of, more, node, none, of_marks, of_node}
 use Rattle.sketch_text.specs.Nodes.{node_of}
 use Rattle.sketch_text.specs.declared.nodes.SketchNode.{SketchNode}
 use Rattle.sketch_text.proofs.MarkTexts.{mark_read}
@@ -22,7 +22,7 @@ use Rattle.sketch_body.proofs.Charged.{charges, charges_both, node_charged, pric
 use Rattle.sketch_body.proofs.Closing.{IsSound, closes, closing, closing_said, free, sound_after, texts_are}
 use Rattle.sketch_body.proofs.Fills.{filled, priced}
 use Rattle.sketch_body.proofs.Runs.{Able, Fits, FitsEach, at, below_never, first_fits, items, node_low, node_runs, run}
-use Rattle.sketch_body.proofs.Steps.{leads_few, leads_from, leads_parts, next_kept, run_kept, same_items, step_parts}
+use Rattle.sketch_body.proofs.Steps.{leads_few, leads_from, leads_parts, run_kept, same_items, step_parts}
 
 -- the start
 

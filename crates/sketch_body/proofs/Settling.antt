@@ -1,5 +1,5 @@
 -- Zeros that are taken off.
-use Rattle.std.proofs.Common.{◌≡◌, ℕ, zero, suc, ◌<◌, ◌≤◌, ◌+◌, List, [], ◌∷◌, length, refl, sym, ap, ◌∙◌, arith}
+use Rattle.std.proofs.Common.{◌≡◌, ℕ, zero, suc, ◌<◌, ◌≤◌, List, [], ◌∷◌, length, refl, sym, ap, ◌∙◌, arith}
 use Rattle.sketch_body.specs.Due.{settled}
 
 first_kept : (count : ℕ) (nodes : List ℕ) → 0 < count → settled (count ∷ nodes) ≡ count ∷ nodes

@@ -3,9 +3,9 @@ use Rattle.std.specs.Prelude.{ℕ, zero, suc, ◌≡◌, ◌+◌, ◌-◌, Bool,
 use Rattle.std.specs.Option.{option_map, option_and_then}
 use Rattle.price_text.specs.PriceTexts.{prices_of}
 use Rattle.sketch_text.specs.Heads.{Head}
-use Rattle.sketch_text.specs.Marks.{Marks, mark_line}
+use Rattle.sketch_text.specs.Marks.{mark_line}
 use Rattle.sketch_text.specs.Nodes.{node_of}
-use Rattle.sketch_text.specs.Trees.{Line, of_marks, of_node}
+use Rattle.sketch_text.specs.Trees.{of_marks, of_node}
 use Rattle.sketch_text.specs.declared.labels.Label.{Label}
 use Rattle.sketch_text.specs.declared.nodes.End.{End}
 use Rattle.sketch_text.specs.declared.nodes.End.TheVariants.{Void, Closed, Steps, Split}
