@@ -13,9 +13,6 @@ pub mod SignedTexts
 pub mod WordTexts
 pub mod NearNumbers
 pub mod RuleTexts
-pub mod PriceTexts
-pub mod PriceWords
-pub mod PricesWritten
 pub mod ReasonTexts
 pub mod Spelled
 pub mod OnBoard

@@ -15,12 +15,12 @@ use Rattle.fen_text.proofs.Begun.{begun}
 use Rattle.fen_text.proofs.HexTexts.{set_back, set_free, set_read}
 use Rattle.fen_text.proofs.PartLemmas.{followed, free_append, part_more, parted_next}
 use Rattle.cert_text.specs.NodeLines.{balance_of, reason_name, reason_of, rule_name, rule_of}
-use Rattle.cert_text.specs.PriceTexts.{prices_of, prices_text}
+use Rattle.price_text.specs.PriceTexts.{prices_of, prices_text}
 use Rattle.cert_text.specs.Writable.{is_reason}
 use Rattle.cert_text.specs.declared.reasons.Reason.{Reason}
 use Rattle.cert_text.specs.declared.reasons.Reason.TheVariants.{Line, Balance}
 use Rattle.cert_text.proofs.PartTexts.{no_part, no_rest}
-use Rattle.cert_text.proofs.PriceTexts.{prices_back, prices_free, prices_read}
+use Rattle.price_text.proofs.PriceTexts.{prices_back, prices_free, prices_read}
 use Rattle.cert_text.proofs.RuleTexts.{Only, name_back, name_free, name_read}
 
 -- what may stand behind a set

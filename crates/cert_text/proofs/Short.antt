@@ -38,10 +38,10 @@ use Rattle.cert_text.specs.Mute.{IsMute}
 use Rattle.cert_text.specs.NodeLines.{body_text, kid_body, reason_name, root_body, rule_name}
 use Rattle.cert_text.specs.Writable.{are_near, fits_depth, is_near, is_reason, is_rule}
 use Rattle.capture_prices.specs.Prices.{are_prices}
-use Rattle.cert_text.specs.PriceTexts.{prices_text}
+use Rattle.price_text.specs.PriceTexts.{prices_text}
 use Rattle.cert_text.specs.declared.reasons.Reason.{Reason}
 use Rattle.cert_text.specs.declared.reasons.Reason.TheVariants.{Line, Balance}
-use Rattle.cert_text.proofs.PricesWritten.{prices_short}
+use Rattle.price_text.proofs.PricesWritten.{prices_short}
 use Rattle.cert_text.specs.declared.node_lines.BodyLine.{BodyLine}
 use Rattle.cert_text.specs.declared.node_lines.BodyLine.TheVariants.{Rule, Back, Expand}
 use Rattle.fen_text.proofs.Begun.{begun}

@@ -1,50 +1,25 @@
 -- Potentials and their texts.
 use Rattle.std.proofs.Common.{◌≡◌, ℕ, ◌+◌, ◌<◌, ◌≤◌, ◌==◌, Bool, true, false, cond, not, List, [], ◌∷◌, ◌++◌, length, map, take, set, Option, Some, None, Bor, inl, inr, refl, sym, ap, ◌∙◌, arith, append-nil, append_assoc, length-append, nat_le, take_all}
-use Rattle.std.specs.Prelude.{codes, ℤ, MatchOption, is_some}
+use Rattle.std.specs.Prelude.{codes, ℤ, is_some}
 use Rattle.std.proofs.lemmas.Bool.{and_parts, and_from, cond-true, cond-false, cases_Bool, eq-eqb, eqb-true, le-leb, leb-true, lt-leb, ne_eqb, not-true, not_from_false}
 use Rattle.std.proofs.lemmas.List.{length-map, length-set, take_more_set}
 use Rattle.std.proofs.lemmas.List.Folds.{list_all-append}
-use Rattle.std.proofs.lemmas.List.Splits.{slice_split-cons_no, length-slice_split, join_with_byte-slice_split}
+use Rattle.std.proofs.lemmas.List.Splits.{join_with_byte-slice_split}
 use Rattle.std.proofs.lemmas.Option.{same_Some, option_and_then_some}
 use Rattle.std.proofs.lemmas.Slice.Eq.{bytes_eq-Decides}
 use Rattle.std.specs.Fmt.{signed_decimal}
-use Rattle.std.specs.List.{join_with_byte, list_all, onto_first}
+use Rattle.std.specs.List.{join_with_byte, list_all}
 use Rattle.std.specs.Option.{option_map, option_and_then}
 use Rattle.general_lemmas.proofs.Options.{when}
 use Rattle.board_base.specs.Potentials.{Duals, duals}
 use Rattle.fen_text.specs.Parts.{Free}
-use Rattle.fen_text.proofs.PartLemmas.{free_append}
 use Rattle.fen_text.specs.Numbers.{number}
-use Rattle.cert_text.specs.Arguments.{both_of, columns_of, duals_of, halves, is_slash, potentials_text, rows_of, signed, signed_all, words}
+use Rattle.price_text.specs.Words.{is_slash, words}
+use Rattle.price_text.proofs.WordLemmas.{all_back_words, are_free, joined_free, left, some_words}
+use Rattle.cert_text.specs.Arguments.{both_of, columns_of, duals_of, halves, potentials_text, rows_of, signed, signed_all}
 use Rattle.cert_text.specs.Writable.{are_near, is_near}
 use Rattle.cert_text.proofs.SignedTexts.{signed_back, signed_free, signed_read}
 use Rattle.board_base.proofs.TextLemmas.{mapped_some}
-
--- words
-
-words_at : (word rest : List ℕ) → Free 32 word → words (word ++ 32 ∷ rest) ≡ word ∷ words rest
-words_at [] rest free = refl
-words_at (b ∷ word) rest free =
-    let parts = and_parts (not (b == 32)) _ free in
-    slice_split-cons_no (λ (x : ℕ). x == 32) b (word ++ 32 ∷ rest) (not-true (b == 32) parts.0) ∙ ap (onto_first b) (words_at word rest parts.1)
-
-words_alone : (word : List ℕ) → Free 32 word → words word ≡ word ∷ []
-words_alone [] free = refl
-words_alone (b ∷ word) free =
-    let parts = and_parts (not (b == 32)) _ free in
-    slice_split-cons_no (λ (x : ℕ). x == 32) b word (not-true (b == 32) parts.0) ∙ ap (onto_first b) (words_alone word parts.1)
-
--- what is left behind a word
-abbrev pub left : Option (Bor (List ℕ)) → List (List ℕ)
-left None = []
-left (Some r) = words r.now
-
-pub cut_word : (text word : List ℕ) (after : Option (Bor (List ℕ))) → Free 32 word → MatchOption after (text ≡ word) (λ r. text ≡ word ++ 32 ∷ r.now) → words text ≡ word ∷ left after
-cut_word text word None free e = ap words e ∙ words_alone word free
-cut_word text word (Some r) free e = ap words e ∙ words_at word r.now free
-
-pub some_words : (text : List ℕ) → 1 ≤ length (words text)
-some_words text = omega (arith, length-slice_split (λ (x : ℕ). x == 32) text)
 
 -- lists of numbers
 
@@ -323,22 +298,6 @@ duals_read width text d e =
     option_and_then_some (λ (p : List (List ℕ) × List (List ℕ)). both_of width p.0 p.1) (halves (words text)) d (sym (in_words width text) ∙ e) (λ p is stands.
     both_read width text p.0 p.1 d (halves_read (words text) p is).whole stands)
 
-abbrev pub are_free : ℕ → List (List ℕ) → Bool
-are_free c ws = list_all (λ w. list_all (λ b. not (b == c)) w) ws
-
-words_back : (w : List ℕ) (ws : List (List ℕ)) → are_free 32 (w ∷ ws) ≡ true → words (join_with_byte 32 (w ∷ ws)) ≡ w ∷ ws
-words_back w [] free = words_alone w (and_parts _ _ free).0
-words_back w (v ∷ ws) free =
-    let parts = and_parts _ _ free in
-    words_at w (join_with_byte 32 (v ∷ ws)) parts.0 ∙ ap (λ (l : List (List ℕ)). w ∷ l) (words_back v ws parts.1)
-
-pub joined_free : (ws : List (List ℕ)) → are_free 10 ws ≡ true → Free 10 (join_with_byte 32 ws)
-joined_free [] free = refl
-joined_free (w ∷ []) free = (and_parts _ _ free).0
-joined_free (w ∷ v ∷ ws) free =
-    let parts = and_parts _ _ free in
-    free_append 10 w (32 ∷ join_with_byte 32 (v ∷ ws)) parts.0 (joined_free (v ∷ ws) parts.1)
-
 texts_free : (c : ℕ) (xs : List ℤ) → c < 45 → list_all is_near xs ≡ true → are_free c (map signed_decimal xs) ≡ true
 texts_free c [] low near = refl
 texts_free c (x ∷ xs) low near =
@@ -381,10 +340,6 @@ words_free : (width : ℕ) (c : ℕ) (d : Duals) → c < 45 → AreNear width d 
 words_free width c d low near =
     list_all-append (λ (w : List ℕ). list_all (λ b. not (b == c)) w) (map signed_decimal d.u) (codes "/" ∷ map signed_decimal d.v)
     ∙ and_from _ _ (texts_free c d.u low near.u) (and_from _ _ (and_from _ _ (ap not (ne_eqb 47 c (λ e. omega arith))) refl) (texts_free c d.v low near.v))
-
-pub all_back_words : (ws : List (List ℕ)) → are_free 32 ws ≡ true → 1 ≤ length ws → words (join_with_byte 32 ws) ≡ ws
-all_back_words [] free some = absurd (omega arith)
-all_back_words (w ∷ ws) free some = words_back w ws free
 
 -- the text of potentials stands for them
 pub duals_back : (width : ℕ) (d : Duals) → are_near width d ≡ true → duals_of width (potentials_text d) ≡ Some d

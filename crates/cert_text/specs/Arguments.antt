@@ -1,11 +1,11 @@
 -- What stands behind the names of rules besides sets of squares: potentials.
-use Rattle.std.specs.Prelude.{ℕ, Bool, cond, ◌&&◌, ◌==◌, nat_le, nat_eq, List, [], ◌∷◌, ◌++◌, length, drop, map, codes, ℤ, pos, neg_ℤ, Option, Some, None}
-use Rattle.std.specs.List.{join_with_byte, slice_split, starts_with}
-use Rattle.std.specs.Str.{bytes_eq}
+use Rattle.std.specs.Prelude.{ℕ, cond, ◌&&◌, ◌==◌, nat_le, nat_eq, List, [], ◌∷◌, ◌++◌, length, drop, map, codes, ℤ, pos, neg_ℤ, Option, Some, None}
+use Rattle.std.specs.List.{join_with_byte, starts_with}
 use Rattle.std.specs.Fmt.{signed_decimal}
 use Rattle.std.specs.Option.{option_map, option_and_then}
 use Rattle.board_base.specs.Potentials.{Duals, duals}
 use Rattle.fen_text.specs.Numbers.{number}
+use Rattle.price_text.specs.Words.{is_slash, words}
 
 -- the number, if it is no more than 64
 abbrev pub positive : ℕ → Option ℤ
@@ -19,18 +19,10 @@ negative n = cond (nat_le 1 n && nat_le n 64) (Some (neg_ℤ (pos n))) None
 unfoldable pub signed : List ℕ → Option ℤ
 signed text = cond (starts_with nat_eq text (codes "-")) (option_and_then negative (number (drop 1 text))) (option_and_then positive (number text))
 
--- the words of a text, with one space between two
-abbrev pub words : List ℕ → List (List ℕ)
-words text = slice_split (λ b. b == 32) text
-
 -- the numbers of these words
 abbrev pub signed_all : List (List ℕ) → Option (List ℤ)
 signed_all [] = Some []
 signed_all (w ∷ ws) = option_and_then (λ x. option_map (λ xs. x ∷ xs) (signed_all ws)) (signed w)
-
--- the word between the potentials of rows and of columns
-abbrev pub is_slash : List ℕ → Bool
-is_slash w = bytes_eq w (codes "/")
 
 -- the words before the first / and those behind it
 abbrev pub halves : List (List ℕ) → Option (List (List ℕ) × List (List ℕ))

@@ -3,7 +3,6 @@ pub mod Seen
 pub mod Lines
 pub mod Texts
 pub mod Arguments
-pub mod PriceTexts
 pub mod NodeLines
 pub mod ClaimLines
 pub mod Certificate

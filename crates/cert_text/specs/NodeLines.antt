@@ -15,7 +15,7 @@ use Rattle.fen_text.specs.Numbers.{number}
 use Rattle.fen_text.specs.Parts.{parted}
 use Rattle.fen_text.specs.Sets.{set_of, set_text}
 use Rattle.cert_text.specs.Arguments.{potentials_of, potentials_text}
-use Rattle.cert_text.specs.PriceTexts.{prices_of, prices_text}
+use Rattle.price_text.specs.PriceTexts.{prices_of, prices_text}
 use Rattle.cert_text.specs.declared.reasons.Reason.{Reason}
 use Rattle.cert_text.specs.declared.reasons.Reason.TheVariants.{Line, Balance}
 use Rattle.cert_text.specs.declared.node_lines.BodyLine.{BodyLine}

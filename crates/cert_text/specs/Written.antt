@@ -23,16 +23,6 @@ abbrev pub label_text : Option Unmove → List ℕ
 label_text None = codes "root "
 label_text (Some u) = unmove_text u ++ 32 ∷ []
 
--- words, with a space behind each
-abbrev pub with_spaces_behind : List (List ℕ) → List ℕ
-with_spaces_behind [] = []
-with_spaces_behind (w ∷ ws) = w ++ 32 ∷ with_spaces_behind ws
-
--- words, with a space before each
-abbrev pub with_spaces_before : List (List ℕ) → List ℕ
-with_spaces_before [] = []
-with_spaces_before (w ∷ ws) = 32 ∷ (w ++ with_spaces_before ws)
-
 abbrev mutual
   -- the lines that follow the own line of a node
   pub lines_below : Tree → Lines

@@ -1,14 +1,15 @@
 ghost use Rattle.std.specs.Prelude.{◌≡◌, ◌≤◌, ◌<◌, MatchOption, None, Some};
 ghost use Rattle.fen_text.specs.Numbers.{number};
 ghost use Rattle.board_base.specs.Potentials.{ArePotentials, duals};
-ghost use Rattle.cert_text.specs.Arguments.{columns_of, duals_of, is_slash, negative, positive, potentials_of, signed, words};
+ghost use Rattle.cert_text.specs.Arguments.{columns_of, duals_of, negative, positive, potentials_of, signed};
+ghost use Rattle.price_text.specs.Words.{words};
 ghost use Rattle.fen_text.specs.Sets.{is_whole};
 ghost use Rattle.cert_text.specs.Writable.{are_near};
 
-use crate::lines::is_text;
 use arrayvec::ArrayVec;
 use board_base::{Potentials, Square, SquareSet};
 use fen_text::{read_number, split_part};
+use price_text::is_slash;
 
 fn positive(number: u32) -> Option<i8>
     ensures { result ≡ positive number }
@@ -68,12 +69,6 @@ fn read_columns<const W: usize>(text: &[u8]) -> Option<[i8; W]>
         return None;
     }
     Some(v)
-}
-
-pub(crate) fn is_slash(word: &[u8]) -> bool
-    ensures { result ≡ is_slash word.now }
-{
-    is_text(word, b"/")
 }
 
 /// Reads potentials, those of rows and those of columns: at most so many numbers, a `/`, and so many numbers, from -64 to 64, with a

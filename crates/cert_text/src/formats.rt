@@ -10,10 +10,10 @@ ghost use Rattle.cert_text.specs.declared.node_lines.BodyLine.TheVariants.{Back,
 use crate::arguments::{are_near, is_whole};
 use crate::certificates::Cert;
 use crate::nodes::{Body, Kids, Node};
-use crate::price_reading::are_priced;
 use crate::query_lines::is_known;
 use crate::reasons::Reason;
 use board_base::{Kind, Move, Unmove};
+use price_text::are_priced;
 use query_base::{Claim, Query, RuleLine};
 
 fn can_promote(promo: Option<Kind>) -> bool

@@ -17,8 +17,6 @@ mod line_writing;
 mod lines;
 mod node_lines;
 mod nodes;
-mod price_reading;
-mod price_writing;
 mod query_lines;
 mod query_reading;
 mod reading;

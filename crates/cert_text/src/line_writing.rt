@@ -5,12 +5,12 @@ ghost use Rattle.cert_text.specs.Written.{IsLabel, label_text};
 
 use crate::argument_writing::{push_potentials, push_set};
 use crate::node_lines::{BodyLine, NodeLine};
-use crate::price_writing::push_prices;
 use crate::reasons::Reason;
 use arrayvec::ArrayVec;
 use board_base::{Unmove, write_unmove};
 use fen_text::{push_text, turn_letter};
 use itoa::Buffer;
+use price_text::push_prices;
 use query_base::RuleLine;
 
 fn push_number(number: u32, out: &mut ArrayVec<u8, 256>)

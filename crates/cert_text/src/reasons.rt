@@ -2,10 +2,10 @@ ghost use Rattle.std.specs.Prelude.{◌≡◌};
 ghost use Rattle.cert_text.specs.NodeLines.{balance_of, reason_of};
 
 use crate::node_lines::read_rule;
-use crate::price_reading::read_prices;
 use board_base::SquareSet;
 use capture_prices::Prices;
 use fen_text::{read_set, split_part};
+use price_text::read_prices;
 use query_base::RuleLine;
 
 /// Why no game reaches a query, as one line says it.

@@ -16,6 +16,8 @@ mod lines;
 #[cfg(test)]
 mod notation;
 #[cfg(test)]
+mod sketch_bodies;
+#[cfg(test)]
 mod sketch_lines;
 #[cfg(test)]
 mod written_certificates;

@@ -1,7 +1,8 @@
 use Rattle.std.proofs.Common.{◌≡◌, ◌+◌, set, rules, sym, ap, subst, ◌∙◌, arith, to_z, of_z, w8}
 use Rattle.std.specs.Prelude.{ℤ}
 use Rattle.std.proofs.lemmas.Int.{to_z-of_z}
-use Rattle.cert_text.proofs.WordTexts.{ColumnsSoFar, cut_word, columns_bad, columns_next, columns_over, left}
+use Rattle.price_text.proofs.WordLemmas.{cut_word, left}
+use Rattle.cert_text.proofs.WordTexts.{ColumnsSoFar, columns_bad, columns_next, columns_over}
 use Rattle.cert_text.proofs.arguments.read_columns.Goals as goal
 
 pub returns-in_default-read_signed : goal.returns-in_default-read_signed

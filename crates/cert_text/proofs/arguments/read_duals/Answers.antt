@@ -1,7 +1,8 @@
 use Rattle.std.proofs.Common.{◌≡◌, ◌+◌, ◌++◌, [], List, ℕ, ◌∷◌, Bor, rules, to_z, of_z, w8, sym, ap, subst, ◌∙◌, arith}
 use Rattle.std.specs.Prelude.{ℤ, Option, Some, None}
 use Rattle.std.proofs.lemmas.Int.{to_z-of_z}
-use Rattle.cert_text.proofs.WordTexts.{RowsSoFar, cut_word, left, rows_bad, rows_begun, rows_end, rows_many, rows_next, rows_slash}
+use Rattle.price_text.proofs.WordLemmas.{cut_word, left}
+use Rattle.cert_text.proofs.WordTexts.{RowsSoFar, rows_bad, rows_begun, rows_end, rows_many, rows_next, rows_slash}
 use Rattle.cert_text.proofs.arguments.read_duals.Goals as goal
 
 pub loop-n-init : goal.loop-n-init

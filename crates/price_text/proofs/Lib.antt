@@ -1,0 +1,5 @@
+pub mod WordLemmas
+pub mod PriceTexts
+pub mod PriceWords
+pub mod PricesWritten
+pub mod OneText

@@ -1,0 +1,5 @@
+pub mod Bodies
+pub mod Due
+pub mod Ends
+pub mod Texts
+pub mod Seen

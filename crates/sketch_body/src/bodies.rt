@@ -1,0 +1,84 @@
+ghost use Rattle.std.specs.Prelude.{◌≡◌, [], OnErr, OnOk, map};
+ghost use Rattle.sketch_body.specs.Seen.{item_of, line_of, with_item};
+
+use crate::lines::{SketchItem, SketchLine};
+use arrayvec::ArrayVec;
+use board_base::Memory;
+use capture_prices::Prices;
+use sketch_text::SketchHead;
+use std::alloc::Global;
+use std::marker::Model;
+
+/// What a sketch says, in memory: the exact files, the lines of prices, and those of nodes and of marks.
+#[derive(Drop)]
+pub struct SketchBody {
+    files: ArrayVec<u8, 8>,
+    prices: Vec<Prices>,
+    lines: Vec<SketchLine>,
+}
+
+impl Model for SketchBody {
+    ghost use Rattle.sketch_body.specs.Bodies.{Body};
+
+    ghost Value = { Body };
+
+    ghost use Rattle.std.specs.Prelude.{map};
+    ghost use Rattle.sketch_body.specs.Seen.{line_of};
+
+    ghost view = { λ b. record { files = b.files.items; prices = b.prices.items; lines = map line_of b.lines.items } };
+}
+
+impl SketchBody {
+    /// A sketch with the exact files of this first line, and no other line yet. This takes no memory; `push` takes what it needs from
+    /// `alloc`.
+    pub fn new(alloc: Global, head: &SketchHead) -> SketchBody
+        ensures { result ≡ record { files = head.now.files; prices = []; lines = [] } }
+    {
+        let Ok(files) = ArrayVec::try_from(head.files()) else {
+            unreachable!()
+        };
+        SketchBody {
+            files,
+            prices: Vec::new(alloc),
+            lines: Vec::new(alloc),
+        }
+    }
+
+    /// The numbers of the exact files, from 0 for a to 7 for h.
+    pub fn files(&self) -> &[u8]
+        ensures { result.now ≡ self.now.files }
+    {
+        self.files.as_slice()
+    }
+
+    /// The lines of prices.
+    pub fn prices(&self) -> &[Prices]
+        ensures { result.now ≡ self.now.prices }
+    {
+        self.prices.as_slice()
+    }
+
+    /// The lines of nodes and of marks.
+    pub fn lines(&self) -> &[SketchLine]
+        ensures { map line_of result.now ≡ self.now.lines }
+    {
+        self.lines.as_slice()
+    }
+
+    /// Puts a line after the others. After `Memory` the sketch is unchanged, and the line is dropped.
+    pub fn push(&mut self, item: SketchItem) -> Result<(), Memory>
+        ensures ok { OnOk result (self.new ≡ with_item self.old (item_of item)) }
+        ensures err { OnErr result (self.new ≡ self.old) }
+    {
+        match item {
+            SketchItem::Prices(prices) => match self.prices.push(prices) {
+                Ok(()) => Ok(()),
+                Err(_) => Err(Memory),
+            },
+            SketchItem::Line(line) => match self.lines.push(line) {
+                Ok(()) => Ok(()),
+                Err(_) => Err(Memory),
+            },
+        }
+    }
+}
