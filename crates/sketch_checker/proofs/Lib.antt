@@ -5,3 +5,6 @@ pub mod Sides
 pub mod Going
 pub mod Below
 pub mod Steering
+pub mod OneWalk
+pub mod Held
+pub mod LinesWalked

@@ -1,6 +1,9 @@
+pub mod DueNodes
 pub mod Beginning
 pub mod Walks
 pub mod Placed
+pub mod TreeWalk
+pub mod LineWalk
 pub mod Roots
 pub mod Able
 pub mod Dues
