@@ -29,7 +29,7 @@ lines-still (m ∷ ms) S some = lines-still ms (marked_with m.figures S) (marked
 no-fault : (n m : ℕ) (w : Wrong) → next_line m ≡ fault_at n w → ⊥
 no-fault n m w e = cc
 
-so-told : (P Rest : Type 0) (n m : ℕ) (w : Wrong) → IfSo P n w (next_line m) Rest → P × Rest
+pub so-told : (P Rest : Type 0) (n m : ℕ) (w : Wrong) → IfSo P n w (next_line m) Rest → P × Rest
 so-told P Rest n m w (inl x) = absurd (no-fault n m w x.1)
 so-told P Rest n m w (inr x) = x
 

@@ -8,3 +8,5 @@ pub mod Steering
 pub mod OneWalk
 pub mod Held
 pub mod LinesWalked
+pub mod Rooted
+pub mod Supporting

@@ -13,7 +13,7 @@ use Rattle.sketch_checker.specs.DueNodes.{Due, case_due, due_of}
 use Rattle.sketch_checker.specs.TreeWalk.{IfSo, IsBefore, Onwards, Walked, Walks, WalksBelow, WalksEach, WalksMarks, Wrong, fault_at, next_line}
 use Rattle.sketch_checker.proofs.Below.{first-one}
 
-one-if : (P : Type 0) (n : ℕ) (w : Wrong) (a b : Walked) (A B : Type 0) → (A → B → a ≡ b) → IfSo P n w a A → IfSo P n w b B → a ≡ b
+pub one-if : (P : Type 0) (n : ℕ) (w : Wrong) (a b : Walked) (A B : Type 0) → (A → B → a ≡ b) → IfSo P n w a A → IfSo P n w b B → a ≡ b
 one-if P n w a b A B rest (inl x) (inl y) = x.1 ∙ sym y.1
 one-if P n w a b A B rest (inl x) (inr y) = absurd (x.0 y.0)
 one-if P n w a b A B rest (inr x) (inl y) = absurd (y.0 x.0)

@@ -5,6 +5,7 @@ pub mod Placed
 pub mod TreeWalk
 pub mod LineWalk
 pub mod Roots
+pub mod Supports
 pub mod Able
 pub mod Dues
 pub mod Steering
