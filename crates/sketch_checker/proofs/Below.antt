@@ -19,11 +19,11 @@ use Rattle.sketch_text.specs.Trees.{Line}
 use Rattle.sketch_proof.specs.Proofs.{AtLine, Setting}
 use Rattle.sketch_checker.specs.Able.{IsAble}
 use Rattle.sketch_checker.specs.Walks.{Completes, CompletesOpened, Frame}
-use Rattle.sketch_checker.specs.Dues.{cases_from, due_of}
 use Rattle.sketch_checker.specs.Steering.{AreAble, IsBelow, IsLineAt, read}
 use Rattle.sketch_checker.proofs.Completing.{frame}
 use Rattle.sketch_checker.proofs.Ending.{closed-tells, closed-told, split-tells, split-told, steps-tells, steps-told, void-tells, void-told}
 use Rattle.sketch_checker.proofs.Going.{begins-above, can-step, earlier-able, known-able}
+use Rattle.sketch_checker.specs.DueNodes.{cases_from, due_of}
 
 -- VOID AND CLOSED
 
@@ -94,7 +94,7 @@ steps-can g S T able least = can-step g.odds T (begins-above g.odds g.held g.exa
 
 -- CASES
 
-first-one : (S : Sketch) (s i j : ℕ) → IsFirstUnknown S s i → IsFirstUnknown S s j → i ≡ j
+pub first-one : (S : Sketch) (s i j : ℕ) → IsFirstUnknown S s i → IsFirstUnknown S s j → i ≡ j
 first-one S s i j a b = elim (cases_Bool (nat_lt i j)) [
   | inl less ↦ absurd (b.first i (ltb-true i j less) a.there)
   | inr no_ ↦

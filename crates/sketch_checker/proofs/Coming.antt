@@ -7,10 +7,11 @@ use Rattle.sketch_text.specs.Marks.{Marks}
 use Rattle.sketch_text.specs.declared.nodes.SketchNode.{SketchNode}
 use Rattle.sketch_text.specs.Trees.{Line, Nodes, Reason, closed, count, end_of, height_below, height_each, lines_below, more, none, of_marks, of_node, split, steps, void}
 use Rattle.sketch_proof.specs.Proofs.{Setting}
-use Rattle.sketch_checker.specs.Walks.{Completes, CompletesOpened, Due, Frame, FinishesAt, Opened}
+use Rattle.sketch_checker.specs.Walks.{Completes, CompletesOpened, Frame, FinishesAt, Opened}
 use Rattle.sketch_checker.specs.Placed.{IsNext, announced_by, may_come}
 use Rattle.sketch_checker.specs.Steering.{IsReady}
 use Rattle.sketch_checker.proofs.Completing.{frame, node-due, node-told, none-due}
+use Rattle.sketch_checker.specs.DueNodes.{Due}
 
 -- behind a node with more below it some nodes are lower
 below-some : (ns : Nodes) → 0 < count ns → 0 < height_each ns

@@ -8,7 +8,8 @@ use Rattle.sketch_text.specs.declared.nodes.End.{End}
 use Rattle.sketch_text.specs.declared.nodes.SketchNode.{SketchNode}
 use Rattle.sketch_text.specs.Trees.{Line, Node, Nodes, count, end_of, height, height_each, lines_below, lines_each, lines_of, more, node, none, of_marks, of_node}
 use Rattle.sketch_proof.specs.Proofs.{AreAllForced, AreForced, Ends, Holds, Setting, with_lines}
-use Rattle.sketch_checker.specs.Walks.{AreDue, Completes, CompletesOpened, Due, Frame, Opened}
+use Rattle.sketch_checker.specs.Walks.{AreDue, Completes, CompletesOpened, Frame, Opened}
+use Rattle.sketch_checker.specs.DueNodes.{Due}
 
 abbrev pub frame : ℕ → ℕ → List Due → Frame
 frame k n ds = record { line = k; announced = n; due = ds }

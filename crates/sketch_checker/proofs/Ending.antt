@@ -12,9 +12,9 @@ use Rattle.sketch_text.specs.declared.nodes.End.TheVariants.{Void, Closed, Steps
 use Rattle.sketch_text.specs.Trees.{Line, Nodes, Reason, closed, count, end_of, height_below, height_each, lines_below, lines_each, lines_of, more, none, of_marks, split, steps, void}
 use Rattle.sketch_proof.specs.Proofs.{AtLine, Ends, HoldEach, Setting, with_lines}
 use Rattle.sketch_checker.specs.Walks.{AreDue, Completes, CompletesOpened, Frame}
-use Rattle.sketch_checker.specs.Dues.{cases_from, due_of}
 use Rattle.sketch_checker.specs.Steering.{read}
 use Rattle.sketch_checker.proofs.Completing.{frame}
+use Rattle.sketch_checker.specs.DueNodes.{cases_from, due_of}
 
 module _ (g : Setting) (l j : ℕ) (S : Sketch) (fs : List Frame) (lines : List Line) where
   -- what is left when all marks are read

@@ -208,7 +208,7 @@ either-squares : (b : Bool) (f g : Figure) (l : List Bool) → f.squares ≡ l �
 either-squares true f g l first second = first
 either-squares false f g l first second = second
 
-marked-still : (numbers : List ℕ) (S : Sketch) → list_any is_nowhere (marked_with numbers S) ≡ list_any is_nowhere S
+pub marked-still : (numbers : List ℕ) (S : Sketch) → list_any is_nowhere (marked_with numbers S) ≡ list_any is_nowhere S
 unfolding marked_with
 marked-still numbers S =
     somewhere-each (λ i f. cond (list_any (λ n. n == i + 1) numbers) (record f { marked = true }) f) 0 S
@@ -217,7 +217,7 @@ marked-still numbers S =
 pub marked-able : (o : List Bool) (numbers : List ℕ) (S : Sketch) → IsAble o S → IsAble o (marked_with numbers S)
 marked-able o numbers S it = record { room = marked-begins o numbers S it.room; somewhere = marked-still numbers S ∙ it.somewhere }
 
-known-still : (i : ℕ) (k : Kind) (S : Sketch) → list_any is_nowhere (known_at i k S) ≡ list_any is_nowhere S
+pub known-still : (i : ℕ) (k : Kind) (S : Sketch) → list_any is_nowhere (known_at i k S) ≡ list_any is_nowhere S
 unfolding known_at
 known-still i k S =
     somewhere-each (λ n f. cond (n == i) (record f { kinds = k ∷ [] }) f) 0 S
@@ -245,3 +245,17 @@ unfolding earlier
 earlier-able o exact T e it there =
     let x = flat_map-contains (λ i. steps_by o exact T i (figure_at T i)) (range_with_len 0 (length T)) e there in
     steps-able o exact T x.0 (figure_at T x.0) e it x.2
+
+steps-somewhere : (o exact : List Bool) (T : Sketch) (i : ℕ) (f : Option Figure) (e : Earlier) → Contains (steps_by o exact T i f) e → list_any is_nowhere e.sketch ≡ false
+unfolding steps_by
+steps-somewhere o exact T i None e there = absurd (contains-none e there)
+steps-somewhere o exact T i (Some f) e there =
+    let x = map-contains (earlier_by T f) (filter (is_open o exact T f) (flat_map (ways_to T i f) (range_with_len 0 64))) e there in
+    let y = filter-contains (is_open o exact T f) (flat_map (ways_to T i f) (range_with_len 0 64)) x.0 x.1 in
+    subst (λ (d : Earlier). list_any is_nowhere d.sketch ≡ false) x.2 (open-somewhere o exact T f x.0 y.1)
+
+pub earlier-somewhere : (o exact : List Bool) (T : Sketch) (e : Earlier) → Contains (earlier o exact T) e → list_any is_nowhere e.sketch ≡ false
+unfolding earlier
+earlier-somewhere o exact T e there =
+    let x = flat_map-contains (λ i. steps_by o exact T i (figure_at T i)) (range_with_len 0 (length T)) e there in
+    steps-somewhere o exact T x.0 (figure_at T x.0) e x.2

@@ -5,3 +5,8 @@ pub mod Sides
 pub mod Going
 pub mod Below
 pub mod Steering
+pub mod OneWalk
+pub mod Held
+pub mod LinesWalked
+pub mod Rooted
+pub mod Supporting

@@ -11,7 +11,7 @@ use Rattle.past_sketches.specs.Figures.{Sketch}
 use Rattle.sketch_text.specs.declared.labels.Label.TheVariants.{Now}
 use Rattle.sketch_text.specs.Trees.{Line, lines_below, lines_of, more, none, of_marks, of_node}
 use Rattle.sketch_proof.specs.Proofs.{AreForced, Proves, Setting}
-use Rattle.sketch_checker.specs.Walks.{Completes, CompletesOpened, Due, Frame, FinishesAt, Opened}
+use Rattle.sketch_checker.specs.Walks.{Completes, CompletesOpened, Frame, FinishesAt, Opened}
 use Rattle.sketch_node.specs.Nodes.{IsMarkable, marked_with}
 use Rattle.sketch_checker.specs.Placed.{IsNext, announced_by}
 use Rattle.sketch_checker.specs.Steering.{AllAble, IsLineAt, IsOpen, IsReady, is_over, read}
@@ -20,6 +20,7 @@ use Rattle.sketch_checker.proofs.Coming.{other-label, over, too-deep}
 use Rattle.sketch_checker.proofs.Going.{begins-able}
 use Rattle.sketch_checker.specs.Beginning.{CanBegin}
 use Rattle.sketch_checker.proofs.Below.{at-line, line-at, no-line}
+use Rattle.sketch_checker.specs.DueNodes.{Due}
 
 -- nothing can come below a frame below whose node nothing is due
 pub stopped : (g : Setting) (fs : List Frame) (lines : List Line) → fs ≡ frame 0 1 [] ∷ [] → Completes g fs lines → ⊥

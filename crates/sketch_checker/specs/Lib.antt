@@ -1,7 +1,11 @@
+pub mod DueNodes
 pub mod Beginning
 pub mod Walks
 pub mod Placed
+pub mod TreeWalk
+pub mod LineWalk
 pub mod Roots
+pub mod Supports
 pub mod Able
 pub mod Dues
 pub mod Steering

@@ -4,7 +4,8 @@ use Rattle.sketch_text.specs.declared.labels.Label.{Label}
 use Rattle.sketch_text.specs.declared.nodes.End.{End}
 use Rattle.sketch_text.specs.declared.nodes.End.TheVariants.{Void, Closed, Steps, Split}
 use Rattle.sketch_text.specs.Trees.{Line, of_marks, of_node}
-use Rattle.sketch_checker.specs.Walks.{Due, Frame, Opened, Walk}
+use Rattle.sketch_checker.specs.DueNodes.{Due}
+use Rattle.sketch_checker.specs.Walks.{Frame, Opened, Walk}
 use Rattle.sketch_checker.specs.declared.faults.SketchFault.{SketchFault}
 use Rattle.sketch_checker.specs.declared.faults.SketchFault.TheVariants.{Misplaced, Stray, Unsupported}
 use Rattle.sketch_checker.specs.declared.lines.SketchLine.{SketchLine}
@@ -52,7 +53,7 @@ IsPlaced w l = IsPlacedAt w.opened w.frames l
 -- the word of the fault is that for this line: misplaced, where none like it may come; stray, where its label is another
 abbrev pub IsWordAt : Option Opened → List Frame → Line → SketchFault → Type 0
 IsWordAt o fs l Misplaced = may_come o fs l ≡ false
-IsWordAt o fs l Stray = IsStrayAt o fs l
+IsWordAt o fs l (Stray n) = IsStrayAt o fs l
 IsWordAt o fs l (Unsupported n) = IsPlacedAt o fs l
 
 abbrev pub IsWordFor : Walk → Line → SketchFault → Type 0

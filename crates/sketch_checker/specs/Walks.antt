@@ -2,15 +2,10 @@
 use Rattle.std.specs.Prelude.{ℕ, ◌≡◌, ◌+◌, ◌≤◌, List, [], ◌∷◌, ◌++◌, length, map, Option, Some, None}
 use Rattle.past_sketches.specs.Figures.{Sketch}
 use Rattle.sketch_text.specs.Marks.{Marks}
-use Rattle.sketch_text.specs.declared.labels.Label.{Label}
 use Rattle.sketch_text.specs.declared.nodes.End.{End}
 use Rattle.sketch_text.specs.Trees.{Line, Nodes, Reason, count, end_of, height_below, height_each, lines_below, lines_each, more, none, of_marks}
 use Rattle.sketch_proof.specs.Proofs.{AreAllForced, Ends, Holds, Setting, with_lines}
-
--- a node that is due: its label, and the sketch to which no game may come
-pub record Due : Type 0 where
-  pub label : Label
-  pub sketch : Sketch
+use Rattle.sketch_checker.specs.DueNodes.{Due}
 
 -- below the node on this line: how many nodes it announced that are still to come, and those that are due
 pub record Frame : Type 0 where

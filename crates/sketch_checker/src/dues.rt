@@ -1,6 +1,7 @@
 ghost use Rattle.std.specs.Prelude.{◌≡◌};
 ghost use Rattle.sketch_proof.specs.Labelled.{label_for, way_for};
-ghost use Rattle.sketch_checker.specs.Dues.{IsFirstOf, due_by, kind_of};
+ghost use Rattle.sketch_checker.specs.DueNodes.{kind_of};
+ghost use Rattle.sketch_checker.specs.Dues.{IsFirstOf, due_by};
 
 use board_base::Kind;
 use figures::Sketch;
@@ -19,7 +20,7 @@ pub struct Due {
 }
 
 impl Model for Due {
-    ghost use Rattle.sketch_checker.specs.Walks.{Due as ADue};
+    ghost use Rattle.sketch_checker.specs.DueNodes.{Due as ADue};
 
     ghost Value = { ADue };
 

@@ -1,10 +1,11 @@
-ghost use Rattle.std.specs.Prelude.{◌↔◌, ◌<◌, Bool, IfErr, IfOk, IsTrue, List, OnErr, OnOk, Some, length};
+ghost use Rattle.std.specs.Prelude.{◌↔◌, ◌<◌, Bool, IfErr, IfOk, IsTrue, List, None, OnErr, OnOk, Some, length};
 ghost use Rattle.sketch_account.specs.Basis.{IsClosedAt};
 ghost use Rattle.sketch_text.specs.Trees.{Line as ALine};
 ghost use Rattle.sketch_proof.specs.Proofs.{AtLine, Setting as ASetting};
 ghost use Rattle.sketch_checker.specs.Able.{IsAble};
+ghost use Rattle.sketch_checker.specs.LineWalk.{IsAfter, OnEnd};
 ghost use Rattle.sketch_checker.specs.Placed.{announced_by};
-ghost use Rattle.sketch_checker.specs.Steering.{AllAble, AreAble, AreAbleBelow, IsBelow, IsOfEnd, IsOpen, read};
+ghost use Rattle.sketch_checker.specs.Steering.{AllAble, AreAble, AreAbleBelow, EndsNot, EndsWith, IsBelow, IsOfEnd, IsOpen, read};
 ghost use Rattle.sketch_checker.specs.Walks.{Completes, CompletesOpened, Frame as AFrame};
 
 use crate::dues::{Cases, Left};
@@ -37,6 +38,8 @@ fn below_steps(
 ) -> Result<Frame, SketchFault>
     requires { IsAble setting.now.odds sketch.now }
     ensures frame { IfOk result (λ f. IsBelow setting.now (read line (End.Steps count) sketch.now) (Some f)) }
+    ensures ended { IfOk result (λ f. EndsWith setting.now (End.Steps count) sketch.now line (Some f)) }
+    ensures stopped { IfErr result (EndsNot setting.now (End.Steps count) sketch.now line) }
     ensures able { IfOk result (λ f. AreAble setting.now.odds f.due) }
     ensures fault { IfErr result IsOfEnd }
     ensures refused { OnErr result ((fs : List AFrame) (lines : List ALine) → CompletesOpened setting.now (read line (End.Steps count) sketch.now) fs lines → ⊥) }
@@ -57,6 +60,8 @@ fn below_steps(
 /// What is below the node on this line, if the cases of the man on the square follow.
 fn below_split(line: u32, square: Square, sketch: &Sketch) -> Result<Frame, SketchFault>
     ensures frame { IfOk result (λ f. (g : ASetting) → IsBelow g (read line (End.Split square) sketch.now) (Some f)) }
+    ensures ended { IfOk result (λ f. (g : ASetting) → EndsWith g (End.Split square) sketch.now line (Some f)) }
+    ensures stopped { IfErr result (λ f. (g : ASetting) → EndsNot g (End.Split square) sketch.now line f) }
     ensures able { IfOk result (λ f. (o : List Bool) → IsAble o sketch.now → AreAble o f.due) }
     ensures fault { IfErr result IsOfEnd }
     ensures refused { OnErr result ((g : ASetting) (fs : List AFrame) (lines : List ALine) → CompletesOpened g (read line (End.Split square) sketch.now) fs lines → ⊥) }
@@ -84,6 +89,8 @@ fn below(
 ) -> Result<Option<Frame>, SketchFault>
     requires { IsAble setting.now.odds sketch.now }
     ensures frame { IfOk result (IsBelow setting.now (read line end sketch.now)) }
+    ensures ended { IfOk result (EndsWith setting.now end sketch.now line) }
+    ensures stopped { IfErr result (EndsNot setting.now end sketch.now line) }
     ensures able { IfOk result (AreAbleBelow setting.now.odds) }
     ensures fault { IfErr result IsOfEnd }
     ensures refused { OnErr result ((fs : List AFrame) (lines : List ALine) → CompletesOpened setting.now (read line end sketch.now) fs lines → ⊥) }
@@ -125,6 +132,7 @@ pub(crate) fn close(
     requires room { 0 < announced_by end → length frames.old < 65 }
     requires begins { IsAble setting.now.odds sketch.now }
     ensures done { OnOk result ((lines : List ALine) → Completes setting.now frames.new lines ↔ CompletesOpened setting.now (read line end sketch.now) frames.old lines) }
+    ensures ended { IsAfter result None frames.new (OnEnd end setting.now sketch.now line frames.old) }
     ensures open { OnOk result (IsOpen frames.new) }
     ensures able { OnOk result (AllAble setting.now.odds frames.old → AllAble setting.now.odds frames.new) }
     ensures fault { IfErr result IsOfEnd }

@@ -1,8 +1,11 @@
 /// Why a line is refused.
 #[derive(Clone, Copy, PartialEq, Eq, Debug)]
 pub enum SketchFault {
-    /// The label isn't that of the next step or case, or no more is left.
-    Stray,
+    /// On this line the label isn't that of the next step or case, or no more is left.
+    Stray {
+        /// The number of the line.
+        line: u32,
+    },
     /// On this line a mark isn't forced, or the end of a node isn't so, or more steps are left behind the last node that it announced.
     Unsupported {
         /// The number of the line.

@@ -1,6 +1,7 @@
-ghost use Rattle.std.specs.Prelude.{◌≡◌, ◌↔◌, ◌<◌, ◌≤◌, ◌∷◌, [], Bool, IfErr, IsTrue, List, MatchOption, OnErr, OnOk, length, reverse};
+ghost use Rattle.std.specs.Prelude.{◌≡◌, ◌↔◌, ◌<◌, ◌≤◌, ◌∷◌, [], Bool, IfErr, IsTrue, List, MatchOption, None, OnErr, OnOk, length, reverse};
 ghost use Rattle.sketch_text.specs.Trees.{Line as ALine};
 ghost use Rattle.sketch_proof.specs.Proofs.{Setting as ASetting};
+ghost use Rattle.sketch_checker.specs.LineWalk.{IsAfter, ended};
 ghost use Rattle.sketch_checker.specs.Steering.{AllAble, IsOfEnd, IsOpen};
 ghost use Rattle.sketch_checker.specs.Walks.{Completes};
 
@@ -132,6 +133,7 @@ fn end_frame(frame: Frame) -> Result<(), SketchFault>
 
 /// Takes off the frames that have no node to come, up to the first that has one. Nothing may be left below them.
 pub(crate) fn settle(frames: &mut Frames) -> Result<(), SketchFault>
+    ensures ended { IsAfter result None frames.new (λ w. w ≡ ended frames.old) }
     ensures done { OnOk result ((g : ASetting) (lines : List ALine) → Completes g frames.new lines ↔ Completes g frames.old lines) }
     ensures open { OnOk result (IsOpen frames.new) }
     ensures able { OnOk result ((o : List Bool) → AllAble o frames.old → AllAble o frames.new) }
@@ -151,6 +153,7 @@ pub(crate) fn settle(frames: &mut Frames) -> Result<(), SketchFault>
 /// Goes below a node with this frame.
 pub(crate) fn go_below(frames: &mut Frames, frame: Frame) -> Result<(), SketchFault>
     requires { 0 < frame.announced → length frames.old < 65 }
+    ensures ended { IsAfter result None frames.new (λ w. w ≡ ended (frame ∷ frames.old)) }
     ensures done { OnOk result ((g : ASetting) (lines : List ALine) → Completes g frames.new lines ↔ Completes g (frame ∷ frames.old) lines) }
     ensures open { OnOk result (IsOpen frames.new) }
     ensures able { OnOk result ((o : List Bool) → AllAble o (frame ∷ frames.old) → AllAble o frames.new) }

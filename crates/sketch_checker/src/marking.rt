@@ -1,6 +1,9 @@
-ghost use Rattle.std.specs.Prelude.{◌≡◌, ◌↔◌, ◌<◌, ◌∷◌, Bool, IfErr, IfOk, List, OnErr};
+ghost use Rattle.std.specs.Prelude.{◌≡◌, ◌↔◌, ◌<◌, ◌∷◌, Bool, IfErr, IfOk, List, OnErr, Some};
 ghost use Rattle.sketch_text.specs.Trees.{Line as ALine, of_marks};
 ghost use Rattle.sketch_checker.specs.Able.{IsAble};
+ghost use Rattle.sketch_checker.specs.LineWalk.{OnLine, stopped};
+ghost use Rattle.sketch_checker.specs.Steering.{OpensAs};
+ghost use Rattle.sketch_checker.specs.TreeWalk.{unsupported};
 ghost use Rattle.sketch_checker.specs.Walks.{CompletesOpened, Frame as AFrame};
 
 use crate::faults::SketchFault;
@@ -21,6 +24,8 @@ pub(crate) fn mark(
     ensures kept { IfOk result (λ o. o.end ≡ opened.now.end) }
     ensures able { IfOk result (λ x. (o : List Bool) → IsAble o opened.now.sketch → IsAble o x.sketch) }
     ensures fault { IfErr result (λ f. f ≡ SketchFault.Unsupported number) }
+    ensures line { IfOk result (λ o. (fs : List AFrame) → OpensAs setting.now o fs (OnLine setting.now (Some opened.now) fs number (of_marks marks.now))) }
+    ensures stopped { OnErr result ((fs : List AFrame) → OnLine setting.now (Some opened.now) fs number (of_marks marks.now) (stopped number unsupported)) }
     ensures refused { OnErr result ((fs : List AFrame) (lines : List ALine) → CompletesOpened setting.now opened.now fs (of_marks marks.now ∷ lines) → ⊥) }
 {
     let fault = SketchFault::Unsupported { line: number };

@@ -3,8 +3,10 @@ ghost use Rattle.sketch_text.specs.Trees.{Line as ALine, of_node};
 ghost use Rattle.sketch_proof.specs.Proofs.{Setting as ASetting};
 ghost use Rattle.sketch_checker.specs.Able.{IsAble};
 ghost use Rattle.sketch_checker.specs.Dues.{due_by};
+ghost use Rattle.sketch_checker.specs.LineWalk.{IsStop, OnLine, OnNode, stopped};
 ghost use Rattle.sketch_checker.specs.Placed.{IsNext, IsPlacedAt, IsWordAt, announced_by};
-ghost use Rattle.sketch_checker.specs.Steering.{AllAble, IsOpen};
+ghost use Rattle.sketch_checker.specs.Steering.{AllAble, IsOpen, OpensAs};
+ghost use Rattle.sketch_checker.specs.TreeWalk.{stray};
 ghost use Rattle.sketch_checker.specs.Walks.{Completes, CompletesOpened};
 
 use crate::dues::{Due, Left, next_due};
@@ -50,10 +52,10 @@ fn is_same(one: Label, other: Label) -> bool
     one == other
 }
 
-/// The node that is due first, if it has this label, and the others.
-fn labelled(left: Left, label: Label) -> Result<(Due, Left), SketchFault>
+/// The node that is due first, if it has the label of this line, and the others.
+fn labelled(left: Left, number: u32, label: Label) -> Result<(Due, Left), SketchFault>
     ensures found { IfOk result (λ r. (due_by left ≡ r.0 ∷ due_by r.1) × (label ≡ r.0.label)) }
-    ensures stray { IfErr result (λ f. (f ≡ SketchFault.Stray) × (IsNext (due_by left) label → ⊥)) }
+    ensures stray { IfErr result (λ f. (f ≡ SketchFault.Stray number) × (IsNext (due_by left) label → ⊥)) }
 {
     let (first, others) = next_due(left);
     match first {
@@ -61,10 +63,10 @@ fn labelled(left: Left, label: Label) -> Result<(Due, Left), SketchFault>
             if is_same(label, due.label) {
                 Ok((due, others))
             } else {
-                Err(SketchFault::Stray)
+                Err(SketchFault::Stray { line: number })
             }
         }
-        None => Err(SketchFault::Stray),
+        None => Err(SketchFault::Stray { line: number }),
     }
 }
 
@@ -90,12 +92,14 @@ fn open_below(
     ensures deep { OnOk result (length frames.new ≡ length frames.old + 1) }
     ensures able { IfOk result (λ x. (o : List Bool) → AllAble o (frame ∷ frames.old) → IsAble o x.sketch × AllAble o frames.new) }
     ensures due { OnOk result (IsNext frame.due node.label) }
-    ensures stray { IfErr result (λ f. (f ≡ SketchFault.Stray) × (IsNext frame.due node.label → ⊥)) }
+    ensures stray { IfErr result (λ f. (f ≡ SketchFault.Stray number) × (IsNext frame.due node.label → ⊥)) }
+    ensures node { IfOk result (λ o. (g : ASetting) → OpensAs g o frames.new (OnNode frame.due g frame frames.old number node)) }
+    ensures stopped { OnErr result ((g : ASetting) → OnNode frame.due g frame frames.old number node (stopped number stray)) }
     ensures refused { OnErr result ((g : ASetting) (lines : List ALine) → Completes g (frame ∷ frames.old) (of_node node ∷ lines) → ⊥) }
 {
     let line = frame.line;
     let announced = frame.announced;
-    match labelled(frame.left, node.label) {
+    match labelled(frame.left, number, node.label) {
         Ok((due, left)) => {
             frames.push(Frame {
                 line,
@@ -125,6 +129,8 @@ pub(crate) fn open(
     ensures able { IfOk result (λ x. (o : List Bool) → AllAble o frames.old → IsAble o x.sketch × AllAble o frames.new) }
     ensures placed { OnOk result (IsPlacedAt None frames.old (of_node node)) }
     ensures word { IfErr result (IsWordAt None frames.old (of_node node)) }
+    ensures line { IfOk result (λ o. (g : ASetting) → OpensAs g o frames.new (OnLine g None frames.old number (of_node node))) }
+    ensures stopped { IfErr result (λ f. (g : ASetting) → IsStop f (OnLine g None frames.old number (of_node node))) }
     ensures refused { OnErr result ((g : ASetting) (lines : List ALine) → Completes g frames.old (of_node node ∷ lines) → ⊥) }
 {
     if is_too_deep(frames, node.end) {

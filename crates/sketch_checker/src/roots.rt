@@ -2,6 +2,8 @@ ghost use Rattle.std.specs.Prelude.{◌↔◌, ◌≤◌, IsTrue};
 ghost use Rattle.board_base.specs.Board.{array_of};
 ghost use Rattle.men_account.specs.Account.{is_any};
 ghost use Rattle.men_account.specs.Homes.{men_of};
+ghost use Rattle.past_sketches.specs.Figures.{sketch_of};
+ghost use Rattle.sketch_checker.specs.Beginning.{CanBegin};
 ghost use Rattle.sketch_checker.specs.Roots.{IsRoot};
 
 use board_base::{Board, Colour, Odds, array_of};
@@ -16,9 +18,10 @@ fn has_few(board: &Board, odds: Odds, side: Colour) -> bool
 }
 
 /// Whether sketches may be asked about the board: each side has one king, and no more men than in the array at these odds, and no pawn stands
-/// on rank 1 or 8. A walk doesn't ask it.
+/// on rank 1 or 8. Then a walk can begin with the board's sketch.
 pub fn is_root(board: &Board, odds: Odds) -> bool
-    ensures { IsTrue result ↔ IsRoot odds board.now }
+    ensures root { IsTrue result ↔ IsRoot odds board.now }
+    ensures begins { IsTrue result → CanBegin odds (sketch_of board.now) }
 {
     if !has_one_king_each(board) {
         return false;

@@ -1,10 +1,11 @@
-ghost use Rattle.std.specs.Prelude.{◌≡◌, ◌↔◌, ◌<◌, ◌∷◌, [], IfErr, IfOk, IfSome, IsSome, IsTrue, List, OnErr, OnOk, length};
+ghost use Rattle.std.specs.Prelude.{◌≡◌, ◌↔◌, ◌<◌, ◌∷◌, [], IfErr, IfOk, IfSome, IsSome, IsTrue, List, None, OnErr, OnOk, length};
 ghost use Rattle.sketch_text.specs.Trees.{Line as ALine};
 ghost use Rattle.sketch_proof.specs.Proofs.{Proves};
 ghost use Rattle.sketch_checker.specs.Able.{IsAble};
 ghost use Rattle.sketch_checker.specs.Beginning.{CanBegin};
+ghost use Rattle.sketch_checker.specs.LineWalk.{IsAfter, IsStop, OnLine, OnOpened, begun, going};
 ghost use Rattle.sketch_checker.specs.Placed.{IsPlaced, IsPlacedAt, IsWordAt, IsWordFor, announced_by, of_line};
-ghost use Rattle.sketch_checker.specs.Steering.{AllAble, IsOfEnd, IsReady, is_over};
+ghost use Rattle.sketch_checker.specs.Steering.{AllAble, IsOfEnd, IsReady, OpensAs, is_over};
 ghost use Rattle.sketch_checker.specs.Walks.{CompletesOpened, Finishes, FinishesAt};
 
 use crate::beginning::can_begin;
@@ -54,6 +55,8 @@ fn opened_by(
     ensures able { IfOk result (λ o. IsAble setting.now.odds o.sketch × AllAble setting.now.odds frames.new) }
     ensures placed { OnOk result (IsPlacedAt opened frames.old (of_line line.now)) }
     ensures word { IfErr result (IsWordAt opened frames.old (of_line line.now)) }
+    ensures line { IfOk result (λ o. OpensAs setting.now o frames.new (OnLine setting.now opened frames.old number (of_line line.now))) }
+    ensures stopped { IfErr result (λ f. IsStop f (OnLine setting.now opened frames.old number (of_line line.now))) }
     ensures refused { OnErr result ((lines : List ALine) → FinishesAt setting.now opened frames.old (of_line line.now ∷ lines) → ⊥) }
 {
     match opened {
@@ -79,6 +82,8 @@ fn go_on(
     requires able { AllAble setting.now.odds frames.old }
     ensures done { IfOk result (λ next. (lines : List ALine) → FinishesAt setting.now next frames.new lines ↔ CompletesOpened setting.now opened frames.old lines) }
     ensures ready { IfOk result (λ next. IsReady setting.now.odds next frames.new) }
+    ensures line { IfOk result (λ next. OnOpened opened.marks setting.now opened frames.old (going next frames.new)) }
+    ensures stopped { IfErr result (λ f. IsStop f (OnOpened opened.marks setting.now opened frames.old)) }
     ensures fault { IfErr result IsOfEnd }
     ensures refused { OnErr result ((lines : List ALine) → CompletesOpened setting.now opened frames.old lines → ⊥) }
 {
@@ -100,6 +105,8 @@ fn take_line(
     requires { IsReady setting.now.odds opened frames.old }
     ensures done { IfOk result (λ next. (lines : List ALine) → FinishesAt setting.now next frames.new lines ↔ FinishesAt setting.now opened frames.old (of_line line.now ∷ lines)) }
     ensures ready { IfOk result (λ next. IsReady setting.now.odds next frames.new) }
+    ensures line { IfOk result (λ next. OnLine setting.now opened frames.old number (of_line line.now) (going next frames.new)) }
+    ensures stopped { IfErr result (λ f. IsStop f (OnLine setting.now opened frames.old number (of_line line.now))) }
     ensures placed { OnOk result (IsPlacedAt opened frames.old (of_line line.now)) }
     ensures word { IfErr result (IsWordAt opened frames.old (of_line line.now)) }
     ensures refused { OnErr result ((lines : List ALine) → FinishesAt setting.now opened frames.old (of_line line.now ∷ lines) → ⊥) }
@@ -124,6 +131,7 @@ impl SketchWalk {
     pub fn new(setting: SketchSetting, sketch: Sketch) -> Option<SketchWalk>
         ensures begun { IsSome result ↔ CanBegin setting.odds sketch }
         ensures walk { IfSome result (λ w. (lines : List ALine) → Finishes w lines ↔ Proves setting sketch lines) }
+        ensures first { IfSome result (λ w. (w.setting ≡ setting) × (going w.opened w.frames ≡ begun sketch)) }
     {
         if !can_begin(setting.odds, &sketch) {
             return None;
@@ -143,7 +151,8 @@ impl SketchWalk {
 
     /// Whether the walk is at its end.
     pub fn is_done(&self) -> bool
-        ensures { IsTrue result ↔ Finishes self.now [] }
+        ensures done { IsTrue result ↔ Finishes self.now [] }
+        ensures nothing { IsTrue result ↔ (going self.now.opened self.now.frames ≡ going None []) }
     {
         is_over(&self.opened, &self.frames)
     }
@@ -154,6 +163,9 @@ impl SketchWalk {
         ensures done { OnOk result ((lines : List ALine) → Finishes self.new lines ↔ Finishes self.old (of_line line.now ∷ lines)) }
         ensures placed { OnOk result (IsPlaced self.old (of_line line.now)) }
         ensures word { IfErr result (IsWordFor self.old (of_line line.now)) }
+        // It goes on as the walk over these lines does, or the fault is the one at which that walk stops.
+        ensures line { IsAfter result self.new.opened self.new.frames (OnLine self.old.setting self.old.opened self.old.frames number (of_line line.now)) }
+        ensures setting { self.new.setting ≡ self.old.setting }
         // Nothing may follow behind a line that is refused.
         ensures refused { OnErr result ((lines : List ALine) → Finishes self.old (of_line line.now ∷ lines) → ⊥) }
         ensures over { OnErr result ((lines : List ALine) → Finishes self.new lines → ⊥) }

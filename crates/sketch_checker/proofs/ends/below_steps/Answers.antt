@@ -5,11 +5,11 @@ use Rattle.sketch_text.specs.Trees.{Line}
 use Rattle.sketch_proof.specs.Proofs.{Setting}
 use Rattle.sketch_checker.specs.Able.{IsAble}
 use Rattle.sketch_checker.specs.Walks.{CompletesOpened, Frame}
-use Rattle.sketch_checker.specs.Dues.{due_of}
 use Rattle.sketch_checker.specs.Steering.{AreAble, IsBelow, read}
 use Rattle.sketch_checker.proofs.Completing.{frame}
 use Rattle.sketch_checker.proofs.Below.{steps-able, steps-below, steps-can, steps-none}
 use Rattle.sketch_checker.proofs.ends.below_steps.Goals as goal
+use Rattle.sketch_checker.specs.DueNodes.{due_of}
 
 pub returns-in_default-clause-refused : goal.returns-in_default-clause-refused
 returns-in_default-clause-refused c =

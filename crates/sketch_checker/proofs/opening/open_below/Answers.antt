@@ -2,10 +2,11 @@ use Rattle.std.proofs.Common.{◌≡◌, ◌<◌, ◌∷◌, ◌↔◌, List, su
 use Rattle.sketch_text.specs.Trees.{Line, of_node}
 use Rattle.sketch_proof.specs.Proofs.{Setting}
 use Rattle.sketch_checker.specs.Dues.{due_by}
-use Rattle.sketch_checker.specs.Walks.{Completes, CompletesOpened, Due, Frame}
+use Rattle.sketch_checker.specs.Walks.{Completes, CompletesOpened, Frame}
 use Rattle.sketch_checker.proofs.Completing.{opened}
 use Rattle.sketch_checker.proofs.Steering.{opens, strays}
 use Rattle.sketch_checker.proofs.opening.open_below.Goals as goal
+use Rattle.sketch_checker.specs.DueNodes.{Due}
 
 pub returns-in-Ok-clause-opened : goal.returns-in-Ok-clause-opened
 returns-in-Ok-clause-opened c =
