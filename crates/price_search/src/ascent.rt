@@ -2,14 +2,11 @@ ghost use Rattle.std.specs.Prelude.{◌≤◌};
 ghost use Rattle.price_search.specs.Standing.{AreStanding};
 
 use crate::flat_grounds::{FlatGround, FlatGrounds, Homes, flat_fails};
-use crate::payers::{Payers, flat_prices};
-use crate::places::free_on;
+use crate::outcomes::{Men, Outcome, outcome_of, slopes};
+use crate::payers::{Payers, flat_places};
 use crate::standing::StandingMen;
-use crate::tallies::{Deeds, Tally, deeds_of};
 use crate::weighing::Weighing;
-use assignment::solve_large;
-use balance_rule::{Ground, begun_with, cost_table, most_cost, set_prices};
-use board_base::{Colour, SquareSet};
+use board_base::SquareSet;
 use capture_prices::{Gate, Prices};
 use query_base::Query;
 
@@ -26,15 +23,6 @@ const ROUNDS: u32 = 150;
 #[derive(Clone, Copy)]
 struct Ascent {
     prices: [u8; 96],
-}
-
-/// What prices came to: how much the men cost, how often each price is paid and earned at that cost, and their homes.
-#[derive(Drop)]
-pub(crate) struct Outcome {
-    pub(crate) cost: u32,
-    pub(crate) white: Tally,
-    pub(crate) black: Tally,
-    homes: Homes,
 }
 
 /// Homes of the men at flat prices, and whether they show that these support the query.
@@ -68,17 +56,6 @@ impl Sought {
             prices: None,
         }
     }
-}
-
-/// By how much each price is paid more often than it is earned and is free.
-pub(crate) fn slopes(white: &Tally, black: &Tally) -> [i32; 96] {
-    let mut all = [0; 96];
-    for k in 0..96 {
-        all[k] = i32::from(white.times[k])
-            .wrapping_add(i32::from(black.times[k]))
-            .wrapping_sub(free_on(k));
-    }
-    all
 }
 
 /// The sum of the squares of the slopes along which a price can move.
@@ -147,6 +124,15 @@ fn drop_least(prices: &mut [u8]) {
     }
 }
 
+/// What the true homes of all men cost at most at prices, where they do so without gates.
+pub(crate) fn most_at(base: u32, prices: &[u8; 96]) -> u32 {
+    let mut most = base;
+    for toll in &prices[32..] {
+        most = most.wrapping_add(u32::from(*toll));
+    }
+    most
+}
+
 /// The sixteen prices from a place on.
 fn sixteen_from(prices: &[u8; 96], start: usize) -> [u8; 16]
     requires { start ≤ 16 }
@@ -206,133 +192,46 @@ impl Ascent {
     }
 }
 
-/// What the men of a side cost and did at the least cost, and their homes.
-#[derive(Drop)]
-struct SideOutcome {
-    cost: u32,
-    deeds: Deeds,
-    homes: [u8; 16],
-}
-
-/// The first sixteen of these numbers, with zeros behind.
-fn sixteen_of(numbers: &[u8]) -> [u8; 16] {
-    let mut all = [0; 16];
-    for (x, number) in all.iter_mut().zip(numbers) {
-        *x = *number;
-    }
-    all
-}
-
-/// What the men of one side cost and did at these prices; None where it has more than it began with.
-fn side_outcome(ground: &Ground, query: &Query) -> Option<SideOutcome> {
-    let rows = cost_table(ground, &query.board, begun_with(ground.side, query.odds))?;
-    let solution = solve_large(rows.as_slice());
-    let deeds = deeds_of(ground, &query.board, solution.columns.as_slice());
-    let homes = sixteen_of(solution.columns.as_slice());
-    Some(SideOutcome {
-        cost: solution.cost,
-        deeds,
-        homes,
-    })
-}
-
-/// What the men of both sides cost and did at these prices, where so much is owed on the places of captures.
-fn outcome_of(
-    white: &Ground,
-    black: &Ground,
-    query: &Query,
-    prices: &Prices,
-    owed: &[i32; 32],
-) -> Option<Outcome> {
-    let white = side_outcome(white, query)?;
-    let black = side_outcome(black, query)?;
-    let white_tally = white.deeds.with_fallen(
-        Colour::White,
-        prices,
-        &black.deeds.needs(Colour::Black, owed),
-    );
-    let black_tally = black.deeds.with_fallen(
-        Colour::Black,
-        prices,
-        &white.deeds.needs(Colour::White, owed),
-    );
-    let white_homes = white.homes;
-    let black_homes = black.homes;
-    Some(Outcome {
-        cost: white.cost.saturating_add(black.cost),
-        white: white_tally,
-        black: black_tally,
-        homes: Homes {
-            white: white_homes,
-            black: black_homes,
-        },
-    })
-}
-
-/// What the men of both sides cost and did at the prices with which these reckon.
-pub(crate) fn ground_outcome(
-    white: &Ground,
-    black: &Ground,
-    query: &Query,
-    prices: &Prices,
-) -> Option<Outcome> {
-    outcome_of(white, black, query, prices, &[0; 32])
-}
-
-/// What flat prices came to.
-fn flat_outcome(kept: &FlatGround, query: &Query, payers: Payers) -> Option<Outcome> {
-    ground_outcome(
-        &kept.white.side,
-        &kept.black.side,
-        query,
-        &flat_prices(payers),
-    )
-}
-
 /// Tries flat prices: with homes at the least cost at others, where these show already that they don't support the query.
 fn try_flat(
     kept: &FlatGround,
     query: &Query,
     set: SquareSet,
     payers: Payers,
-    men: &StandingMen,
+    standing: &StandingMen,
+    men: &Men,
     others: &Homes,
-) -> Option<FlatTried>
-    requires { AreStanding query.now.board men.now }
+) -> FlatTried
+    requires { AreStanding query.now.board standing.now }
 {
-    if flat_fails(kept, query, set, payers, men, others) {
-        return Some(FlatTried {
+    if flat_fails(kept, query, set, payers, standing, others) {
+        return FlatTried {
             homes: *others,
             is_above: false,
-        });
+        };
     }
-    let outcome = flat_outcome(kept, query, payers)?;
-    Some(FlatTried {
+    let outcome = outcome_of(men, &flat_places(payers), &[0; 32]);
+    FlatTried {
         is_above: kept.most < outcome.cost,
         homes: outcome.homes,
-    })
+    }
 }
 
 /// Prices at which the men cost more than their true homes can, if the ascent from an outcome at equal prices finds some. It ends where
-/// the tallies on its way show that there are none.
-fn ascend(query: &Query, kept: &FlatGround, first: &Outcome, most: u32) -> Option<Prices> {
+/// the tallies on its way show that there are none. So much is the most that the true homes cost without gates.
+fn ascend(men: &Men, first: &Outcome, base: u32) -> Option<Prices> {
     let mut ascent = Ascent::new();
-    let mut white = kept.white.side;
-    let mut black = kept.black.side;
     let mut weighing = Weighing::new();
     weighing.add(&first.white, &first.black);
     if weighing.weigh() {
         return None;
     }
-    ascent.climb(first, most.saturating_sub(first.cost));
+    ascent.climb(first, base.saturating_sub(first.cost));
     for _ in 1..ROUNDS {
-        let prices = ascent.prices()?;
-        set_prices(&mut white, &prices);
-        set_prices(&mut black, &prices);
-        let outcome = outcome_of(&white, &black, query, &prices, &weighing.needs())?;
-        let most = most_cost(query.odds, &prices);
+        let outcome = outcome_of(men, &ascent.prices, &weighing.needs());
+        let most = most_at(base, &ascent.prices);
         if most < outcome.cost {
-            return Some(prices);
+            return ascent.prices();
         }
         weighing.add(&outcome.white, &outcome.black);
         if weighing.weigh() {
@@ -344,43 +243,45 @@ fn ascend(query: &Query, kept: &FlatGround, first: &Outcome, most: u32) -> Optio
 }
 
 /// Tries the flat prices for men on these squares, and seeks others at which the men cost more than their true homes can, where none of
-/// these do; None where a side has more men than it began with.
+/// these do.
 pub(crate) fn seek(
     query: &Query,
     set: SquareSet,
     kept: &FlatGrounds,
-    men: &StandingMen,
-) -> Option<Sought>
-    requires { AreStanding query.now.board men.now }
+    standing: &StandingMen,
+    men: &Men,
+) -> Sought
+    requires { AreStanding query.now.board standing.now }
 {
-    let both = flat_outcome(&kept.both, query, Payers::Both)?;
-    let homes = both.homes;
+    let both = outcome_of(men, &flat_places(Payers::Both), &[0; 32]);
     let white = try_flat(
         &kept.white_alone,
         query,
         set,
         Payers::WhiteAlone,
+        standing,
         men,
-        &homes,
-    )?;
+        &both.homes,
+    );
     let black = try_flat(
         &kept.black_alone,
         query,
         set,
         Payers::BlackAlone,
+        standing,
         men,
-        &homes,
-    )?;
+        &both.homes,
+    );
     let most = kept.both.most;
     let prices = if most < both.cost || white.is_above || black.is_above {
         None
     } else {
-        ascend(query, &kept.both, &both, most)
+        ascend(men, &both, most)
     };
-    Some(Sought {
-        both: homes,
+    Sought {
+        both: both.homes,
         white_alone: white.homes,
         black_alone: black.homes,
         prices,
-    })
+    }
 }

@@ -5,14 +5,16 @@ ghost use Rattle.price_search.specs.Standing.{AreStanding};
 ghost use Rattle.price_search.specs.declared.payers.Payers.{Payers as APayers};
 
 use crate::ascent::{Sought, seek};
-use crate::flat_grounds::{FlatGround, FlatGrounds, Homes, flat_fails};
-use crate::keys::{Key, Placed, homes_by_squares, homes_by_traces, placed_men, traces_of};
+use crate::costs::SideMen;
+use crate::flat_grounds::{FlatGround, FlatGrounds, FlatSide, Homes, flat_fails};
+use crate::keys::{Key, Order, placed_men, traces_on};
+use crate::lands::Land;
+use crate::outcomes::Men;
 use crate::payers::{Payers, flat_prices};
 use crate::plain::seek_plain;
 use crate::standing::{StandingMen, standing_men};
-use arrayvec::ArrayVec;
 use balance_rule::{balances, is_whole};
-use board_base::SquareSet;
+use board_base::{Board, Odds, SquareSet};
 use byte_hash::ByteHasher;
 use cage_rules::greatest_as_array;
 use capture_prices::Prices;
@@ -40,10 +42,17 @@ pub struct PriceDesk {
 }
 
 /// The men of both sides in order of their traces.
-#[derive(Drop)]
+#[derive(Clone, Copy)]
 struct PlacedMen {
-    white: ArrayVec<Placed, 16>,
-    black: ArrayVec<Placed, 16>,
+    white: Order,
+    black: Order,
+}
+
+/// The men of both sides.
+#[derive(Clone, Copy)]
+struct Sides {
+    white: SideMen,
+    black: SideMen,
 }
 
 impl PriceDesk {
@@ -79,30 +88,66 @@ impl PlacedMen {
     /// These homes, which are in ascending order of the men's squares, in order of their traces.
     fn by_traces(&self, homes: &Homes) -> Homes {
         Homes {
-            white: homes_by_traces(self.white.as_slice(), &homes.white),
-            black: homes_by_traces(self.black.as_slice(), &homes.black),
+            white: self.white.by_traces(&homes.white),
+            black: self.black.by_traces(&homes.black),
         }
     }
 
     /// These homes, which are in order of the men's traces, in ascending order of their squares.
     fn by_squares(&self, homes: &Homes) -> Homes {
         Homes {
-            white: homes_by_squares(self.white.as_slice(), &homes.white),
-            black: homes_by_squares(self.black.as_slice(), &homes.black),
+            white: self.white.by_squares(&homes.white),
+            black: self.black.by_squares(&homes.black),
         }
     }
 }
 
 impl Sought {
-    /// The same, with plain prices in place of others if such are found.
-    fn plainly(self, query: &Query, kept: &FlatGround) -> Sought {
+    /// The same, with plain prices in place of others if such are found, where these are the men, the set and what the true homes cost
+    /// at most without gates.
+    fn plainly(self, men: &Men, set: SquareSet, base: u32) -> Sought {
         let mut sought = self;
         if self.prices.is_some() {
-            if let Some(plain) = seek_plain(query, kept) {
+            if let Some(plain) = seek_plain(men, set, base) {
                 sought.prices = Some(plain);
             }
         }
         sought
+    }
+}
+
+/// The men of one side, by their traces; None where there are more than it began with.
+fn side_men(kept: &FlatSide, land: &Land, board: &Board, squares: &[u8]) -> Option<SideMen> {
+    let begun = kept.begun as usize;
+    if squares.len() > begun {
+        return None;
+    }
+    Some(SideMen {
+        traces: traces_on(&kept.side, &land.officers, board, squares),
+        standing: squares.len(),
+        begun,
+    })
+}
+
+/// The men of both sides on these squares; None where there are more of one than it began with.
+fn sides_of(kept: &FlatGrounds, board: &Board, standing: &StandingMen) -> Option<Sides> {
+    let both = &kept.both;
+    let lands = &kept.lands;
+    Some(Sides {
+        white: side_men(&both.white, &lands.white, board, standing.white.as_slice())?,
+        black: side_men(&both.black, &lands.black, board, standing.black.as_slice())?,
+    })
+}
+
+impl Sides {
+    /// The key of positions with this set and these odds.
+    fn key(&self, placed: &PlacedMen, set: SquareSet, odds: Odds) -> Key {
+        Key {
+            set,
+            odds,
+            white: placed.white.traces(&self.white.traces),
+            black: placed.black.traces(&self.black.traces),
+        }
     }
 }
 
@@ -117,31 +162,31 @@ fn sought(
 ) -> Option<Sought>
     requires { AreStanding query.now.board standing.now }
 {
-    let sides = &kept.both;
-    let men = PlacedMen {
-        white: placed_men(&sides.white.side, &query.board, standing.white.as_slice()),
-        black: placed_men(&sides.black.side, &query.board, standing.black.as_slice()),
+    let sides = sides_of(kept, &query.board, standing)?;
+    let placed = PlacedMen {
+        white: placed_men(&sides.white.traces),
+        black: placed_men(&sides.black.traces),
     };
-    let key = Key {
-        set,
-        odds: query.odds,
-        white: traces_of(men.white.as_slice()),
-        black: traces_of(men.black.as_slice()),
-    };
+    let key = sides.key(&placed, set, query.odds);
     if let Some(found) = tried.get(&key) {
         return Some(Sought {
-            both: men.by_squares(&found.both),
-            white_alone: men.by_squares(&found.white_alone),
-            black_alone: men.by_squares(&found.black_alone),
+            both: placed.by_squares(&found.both),
+            white_alone: placed.by_squares(&found.white_alone),
+            black_alone: placed.by_squares(&found.black_alone),
             prices: found.prices,
         });
     }
-    let found = seek(query, set, kept, standing)?.plainly(query, &kept.both);
+    let men = Men {
+        lands: kept.lands,
+        white: sides.white,
+        black: sides.black,
+    };
+    let found = seek(query, set, kept, standing, &men).plainly(&men, set, kept.both.most);
     if tried.len() < MOST_TRIED {
         let by_traces = Sought {
-            both: men.by_traces(&found.both),
-            white_alone: men.by_traces(&found.white_alone),
-            black_alone: men.by_traces(&found.black_alone),
+            both: placed.by_traces(&found.both),
+            white_alone: placed.by_traces(&found.white_alone),
+            black_alone: placed.by_traces(&found.black_alone),
             prices: found.prices,
         };
         let _ = tried.insert(key, by_traces);

@@ -7,6 +7,7 @@ ghost use Rattle.price_search.specs.FlatGrounds.{IsFlatGround};
 ghost use Rattle.price_search.specs.Standing.{AreStanding};
 ghost use Rattle.price_search.specs.FlatPrices.{flat_prices};
 
+use crate::lands::{Land, Lands};
 use crate::payers::{Payers, flat_prices};
 use crate::standing::StandingMen;
 use assignment::least_cost_is_least;
@@ -23,7 +24,7 @@ pub(crate) struct FlatSide {
     /// What it costs that the man of each of the side's homes is gone.
     lost: [u16; 16],
     /// With how many men the side begins.
-    begun: u8,
+    pub(crate) begun: u8,
     ghost known: { ∥ IsFlatGround payers odds side lost ∥₁ },
     ghost begun_is: { begun ≡ men_on side.side (array_of odds) },
     ghost few: { begun ≤ 16 },
@@ -42,6 +43,7 @@ pub(crate) struct FlatGround {
 /// The same at each of the flat prices.
 #[derive(Clone, Copy)]
 pub(crate) struct FlatGrounds {
+    pub(crate) lands: Lands,
     pub(crate) both: FlatGround,
     pub(crate) white_alone: FlatGround,
     pub(crate) black_alone: FlatGround,
@@ -93,8 +95,13 @@ impl FlatSide {
 impl FlatGrounds {
     /// What is known of both sides of the query.
     pub(crate) fn new(query: &Query, set: SquareSet) -> FlatGrounds {
+        let both = flat_ground(query, set, Payers::Both);
         FlatGrounds {
-            both: flat_ground(query, set, Payers::Both),
+            lands: Lands {
+                white: Land::of(&both.white.side),
+                black: Land::of(&both.black.side),
+            },
+            both,
             white_alone: flat_ground(query, set, Payers::WhiteAlone),
             black_alone: flat_ground(query, set, Payers::BlackAlone),
         }

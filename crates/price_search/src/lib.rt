@@ -4,14 +4,19 @@
 
 mod ascent;
 mod classes;
+mod costs;
 mod desk;
 mod flat_grounds;
+mod homes;
 mod keys;
+mod lands;
+mod outcomes;
 mod payers;
 mod places;
 mod plain;
 mod standing;
 mod tallies;
+mod ways;
 mod weighing;
 
 pub use desk::{PriceDesk, find_balance};

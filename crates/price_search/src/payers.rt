@@ -21,3 +21,18 @@ pub(crate) fn flat_prices(payers: Payers) -> Prices
         Payers::BlackAlone => Prices::known(&[0; 16], &[24; 16], &[]),
     }
 }
+
+/// The same by their places.
+pub(crate) fn flat_places(payers: Payers) -> [u8; 96] {
+    let (white, black) = match payers {
+        Payers::Both => (24, 24),
+        Payers::WhiteAlone => (24, 0),
+        Payers::BlackAlone => (0, 24),
+    };
+    let mut prices = [0; 96];
+    for class in 0..16 {
+        prices[class] = white;
+        prices[16 + class] = black;
+    }
+    prices
+}

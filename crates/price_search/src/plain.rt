@@ -1,15 +1,13 @@
 ghost use Rattle.std.specs.Prelude.{◌<◌, ◌≤◌};
 
-use crate::ascent::{Outcome, ground_outcome, prices_at, slopes};
-use crate::flat_grounds::FlatGround;
+use crate::ascent::{most_at, prices_at};
+use crate::outcomes::{Men, Outcome, outcome_of, slopes};
 use crate::payers::Payers;
 use crate::places::place_of_gate;
 use crate::tallies::Tally;
 use arrayvec::ArrayVec;
-use balance_rule::{Ground, most_cost, set_prices};
-use board_base::{Colour, Square};
+use board_base::{Colour, Square, SquareSet};
 use capture_prices::Prices;
-use query_base::Query;
 
 /// The most changes of a base.
 const MOST_CHANGES: u8 = 3;
@@ -44,8 +42,9 @@ struct Spent;
 /// A search for plain prices. What the men of each side did at prices that were tried bounds what they cost at all others.
 #[derive(Drop)]
 struct PlainSearch {
-    white: Ground,
-    black: Ground,
+    men: Men,
+    /// What the true homes of all men cost at most without gates.
+    base: u32,
     white_tallies: ArrayVec<Tally, 24>,
     black_tallies: ArrayVec<Tally, 24>,
     changes: ArrayVec<Change, 160>,
@@ -166,18 +165,17 @@ fn first_of(side: Colour) -> u8
 }
 
 /// Whether both pawns of a file began outside the set.
-fn is_open_file(white: &Ground, file: u8) -> bool
+fn is_open_file(set: SquareSet, file: u8) -> bool
     requires { file < 8 }
 {
-    let set = white.frozen;
     !set.has(Square::known(8 + file)) && !set.has(Square::known(48 + file))
 }
 
 /// All changes: gates on the squares that two pawns may tread, then captures on a shade or a file that are free, then those that count
 /// twice.
-fn all_changes(white: &Ground) -> ArrayVec<Change, 160> {
+fn all_changes(set: SquareSet) -> ArrayVec<Change, 160> {
     let mut changes = ArrayVec::new();
-    add_gates(white, &mut changes);
+    add_gates(set, &mut changes);
     for side in [Colour::White, Colour::Black] {
         for shade in 0..2 {
             let _ = changes.try_push(Change::shade(side, shade, 0));
@@ -189,10 +187,10 @@ fn all_changes(white: &Ground) -> ArrayVec<Change, 160> {
 }
 
 /// Adds the gates, by squares.
-fn add_gates(white: &Ground, changes: &mut ArrayVec<Change, 160>) {
+fn add_gates(set: SquareSet, changes: &mut ArrayVec<Change, 160>) {
     for i in 8..56 {
         let s = Square::known(i);
-        if is_open_file(white, i % 8) && !white.frozen.has(s) {
+        if is_open_file(set, i % 8) && !set.has(s) {
             let _ = changes.try_push(Change::gate(s, 1));
             let _ = changes.try_push(Change::gate(s, 2));
         }
@@ -222,13 +220,12 @@ fn base_of(payers: Payers) -> [u8; 96] {
 }
 
 impl PlainSearch {
-    /// Nothing has been tried of positions of which this is known.
-    fn new(kept: &FlatGround) -> PlainSearch {
-        let white = kept.white.side;
+    /// Nothing has been tried of these men beside a set.
+    fn new(men: &Men, set: SquareSet, base: u32) -> PlainSearch {
         PlainSearch {
-            changes: all_changes(&white),
-            white,
-            black: kept.black.side,
+            changes: all_changes(set),
+            men: *men,
+            base,
             white_tallies: ArrayVec::new(),
             black_tallies: ArrayVec::new(),
             looks: 0,
@@ -249,30 +246,21 @@ impl PlainSearch {
     }
 
     /// What the men cost and did at these prices.
-    fn tried(&mut self, query: &Query, prices: &Prices) -> Result<Outcome, Spent> {
+    fn tried(&mut self, prices: &[u8; 96]) -> Result<Outcome, Spent> {
         if self.trials >= MOST_TRIALS {
             return Err(Spent);
         }
         self.trials += 1;
-        set_prices(&mut self.white, prices);
-        set_prices(&mut self.black, prices);
-        ground_outcome(&self.white, &self.black, query, prices).ok_or(Spent)
+        Ok(outcome_of(&self.men, prices, &[0; 32]))
     }
 
     /// The slopes of an account at which these prices don't do; None where they do.
-    fn account_against(
-        &mut self,
-        query: &Query,
-        prices: &[u8; 96],
-    ) -> Result<Option<[i32; 96]>, Spent> {
+    fn account_against(&mut self, prices: &[u8; 96]) -> Result<Option<[i32; 96]>, Spent> {
         if let Some(all) = self.seen(prices) {
             return Ok(Some(all));
         }
-        let Some(listed) = prices_at(prices) else {
-            return Err(Spent);
-        };
-        let outcome = self.tried(query, &listed)?;
-        if most_cost(query.odds, &listed) < outcome.cost {
+        let outcome = self.tried(prices)?;
+        if most_at(self.base, prices) < outcome.cost {
             return Ok(None);
         }
         let _ = self.white_tallies.try_push(outcome.white);
@@ -283,7 +271,6 @@ impl PlainSearch {
     /// Prices that do and differ from these by at most so many changes: none that is banned, and at most one gate on a file.
     fn look(
         &mut self,
-        query: &Query,
         prices: &[u8; 96],
         left: u8,
         banned: &Banned,
@@ -293,7 +280,7 @@ impl PlainSearch {
             return Err(Spent);
         }
         self.looks += 1;
-        let Some(slopes) = self.account_against(query, prices)? else {
+        let Some(slopes) = self.account_against(prices)? else {
             return Ok(Some(*prices));
         };
         if left == 0 {
@@ -312,7 +299,7 @@ impl PlainSearch {
                 continue;
             }
             let with = change.made(prices);
-            let found = self.look(query, &with, left - 1, &banned, gated | change.gated)?;
+            let found = self.look(&with, left - 1, &banned, gated | change.gated)?;
             if found.is_some() {
                 return Ok(found);
             }
@@ -335,10 +322,10 @@ impl PlainSearch {
     }
 
     /// Prices that do and differ from a base by so many changes at most, if they are found.
-    fn look_from(&mut self, query: &Query, payers: Payers, most: u8) -> Option<Prices> {
+    fn look_from(&mut self, payers: Payers, most: u8) -> Option<Prices> {
         self.looks = 0;
         let banned = self.unpaid(payers);
-        match self.look(query, &base_of(payers), most, &banned, 0) {
+        match self.look(&base_of(payers), most, &banned, 0) {
             Ok(Some(prices)) => prices_at(&prices),
             _ => None,
         }
@@ -347,12 +334,12 @@ impl PlainSearch {
 
 /// Plain prices at which the men cost more than their true homes can, with as few changes of a base as are found: each capture by a pawn
 /// of one side or of both counts once, but for at most three changes. Captures on a shade or a file are free or count twice, or there is a gate
-/// of one or two.
-pub(crate) fn seek_plain(query: &Query, kept: &FlatGround) -> Option<Prices> {
-    let mut search = PlainSearch::new(kept);
+/// of one or two. So much is what the true homes cost at most without gates.
+pub(crate) fn seek_plain(men: &Men, set: SquareSet, base: u32) -> Option<Prices> {
+    let mut search = PlainSearch::new(men, set, base);
     for most in 0..=MOST_CHANGES {
         for payers in [Payers::BlackAlone, Payers::WhiteAlone, Payers::Both] {
-            let found = search.look_from(query, payers, most);
+            let found = search.look_from(payers, most);
             if found.is_some() {
                 return found;
             }

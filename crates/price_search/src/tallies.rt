@@ -1,15 +1,13 @@
-ghost use Rattle.std.specs.Prelude.{◌<◌, ◌≤◌};
-ghost use Rattle.std.specs.List.{All};
+ghost use Rattle.std.specs.Prelude.{◌<◌, ◌≤◌, IfSome};
 
 use crate::classes::neediest_class;
-use crate::places::{place_of, place_of_gate};
+use crate::costs::SideMen;
+use crate::keys::Trace;
+use crate::lands::{Classes, Home, Land, NOWHERE, Rank};
+use crate::places::place_of;
+use crate::ways::{AllWays, BASE, Rates, Ways, class_at};
 use crate::weighing::WHOLE;
-use balance_rule::{
-    Ground, NEVER, Reach, both, capped_sum, class_of, fee_at, loss_at, number_of, number_of_home,
-    seen_by, toll_at,
-};
-use board_base::{Board, Colour, Kind, Man, Square, SquareSet};
-use capture_prices::Prices;
+use board_base::Colour;
 
 /// How often each price is paid, less how often it is earned: by the places of prices, the captures by pawns, the men who were taken by
 /// pawns, and the pawns who never captured and trod a square.
@@ -24,19 +22,21 @@ impl Default for Tally {
     }
 }
 
-/// What the men of a side did who are given these homes at the least cost. Where those who are gone were taken is counted when it is
-/// known where the enemy captured.
+/// What the men of a side did who have homes at the least cost. Where those who are gone were taken is counted when it is known where
+/// the enemy captured.
 #[derive(Clone, Copy)]
 pub(crate) struct Deeds {
     tally: Tally,
-    /// By the numbers of the homes, the squares on which the man who is gone was taken, one of them.
-    fallen: [SquareSet; 16],
+    /// By the numbers of the homes, the classes on one of which the man who is gone was taken.
+    fallen: [Classes; 16],
 }
 
 impl Tally {
-    /// Counts a capture by a pawn of a side on a square.
-    fn count_capture(&mut self, side: Colour, s: Square) {
-        let k = place_of(side, class_of(s) as usize);
+    /// Counts a capture by a pawn of a side on a class.
+    fn count_capture(&mut self, side: Colour, class: usize)
+        requires { class < 16 }
+    {
+        let k = place_of(side, class);
         self.times[k] = self.times[k].wrapping_add(1);
     }
 
@@ -48,42 +48,47 @@ impl Tally {
         self.times[k] = self.times[k].wrapping_sub(1);
     }
 
-    /// Counts that a pawn trod a square who never captured.
-    fn count_trodden(&mut self, s: Square) {
-        let k = place_of_gate(s);
-        self.times[k] = self.times[k].wrapping_add(1);
-    }
-}
-
-/// Counts the squares from this number up to another, file ahead.
-fn count_straight(ground: &Ground, tally: &mut Tally, home: u8, end: u8)
-    requires home { home < 16 }
-    requires end { end < 64 }
-{
-    for rank in 0..7 {
-        let i = home + 8 * rank;
-        if i <= end && i < 64 {
-            tally.count_trodden(seen_by(ground.side, i));
+    /// Counts that a pawn trod the squares of a file from its home on, up to a rank, who never captured.
+    fn count_trodden(&mut self, land: &Land, file: usize, last: usize)
+        requires { file < 8 }
+    {
+        for rank in 1..8 {
+            if rank <= last {
+                let k = 32 + land.square(rank, file);
+                self.times[k] = self.times[k].wrapping_add(1);
+            }
         }
     }
 }
 
-/// The square from which the last capture came of the way to a square with the least fee.
-fn captured_from(ground: &Ground, reach: &Reach, i: u8) -> u8
-    requires inside { i < 64 }
-    requires ahead { 16 ≤ i }
+/// The square from which the last capture came of the way of the pawn of a file to a square with the least fee. Squares are told by
+/// their numbers as the side sees the board.
+fn captured_from(rates: &Rates, ways: &Ways, own: usize, end: usize) -> usize
+    requires inside { end < 64 }
+    requires ahead { 16 ≤ end }
     ensures { result < 64 }
 {
-    let take = ground.tariff.take[i as usize];
-    if i % 8 > 0 && capped_sum(fee_at(reach, i - 9), take) == reach.aside[i as usize] {
-        i - 9
-    } else {
-        i - 7
+    let rank = end / 8;
+    let file = end % 8;
+    let take = rates.take_on(rank)[file];
+    if file > 0 {
+        let fee = ways.fee(own, rank - 1, file - 1).wrapping_add(take);
+        if fee.min(NOWHERE) == ways.aside[rank][file] {
+            return end - 9;
+        }
     }
+    end - 7
 }
 
-/// Counts the captures of the way to a square on which the pawn captures at the least fee.
-fn count_captures(ground: &Ground, reach: &Reach, tally: &mut Tally, end: u8)
+/// Counts the captures of the way to a square on which the pawn of a file captures at the least fee.
+fn count_captures(
+    tally: &mut Tally,
+    side: Colour,
+    rates: &Rates,
+    ways: &Ways,
+    own: usize,
+    end: usize,
+)
     requires { end < 64 }
 {
     let mut i = end;
@@ -91,126 +96,140 @@ fn count_captures(ground: &Ground, reach: &Reach, tally: &mut Tally, end: u8)
         if i < 16 {
             return;
         }
-        if reach.aside[i as usize - 8] == reach.aside[i as usize] {
+        let rank = i / 8;
+        let file = i % 8;
+        if ways.aside[rank - 1][file] == ways.aside[rank][file] {
             i -= 8;
         } else {
-            tally.count_capture(ground.side, seen_by(ground.side, i));
-            i = captured_from(ground, reach, i);
-            if reach.straight[i as usize] < NEVER {
+            tally.count_capture(side, class_at(side, rank, file));
+            i = captured_from(rates, ways, own, i);
+            if i % 8 == own && ways.straight[i / 8] < NOWHERE {
                 return;
             }
         }
     }
 }
 
-/// Counts what a pawn did who came to a square at the least toll.
-fn count_toll(ground: &Ground, tally: &mut Tally, f: u8, end: u8)
-    requires file { f < 8 }
+/// Counts what the pawn of a file did who came to a square at the least toll.
+fn count_toll(tally: &mut Tally, land: &Land, rates: &Rates, ways: &Ways, own: usize, end: usize)
+    requires own { own < 8 }
     requires end { end < 64 }
 {
-    let reach = &ground.reaches[f as usize];
-    if reach.straight[end as usize] <= reach.aside[end as usize] {
-        count_straight(ground, tally, 8 + f, end);
+    let rank = end / 8;
+    let file = end % 8;
+    if file == own && ways.straight[rank] <= ways.aside[rank][file] {
+        tally.count_trodden(land, own, rank);
     } else {
-        count_captures(ground, reach, tally, end);
+        count_captures(tally, land.side, rates, ways, own, end);
     }
 }
 
-/// The number of the square of the last rank with the least toll from whose region a man stands on a square.
-fn best_promotion(reach: &Reach, regions: &[SquareSet; 8], s: Square) -> u8
+/// The square of the last rank with the least toll among those on these files. A bit is a file.
+fn best_promotion(ways: &Ways, own: usize, files: u8) -> usize
     ensures { result < 64 }
 {
     let mut best = 56;
-    let mut least = NEVER;
-    for f in 0..8 {
-        let toll = toll_at(reach, 56 + f);
-        if regions[f as usize].has(s) && toll < least {
-            best = 56 + f;
+    let mut least = NOWHERE;
+    for g in 0..8 {
+        let toll = ways.toll(own, 7, g);
+        if files >> g & 1 == 1 && toll < least {
+            best = 56 + g;
             least = toll;
         }
     }
     best
 }
 
-/// Where the pawn of a file went who stands on a square as a man of this kind.
-fn end_of(ground: &Ground, f: u8, kind: Kind, s: Square) -> u8
-    requires { f < 8 }
-    ensures { result < 64 }
+/// The first file on which a way costs as much as it costs that the pawn is gone, where these are earned.
+fn lost_among(ways: &Rank, earned: &Rank, gone: u16) -> Option<usize>
+    ensures { IfSome result (λ file. file < 8) }
 {
-    let reach = &ground.reaches[f as usize];
-    match kind {
-        Kind::Pawn | Kind::King => number_of(ground.side, s),
-        Kind::Knight => best_promotion(reach, &ground.knights, s),
-        Kind::Bishop => best_promotion(reach, &ground.bishops, s),
-        Kind::Rook => best_promotion(reach, &ground.rooks, s),
-        Kind::Queen => best_promotion(reach, &ground.queens, s),
+    for g in 0..8 {
+        if ways[g].wrapping_add(BASE).wrapping_sub(earned[g]) == gone {
+            return Some(g);
+        }
     }
-}
-
-/// Counts what the man did who began on this number and stands on a square.
-fn count_standing(ground: &Ground, tally: &mut Tally, n: u8, man: Man, s: Square)
-    requires { n < 16 }
-{
-    let stays = ground.frozen.has(seen_by(ground.side, n)) || ground.frozen.has(s);
-    if n >= 8 && !stays {
-        count_toll(ground, tally, n - 8, end_of(ground, n - 8, man.kind, s));
-    }
+    None
 }
 
 /// Where the pawn of a file went who is gone.
-fn best_loss(ground: &Ground, f: u8) -> u8
-    requires { f < 8 }
+fn best_loss(rates: &Rates, ways: &Ways, own: usize) -> usize
+    requires { own < 8 }
     ensures { result < 64 }
 {
-    let mut best = 8 + f;
-    let mut least = NEVER;
-    for i in 8..64 {
-        let loss = loss_at(ground, f, i);
-        if loss < least {
-            best = i;
-            least = loss;
+    for rank in 1..7 {
+        let fees = ways.fees(own, rank);
+        if let Some(file) = lost_among(&fees, rates.earned_on(rank), ways.gone) {
+            return 8 * rank + file;
         }
     }
-    best
+    match lost_among(&ways.tolls(own, 7), &rates.after, ways.gone) {
+        Some(file) => 56 + file,
+        None => 8 + own,
+    }
 }
 
-/// Counts what the pawn of a file did who is gone, and tells the squares on which he was taken.
-fn count_lost(ground: &Ground, tally: &mut Tally, f: u8) -> SquareSet
-    requires { f < 8 }
+/// The class of a square, if men are exposed there.
+fn exposed_class(land: &Land, end: usize) -> Classes
+    requires { end < 64 }
 {
-    let end = best_loss(ground, f);
-    let reach = &ground.reaches[f as usize];
+    let mut classes = [0; 16];
+    if land.exposed[end / 8][end % 8] != 0 {
+        classes[class_at(land.side, end / 8, end % 8)] = 255;
+    }
+    classes
+}
+
+/// Counts what the pawn of a file did who is gone, and tells the classes on which he was taken.
+fn count_lost(tally: &mut Tally, land: &Land, rates: &Rates, ways: &Ways, own: usize) -> Classes
+    requires { own < 8 }
+{
+    let end = best_loss(rates, ways, own);
     if end >= 56 {
-        count_toll(ground, tally, f, end);
-        return ground.promoted[end as usize - 56];
+        count_toll(tally, land, rates, ways, own, end);
+        return land.promoted[end - 56];
     }
-    if reach.straight[end as usize] == NEVER {
-        count_captures(ground, reach, tally, end);
+    if end % 8 != own || ways.straight[end / 8] == NOWHERE {
+        count_captures(tally, land.side, rates, ways, own, end);
     }
-    SquareSet::from_bits(0).with(seen_by(ground.side, end))
+    exposed_class(land, end)
 }
 
 impl Deeds {
-    /// Counts what the man did who began on this number and is gone.
-    fn count_gone(&mut self, ground: &Ground, n: u8)
-        requires { n < 16 }
+    /// Counts what the pawn of a file did who stands somewhere.
+    fn count_standing(&mut self, land: &Land, rates: &Rates, ways: &Ways, own: usize, trace: Trace)
+        requires { own < 8 }
     {
-        let within = if n >= 8 {
-            count_lost(ground, &mut self.tally, n - 8)
-        } else {
-            ground.regions[n as usize]
+        let end = match trace {
+            Trace::Pawn(number) => number as usize % 64,
+            Trace::Officer(_, promoted) => best_promotion(ways, own, promoted),
+            _ => return,
         };
-        self.fallen[n as usize] = both(within, ground.exposed);
+        count_toll(&mut self.tally, land, rates, ways, own, end);
     }
 
-    /// All that the men of this side did, with the classes on which they were taken, where so much is needed on each of them. Each earns
-    /// the most that he can, pawns come first, and of equal classes that is taken where the need is greatest.
-    pub(crate) fn with_fallen(&self, side: Colour, prices: &Prices, needs: &[i32; 16]) -> Tally {
-        let enemy = side.other();
+    /// Counts what the man did who began on this number and is gone.
+    fn count_gone(&mut self, land: &Land, rates: &Rates, ways: &AllWays, n: usize)
+        requires { n < 16 }
+    {
+        match &land.homes[n] {
+            Home::Officer(classes) => self.fallen[n] = *classes,
+            Home::Pawn => {
+                let own = n % 8;
+                self.fallen[n] = count_lost(&mut self.tally, land, rates, &ways.each[own], own);
+            }
+            _ => {}
+        }
+    }
+
+    /// All that the men of this side did, with the classes on which they were taken, where the enemy has these prices and so much is
+    /// needed on each class. Each earns the most that he can, pawns come first, and of equal classes that is taken where the need is
+    /// greatest.
+    pub(crate) fn with_fallen(&self, enemy: Colour, takes: &[u8; 16], needs: &[i32; 16]) -> Tally {
         let mut tally = self.tally;
         let mut left = *needs;
         for n in (0..16).rev() {
-            if let Some(class) = neediest_class(prices.takes(enemy), &left, self.fallen[n]) {
+            if let Some(class) = neediest_class(takes, &left, &self.fallen[n]) {
                 tally.count_taken(enemy, class);
                 left[class] = left[class].wrapping_sub(WHOLE);
             }
@@ -229,32 +248,29 @@ impl Deeds {
     }
 }
 
-/// What the men of a side did who are given these homes: first those on the board, then those who are gone.
-pub(crate) fn deeds_of(ground: &Ground, board: &Board, homes: &[u8]) -> Deeds
-    requires { All (λ j. j < 16) homes.now }
-{
+/// What the men of a side did who have the homes with these numbers: first those on the board, then those who are gone.
+pub(crate) fn deeds_of(
+    land: &Land,
+    men: &SideMen,
+    rates: &Rates,
+    ways: &AllWays,
+    homes: &[u8; 16],
+) -> Deeds {
     let mut deeds = Deeds {
         tally: Tally { times: [0; 96] },
-        fallen: [SquareSet::from_bits(0); 16],
+        fallen: [[0; 16]; 16],
     };
-    let mut row = 0;
-    for i in 0..64 {
-        let s = Square::known(i);
-        if let Some(man) = board.at(s) {
-            if man.colour == ground.side && row < homes.len() {
-                count_standing(
-                    ground,
-                    &mut deeds.tally,
-                    number_of_home(ground.side, homes[row]),
-                    man,
-                    s,
-                );
-                row += 1;
-            }
+    for i in 0..16 {
+        let n = homes[i] as usize % 16;
+        if i >= men.begun {
+            break;
         }
-    }
-    for j in &homes[row..] {
-        deeds.count_gone(ground, number_of_home(ground.side, *j));
+        if i >= men.standing {
+            deeds.count_gone(land, rates, ways, n);
+        } else if matches!(land.homes[n], Home::Pawn) {
+            let own = n % 8;
+            deeds.count_standing(land, rates, &ways.each[own], own, men.traces[i]);
+        }
     }
     deeds
 }

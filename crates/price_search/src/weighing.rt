@@ -1,4 +1,4 @@
-ghost use Rattle.std.specs.Prelude.{IfSome, ◌<◌};
+ghost use Rattle.std.specs.Prelude.{IfSome, ◌<◌, ◌≤◌};
 
 use crate::places::free_on;
 use crate::tallies::Tally;
@@ -14,21 +14,26 @@ const GRAIN: i32 = 16;
 /// How often weight is shifted after each new tally.
 const STEPS: u32 = 40;
 
-/// A tally of a side and how much it weighs.
-#[derive(Clone, Copy, Default)]
-struct Weighed {
-    tally: Tally,
-    weight: i32,
+/// Tallies of a side that were seen, in order, each with its weight.
+#[derive(Drop)]
+struct SideSeen {
+    tallies: ArrayVec<Tally, 16>,
+    weights: [i32; 16],
+    /// By places, the greatest number that a tally says, at least 0.
+    most: [i8; 96],
+    /// By places, whether the tallies say different numbers.
+    differs: [bool; 96],
 }
 
-/// What the tallies say on a place, White's and Black's each in their order, and what is paid there by their weights beyond what is
-/// earned and what is free.
-#[derive(Clone, Copy, Default)]
-struct Column {
-    place: u8,
-    white: [i8; 16],
-    black: [i8; 16],
-    owed: i32,
+/// The places on which something may be owed and the tallies of a side differ: what is owed there by their weights, beyond what is earned
+/// and what is free, and what each tally says, in the order of the tallies and then of the places.
+#[derive(Drop)]
+struct Scale {
+    count: usize,
+    places: [u8; 96],
+    owed: [i32; 96],
+    white: [[i8; 96]; 16],
+    black: [[i8; 96]; 16],
 }
 
 /// Tallies that were seen, those of each side apart, with weights. The cost at any prices is at most what each tally of White with each
@@ -37,35 +42,26 @@ struct Column {
 pub(crate) struct Weighing {
     white: SideSeen,
     black: SideSeen,
-    /// The places on which something may be owed.
-    columns: ArrayVec<Column, 96>,
+    scale: Scale,
+    /// What is owed on the other places together, of those where anything is.
+    fixed: i32,
+    /// What is owed on the places of captures, where the tallies of each side say the same.
+    needs: [i32; 32],
 }
 
-/// The place of the lightest of these in their order.
-fn lightest(seen: &[Weighed]) -> usize {
+/// The place of the lightest of the first tallies in their order.
+fn lightest(weights: &[i32; 16], count: usize) -> usize
+    ensures { result < 16 }
+{
     let mut at = 0;
     let mut least = i32::MAX;
-    for (i, x) in seen.iter().enumerate() {
-        if x.weight < least {
+    for i in 0..16 {
+        if i < count && weights[i] < least {
             at = i;
-            least = x.weight;
+            least = weights[i];
         }
     }
     at
-}
-
-/// What the tallies of a side say on a place, in their order, and the greatest of these numbers, at least 0.
-#[derive(Clone, Copy, Default)]
-struct Said {
-    each: [i8; 16],
-    most: i8,
-}
-
-/// The tallies of a side that were seen, and what they say by places.
-#[derive(Drop)]
-struct SideSeen {
-    tallies: ArrayVec<Weighed, 16>,
-    said: [Said; 96],
 }
 
 impl SideSeen {
@@ -73,110 +69,187 @@ impl SideSeen {
     fn new() -> SideSeen {
         SideSeen {
             tallies: ArrayVec::new(),
-            said: [Said::default(); 96],
+            weights: [0; 16],
+            most: [0; 96],
+            differs: [false; 96],
         }
     }
 
     /// Adds a tally that isn't there. The first has the whole weight and the next have none; where there is no more room the lightest
     /// makes way, and leaves its weight.
     fn add(&mut self, tally: &Tally) {
-        if self.tallies.iter().any(|x| x.tally == *tally) {
+        if self.tallies.iter().any(|x| *x == *tally) {
             return;
         }
-        let at = self.tallies.len();
-        let weight = if at == 0 { WHOLE } else { 0 };
-        let tally = *tally;
-        if self.tallies.try_push(Weighed { tally, weight }).is_ok() {
-            for (said, times) in self.said.iter_mut().zip(&tally.times) {
-                said.say(at, *times);
-            }
+        if self.tallies.is_empty() {
+            self.weights[0] = WHOLE;
+        }
+        if self.tallies.try_push(*tally).is_ok() {
+            self.compare(tally);
         } else {
-            self.replace_lightest(&tally);
+            self.replace_lightest(tally);
+        }
+    }
+
+    /// Notes how a tally compares with the others.
+    fn compare(&mut self, tally: &Tally) {
+        let Some(first) = self.tallies.as_slice().first() else {
+            return;
+        };
+        let first = *first;
+        for k in 0..96 {
+            self.most[k] = self.most[k].max(tally.times[k]);
+            self.differs[k] |= tally.times[k] != first.times[k];
         }
     }
 
     /// Puts a tally where the lightest was.
     fn replace_lightest(&mut self, tally: &Tally) {
-        let at = lightest(self.tallies.as_slice());
+        let at = lightest(&self.weights, self.tallies.len());
         if let Some(x) = self.tallies.get_mut(at) {
-            x.tally = *tally;
+            *x = *tally;
         }
-        for (said, times) in self.said.iter_mut().zip(&tally.times) {
-            said.say(at, *times);
-            said.most = peak(&said.each);
+        self.most = [0; 96];
+        self.differs = [false; 96];
+        for i in 0..16 {
+            if let Some(x) = self.tallies.as_slice().get(i) {
+                let x = *x;
+                self.compare(&x);
+            }
         }
     }
 
-    /// The sum of what the tallies say on a place, by their weights.
-    fn weighted(&self, place: usize) -> i32
-        requires { place < 96 }
+    /// Adds what the tallies say on each place, by their weights.
+    fn add_weighted(&self, sums: &mut [i32; 96]) {
+        for i in 0..16 {
+            let weight = self.weights[i];
+            if let Some(tally) = self.tallies.as_slice().get(i) {
+                if weight != 0 {
+                    add_times(sums, tally, weight);
+                }
+            }
+        }
+    }
+}
+
+/// Adds what a tally says on each place, so many times.
+fn add_times(sums: &mut [i32; 96], tally: &Tally, weight: i32) {
+    for k in 0..96 {
+        sums[k] = sums[k].wrapping_add(weight.wrapping_mul(i32::from(tally.times[k])));
+    }
+}
+
+impl Scale {
+    /// There are no places.
+    fn new() -> Scale {
+        Scale {
+            count: 0,
+            places: [0; 96],
+            owed: [0; 96],
+            white: [[0; 96]; 16],
+            black: [[0; 96]; 16],
+        }
+    }
+
+    /// How many places there are.
+    fn len(&self) -> usize
+        ensures { result ≤ 96 }
     {
+        self.count.min(96)
+    }
+
+    /// Adds a place on which so much is owed.
+    fn add_place(&mut self, place: u8, owed: i32) {
+        if self.count < 96 {
+            self.places[self.count] = place;
+            self.owed[self.count] = owed;
+            self.count += 1;
+        }
+    }
+
+    /// What is owed on all places together, of those where anything is.
+    fn unpaid(&self) -> i32 {
         let mut sum = 0i32;
-        for (x, times) in self.tallies.iter().zip(&self.said[place].each) {
-            sum = sum.wrapping_add(x.weight.wrapping_mul(i32::from(*times)));
+        for x in 0..self.len() {
+            sum = sum.wrapping_add(self.owed[x].max(0));
         }
         sum
     }
-}
 
-impl Said {
-    /// Lets the tally that is so far in their order say this.
-    fn say(&mut self, at: usize, times: i8) {
-        if let Some(x) = self.each.get_mut(at) {
-            *x = times;
-        }
-        self.most = self.most.max(times);
-    }
-}
-
-/// The greatest of these numbers, at least 0.
-fn peak(numbers: &[i8; 16]) -> i8 {
-    let mut most = 0;
-    for x in numbers {
-        most = most.max(*x);
-    }
-    most
-}
-
-/// What is owed on all places together, of those where anything is.
-fn unpaid(columns: &[Column]) -> i32 {
-    let mut sum = 0i32;
-    for column in columns {
-        sum = sum.wrapping_add(column.owed.max(0));
-    }
-    sum
-}
-
-impl Column {
     /// What the tallies of a side say.
-    fn of(&self, side: Colour) -> &[i8; 16] {
+    fn rows(&self, side: Colour) -> &[[i8; 96]; 16] {
         match side {
             Colour::White => &self.white,
             Colour::Black => &self.black,
         }
     }
 
-    /// By how much one tally of a side is above another.
-    fn rise(&self, side: Colour, from: usize, to: usize) -> i32
-        requires from { from < 16 }
-        requires to { to < 16 }
+    /// What each of the first tallies of a side owes on the places where anything is owed.
+    fn dues(&self, side: Colour, count: usize) -> [i32; 16] {
+        let rows = self.rows(side);
+        let mut sums = [0i32; 16];
+        for i in 0..16 {
+            if i < count {
+                sums[i] = self.due(&rows[i]);
+            }
+        }
+        sums
+    }
+
+    /// What a tally owes on the places where anything is owed.
+    fn due(&self, row: &[i8; 96]) -> i32 {
+        let mut sum = 0i32;
+        for x in 0..self.len() {
+            let each = self.owed[x].max(0).wrapping_mul(i32::from(row[x]));
+            sum = sum.wrapping_add(each);
+        }
+        sum
+    }
+
+    /// By how much one tally of a side is above another, by the places.
+    fn rises(&self, side: Colour, shift: Shift) -> [i32; 96]
+        requires from { shift.from < 16 }
+        requires to { shift.to < 16 }
     {
-        let told = self.of(side);
-        i32::from(told[to]).wrapping_sub(i32::from(told[from]))
+        let rows = self.rows(side);
+        let from = &rows[shift.from];
+        let to = &rows[shift.to];
+        let mut rises = [0; 96];
+        for x in 0..self.len() {
+            rises[x] = i32::from(to[x]).wrapping_sub(i32::from(from[x]));
+        }
+        rises
+    }
+
+    /// The sum of the squares of these rises, on the places where that counts.
+    fn square_sum(&self, rises: &[i32; 96]) -> i32 {
+        let mut sum = 0i32;
+        for x in 0..self.len() {
+            let rise = rises[x];
+            if self.owed[x] > 0 || (rise > 0 && self.owed[x] > -WHOLE / 8) {
+                sum = sum.wrapping_add(rise.wrapping_mul(rise));
+            }
+        }
+        sum
+    }
+
+    /// Lets what is owed rise so many times.
+    fn raise(&mut self, rises: &[i32; 96], by: i32) {
+        for x in 0..self.len() {
+            self.owed[x] = self.owed[x].wrapping_add(by.wrapping_mul(rises[x]));
+        }
     }
 }
 
-/// What each of the first tallies of a side owes on the places where anything is owed.
-fn dues(columns: &[Column], side: Colour, count: usize) -> [i32; 16] {
-    let mut sums = [0i32; 16];
-    for column in columns {
-        if column.owed > 0 {
-            for (sum, x) in sums.iter_mut().zip(column.of(side)).take(count) {
-                *sum = sum.wrapping_add(column.owed.wrapping_mul(i32::from(*x)));
-            }
+/// Notes what these tallies say on the first of these places.
+fn tell(rows: &mut [[i8; 96]; 16], tallies: &[Tally], places: &[u8; 96], count: usize)
+    requires { count ≤ 96 }
+{
+    for (row, tally) in rows.iter_mut().zip(tallies) {
+        for x in 0..count {
+            row[x] = tally.times[places[x] as usize % 96];
         }
     }
-    sums
 }
 
 /// A shift of weight: from which tally to which, and by how much less is owed there.
@@ -188,7 +261,7 @@ struct Shift {
 }
 
 /// From the tally that owes the most of those that have weight to that which owes the least; None where that gains nothing.
-fn best_shift(seen: &[Weighed], dues: &[i32; 16]) -> Option<Shift>
+fn best_shift(weights: &[i32; 16], count: usize, dues: &[i32; 16]) -> Option<Shift>
     ensures { IfSome result (λ shift. (shift.from < 16) × (shift.to < 16)) }
 {
     let mut from = 0;
@@ -196,12 +269,12 @@ fn best_shift(seen: &[Weighed], dues: &[i32; 16]) -> Option<Shift>
     let mut most = i32::MIN;
     let mut least = i32::MAX;
     for i in 0..16 {
-        if i < seen.len() {
+        if i < count {
             if dues[i] < least {
                 to = i;
                 least = dues[i];
             }
-            if seen[i].weight > 0 && dues[i] > most {
+            if weights[i] > 0 && dues[i] > most {
                 from = i;
                 most = dues[i];
             }
@@ -215,21 +288,6 @@ fn best_shift(seen: &[Weighed], dues: &[i32; 16]) -> Option<Shift>
     }
 }
 
-/// The sum of the squares by which the two tallies differ, on the places where that counts.
-fn square_sum(columns: &[Column], side: Colour, shift: Shift) -> i32
-    requires from { shift.from < 16 }
-    requires to { shift.to < 16 }
-{
-    let mut sum = 0i32;
-    for column in columns {
-        let rise = column.rise(side, shift.from, shift.to);
-        if column.owed > 0 || (rise > 0 && column.owed > -WHOLE / 8) {
-            sum = sum.wrapping_add(rise.wrapping_mul(rise));
-        }
-    }
-    sum
-}
-
 /// How much weight goes over: at most what there is.
 fn amount(gain: i32, squares: i32, weight: i32) -> i32 {
     if squares <= 1 {
@@ -240,31 +298,23 @@ fn amount(gain: i32, squares: i32, weight: i32) -> i32 {
 }
 
 /// Shifts weight between two tallies of a side; false where none goes over.
-fn shift_weight(
-    seen: &mut ArrayVec<Weighed, 16>,
-    columns: &mut ArrayVec<Column, 96>,
-    side: Colour,
-) -> bool {
-    let Some(shift) = best_shift(seen.as_slice(), &dues(columns.as_slice(), side, seen.len()))
-    else {
+fn shift_weight(seen: &mut SideSeen, scale: &mut Scale, side: Colour) -> bool {
+    let count = seen.tallies.len();
+    let Some(shift) = best_shift(&seen.weights, count, &scale.dues(side, count)) else {
         return false;
     };
-    let squares = square_sum(columns.as_slice(), side, shift);
-    let Some(giver) = seen.get_mut(shift.from) else {
-        return false;
-    };
-    let by = amount(shift.gain, squares, giver.weight);
+    let rises = scale.rises(side, shift);
+    let by = amount(
+        shift.gain,
+        scale.square_sum(&rises),
+        seen.weights[shift.from],
+    );
     if by <= 0 {
         return false;
     }
-    giver.weight = giver.weight.wrapping_sub(by);
-    if let Some(taker) = seen.get_mut(shift.to) {
-        taker.weight = taker.weight.wrapping_add(by);
-    }
-    for column in columns.iter_mut() {
-        let rise = column.rise(side, shift.from, shift.to);
-        column.owed = column.owed.wrapping_add(by.wrapping_mul(rise));
-    }
+    seen.weights[shift.from] = seen.weights[shift.from].wrapping_sub(by);
+    seen.weights[shift.to] = seen.weights[shift.to].wrapping_add(by);
+    scale.raise(&rises, by);
     true
 }
 
@@ -274,34 +324,29 @@ impl Weighing {
         Weighing {
             white: SideSeen::new(),
             black: SideSeen::new(),
-            columns: ArrayVec::new(),
+            scale: Scale::new(),
+            fixed: 0,
+            needs: [0; 32],
         }
     }
 
-    /// What the tallies say on a place.
-    fn column_at(&self, place: u8) -> Column
-        requires { place < 96 }
-    {
-        let at = place as usize;
-        let free = WHOLE.wrapping_mul(free_on(at));
-        let paid = self
-            .white
-            .weighted(at)
-            .wrapping_add(self.black.weighted(at));
-        Column {
-            place,
-            white: self.white.said[at].each,
-            black: self.black.said[at].each,
-            owed: paid.wrapping_sub(free),
+    /// What is owed on each place, whether or not that can ever be more than nothing.
+    fn owed(&self) -> [i32; 96] {
+        let mut sums = [0i32; 96];
+        for k in 32..96 {
+            sums[k] = 0i32.wrapping_sub(WHOLE);
         }
+        self.white.add_weighted(&mut sums);
+        self.black.add_weighted(&mut sums);
+        sums
     }
 
     /// Whether something may be owed on a place.
     fn may_owe(&self, place: usize) -> bool
         requires { place < 96 }
     {
-        let white = i32::from(self.white.said[place].most);
-        let black = i32::from(self.black.said[place].most);
+        let white = i32::from(self.white.most[place]);
+        let black = i32::from(self.black.most[place]);
         white.wrapping_add(black) > free_on(place)
     }
 
@@ -309,21 +354,42 @@ impl Weighing {
     pub(crate) fn add(&mut self, white: &Tally, black: &Tally) {
         self.white.add(white);
         self.black.add(black);
-        self.columns.clear();
-        for place in 0..96 {
-            if self.may_owe(place as usize) {
-                let column = self.column_at(place);
-                let _ = self.columns.try_push(column);
+        self.sort_places();
+        let count = self.scale.len();
+        let scale = &mut self.scale;
+        let white = self.white.tallies.as_slice();
+        let black = self.black.tallies.as_slice();
+        tell(&mut scale.white, white, &scale.places, count);
+        tell(&mut scale.black, black, &scale.places, count);
+    }
+
+    /// Puts the places on which something may be owed and tallies differ on the scale, and sums up the others.
+    fn sort_places(&mut self) {
+        let owed = self.owed();
+        self.scale.count = 0;
+        self.fixed = 0;
+        self.needs = [0; 32];
+        for k in 0..96 {
+            if self.may_owe(k) {
+                if self.white.differs[k] || self.black.differs[k] {
+                    self.scale.add_place(k as u8, owed[k]);
+                } else {
+                    self.fixed = self.fixed.wrapping_add(owed[k].max(0));
+                    if k < 32 {
+                        self.needs[k] = owed[k];
+                    }
+                }
             }
         }
     }
 
     /// What is owed on the places of captures.
     pub(crate) fn needs(&self) -> [i32; 32] {
-        let mut all = [0; 32];
-        for column in &self.columns {
-            if column.place < 32 {
-                all[column.place as usize] = column.owed;
+        let mut all = self.needs;
+        for x in 0..self.scale.len() {
+            let place = self.scale.places[x] as usize;
+            if place < 32 {
+                all[place] = self.scale.owed[x];
             }
         }
         all
@@ -331,7 +397,7 @@ impl Weighing {
 
     /// Whether so little is owed that no low prices support the query.
     fn is_paid(&self) -> bool {
-        GRAIN.wrapping_mul(unpaid(self.columns.as_slice())) < WHOLE
+        GRAIN.wrapping_mul(self.fixed.wrapping_add(self.scale.unpaid())) < WHOLE
     }
 
     /// Shifts weight to and fro so that less is owed, and says whether no low prices support the query.
@@ -343,8 +409,8 @@ impl Weighing {
                 return true;
             }
             let shifted = match side {
-                Colour::White => shift_weight(&mut self.white.tallies, &mut self.columns, side),
-                Colour::Black => shift_weight(&mut self.black.tallies, &mut self.columns, side),
+                Colour::White => shift_weight(&mut self.white, &mut self.scale, side),
+                Colour::Black => shift_weight(&mut self.black, &mut self.scale, side),
             };
             if !shifted && idle {
                 return false;

@@ -1,5 +1,5 @@
 use Rattle.std.proofs.Common.{◌<◌}
 use Rattle.price_search.proofs.tallies.best_promotion.Given as goal
 
-abbrev pub invariant-loop-f : goal.invariant-loop-f
-invariant-loop-f l = l.best < 64
+abbrev pub invariant-loop-g : goal.invariant-loop-g
+invariant-loop-g l = l.best < 64
