@@ -21,7 +21,7 @@ import sys
 sys.path.insert(0, str(pathlib.Path(__file__).resolve().parent))
 from believed import block, cited, crates, imported, load, reached
 
-HEADLINES = ["accepted", "accepted_line", "proved", "settled", "proved_line", "countered", "unsettled", "decided", "measured", "bounded", "refused"]
+HEADLINES = ["accepted", "accepted_line", "proved", "proved_line", "countered", "decided", "measured", "bounded", "refused"]
 MARK = "<!-- The rest is written by tools/trust.py --write. -->"
 PAGE, LIST = "TRUST.md", "TRUST-LIST.md"
 MOST_BYTES = 14_336

@@ -3,9 +3,8 @@ use Rattle.std.proofs.Common.{◌≡◌, ℕ, ◌<◌, ◌≤◌, List, [], ◌�
 use Rattle.std.specs.Global.{Global}
 use Rattle.std.specs.List.{Contains}
 use Rattle.std.specs.Prelude.{MatchResult, Option, Some, None, Result, Ok, Err, String, string_bytes}
-use Rattle.retro_top.specs.Commands.{AreWordsOf, Call, CallSome}
+use Rattle.retro_top.specs.Commands.{AreWordsOf, Call}
 use Rattle.retro_top.specs.Names.{IsCommand}
-use Rattle.retro_top.specs.Numbers.{Spells}
 use Rattle.retro_top.specs.Rows.{Facts, IsMade, IsSample, IsSearch, IsUsual, table}
 use Rattle.retro_top.specs.declared.commands.Command.{Command}
 use Rattle.retro_top.specs.declared.parsing.RestFault.{RestFault}

@@ -1,17 +1,14 @@
 -- The table of commands says of each command which words call it, and of each name which command it calls.
-use Rattle.std.proofs.Common.{◌≡◌, ℕ, zero, suc, Bool, true, false, cond, IsTrue, List, [], ◌∷◌, get_or, length, map, refl, sym, ap, ◌∙◌, subst, inl, inr, arith}
+use Rattle.std.proofs.Common.{◌≡◌, ℕ, zero, suc, cond, List, [], ◌∷◌, get_or, map, refl, sym, ap, ◌∙◌, subst, inl, inr, arith}
 use Rattle.std.specs.Fmt.{decimal}
-use Rattle.std.specs.Global.{Global}
 use Rattle.std.specs.List.{All, Contains}
-use Rattle.std.specs.Prelude.{codes, None, Option, Some, String, string_bytes, ◌⊎◌}
+use Rattle.std.specs.Prelude.{codes, None, Option, Some}
 use Rattle.std.specs.Str.{bytes_eq}
 use Rattle.std.proofs.lemmas.Fmt.{decimal_injective}
 use Rattle.std.proofs.lemmas.List.{get_or-map, length-map}
 use Rattle.std.proofs.lemmas.List.Elements.{All-contains, All-map}
-use Rattle.command_answers.specs.Limits.{AreLimits, AreSampleNumbers}
-use Rattle.retro_top.specs.Commands.{AreShortWordsOf, AreWordsOf, Call, CallSome, IsInRange, words_of}
-use Rattle.retro_top.specs.Names.{Begin, IsCommand, IsReadBy, NameCommand}
-use Rattle.retro_top.specs.Numbers.{Spells}
+use Rattle.retro_top.specs.Commands.{AreShortWordsOf, AreWordsOf, IsInRange, words_of}
+use Rattle.retro_top.specs.Names.{IsCommand, IsReadBy}
 use Rattle.retro_top.specs.Rows.{Facts, IsMade, IsSample, IsSearch, IsUsual, one_each, said_of, search_of, table}
 use Rattle.retro_top.specs.declared.commands.Command.{Command}
 use Rattle.retro_top.specs.declared.commands.Command.TheVariants.{Check, Explain, Play, San, Spell, Unmoves, Study, Solve, Settle, Verdict, Tree, Length, AtLeast, Line, Dossier, Sample}

@@ -63,6 +63,10 @@ Reads command = Unit {0}
 abbrev pub CallReader : List (String Global) → Type 0
 CallReader words = (command : Command) × Call words command × Reads command
 
+-- the words call `solve` or `settle`, with these numbers
+abbrev pub CallSolver : List (String Global) → ℕ → ℕ → Type 0
+CallSolver words depth nodes = Call words (Solve depth nodes) ⊎ Call words (Settle depth nodes)
+
 -- the command takes memory: each but `check`, `atleast` and `line` does
 abbrev pub TakesMemory : Command → Type 0
 TakesMemory Check = ⊥

@@ -38,7 +38,8 @@ impl Number {
 
     /// The number that the word is, if it may stand there.
     pub(crate) fn read(self, word: &String) -> Option<u64>
-        ensures { MatchOption result ((n : ℕ) → Gives self (string_bytes word.now) n → ⊥) (Gives self (string_bytes word.now)) }
+        ensures { MatchOption result ((n : ℕ) → Gives self (string_bytes word.now) n →
+            ⊥) (Gives self (string_bytes word.now)) }
     {
         let (least, most) = self.range();
         read_number(word, least, most)
@@ -56,7 +57,8 @@ fn is_decimal(word: &str, number: u64) -> bool
 /// The number that the word is in decimal, without sign and without a leading zero, where it is in the range from `least` to `most`.
 /// None comes exactly where the word is no such number.
 fn read_number(word: &String, least: u64, most: u64) -> Option<u64>
-    ensures { MatchOption result ((n : ℕ) → IsNumber (string_bytes word.now) least most n → ⊥) (IsNumber (string_bytes word.now) least most) }
+    ensures { MatchOption result ((n : ℕ) → IsNumber (string_bytes word.now) least most n →
+        ⊥) (IsNumber (string_bytes word.now) least most) }
 {
     let Ok(number) = word.as_str().parse::<u64>() else {
         return None;

@@ -1,6 +1,6 @@
 //! From the words of the command line to the command that they call.
 
-ghost use Rattle.std.specs.Prelude.{◌∷◌, [], IfErr, IfOk, MatchOption, MatchResult, List, map, string_bytes};
+ghost use Rattle.std.specs.Prelude.{◌∷◌, [], IfErr, IfOk, MatchOption, MatchResult, map, string_bytes};
 ghost use Rattle.retro_top.specs.Commands.{Call, CallSome};
 ghost use Rattle.retro_top.specs.Names.{IsFaultOf};
 ghost use Rattle.retro_top.specs.Rows.{IsMade, IsSample, IsSearch};
@@ -63,7 +63,8 @@ fn read_sample(start: &String, games: &String, plies: &String) -> Result<Command
 
 /// The search with its usual numbers, if it has any.
 fn usually(search: Search, usual: Option<Usual>) -> Result<Command, RestFault>
-    ensures { MatchResult result (IsMade (Calls.Search search usual) []) (λ why. (made : ACommand) → IsMade (Calls.Search search usual) [] made → ⊥) }
+    ensures { MatchResult result (IsMade (Calls.Search search usual) [])
+        (λ why. (made : ACommand) → IsMade (Calls.Search search usual) [] made → ⊥) }
 {
     match usual {
         Some(usual) => Ok(search.command(usual.depth, usual.nodes)),
@@ -73,7 +74,8 @@ fn usually(search: Search, usual: Option<Usual>) -> Result<Command, RestFault>
 
 /// The command that the words behind a name make.
 fn make(calls: Calls, words: &[String]) -> Result<Command, RestFault>
-    ensures { MatchResult result (IsMade calls (map string_bytes words.now)) (λ why. (made : ACommand) → IsMade calls (map string_bytes words.now) made → ⊥) }
+    ensures { MatchResult result (IsMade calls (map string_bytes words.now))
+        (λ why. (made : ACommand) → IsMade calls (map string_bytes words.now) made → ⊥) }
 {
     match calls {
         Calls::Plain(command) => match words {

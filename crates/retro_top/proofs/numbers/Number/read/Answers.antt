@@ -1,4 +1,4 @@
-use Rattle.std.proofs.Common.{◌≡◌, ◌≤◌, ◌↔◌, ℕ, List, Option, Some, None}
+use Rattle.std.proofs.Common.{◌≤◌, ◌↔◌, ℕ, List, Option, Some, None}
 use Rattle.std.specs.Prelude.{MatchOption}
 use Rattle.retro_top.specs.Names.{MayStand}
 use Rattle.retro_top.specs.Numbers.{Gives, IsNumber}
