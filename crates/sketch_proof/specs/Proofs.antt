@@ -14,6 +14,7 @@ use Rattle.sketch_text.specs.Marks.{Marks}
 use Rattle.sketch_text.specs.declared.labels.Label.{Label}
 use Rattle.sketch_text.specs.declared.labels.Label.TheVariants.{Now, Case}
 use Rattle.sketch_text.specs.declared.labels.Officer.TheVariants as officer
+use Rattle.sketch_text.specs.Trees.{Line, Node, Nodes, Reason, closed, height, lines_of, more, node, none, split, steps, void}
 use Rattle.sketch_proof.specs.Labelled.{label_for}
 
 -- the odds, the rights that are held, the files on which pawns' moves are taken back one by one, and the lines of prices
