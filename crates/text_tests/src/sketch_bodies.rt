@@ -186,14 +186,12 @@ fn read_below(head: &str, lines: &[&str]) -> (usize, bool) {
     let Some(mut due) = due_below(head, 0) else {
         return (0, false);
     };
-    let mut count = 0;
-    for line in lines {
+    for (i, line) in lines.iter().enumerate() {
         if due.read(line.as_bytes()).is_none() {
-            return (count, due.is_done());
+            return (i, due.is_done());
         }
-        count = (count + 1) % 1_000;
     }
-    (count, due.is_done())
+    (lines.len(), due.is_done())
 }
 
 /// The first row of which it isn't so.
@@ -206,7 +204,7 @@ fn first_otherwise() -> Option<usize> {
     }
     for (i, prices) in PRICES_NONE.iter().enumerate() {
         if read_below("sketch 1", &[*prices]).0 != 0 {
-            return Some(100 + i % 100);
+            return Some(i);
         }
     }
     None
@@ -217,17 +215,15 @@ fn depth() -> usize {
     let Some(mut due) = due_below("sketch 0", 0) else {
         return 0;
     };
-    let mut count = 0;
     if due.read(b"now steps 1").is_none() {
         return 0;
     }
-    for _ in 0..100 {
+    for i in 0..100_usize {
         if due.read(b"a2-a3 steps 1").is_none() {
-            return count;
+            return i;
         }
-        count = (count + 1) % 1_000;
     }
-    count
+    100
 }
 
 /// How many units are charged after this line, behind sketches with so many.
