@@ -18,7 +18,7 @@ use Rattle.men_ledger.proofs.Balance.{paid-in-all, earned-in-all}
 use Rattle.men_ledger.proofs.Gates.{gates-most}
 
 -- what is no more for each number is no more in all
-sum-each : (f g : ℕ → ℕ) (xs : List ℕ) → ((x : ℕ) → Contains xs x → f x ≤ g x) → sum_by f xs ≤ sum_by g xs
+pub sum-each : (f g : ℕ → ℕ) (xs : List ℕ) → ((x : ℕ) → Contains xs x → f x ≤ g x) → sum_by f xs ≤ sum_by g xs
 sum-each f g [] each = omega arith
 sum-each f g (x ∷ xs) each = omega (arith, sum_by-cons f x xs, sum_by-cons g x xs, each x (contains-first x xs), sum-each f g xs (λ y there. each y (contains-later x xs y there)))
 
@@ -31,7 +31,7 @@ side-sum : (base : ℕ) (cost pays gates earns : ℕ → ℕ) (xs : List ℕ) �
 side-sum base cost pays gates earns xs each =
     omega (arith, sum-each (λ x. cost x + earns x) (λ x. base + (pays x + gates x)) xs each, sum-both cost earns xs, sum-base base (λ x. pays x + gates x) xs, sum-both pays gates xs)
 
-pawn-of : (c : Colour) (o : List Bool) (h : ℕ) → is_the c Pawn (at (array_of o) h) ≡ true → is_of c (at (array_of o) h) ≡ true
+pub pawn-of : (c : Colour) (o : List Bool) (h : ℕ) → is_the c Pawn (at (array_of o) h) ≡ true → is_of c (at (array_of o) h) ≡ true
 pawn-of c o h pawn = (and_parts (is_of c (at (array_of o) h)) (is_a Pawn (at (array_of o) h)) pawn).0
 
 added : (w b ew eb pw pb gw gb basew baseb most tw tb sw sb : ℕ) → w + ew ≤ basew + (pw + gw) → b + eb ≤ baseb + (pb + gb) → pw ≡ tw → eb ≡ sw → pb ≡ tb → ew ≡ sb → gw + gb ≤ most → w + b + (sw + sb) ≤ basew + baseb + most + (tw + tb)

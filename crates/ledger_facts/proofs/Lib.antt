@@ -7,3 +7,5 @@ pub mod Cells
 pub mod Raised
 pub mod Sound
 pub mod Known
+pub mod Counts
+pub mod Listed
