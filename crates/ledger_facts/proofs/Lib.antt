@@ -1,0 +1,11 @@
+pub mod Apart
+pub mod Tables
+pub mod Going
+pub mod Fell
+pub mod Losing
+pub mod Cells
+pub mod Raised
+pub mod Sound
+pub mod Known
+pub mod Counts
+pub mod Listed

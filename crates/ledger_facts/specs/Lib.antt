@@ -1,0 +1,4 @@
+pub mod Supposed
+pub mod Accounts
+pub mod Refuted
+pub mod Lines

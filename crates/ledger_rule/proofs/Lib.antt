@@ -1,0 +1,5 @@
+pub mod Priced
+pub mod Ways
+pub mod Ends
+pub mod Told
+pub mod Rowed

@@ -1,0 +1,33 @@
+use Rattle.std.proofs.Common.{◌≡◌, ◌<◌, ◌≤◌, ℕ, length, ap, arith, ◌∙◌}
+use Rattle.std.specs.Prelude.{Option}
+use Rattle.std.proofs.lemmas.List.{length-set}
+use Rattle.std.proofs.lemmas.List.FromFn.{fill_by_all}
+use Rattle.board_base.specs.Board.{array_of, at, home_of}
+use Rattle.board_base.specs.declared.men.Man.{Man}
+use Rattle.balance_rule.specs.Costs.{never}
+use Rattle.ledger_facts.specs.Accounts.{stand_row_if, stands_if}
+use Rattle.ledger_rule.proofs.Rowed.{row-more, row-small}
+use Rattle.ledger_rule.proofs.tables.stand_row.Goals as goal
+
+pub loop-j-preserved : goal.loop-j-preserved
+loop-j-preserved c =
+    let g = c.args.ground.now in
+    let inside : c.loop-j.j < length c.loop-j.row = omega (arith, c.loop-j-test.true, c.loop-j.invariant.size) in
+    record {
+      size = length-set c.loop-j.row c.loop-j.j c.stands_if.result ∙ c.loop-j.invariant.size;
+      small = row-more (λ k n. n ≤ never) c.loop-j.row c.loop-j.j c.stands_if.result inside c.loop-j.invariant.small c.stands_if.ensures.small;
+      done = λ o p ground.
+          row-more (λ k n. n ≡ stands_if c.args.supposition.now p g.frozen g.side (at (array_of o) (home_of g.side k)) (home_of g.side k) c.at-place.result c.args.s) c.loop-j.row c.loop-j.j c.stands_if.result inside (c.loop-j.invariant.done o p ground)
+          (c.stands_if.ensures.value o p ground ∙ ap (λ (h : ℕ). stands_if c.args.supposition.now p g.frozen g.side (at (array_of o) h) h c.at-place.result c.args.s) c.number_of_home.ensures.home);
+    }
+
+pub returns-clause-small : goal.returns-clause-small
+returns-clause-small c = row-small c.loop-j.row c.loop-j.j c.loop-j.invariant.size c.loop-j-test.false c.loop-j.invariant.small
+
+pub returns-clause-value : goal.returns-clause-value
+unfolding stand_row_if
+returns-clause-value c = λ o p ground.
+    let past = c.loop-j.auto.j-end in
+    fill_by_all (λ (j : ℕ). stands_if c.args.supposition.now p c.args.ground.now.frozen c.args.ground.now.side (at (array_of o) (home_of c.args.ground.now.side j)) (home_of c.args.ground.now.side j) (at c.args.board.now c.args.s) c.args.s) _ 16 0 c.loop-j.invariant.size (λ k low.
+    c.loop-j.invariant.done o p ground k (omega arith)
+    ∙ ap (λ (m : Option Man). stands_if c.args.supposition.now p c.args.ground.now.frozen c.args.ground.now.side (at (array_of o) (home_of c.args.ground.now.side k)) (home_of c.args.ground.now.side k) m c.args.s) c.at-place.ensures.man)

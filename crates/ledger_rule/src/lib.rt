@@ -1,0 +1,12 @@
+//! Whether prices refute a supposition on where men began, what became of them, or how many captures pawns made. It takes no memory.
+//!
+//! Articles are those of the FIDE Laws of Chess, in force from 1 January 2023.
+#![tactic(auto)]
+
+mod lists;
+mod losses;
+mod refuting;
+mod standing;
+mod tables;
+
+pub use refuting::refutes;
