@@ -145,7 +145,10 @@ pub(crate) fn settle(frames: &mut Frames) -> Result<(), SketchFault>
         let Some(frame) = frames.pop() else {
             return Ok(());
         };
-        end_frame(frame)?;
+        match end_frame(frame) {
+            Ok(()) => {}
+            Err(fault) => return Err(fault),
+        }
     }
     Ok(())
 }
