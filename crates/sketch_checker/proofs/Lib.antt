@@ -11,3 +11,4 @@ pub mod LinesWalked
 pub mod Rooted
 pub mod Supporting
 pub mod Settling
+pub mod Finishing

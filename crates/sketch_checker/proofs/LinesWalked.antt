@@ -7,12 +7,12 @@ use Rattle.sketch_node.specs.Nodes.{marked_with}
 use Rattle.sketch_text.specs.Marks.{Marks}
 use Rattle.sketch_text.specs.declared.labels.Officer.TheVariants as officer
 use Rattle.sketch_text.specs.declared.nodes.End.{End}
-use Rattle.sketch_text.specs.Trees.{Line, Node, Nodes, Reason, closed, count, end_of, lines_below, lines_each, lines_of, more, node, none, of_marks, of_node, split, steps, void}
+use Rattle.sketch_text.specs.Trees.{Line, Node, Nodes, Reason, closed, count, end_of, lines_below, lines_each, lines_of, more, node, none, of_marks, split, steps, void}
 use Rattle.sketch_proof.specs.Proofs.{AreForced, Setting, with_lines}
 use Rattle.sketch_checker.specs.DueNodes.{Due, case_due, due_of, first_due}
 use Rattle.sketch_checker.specs.LineWalk.{ComesTo, OnEnd, OnOpened, StopsUnless, Walking, WalksOn, begun, ended, going, stopped}
 use Rattle.sketch_checker.specs.TreeWalk.{IfSo, Onwards, Walked, Walks, WalksBelow, WalksEach, WalksMarks, Wrong, fault_at, next_line, stray, unsupported}
-use Rattle.sketch_checker.specs.Walks.{Frame, Opened}
+use Rattle.sketch_checker.specs.Walks.{Frame}
 use Rattle.sketch_checker.proofs.Completing.{frame, opened}
 
 -- a fault of the walk over a tree, or what goes on after it

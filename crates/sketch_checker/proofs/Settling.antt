@@ -1,5 +1,5 @@
 -- Frames that are taken off, as the walk over lines does.
-use Rattle.std.proofs.Common.{◌≡◌, ℕ, zero, suc, ◌+◌, ◌-◌, ◌<◌, ◌==◌, inr, Bool, true, List, [], ◌∷◌, length, refl, ap, sym, ◌∙◌, subst, arith}
+use Rattle.std.proofs.Common.{◌≡◌, ℕ, zero, suc, ◌+◌, ◌-◌, ◌<◌, ◌↔◌, inr, Bool, true, List, [], ◌∷◌, length, refl, ap, sym, ◌∙◌, subst, arith}
 use Rattle.std.proofs.lemmas.Bool.{both_ways, eqb-true}
 use Rattle.std.specs.Prelude.{Err, Ok, Option, Result, Some, None}
 use Rattle.std.specs.List.{All}
@@ -103,9 +103,9 @@ comes-stopped tree g d n m w (fault_at j v) walk e =
     subst (λ (x : Wrong). Walks tree g d n (fault_at m x)) what (subst (λ (k : ℕ). Walks tree g d n (fault_at k v)) line walk)
 comes-stopped tree g d n m w (next_line j) walk e = cc
 
-comes-over : (tree : Node) (g : Setting) (d : Due) (n : ℕ) (o : Option Opened) (fs : List Frame) (b : Bool) (walked : Walked) → b ≡ is_over o fs → Walks tree g d n walked → ComesTo walked (going o fs) → (b ≡ true) × (m : ℕ) × Walks tree g d n (next_line m)
+comes-over : (tree : Node) (g : Setting) (d : Due) (n : ℕ) (o : Option Opened) (fs : List Frame) (b : Bool) (walked : Walked) → ((b ≡ true) ↔ (going o fs ≡ going None [])) → Walks tree g d n walked → ComesTo walked (going o fs) → (b ≡ true) × (m : ℕ) × Walks tree g d n (next_line m)
 comes-over tree g d n o fs b (fault_at j v) is walk e = cc
-comes-over tree g d n o fs b (next_line j) is walk e = ((over-nothing o fs b is).1 e, j, walk)
+comes-over tree g d n o fs b (next_line j) is walk e = (is.1 e, j, walk)
 
 pub answer-walks : (r : Result Bool SketchFault) (g : Setting) (S : Sketch) (w : Walking) (lines : List Line) (tree : Node) → w ≡ begun S → lines_of tree ≡ lines → IsAnswer r g w 1 lines → IsWalked r (Walks tree g (first_due S) 1)
 answer-walks r g S w lines tree start written it =

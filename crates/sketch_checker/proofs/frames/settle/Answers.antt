@@ -1,9 +1,6 @@
-use Rattle.std.proofs.Common.{◌≡◌, List, sym, ◌∙◌}
+use Rattle.std.proofs.Common.{sym, ◌∙◌}
 use Rattle.std.proofs.lemmas.Bool.{both_ways}
-use Rattle.sketch_text.specs.Trees.{Line}
-use Rattle.sketch_proof.specs.Proofs.{Setting}
 use Rattle.sketch_checker.specs.LineWalk.{ended}
-use Rattle.sketch_checker.specs.Walks.{Completes}
 use Rattle.sketch_checker.proofs.Settling.{ended-left, ended-open, ended-step, stops-at}
 use Rattle.sketch_checker.proofs.Steering.{frames-able, frames-left, frames-step}
 use Rattle.sketch_checker.proofs.frames.settle.Goals as goal
