@@ -103,6 +103,13 @@ impl Frames {
         self.frames.pop()
     }
 
+    /// Takes off all frames.
+    pub(crate) fn clear(&mut self)
+        ensures { self.new ≡ [] }
+    {
+        self.frames.clear();
+    }
+
     /// Takes off all frames, and puts one there below which nothing can come.
     pub(crate) fn stop(&mut self)
         ensures open { IsOpen self.new }
