@@ -1,5 +1,5 @@
 -- The walk over a tree meets no fault if and only if the tree holds.
-use Rattle.std.proofs.Common.{◌≡◌, ℕ, ◌+◌, inl, inr, false, List, [], ◌∷◌, map, refl, sym, ◌∙◌}
+use Rattle.std.proofs.Common.{◌≡◌, ℕ, ◌+◌, inl, inr, false, List, [], ◌∷◌, map, refl, ◌∙◌}
 use Rattle.std.specs.List.{Contains, list_any}
 use Rattle.general_lemmas.proofs.Lists.{contains-first, contains-later}
 use Rattle.board_base.specs.declared.men.Kind.TheVariants as kind
@@ -57,10 +57,10 @@ mutual
   below-told (steps ns) g S top n m (inl x) = absurd (no-fault top m unsupported x.1)
   below-told (steps ns) g S top n m (inr (T, before, it)) = (T, before.least, before.no_array, each-told ns g (earlier g.odds g.exact T) top n m it)
   below-told (split s knight rook queen) g S top n m (inl x) = absurd (no-fault top m unsupported x.1)
-  below-told (split s knight rook queen) g S top n m (inr (i, first, it)) =
+  below-told (split s knight rook queen) g S top n m (inr (i, first, k, walk, on)) =
       let Last : ℕ → Walked → Type 0 = λ l w. Walks queen g (case_due officer.Queen i S) l w in
       let Middle : ℕ → Walked → Type 0 = λ l w. (c : Walked) × Walks rook g (case_due officer.Rook i S) l c × Onwards c Last w in
-      let a = then-told (Walks knight g (case_due officer.Knight i S) n) Middle m it in
+      let a = then-told (Walks knight g (case_due officer.Knight i S) n) Middle m (k, walk, on) in
       let b = then-told (Walks rook g (case_due officer.Rook i S) a.0) Last m a.2 in (
         i,
         first,
@@ -104,7 +104,7 @@ mutual
       let a = walk-tells knight g (case_due officer.Knight i S) n (known-still i kind.Knight S ∙ some) it.2 in
       let b = walk-tells rook g (case_due officer.Rook i S) a.0 (known-still i kind.Rook S ∙ some) it.3 in
       let c = walk-tells queen g (case_due officer.Queen i S) b.0 (known-still i kind.Queen S ∙ some) it.4 in
-      (c.0, inr (i, it.1, (next_line a.0, a.1, (next_line b.0, b.1, c.1))))
+      (c.0, inr (i, it.1, next_line a.0, a.1, (next_line b.0, b.1, c.1)))
 
   each-tells : (ns : Nodes) (g : Setting) (es : List Earlier) (top n : ℕ) → ((e : Earlier) → Contains es e → IsSomewhere e.sketch) → HoldEach ns g es → (m : ℕ) × WalksEach ns g (map due_of es) top n (next_line m)
   each-tells none g [] top n some it = (n, refl)

@@ -10,3 +10,5 @@ pub mod Held
 pub mod LinesWalked
 pub mod Rooted
 pub mod Supporting
+pub mod Settling
+pub mod Finishing

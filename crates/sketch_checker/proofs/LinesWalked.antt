@@ -7,12 +7,12 @@ use Rattle.sketch_node.specs.Nodes.{marked_with}
 use Rattle.sketch_text.specs.Marks.{Marks}
 use Rattle.sketch_text.specs.declared.labels.Officer.TheVariants as officer
 use Rattle.sketch_text.specs.declared.nodes.End.{End}
-use Rattle.sketch_text.specs.Trees.{Line, Node, Nodes, Reason, closed, count, end_of, lines_below, lines_each, lines_of, more, node, none, of_marks, of_node, split, steps, void}
+use Rattle.sketch_text.specs.Trees.{Line, Node, Nodes, Reason, closed, count, end_of, lines_below, lines_each, lines_of, more, node, none, of_marks, split, steps, void}
 use Rattle.sketch_proof.specs.Proofs.{AreForced, Setting, with_lines}
 use Rattle.sketch_checker.specs.DueNodes.{Due, case_due, due_of, first_due}
 use Rattle.sketch_checker.specs.LineWalk.{ComesTo, OnEnd, OnOpened, StopsUnless, Walking, WalksOn, begun, ended, going, stopped}
 use Rattle.sketch_checker.specs.TreeWalk.{IfSo, Onwards, Walked, Walks, WalksBelow, WalksEach, WalksMarks, Wrong, fault_at, next_line, stray, unsupported}
-use Rattle.sketch_checker.specs.Walks.{Frame, Opened}
+use Rattle.sketch_checker.specs.Walks.{Frame}
 use Rattle.sketch_checker.proofs.Completing.{frame, opened}
 
 -- a fault of the walk over a tree, or what goes on after it
@@ -47,15 +47,18 @@ marks-walk : (ms : List Marks) (g : Setting) (top : ℕ) (e : End) (S : Sketch) 
 marks-walk [] g top e S fs n lines after last on walks = (next_line n, refl, (after, on, walks))
 marks-walk (m ∷ ms) g top e S fs n lines after last on walks =
     let all : WalksOn g (going (Some (opened top (suc (length ms)) e S)) fs) n (of_marks m ∷ (map (λ m. of_marks m) ms ++ lines)) last = subst (λ (k : Walking). WalksOn g k n (map (λ m. of_marks m) (m ∷ ms) ++ lines) last) on walks in
-    by-forced all.0 all.1 all.2
+    by-forced all.0 (λ next opens rest. marks-walk ms g top e (marked_with m.figures S) fs (n + 1) lines next last opens rest) all.1 all.2
   where
     less : suc (length ms) - 1 ≡ length ms
     less = omega arith
 
-    by-forced : (next : Walking) → StopsUnless (AreForced g S m) n unsupported next (OnOpened (suc (length ms) - 1) g (opened top (suc (length ms) - 1) e (marked_with m.figures S)) fs next) → WalksOn g next (n + 1) (map (λ m. of_marks m) ms ++ lines) last → (k : Walked) × WalksMarks (m ∷ ms) g S n k × Carries k (EndsOn g e (with_lines (m ∷ ms) S) top fs lines) last
-    by-forced next (inl x) rest = (fault_at n unsupported, inl (x.0, refl), stops g (map (λ m. of_marks m) ms ++ lines) n (n + 1) unsupported next last x.1 rest)
-    by-forced next (inr x) rest =
-        let it = marks-walk ms g top e (marked_with m.figures S) fs (n + 1) lines next last (subst (λ (c : ℕ). OnOpened c g (opened top c e (marked_with m.figures S)) fs next) less x.1) rest in
+    by-forced : (next : Walking)
+        → ((k : Walking) → OnOpened (length ms) g (opened top (length ms) e (marked_with m.figures S)) fs k → WalksOn g k (n + 1) (map (λ m. of_marks m) ms ++ lines) last → (k : Walked) × WalksMarks ms g (marked_with m.figures S) (n + 1) k × Carries k (EndsOn g e (with_lines (m ∷ ms) S) top fs lines) last)
+        → StopsUnless (AreForced g S m) n unsupported next (OnOpened (suc (length ms) - 1) g (opened top (suc (length ms) - 1) e (marked_with m.figures S)) fs next) → WalksOn g next (n + 1) (map (λ m. of_marks m) ms ++ lines) last
+        → (k : Walked) × WalksMarks (m ∷ ms) g S n k × Carries k (EndsOn g e (with_lines (m ∷ ms) S) top fs lines) last
+    by-forced next more_ (inl x) rest = (fault_at n unsupported, inl (x.0, refl), stops g (map (λ m. of_marks m) ms ++ lines) n (n + 1) unsupported next last x.1 rest)
+    by-forced next more_ (inr x) rest =
+        let it = more_ next (subst (λ (c : ℕ). OnOpened c g (opened top c e (marked_with m.figures S)) fs next) less x.1) rest in
         (it.0, inr (x.0, it.1), it.2)
 
 -- a node below which nothing comes
@@ -73,7 +76,8 @@ mutual
   pub node-walk : (x : Node) (g : Setting) (k m : ℕ) (d : Due) (ds : List Due) (fs : List Frame) (n : ℕ) (lines : List Line) (last : Walking)
       → WalksOn g (going None (frame k (suc m) (d ∷ ds) ∷ fs)) n (lines_of x ++ lines) last
       → (walked : Walked) × Walks x g d n walked × Carries walked (λ j l. WalksOn g (ended (frame k m ds ∷ fs)) j lines l) last
-  node-walk (node label marks reason) g k m d ds fs n lines last (after, on, walks) = by-label after on walks
+  node-walk (node label marks reason) g k m d ds fs n lines last (after, on, walks) =
+      by-label after (λ j next ends rest. below-walk reason g (with_lines marks d.sketch) n (frame k m ds ∷ fs) j lines next last ends rest) on walks
     where
       below : List Frame
       below = frame k (suc m - 1) ds ∷ fs
@@ -84,13 +88,15 @@ mutual
       Rest : ℕ → Walked → Type 0
       Rest = WalksBelow reason g (with_lines marks d.sketch) n
 
-      by-label : (next : Walking) → StopsUnless (label ≡ d.label) n stray next (OnOpened (length marks) g (opened n (length marks) (end_of reason) d.sketch) below next) → WalksOn g next (n + 1) ((map (λ m. of_marks m) marks ++ lines_below reason) ++ lines) last
+      by-label : (next : Walking)
+          → ((j : ℕ) (w : Walking) → OnEnd (end_of reason) g (with_lines marks d.sketch) n (frame k m ds ∷ fs) w → WalksOn g w j (lines_below reason ++ lines) last → (walked : Walked) × Rest j walked × Carries walked (λ j l. WalksOn g (ended (frame k m ds ∷ fs)) j lines l) last)
+          → StopsUnless (label ≡ d.label) n stray next (OnOpened (length marks) g (opened n (length marks) (end_of reason) d.sketch) below next) → WalksOn g next (n + 1) ((map (λ m. of_marks m) marks ++ lines_below reason) ++ lines) last
           → (walked : Walked) × Walks (node label marks reason) g d n walked × Carries walked (λ j l. WalksOn g (ended (frame k m ds ∷ fs)) j lines l) last
-      by-label next (inl x) rest = (fault_at n stray, inl (x.0, refl), stops g ((map (λ m. of_marks m) marks ++ lines_below reason) ++ lines) n (n + 1) stray next last x.1 rest)
-      by-label next (inr x) rest =
+      by-label next lower (inl x) rest = (fault_at n stray, inl (x.0, refl), stops g ((map (λ m. of_marks m) marks ++ lines_below reason) ++ lines) n (n + 1) stray next last x.1 rest)
+      by-label next lower (inr x) rest =
           let parted = subst (λ (l : List Line). WalksOn g next (n + 1) l last) (append_assoc (map (λ m. of_marks m) marks) (lines_below reason) lines) rest in
           let read = marks-walk marks g n (end_of reason) d.sketch below (n + 1) (lines_below reason ++ lines) next last x.1 parted in
-          let it = join (WalksMarks marks g d.sketch (n + 1)) Rest (EndsOn g (end_of reason) (with_lines marks d.sketch) n below (lines_below reason ++ lines)) (λ j l. WalksOn g (ended (frame k m ds ∷ fs)) j lines l) last read (λ j ends. below-walk reason g (with_lines marks d.sketch) n (frame k m ds ∷ fs) j lines ends.0 last (subst (λ (l : List Frame). OnEnd (end_of reason) g (with_lines marks d.sketch) n l ends.0) less ends.1) ends.2) in
+          let it = join (WalksMarks marks g d.sketch (n + 1)) Rest (EndsOn g (end_of reason) (with_lines marks d.sketch) n below (lines_below reason ++ lines)) (λ j l. WalksOn g (ended (frame k m ds ∷ fs)) j lines l) last read (λ j ends. lower j ends.0 (subst (λ (l : List Frame). OnEnd (end_of reason) g (with_lines marks d.sketch) n l ends.0) less ends.1) ends.2) in
           (it.0, inr (x.0, it.1), it.2)
 
   -- the end of a node on line top, and the lines below it
@@ -113,11 +119,11 @@ mutual
       let Middle : ℕ → Walked → Type 0 = λ l w. (z : Walked) × Walks rook g b l z × Onwards z Last w in
       let begun : WalksOn g (going None (frame top 3 (a ∷ b ∷ c ∷ []) ∷ fs)) n ((lines_of knight ++ (lines_of rook ++ lines_of queen)) ++ lines) last = subst (λ (k : Walking). WalksOn g k n ((lines_of knight ++ (lines_of rook ++ lines_of queen)) ++ lines) last) e walks in
       let parted : WalksOn g (going None (frame top 3 (a ∷ b ∷ c ∷ []) ∷ fs)) n (lines_of knight ++ (lines_of rook ++ (lines_of queen ++ lines))) last =
-          subst (λ (l : List Line). WalksOn g (going None (frame top 3 (a ∷ b ∷ c ∷ []) ∷ fs)) n l last) (append_assoc (lines_of knight) (lines_of rook ++ lines_of queen) lines ∙ ap (λ (l : List Line). lines_of knight ++ l) (append_assoc (lines_of rook) (lines_of queen) lines)) begun in
+      subst (λ (l : List Line). WalksOn g (going None (frame top 3 (a ∷ b ∷ c ∷ []) ∷ fs)) n l last) (append_assoc (lines_of knight) (lines_of rook ++ lines_of queen) lines ∙ ap (λ (l : List Line). lines_of knight ++ l) (append_assoc (lines_of rook) (lines_of queen) lines)) begun in
       let it = join (Walks knight g a n) Middle (λ j l. WalksOn g (ended (frame top 2 (b ∷ c ∷ []) ∷ fs)) j (lines_of rook ++ (lines_of queen ++ lines)) l) Go last (node-walk knight g top 2 a (b ∷ c ∷ []) fs n (lines_of rook ++ (lines_of queen ++ lines)) last parted)
-          (λ j second. join (Walks rook g b j) Last (λ h l. WalksOn g (ended (frame top 1 (c ∷ []) ∷ fs)) h (lines_of queen ++ lines) l) Go last (node-walk rook g top 1 b (c ∷ []) fs j (lines_of queen ++ lines) last second)
-          (λ h third. node-walk queen g top 0 c [] fs h lines last third)) in
-      (it.0, inr (i, first, it.1), it.2)
+      (λ j second. join (Walks rook g b j) Last (λ h l. WalksOn g (ended (frame top 1 (c ∷ []) ∷ fs)) h (lines_of queen ++ lines) l) Go last (node-walk rook g top 1 b (c ∷ []) fs j (lines_of queen ++ lines) last second)
+      (λ h third. node-walk queen g top 0 c [] fs h lines last third)) in
+      (it.0, inr (i, first, it.1.0, it.1.1, it.1.2), it.2)
 
   -- the lines of nodes, where these are due
   each-walk : (ns : Nodes) (g : Setting) (ds : List Due) (top c : ℕ) (fs : List Frame) (n : ℕ) (lines : List Line) (last : Walking)

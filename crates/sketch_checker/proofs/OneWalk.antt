@@ -1,9 +1,9 @@
 -- The walk over a tree comes to one thing.
-use Rattle.std.proofs.Common.{◌≡◌, ℕ, ◌+◌, inl, inr, List, [], ◌∷◌, map, sym, ap, ◌∙◌, subst}
+use Rattle.std.proofs.Common.{◌≡◌, ℕ, ◌+◌, inl, inr, List, [], ◌∷◌, map, sym, ◌∙◌, subst}
 use Rattle.past_sketches.specs.Figures.{Sketch}
 use Rattle.sketch_account.specs.Basis.{IsClosedAt}
 use Rattle.sketch_list.specs.Listed.{earlier}
-use Rattle.sketch_node.specs.Nodes.{IsFirstUnknown, IsVoid, marked_with}
+use Rattle.sketch_node.specs.Nodes.{IsVoid, marked_with}
 use Rattle.sketch_node.proofs.Least.{least-one}
 use Rattle.sketch_text.specs.Marks.{Marks}
 use Rattle.sketch_text.specs.Trees.{Node, Nodes, Reason, closed, more, node, none, split, steps, void}
@@ -53,14 +53,14 @@ mutual
   one-below (split s knight rook queen) g S top n a b (inl x) (inl y) = x.1 ∙ sym y.1
   one-below (split s knight rook queen) g S top n a b (inl x) (inr y) = absurd (x.0 y.0 y.1.there)
   one-below (split s knight rook queen) g S top n a b (inr x) (inl y) = absurd (y.0 x.0 x.1.there)
-  one-below (split s knight rook queen) g S top n a b (inr (i, first, x)) (inr (j, second, y)) =
+  one-below (split s knight rook queen) g S top n a b (inr (i, first, v, x, on)) (inr (j, second, w, y, go)) =
       let Last : ℕ → Walked → Type 0 = λ m w. Walks queen g (case_due officer.Queen j S) m w in
       let Middle : ℕ → Walked → Type 0 = λ m w. (c : Walked) × Walks rook g (case_due officer.Rook j S) m c × Onwards c Last w in
       let same : i ≡ j = first-one S s i j first second in
       let x_is : (k : Walked) × Walks knight g (case_due officer.Knight j S) n k × Onwards k Middle a =
-          subst (λ (q : ℕ). (k : Walked) × Walks knight g (case_due officer.Knight q S) n k × Onwards k (λ m w. (c : Walked) × Walks rook g (case_due officer.Rook q S) m c × Onwards c (Walks queen g (case_due officer.Queen q S)) w) a) same x in
+      subst (λ (q : ℕ). (k : Walked) × Walks knight g (case_due officer.Knight q S) n k × Onwards k (λ m w. (c : Walked) × Walks rook g (case_due officer.Rook q S) m c × Onwards c (Walks queen g (case_due officer.Queen q S)) w) a) same (v, x, on) in
       one-then (Walks knight g (case_due officer.Knight j S) n) Middle a b (λ u v. one-walk knight g (case_due officer.Knight j S) n u v)
-      (λ m. one-then (Walks rook g (case_due officer.Rook j S) m) Last a b (λ u v. one-walk rook g (case_due officer.Rook j S) m u v) (λ l. one-walk queen g (case_due officer.Queen j S) l a b)) x_is y
+      (λ m. one-then (Walks rook g (case_due officer.Rook j S) m) Last a b (λ u v. one-walk rook g (case_due officer.Rook j S) m u v) (λ l. one-walk queen g (case_due officer.Queen j S) l a b)) x_is (w, y, go)
 
   one-each : (ns : Nodes) (g : Setting) (ds : List Due) (top n : ℕ) (a b : Walked) → WalksEach ns g ds top n a → WalksEach ns g ds top n b → a ≡ b
   one-each none g [] top n a b x y = x ∙ sym y

@@ -1,10 +1,10 @@
 -- A walk can begin with the sketch of a root.
-use Rattle.std.proofs.Common.{◌≡◌, ℕ, zero, suc, ◌+◌, ◌<◌, ◌≤◌, inl, inr, Bool, true, false, cond, ◌&&◌, ◌||◌, not, List, [], ◌∷◌, ◌++◌, refl, ap, sym, ◌∙◌, subst, arith}
-use Rattle.std.proofs.lemmas.Bool.{and_from, and_parts, both_ways, cases_Bool, false_from_ne_true, lt-ltb, not-true}
+use Rattle.std.proofs.Common.{◌≡◌, ℕ, zero, suc, ◌+◌, ◌<◌, ◌≤◌, Bool, true, false, cond, ◌&&◌, ◌||◌, not, List, [], ◌∷◌, ◌++◌, refl, ap, sym, ◌∙◌, arith}
+use Rattle.std.proofs.lemmas.Bool.{and_from, and_parts, both_ways, false_from_ne_true, lt-ltb, not-true}
 use Rattle.std.proofs.lemmas.List.Sums.{sum_by-cons}
-use Rattle.std.specs.Prelude.{Option, Some, None, count_by, nat_lt}
+use Rattle.std.specs.Prelude.{Some, None, count_by}
 use Rattle.std.specs.List.{flat_map, list_all, list_any, range_with_len}
-use Rattle.board_base.specs.Board.{Places, array_of, at, is_of, rank, same_colour}
+use Rattle.board_base.specs.Board.{Places, array_of, at, is_in, is_of, rank, same_colour}
 use Rattle.board_base.specs.declared.men.Colour.{Colour}
 use Rattle.board_base.specs.declared.men.Colour.TheVariants.{White, Black}
 use Rattle.board_base.specs.declared.men.Man.{Man}
@@ -66,16 +66,16 @@ two-none board s (suc n) k =
     elim (at board k) as (λ place. do_two (is_fixed_on s) (figure_of k place ++ figures board (k + 1) n) ≡ false) [
       | None ↦ rest
       | Some m ↦ or-none (is_fixed_on s (fixed_figure k m) && list_any (is_fixed_on s) (figures board (k + 1) n)) (do_two (is_fixed_on s) (figures board (k + 1) n))
-        (false_from_ne_true _ (λ both.
-        let parts = and_parts (is_fixed_on s (fixed_figure k m)) (list_any (is_fixed_on s) (figures board (k + 1) n)) both in
-        let here : s ≡ k = on-own s k m parts.0 in
-        let none : list_any (is_fixed_on s) (figures board (k + 1) n) ≡ false = any-none (is_fixed_on s) board n (k + 1) (λ t x low high. false_from_ne_true _ (λ on. let there : s ≡ t = on-own s t x on in omega (arith, here, there, low))) in
-        both_ways _ none parts.1))
-        rest
+          (false_from_ne_true _ (λ both.
+          let parts = and_parts (is_fixed_on s (fixed_figure k m)) (list_any (is_fixed_on s) (figures board (k + 1) n)) both in
+          let here : s ≡ k = on-own s k m parts.0 in
+          let none : list_any (is_fixed_on s) (figures board (k + 1) n) ≡ false = any-none (is_fixed_on s) board n (k + 1) (λ t x low high. false_from_ne_true _ (λ on. let there : s ≡ t = on-own s t x on in omega (arith, here, there, low))) in
+          both_ways _ none parts.1))
+          rest
     ]
 
 here-some : (s : ℕ) (m : Man) → s < 64 → is_nowhere (fixed_figure s m) ≡ false
-here-some s m low = false_from_ne_true _ (λ none. both_ways _ (not-true _ (at_board _ s none low)) (in-only s low))
+here-some s m low = false_from_ne_true _ (λ none. both_ways _ (not-true _ (at_board (λ t. not (is_in (only_on s) t)) s none low)) (in-only s low))
 
 -- each figure has a square
 pub board-somewhere : (board : Places) → list_any is_nowhere (sketch_of board) ≡ false
@@ -97,7 +97,7 @@ men-of c board (suc n) k =
     let rest : side c (figures board (k + 1) n) ≡ count_by (λ s. is_of c (at board s) && is_any s) (range_with_len (k + 1) n) = men-of c board n (k + 1) in
     let all : count_by (λ s. is_of c (at board s) && is_any s) (range_with_len k (suc n)) ≡ cond (is_of c (at board k) && true) 1 0 + count_by (λ s. is_of c (at board s) && is_any s) (range_with_len (k + 1) n) = sum_by-cons (λ s. cond (is_of c (at board s) && is_any s) 1 0) k (range_with_len (k + 1) n) in
     (elim (at board k) as (λ place. side c (figure_of k place ++ figures board (k + 1) n) ≡ cond (is_of c place && true) 1 0 + count_by (λ s. is_of c (at board s) && is_any s) (range_with_len (k + 1) n)) [
-      | None ↦ rest
+      | None ↦ omega (arith, rest)
       | Some m ↦
           let first : one c (fixed_figure k m) ≡ cond (same_colour c m.colour && true) 1 0 = ap (λ (b : Bool). cond b 1 0) (sym (and-all (same_colour c m.colour))) in
           side-cons c (fixed_figure k m) (figures board (k + 1) n) ∙ ap (λ (x : ℕ). x + side c (figures board (k + 1) n)) first ∙ ap (λ (x : ℕ). cond (same_colour c m.colour && true) 1 0 + x) rest

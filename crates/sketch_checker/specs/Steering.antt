@@ -1,6 +1,6 @@
 -- Inner: no public clause cites this file.
 -- How a walk goes on.
-use Rattle.std.specs.Prelude.{ℕ, ◌≡◌, ◌==◌, ◌+◌, ◌<◌, ◌≤◌, ◌↔◌, Bool, false, List, [], ◌∷◌, length, slice_get, Option, Some, None, Result, Ok, Err}
+use Rattle.std.specs.Prelude.{ℕ, ◌≡◌, ◌==◌, ◌+◌, ◌<◌, ◌≤◌, ◌↔◌, Bool, false, true, List, [], ◌∷◌, length, slice_get, Option, Some, None, Result, Ok, Err}
 use Rattle.capture_prices.specs.Prices.{PriceList}
 use Rattle.past_sketches.specs.Figures.{Sketch}
 use Rattle.sketch_text.specs.declared.nodes.End.{End}
@@ -84,5 +84,5 @@ OpensAs g o fs P = (after : Walking) → OnOpened o.marks g o fs after → P aft
 
 -- the answer to these lines, the first of which has number n, where the walk stands so before them
 abbrev pub IsAnswer : Result Bool SketchFault → Setting → Walking → ℕ → List Line → Type 0
-IsAnswer (Ok done) g w n lines = (o : Option Opened) × (fs : List Frame) × (done ≡ is_over o fs) × WalksOn g w n lines (going o fs)
+IsAnswer (Ok done) g w n lines = (o : Option Opened) × (fs : List Frame) × ((done ≡ true) ↔ (going o fs ≡ going None [])) × WalksOn g w n lines (going o fs)
 IsAnswer (Err f) g w n lines = IsStop f (WalksOn g w n lines)

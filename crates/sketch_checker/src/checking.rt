@@ -1,4 +1,4 @@
-ghost use Rattle.std.specs.Prelude.{◌≡◌, ◌↔◌, ◌<◌, ◌^◌, IfOk, IfSome, IsSome, IsTrue, List, MatchResult, Ok, OnErr, Some, length, map, true};
+ghost use Rattle.std.specs.Prelude.{◌≡◌, ◌↔◌, ◌<◌, ◌+◌, ◌^◌, IfOk, IfSome, IsSome, IsTrue, List, MatchResult, Ok, OnErr, Some, length, map, true};
 ghost use Rattle.board_base.specs.declared.moves.Move.{Move};
 ghost use Rattle.query_base.specs.Asked.{Asked};
 ghost use Rattle.cage_rules.specs.Reach.{LeadsTo};
@@ -20,6 +20,17 @@ use crate::walks::SketchWalk;
 use figures::Sketch;
 use sketch_proof::sketch_proofs_hold;
 
+/// The number of the next line, or the same if there is no higher one.
+fn next_number(number: u32) -> u32
+    ensures { number + 1 < 2 ^ 32 → result ≡ number + 1 }
+{
+    if number < u32::MAX {
+        number + 1
+    } else {
+        number
+    }
+}
+
 /// Goes on over these lines, and says whether the walk is at its end.
 fn finish(start: SketchWalk, lines: &[SketchLine]) -> Result<bool, SketchFault>
     ensures done { IfOk result (λ done. IsTrue done ↔ Finishes start (map of_line lines.now)) }
@@ -29,8 +40,11 @@ fn finish(start: SketchWalk, lines: &[SketchLine]) -> Result<bool, SketchFault>
     let mut walk = start;
     let mut number: u32 = 0;
     for line in lines {
-        number = number.saturating_add(1);
-        walk.take(number, line)?;
+        number = next_number(number);
+        match walk.take(number, line) {
+            Ok(()) => {}
+            Err(fault) => return Err(fault),
+        }
     }
     Ok(walk.is_done())
 }

@@ -103,6 +103,13 @@ impl Frames {
         self.frames.pop()
     }
 
+    /// Takes off all frames.
+    pub(crate) fn clear(&mut self)
+        ensures { self.new ≡ [] }
+    {
+        self.frames.clear();
+    }
+
     /// Takes off all frames, and puts one there below which nothing can come.
     pub(crate) fn stop(&mut self)
         ensures open { IsOpen self.new }
@@ -145,7 +152,10 @@ pub(crate) fn settle(frames: &mut Frames) -> Result<(), SketchFault>
         let Some(frame) = frames.pop() else {
             return Ok(());
         };
-        end_frame(frame)?;
+        match end_frame(frame) {
+            Ok(()) => {}
+            Err(fault) => return Err(fault),
+        }
     }
     Ok(())
 }

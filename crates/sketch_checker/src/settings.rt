@@ -85,6 +85,16 @@ impl SketchSetting {
         }
     }
 
+    /// Takes these odds, rights and exact files in place of its own, and no line of prices.
+    pub(crate) fn reset(&mut self, odds: Odds, held: CastleSet, exact: [bool; 8])
+        ensures { self.new ≡ record { odds = odds; held = held; exact = exact; prices = [] } }
+    {
+        self.odds = odds;
+        self.held = held;
+        self.exact = exact;
+        self.prices.clear();
+    }
+
     /// Puts a line of prices behind the others. False if and only if there are 64 already.
     pub fn add_prices(&mut self, prices: &Prices) -> bool
         ensures room { IsTrue result ↔ (length self.old.prices < 64) }

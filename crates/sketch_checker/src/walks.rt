@@ -1,4 +1,4 @@
-ghost use Rattle.std.specs.Prelude.{◌≡◌, ◌↔◌, ◌<◌, ◌∷◌, [], IfErr, IfOk, IfSome, IsSome, IsTrue, List, None, OnErr, OnOk, length};
+ghost use Rattle.std.specs.Prelude.{◌≡◌, ◌↔◌, ◌<◌, ◌++◌, ◌∷◌, [], IfErr, IfOk, IfSome, IsSome, IsTrue, List, None, OnErr, OnOk, false, length};
 ghost use Rattle.sketch_text.specs.Trees.{Line as ALine};
 ghost use Rattle.sketch_proof.specs.Proofs.{Proves};
 ghost use Rattle.sketch_checker.specs.Able.{IsAble};
@@ -17,6 +17,8 @@ use crate::lines::SketchLine;
 use crate::marking::mark;
 use crate::opening::{Opened, open};
 use crate::settings::SketchSetting;
+use board_base::{CastleSet, Odds};
+use capture_prices::Prices;
 use figures::Sketch;
 use std::marker::Model;
 
@@ -147,6 +149,53 @@ impl SketchWalk {
             opened: None,
             frames,
         })
+    }
+
+    /// A walk on which nothing is due, to be used again and again in its place.
+    pub fn idle() -> SketchWalk
+        ensures { going result.opened result.frames ≡ going None [] }
+    {
+        SketchWalk {
+            setting: SketchSetting::new(Odds::none(), CastleSet::none(), [false; 8]),
+            opened: None,
+            frames: Frames::new(),
+        }
+    }
+
+    /// Ends the walk, and takes these odds, held rights and exact files for the next, and no line of prices yet.
+    pub fn reset(&mut self, odds: Odds, held: CastleSet, exact: [bool; 8])
+        ensures setting { self.new.setting ≡ record { odds = odds; held = held; exact = exact; prices = [] } }
+        ensures nothing { going self.new.opened self.new.frames ≡ going None [] }
+    {
+        self.opened = None;
+        self.frames.clear();
+        self.setting.reset(odds, held, exact);
+    }
+
+    /// Puts a line of prices behind those of the walk. False if and only if there are 64 already.
+    pub fn add_prices(&mut self, prices: &Prices) -> bool
+        ensures room { IsTrue result ↔ (length self.old.setting.prices < 64) }
+        ensures added { IsTrue result → self.new.setting ≡ record self.old.setting { prices = self.old.setting.prices ++ prices.now ∷ [] } }
+        ensures full { result ≡ false → self.new.setting ≡ self.old.setting }
+        ensures kept { going self.new.opened self.new.frames ≡ going self.old.opened self.old.frames }
+    {
+        self.setting.add_prices(prices)
+    }
+
+    /// Begins with this sketch, which nothing bars.
+    pub fn begin(&mut self, sketch: Sketch)
+        requires { CanBegin self.old.setting.odds sketch }
+        ensures setting { self.new.setting ≡ self.old.setting }
+        ensures first { going self.new.opened self.new.frames ≡ begun sketch }
+        ensures walk { (lines : List ALine) → Finishes self.new lines ↔ Proves self.old.setting sketch lines }
+    {
+        self.opened = None;
+        self.frames.clear();
+        self.frames.push(Frame {
+            line: 0,
+            announced: 1,
+            left: Left::First(sketch),
+        });
     }
 
     /// Whether the walk is at its end.

@@ -1598,7 +1598,6 @@ const ALFIERE: Proof = Proof {
 /// Lines that are changed: each is refused where it is no longer so.
 #[test]
 fn changed_proofs_are_refused(rt: HostRuntime) {
-    let stray = SketchFault::Stray;
     let misplaced = SketchFault::Misplaced;
     let first = SketchFault::Unsupported { line: 1 };
     let second = SketchFault::Unsupported { line: 2 };
@@ -1606,7 +1605,7 @@ fn changed_proofs_are_refused(rt: HostRuntime) {
     let edits = [
         ("nothing", Edit::Nothing, End::Done),
         ("no marks", Edit::Dropped(1), End::Refused(1, misplaced)),
-        ("a step dropped", Edit::Dropped(3), End::Refused(3, stray)),
+        ("a step dropped", Edit::Dropped(3), End::Refused(3, SketchFault::Stray { line: 4 })),
         ("the last step dropped", Edit::Dropped(9), End::Open),
         (
             "the first line dropped",
@@ -1623,7 +1622,7 @@ fn changed_proofs_are_refused(rt: HostRuntime) {
             Edit::Doubled(1),
             End::Refused(2, misplaced),
         ),
-        ("a step doubled", Edit::Doubled(3), End::Refused(4, stray)),
+        ("a step doubled", Edit::Doubled(3), End::Refused(4, SketchFault::Stray { line: 5 })),
         (
             "the last step doubled",
             Edit::Doubled(9),
@@ -1642,37 +1641,37 @@ fn changed_proofs_are_refused(rt: HostRuntime) {
         (
             "two steps swapped",
             Edit::Swapped(4),
-            End::Refused(4, stray),
+            End::Refused(4, SketchFault::Stray { line: 5 }),
         ),
         (
             "a step for the first node",
             Edit::Put(0, "b2=b1 marks 1 steps 8"),
-            End::Refused(0, stray),
+            End::Refused(0, SketchFault::Stray { line: 1 }),
         ),
         (
             "the first node for a step",
             Edit::Put(2, "now closed 1"),
-            End::Refused(2, stray),
+            End::Refused(2, SketchFault::Stray { line: 3 }),
         ),
         (
             "a case for a step",
             Edit::Put(2, "case n closed 1"),
-            End::Refused(2, stray),
+            End::Refused(2, SketchFault::Stray { line: 3 }),
         ),
         (
             "another victim",
             Edit::Put(3, "a2xb1nrq= closed 1"),
-            End::Refused(3, stray),
+            End::Refused(3, SketchFault::Stray { line: 4 }),
         ),
         (
             "another origin",
             Edit::Put(3, "c2xb1b= closed 1"),
-            End::Refused(3, stray),
+            End::Refused(3, SketchFault::Stray { line: 4 }),
         ),
         (
             "pawns above that aren't there",
             Edit::Put(7, "h3xg4p1 closed 1"),
-            End::Refused(7, stray),
+            End::Refused(7, SketchFault::Stray { line: 8 }),
         ),
         (
             "a mark more than is forced",

@@ -1,4 +1,4 @@
-use Rattle.std.proofs.Common.{List, map, subst, sym}
+use Rattle.std.proofs.Common.{inl, List, map, refl, subst, sym}
 use Rattle.std.specs.Prelude.{Some}
 use Rattle.sketch_text.specs.declared.nodes.End.TheVariants.{Steps}
 use Rattle.sketch_text.specs.Trees.{Line}
@@ -6,6 +6,9 @@ use Rattle.sketch_proof.specs.Proofs.{Setting}
 use Rattle.sketch_checker.specs.Able.{IsAble}
 use Rattle.sketch_checker.specs.Walks.{CompletesOpened, Frame}
 use Rattle.sketch_checker.specs.Steering.{AreAble, IsBelow, read}
+use Rattle.past_sketches.specs.Figures.{Sketch}
+use Rattle.sketch_checker.specs.TreeWalk.{IsBefore}
+use Rattle.sketch_checker.proofs.Settling.{no-before}
 use Rattle.sketch_checker.proofs.Completing.{frame}
 use Rattle.sketch_checker.proofs.Below.{steps-able, steps-below, steps-can, steps-none}
 use Rattle.sketch_checker.proofs.ends.below_steps.Goals as goal
@@ -33,3 +36,9 @@ returns-clause-able c =
     let some = c.in-Some.ensures in
     subst (λ (g : Setting). IsAble g.odds c.args.sketch.now → AreAble g.odds (map due_of c.in-Some-new.steps)) c.setting.view_is
     (λ able. steps-able (record { odds = c.setting.inside.odds; held = c.setting.inside.held; exact = c.setting.inside.exact; prices = c.setting.inside.prices.items }) c.args.sketch.now c.in-Some.wide c.in-Some-new.steps c.in-Some-new.ensures.1 able some.0) c.requires
+
+pub returns-in_default-clause-stopped : goal.returns-in_default-clause-stopped
+returns-in_default-clause-stopped c =
+    let none = c.in_default.ensures in
+    let never : (U : Sketch) → IsBefore c.args.setting.now c.args.sketch.now U → ⊥ = subst (λ (g : Setting). (U : Sketch) → IsBefore g c.args.sketch.now U → ⊥) c.setting.view_is (no-before _ c.args.sketch.now none.0 none.1 none.2) in
+    (refl, λ fs. inl (never, refl))

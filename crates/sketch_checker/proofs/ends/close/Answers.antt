@@ -1,8 +1,10 @@
-use Rattle.std.proofs.Common.{List, subst}
+use Rattle.std.proofs.Common.{◌≡◌, ◌∷◌, List, None, subst, sym}
 use Rattle.std.proofs.lemmas.Result.{on_err_weaker, on_ok_weaker}
 use Rattle.sketch_text.specs.Trees.{Line}
 use Rattle.sketch_checker.specs.Walks.{CompletesOpened}
-use Rattle.sketch_checker.specs.Steering.{AreAbleBelow, IsBelow, read}
+use Rattle.sketch_checker.specs.Steering.{AreAbleBelow, EndsWith, IsBelow, read}
+use Rattle.sketch_checker.specs.LineWalk.{OnEnd, Walking, ended}
+use Rattle.sketch_checker.proofs.Settling.{after-weaker}
 use Rattle.sketch_checker.proofs.Steering.{err-anyway}
 use Rattle.sketch_checker.proofs.ends.close.Goals as goal
 
@@ -31,3 +33,15 @@ returns-in-Some-clause-refused c =
 
 pub returns-in-None-clause-able : goal.returns-in-None-clause-able
 returns-in-None-clause-able c = on_ok_weaker c.settle.result (λ keeps able. keeps c.args.setting.now.odds able) c.settle.ensures.able
+
+pub returns-in-Some-clause-ended : goal.returns-in-Some-clause-ended
+returns-in-Some-clause-ended c =
+    let Ends : Walking → Type 0 = OnEnd c.args.end c.args.setting.now c.args.sketch.now c.args.line c.args.frames.now in
+    let below = subst (EndsWith c.args.setting.now c.args.end c.args.sketch.now c.args.line) c.in-Some.is c.in_ok-frame.ensures.ended in
+    after-weaker c.go_below.result None c.go_below.new.frames (λ w. w ≡ ended (c.in-Some.frame ∷ c.args.frames.now)) Ends (λ w e. subst Ends (sym e) (below c.args.frames.now)) c.go_below.ensures.ended
+
+pub returns-in-None-clause-ended : goal.returns-in-None-clause-ended
+returns-in-None-clause-ended c =
+    let Ends : Walking → Type 0 = OnEnd c.args.end c.args.setting.now c.args.sketch.now c.args.line c.args.frames.now in
+    let below = subst (EndsWith c.args.setting.now c.args.end c.args.sketch.now c.args.line) c.in-None.is c.in_ok-frame.ensures.ended in
+    after-weaker c.settle.result None c.settle.new.frames (λ w. w ≡ ended c.args.frames.now) Ends (λ w e. subst Ends (sym e) (below c.args.frames.now)) c.settle.ensures.ended
