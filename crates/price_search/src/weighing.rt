@@ -167,15 +167,13 @@ impl Scale {
         }
     }
 
-    /// The places on which anything is owed.
-    fn unpaid(&self) -> Unpaid {
-        let mut unpaid = Unpaid::none();
+    /// What is owed on all places together, of those where anything is.
+    fn unpaid(&self) -> i32 {
+        let mut sum = 0i32;
         for x in 0..self.len() {
-            if self.owed[x] > 0 {
-                unpaid.add(x, self.owed[x]);
-            }
+            sum = sum.wrapping_add(self.owed[x].max(0));
         }
-        unpaid
+        sum
     }
 
     /// What the tallies of a side say.
@@ -187,118 +185,58 @@ impl Scale {
     }
 
     /// What each of the first tallies of a side owes on the places where anything is owed.
-    fn dues(&self, side: Colour, count: usize, unpaid: &Unpaid) -> [i32; 16] {
+    fn dues(&self, side: Colour, count: usize) -> [i32; 16] {
         let rows = self.rows(side);
         let mut sums = [0i32; 16];
-        for i in 0..count.min(16) {
-            sums[i] = unpaid.due(&rows[i]);
+        for i in 0..16 {
+            if i < count {
+                sums[i] = self.due(&rows[i]);
+            }
         }
         sums
     }
 
-    /// By how much one tally of a side is above another.
-    fn rises(&self, side: Colour, shift: Shift) -> Rises
+    /// What a tally owes on the places where anything is owed.
+    fn due(&self, row: &[i8; 96]) -> i32 {
+        let mut sum = 0i32;
+        for x in 0..self.len() {
+            let each = self.owed[x].max(0).wrapping_mul(i32::from(row[x]));
+            sum = sum.wrapping_add(each);
+        }
+        sum
+    }
+
+    /// By how much one tally of a side is above another, by the places.
+    fn rises(&self, side: Colour, shift: Shift) -> [i32; 96]
         requires from { shift.from < 16 }
         requires to { shift.to < 16 }
     {
         let rows = self.rows(side);
         let from = &rows[shift.from];
         let to = &rows[shift.to];
-        let mut rises = Rises::none();
+        let mut rises = [0; 96];
         for x in 0..self.len() {
-            if from[x] != to[x] {
-                let by = i32::from(to[x]).wrapping_sub(i32::from(from[x]));
-                rises.add(x, by, self.owed[x]);
-            }
+            rises[x] = i32::from(to[x]).wrapping_sub(i32::from(from[x]));
         }
         rises
     }
 
-    /// Lets what is owed rise so many times.
-    fn raise(&mut self, rises: &Rises, times: i32) {
-        for k in 0..rises.count.min(96) {
-            let x = rises.at[k] as usize % 96;
-            self.owed[x] = self.owed[x].wrapping_add(times.wrapping_mul(rises.by[k]));
-        }
-    }
-}
-
-/// Where anything is owed: the places of a scale, and how much.
-#[derive(Drop)]
-struct Unpaid {
-    count: usize,
-    at: [u8; 96],
-    owed: [i32; 96],
-    /// All together.
-    sum: i32,
-}
-
-impl Unpaid {
-    /// Nothing is owed.
-    fn none() -> Unpaid {
-        Unpaid {
-            count: 0,
-            at: [0; 96],
-            owed: [0; 96],
-            sum: 0,
-        }
-    }
-
-    /// Adds what is owed on a place.
-    fn add(&mut self, x: usize, owed: i32)
-        requires { x < 96 }
-    {
-        if self.count < 96 {
-            self.at[self.count] = x as u8;
-            self.owed[self.count] = owed;
-            self.count += 1;
-            self.sum = self.sum.wrapping_add(owed);
-        }
-    }
-
-    /// What a tally owes on these places.
-    fn due(&self, row: &[i8; 96]) -> i32 {
+    /// The sum of the squares of these rises, on the places where that counts.
+    fn square_sum(&self, rises: &[i32; 96]) -> i32 {
         let mut sum = 0i32;
-        for k in 0..self.count.min(96) {
-            let times = i32::from(row[self.at[k] as usize % 96]);
-            sum = sum.wrapping_add(self.owed[k].wrapping_mul(times));
+        for x in 0..self.len() {
+            let rise = rises[x];
+            if self.owed[x] > 0 || (rise > 0 && self.owed[x] > -WHOLE / 8) {
+                sum = sum.wrapping_add(rise.wrapping_mul(rise));
+            }
         }
         sum
     }
-}
 
-/// Where a tally is above or below another, and by how much.
-#[derive(Drop)]
-struct Rises {
-    count: usize,
-    at: [u8; 96],
-    by: [i32; 96],
-    /// The sum of the squares, on the places where that counts.
-    squares: i32,
-}
-
-impl Rises {
-    /// They are the same.
-    fn none() -> Rises {
-        Rises {
-            count: 0,
-            at: [0; 96],
-            by: [0; 96],
-            squares: 0,
-        }
-    }
-
-    /// Adds a place on which so much is owed.
-    fn add(&mut self, x: usize, by: i32, owed: i32)
-        requires { x < 96 }
-    {
-        if self.count < 96 {
-            self.at[self.count] = x as u8;
-            self.by[self.count] = by;
-            self.count += 1;
-        }
-        if owed > 0 || (by > 0 && owed > -WHOLE / 8) {
-            self.squares = self.squares.wrapping_add(by.wrapping_mul(by));
+    /// Lets what is owed rise so many times.
+    fn raise(&mut self, rises: &[i32; 96], by: i32) {
+        for x in 0..self.len() {
+            self.owed[x] = self.owed[x].wrapping_add(by.wrapping_mul(rises[x]));
         }
     }
 }
@@ -330,14 +268,16 @@ fn best_shift(weights: &[i32; 16], count: usize, dues: &[i32; 16]) -> Option<Shi
     let mut to = 0;
     let mut most = i32::MIN;
     let mut least = i32::MAX;
-    for i in 0..count.min(16) {
-        if dues[i] < least {
-            to = i;
-            least = dues[i];
-        }
-        if weights[i] > 0 && dues[i] > most {
-            from = i;
-            most = dues[i];
+    for i in 0..16 {
+        if i < count {
+            if dues[i] < least {
+                to = i;
+                least = dues[i];
+            }
+            if weights[i] > 0 && dues[i] > most {
+                from = i;
+                most = dues[i];
+            }
         }
     }
     let gain = most.wrapping_sub(least);
@@ -358,13 +298,17 @@ fn amount(gain: i32, squares: i32, weight: i32) -> i32 {
 }
 
 /// Shifts weight between two tallies of a side; false where none goes over.
-fn shift_weight(seen: &mut SideSeen, scale: &mut Scale, unpaid: &Unpaid, side: Colour) -> bool {
+fn shift_weight(seen: &mut SideSeen, scale: &mut Scale, side: Colour) -> bool {
     let count = seen.tallies.len();
-    let Some(shift) = best_shift(&seen.weights, count, &scale.dues(side, count, unpaid)) else {
+    let Some(shift) = best_shift(&seen.weights, count, &scale.dues(side, count)) else {
         return false;
     };
     let rises = scale.rises(side, shift);
-    let by = amount(shift.gain, rises.squares, seen.weights[shift.from]);
+    let by = amount(
+        shift.gain,
+        scale.square_sum(&rises),
+        seen.weights[shift.from],
+    );
     if by <= 0 {
         return false;
     }
@@ -452,8 +396,8 @@ impl Weighing {
     }
 
     /// Whether so little is owed that no low prices support the query.
-    fn is_paid(&self, unpaid: &Unpaid) -> bool {
-        GRAIN.wrapping_mul(self.fixed.wrapping_add(unpaid.sum)) < WHOLE
+    fn is_paid(&self) -> bool {
+        GRAIN.wrapping_mul(self.fixed.wrapping_add(self.scale.unpaid())) < WHOLE
     }
 
     /// Shifts weight to and fro so that less is owed, and says whether no low prices support the query.
@@ -461,14 +405,12 @@ impl Weighing {
         let mut idle = false;
         let mut side = Colour::White;
         for _ in 0..STEPS {
-            let unpaid = self.scale.unpaid();
-            if self.is_paid(&unpaid) {
+            if self.is_paid() {
                 return true;
             }
-            let scale = &mut self.scale;
             let shifted = match side {
-                Colour::White => shift_weight(&mut self.white, scale, &unpaid, side),
-                Colour::Black => shift_weight(&mut self.black, scale, &unpaid, side),
+                Colour::White => shift_weight(&mut self.white, &mut self.scale, side),
+                Colour::Black => shift_weight(&mut self.black, &mut self.scale, side),
             };
             if !shifted && idle {
                 return false;
@@ -476,6 +418,6 @@ impl Weighing {
             idle = !shifted;
             side = side.other();
         }
-        self.is_paid(&self.scale.unpaid())
+        self.is_paid()
     }
 }
