@@ -4,29 +4,30 @@ use crate::costs::CostRow;
 use board_base::Colour;
 
 /// More than any slack with its places.
-const TAKEN: u32 = 0x4000_0000;
+const TAKEN: i32 = 0x2000_0000;
 
 /// Rows and columns in places: the row in a place is paired with the column in the same place. Rows are men, and columns are the homes
-/// of their side by their numbers.
+/// of their side by their numbers. Potentials, prices and costs are told 256 times.
 #[derive(Drop)]
 struct Pairing {
     rows: [u8; 16],
     columns: [u8; 16],
     /// The place of each column.
-    places: [u32; 16],
+    places: [i32; 16],
     /// The potential of each row.
-    potentials: [u32; 16],
+    potentials: [i32; 16],
     /// The potential of each column, with the sign turned.
-    prices: [u32; 16],
+    prices: [i32; 16],
 }
 
-/// For each column the least slack of the rows of the tree, 256 times. Below it stand the place of that row, 16 times, and the place of
-/// the column: so of equal slacks the least is that of the first row, and then that of the first column.
+/// For each column the least slack of the rows of the tree, as it would be had their potentials not risen, 256 times. Below it stand the
+/// place of that row, 16 times, and the place of the column: so of equal slacks the least is that of the first row, and then that of
+/// the first column.
 #[derive(Drop)]
 struct Slacks {
-    each: [u32; 16],
-    /// `TAKEN` for each column of the tree, and 0 for others.
-    taken: [u32; 16],
+    each: [i32; 16],
+    /// The price of each column and its place, and `TAKEN` besides for those of the tree.
+    base: [i32; 16],
 }
 
 /// A free column and the way to it: the row in place `from` meets the column in place `to`, and each place of the tree was reached
@@ -40,33 +41,27 @@ struct Path {
 
 impl Slacks {
     /// No row is in the tree.
-    fn none() -> Slacks {
+    fn none(pairing: &Pairing) -> Slacks {
+        let mut base = [0; 16];
+        for c in 0..16 {
+            base[c] = pairing.prices[c].wrapping_add(pairing.places[c]);
+        }
         Slacks {
             each: [TAKEN; 16],
-            taken: [0; 16],
+            base,
         }
     }
 
-    /// Adds the row in a place to the tree.
-    fn add_row(&mut self, pairing: &Pairing, rows: &[CostRow; 16], place: usize) {
-        let at = pairing.row_in(place);
-        let row = &rows[at];
-        let potential = pairing.potentials[at];
-        let own = (place % 16) as u32 * 16;
+    /// Adds a row to the tree, whose slacks are its costs and so much beside the columns' own.
+    fn add_row(&mut self, row: &[i32; 16], beside: i32) {
         for c in 0..16 {
-            let slack = u32::from(row[c])
-                .wrapping_add(pairing.prices[c])
-                .wrapping_sub(potential);
-            let below = pairing.places[c]
-                .wrapping_add(own)
-                .wrapping_add(self.taken[c]);
-            let whole = slack.wrapping_mul(256).wrapping_add(below);
-            self.each[c] = self.each[c].min(whole);
+            let slack = row[c].wrapping_add(self.base[c]).wrapping_add(beside);
+            self.each[c] = self.each[c].min(slack);
         }
     }
 
     /// The least of all.
-    fn least(&self) -> u32 {
+    fn least(&self) -> i32 {
         let mut least = TAKEN;
         for x in &self.each {
             least = least.min(*x);
@@ -74,25 +69,16 @@ impl Slacks {
         least
     }
 
-    /// Lowers all by a slack.
-    fn lower(&mut self, slack: u32) {
-        for x in &mut self.each {
-            *x = x.wrapping_sub(slack.wrapping_mul(256));
-        }
-    }
-
     /// Takes a column into the tree.
     fn take(&mut self, column: usize) {
-        self.taken[column % 16] = TAKEN;
+        self.base[column % 16] = self.base[column % 16].wrapping_add(TAKEN);
         self.each[column % 16] = TAKEN;
     }
 
-    /// Notes that a column has moved from a place to another.
-    fn moved(&mut self, column: usize, from: usize, to: usize) {
-        let here = self.each[column % 16];
-        self.each[column % 16] = here
-            .wrapping_sub((from % 16) as u32)
-            .wrapping_add((to % 16) as u32);
+    /// Notes that a column has moved so many places up.
+    fn moved(&mut self, column: usize, by: i32) {
+        self.base[column % 16] = self.base[column % 16].wrapping_add(by);
+        self.each[column % 16] = self.each[column % 16].wrapping_add(by);
     }
 }
 
@@ -114,7 +100,7 @@ impl Pairing {
             };
             pairing.rows[place] = m;
             pairing.columns[place] = column;
-            pairing.places[place] = u32::from(column);
+            pairing.places[place] = i32::from(column);
         }
         pairing
     }
@@ -138,8 +124,8 @@ impl Pairing {
         self.columns.swap(a % 16, b % 16);
         let first = self.column_in(a);
         let second = self.column_in(b);
-        self.places[first] = (a % 16) as u32;
-        self.places[second] = (b % 16) as u32;
+        self.places[first] = (a % 16) as i32;
+        self.places[second] = (b % 16) as i32;
     }
 
     /// Lets what stands in two places change places.
@@ -148,40 +134,46 @@ impl Pairing {
         self.swap_columns(a, b);
     }
 
-    /// Lets the potentials of the first rows rise, and the prices of their columns but for that in the first place.
-    fn raise(&mut self, count: usize, by: u32) {
-        for m in 0..16 {
-            if m < count {
-                let row = self.row_in(m);
-                self.potentials[row] = self.potentials[row].wrapping_add(by);
-                let column = self.column_in(m);
-                if m > 0 {
-                    self.prices[column] = self.prices[column].wrapping_add(by);
-                }
+    /// Lets the potentials of the first rows rise, and the prices of their columns but for that in the first place: each by how much further
+    /// the tree has come since it joined.
+    fn raise(&mut self, count: usize, joined: &[i32; 16], reached: i32) {
+        for m in 0..count.min(16) {
+            let by = reached.wrapping_sub(joined[m]);
+            let row = self.row_in(m);
+            self.potentials[row] = self.potentials[row].wrapping_add(by);
+            let column = self.column_in(m);
+            if m > 0 {
+                self.prices[column] = self.prices[column].wrapping_add(by);
             }
         }
     }
 
     /// Puts row `n` in place 0 and lets a tree grow from there until it meets a free column.
-    fn grow(&mut self, rows: &[CostRow; 16], n: usize) -> Path {
+    fn grow(&mut self, rows: &[[i32; 16]; 16], n: usize) -> Path {
         self.swap_places(0, n);
         let mut parents = [0; 16];
-        let mut slacks = Slacks::none();
-        slacks.add_row(self, rows, 0);
+        let mut joined = [0; 16];
+        let mut slacks = Slacks::none(self);
+        let first = self.row_in(0);
+        slacks.add_row(&rows[first], 0i32.wrapping_sub(self.potentials[first]));
         for k in 1..17 {
             let least = slacks.least();
-            let from = (least / 16 % 16) as usize;
-            let to = (least % 16) as usize;
-            self.raise(k, least / 256);
+            let places = least.unsigned_abs() % 256;
+            let reached = least.wrapping_sub(places as i32);
+            let from = (places / 16) as usize;
+            let to = (places % 16) as usize;
             if to == 0 || n < to {
+                self.raise(k, &joined, reached);
                 return Path { parents, from, to };
             }
-            slacks.lower(least / 256);
-            slacks.moved(self.column_in(k), k, to);
+            slacks.moved(self.column_in(k), (to as i32).wrapping_sub(k as i32));
             slacks.take(self.column_in(to));
             self.swap_places(k, to);
             parents[k % 16] = from;
-            slacks.add_row(self, rows, k);
+            joined[k % 16] = reached;
+            let row = self.row_in(k);
+            let beside = reached.wrapping_sub(self.potentials[row]);
+            slacks.add_row(&rows[row], beside.wrapping_add(16 * k as i32));
         }
         Path {
             parents,
@@ -204,14 +196,25 @@ impl Pairing {
     }
 }
 
-/// The homes of the men at the least cost, by their numbers, for as many rows as there are.
-pub(crate) fn least_homes(rows: &[CostRow; 16], count: usize, side: Colour) -> [u8; 16] {
-    let mut pairing = Pairing::new(side);
-    for n in 0..16 {
-        if n < count {
-            let path = pairing.grow(rows, n);
-            pairing.hand_on(&path);
+/// These costs, 256 times.
+fn scaled(rows: &[CostRow; 16]) -> [[i32; 16]; 16] {
+    let mut all = [[0; 16]; 16];
+    for i in 0..16 {
+        for c in 0..16 {
+            all[i][c] = i32::from(rows[i][c]).wrapping_mul(256);
         }
+    }
+    all
+}
+
+/// The homes of the men at the least cost, by their numbers, for as many rows as there are. Of equal ones it finds those that
+/// `solve_large` finds.
+pub(crate) fn least_homes(rows: &[CostRow; 16], count: usize, side: Colour) -> [u8; 16] {
+    let rows = scaled(rows);
+    let mut pairing = Pairing::new(side);
+    for n in 0..count.min(16) {
+        let path = pairing.grow(&rows, n);
+        pairing.hand_on(&path);
     }
     let mut homes = [0; 16];
     for m in 0..16 {

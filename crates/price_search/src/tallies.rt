@@ -27,7 +27,8 @@ impl Default for Tally {
 #[derive(Clone, Copy)]
 pub(crate) struct Deeds {
     tally: Tally,
-    /// By the numbers of the homes, the classes on one of which the man who is gone was taken.
+    /// Whether the man of the home with each number is gone, and the classes on one of which he was then taken.
+    gone: [bool; 16],
     fallen: [Classes; 16],
 }
 
@@ -212,6 +213,7 @@ impl Deeds {
     fn count_gone(&mut self, land: &Land, rates: &Rates, ways: &AllWays, n: usize)
         requires { n < 16 }
     {
+        self.gone[n] = true;
         match &land.homes[n] {
             Home::Officer(classes) => self.fallen[n] = *classes,
             Home::Pawn => {
@@ -229,9 +231,11 @@ impl Deeds {
         let mut tally = self.tally;
         let mut left = *needs;
         for n in (0..16).rev() {
-            if let Some(class) = neediest_class(takes, &left, &self.fallen[n]) {
-                tally.count_taken(enemy, class);
-                left[class] = left[class].wrapping_sub(WHOLE);
+            if self.gone[n] {
+                if let Some(class) = neediest_class(takes, &left, &self.fallen[n]) {
+                    tally.count_taken(enemy, class);
+                    left[class] = left[class].wrapping_sub(WHOLE);
+                }
             }
         }
         tally
@@ -258,6 +262,7 @@ pub(crate) fn deeds_of(
 ) -> Deeds {
     let mut deeds = Deeds {
         tally: Tally { times: [0; 96] },
+        gone: [false; 16],
         fallen: [[0; 16]; 16],
     };
     for i in 0..16 {
