@@ -18,7 +18,7 @@ mod streams;
 mod walking;
 
 pub use checkers::Checker;
-pub use checking::check_bytes;
+pub use checking::{check_bytes, read_proof};
 pub use laws::{
     accepted_bar_no_move, accepted_have_texts, bad_text_goes_first, certificates_prove, one_answer,
     one_answer_remains, one_walk, rest_answers, unlisted_have_texts, walk_proves,

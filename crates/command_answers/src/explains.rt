@@ -1,30 +1,14 @@
 ghost use Rattle.std.specs.Prelude.{◌≤◌, IfOk, length};
-ghost use Rattle.cert_text.specs.Certificate.{Certificate, IsTextOf};
-ghost use Rattle.cert_checker.specs.Proving.{ProvesClaim};
 ghost use Rattle.command_answers.specs.Limits.{most_bytes};
-ghost use Rattle.command_answers.specs.Explains.{AnswersExplain, IsExplained};
+ghost use Rattle.command_answers.specs.Explains.{AnswersExplain};
 
 use crate::checks::word;
 use crate::statuses::Status;
 use crate::texts::Text;
 use crate::told::{refusal, unlisted};
-use cert_checker::{Refused, check_bytes, unlisted_have_texts};
-use cert_text::{CertFault, read_cert};
+use cert_checker::{Refused, read_proof, unlisted_have_texts};
 use proof_prose::explain;
 use std::alloc::{AllocError, Global};
-
-/// The proof in plain words of the certificate whose text these bytes are.
-fn explain_text(alloc: Global, input: &[u8]) -> Result<Text, AllocError>
-    requires short { length input.now ≤ most_bytes }
-    requires proof { (cert : Certificate) × IsTextOf input.now cert × ProvesClaim cert }
-    ensures { IfOk result (λ text. IsExplained input.now text) }
-{
-    match read_cert(alloc, input) {
-        Ok(cert) => Ok(Text::of_lines(explain(alloc, &cert)?)),
-        Err(CertFault::BadText { line: _ }) => unreachable!(),
-        Err(CertFault::Memory) => Err(AllocError),
-    }
-}
 
 /// The status and the text with which `explain` answers these bytes.
 pub fn answer_explain(alloc: Global, input: &[u8]) -> Result<(Status, Text), AllocError>
@@ -32,8 +16,8 @@ pub fn answer_explain(alloc: Global, input: &[u8]) -> Result<(Status, Text), All
     ensures { IfOk result (λ a. AnswersExplain input.now a.0 a.1) }
 {
     unlisted_have_texts();
-    match check_bytes(alloc, input) {
-        Ok(_) => Ok((Status::Done, explain_text(alloc, input)?)),
+    match read_proof(alloc, input) {
+        Ok(cert) => Ok((Status::Done, Text::of_lines(explain(alloc, &cert)?))),
         Err(Refused::BadText { line }) => {
             Ok((Status::Refused, Text::of_line(refusal(line, b"text"))))
         }

@@ -4,10 +4,9 @@ ghost use Rattle.line_claims.specs.Lines.{has_text};
 ghost use Rattle.diagram_study.specs.Forced.{AreForced, IsForced, IsOpenPlace, TellsForced, TellsSteps};
 ghost use Rattle.diagram_study.specs.Retractions.{HasLeft};
 
-use crate::line_searches::seek_line;
+use crate::proving::{seek, seek_line};
 use crate::retractions::retractions;
 use crate::searchers::Searchers;
-use crate::searches::seek;
 use crate::subjects::Subject;
 use crate::texts::push_steps;
 use board_base::{Unmove, UnmoveList};
@@ -78,23 +77,21 @@ fn forced_steps(
     Ok(steps)
 }
 
-/// Adds the line of these last moves, where each part due of it is proved.
+/// Adds the line of these last moves, if each part due of it is proved.
 fn tell_steps(
     searchers: &mut Searchers,
     subject: &Subject,
-    steps: &[Unmove],
+    steps: StepList,
     text: &mut Vec<u8>,
 ) -> Result<(), AllocError>
-    requires forced { AreForced 16 subject.now.query subject.now.limits.depth subject.now.limits.nodes steps.now }
-    requires texts { IsTrue (list_all has_text steps.now) }
-    requires several { 2 ≤ length steps.now }
+    requires forced { AreForced 16 subject.now.query subject.now.limits.depth subject.now.limits.nodes steps }
+    requires texts { IsTrue (list_all has_text steps) }
+    requires several { 2 ≤ length steps }
     ensures { OnOk result ((own : List ℕ)
-        × TellsSteps subject.now.query subject.now.limits.depth subject.now.limits.nodes steps.now own × (text.new.items ≡ text.old.items ++ own)) }
+        × TellsSteps subject.now.query subject.now.limits.depth subject.now.limits.nodes steps own
+        × (text.new.items ≡ text.old.items ++ own)) }
 {
-    let Some(list) = StepList::new(steps) else {
-        unreachable!()
-    };
-    let claim = LineClaim::Line(list);
+    let claim = LineClaim::Line(steps);
     let finding = seek_line(searchers, subject, &claim)?;
     if finding.is_proved() {
         push_steps(text, finding, &claim)
@@ -118,9 +115,12 @@ pub(crate) fn tell_forced(
 {
     let first = forced_unmove(searchers, subject, left)?;
     let steps = forced_steps(searchers, subject, first)?;
+    let Some(list) = StepList::new(steps.as_slice()) else {
+        return Ok(());
+    };
     if steps.len() < 2 {
         Ok(())
     } else {
-        tell_steps(searchers, subject, steps.as_slice(), text)
+        tell_steps(searchers, subject, list, text)
     }
 }

@@ -166,7 +166,8 @@ pub(crate) fn agreed_pairs(
 fn push_pair(text: &mut Vec<u8>, f: &PairFound) -> Result<(), AllocError>
     requires order { IsTrue (in_order f.now.first f.now.second) }
     requires texts { HasStuckPairText f.now }
-    ensures { OnOk result (text.new.items ≡ text.old.items ++ decided_steps f.now.finding f.now.stuck (LineClaim.NotBoth f.now.first f.now.second)) }
+    ensures { OnOk result (text.new.items ≡ text.old.items
+        ++ decided_steps f.now.finding f.now.stuck (LineClaim.NotBoth f.now.first f.now.second)) }
 {
     push_decided_steps(
         text,

@@ -8,8 +8,8 @@ ghost use Rattle.diagram_study.specs.Looks.{AreLooked};
 ghost use Rattle.diagram_study.specs.Retractions.{HasLeft, TellsLast, TellsMove, one_move};
 
 use crate::joining::joined_up;
+use crate::proving::{search_at, seek};
 use crate::searchers::{Searchers, is_refuted};
-use crate::searches::{search_at, seek};
 use crate::subjects::Subject;
 use crate::texts::push_found;
 use board_base::{Move, Unmove, UnmoveList, is_move};

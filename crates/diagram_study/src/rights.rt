@@ -150,7 +150,8 @@ fn with_right(f: &RightFound, set: CastleSet) -> CastleSet
 /// Adds the line of a right, where it is that of a castling.
 fn push_castling(text: &mut Vec<u8>, f: &RightFound) -> Result<(), AllocError>
     requires { HasStuckText f.now }
-    ensures { OnOk result (text.new.items ≡ text.old.items ++ castling_line f.now.finding f.now.stuck f.now.right) }
+    ensures { OnOk result (text.new.items ≡ text.old.items
+        ++ castling_line f.now.finding f.now.stuck f.now.right) }
 {
     match f.right {
         Right::Castling(castle) => push_decided(text, f.finding, &f.stuck, &Claim::Lost(castle)),
@@ -162,7 +163,8 @@ fn push_castling(text: &mut Vec<u8>, f: &RightFound) -> Result<(), AllocError>
 fn push_capture(text: &mut Vec<u8>, f: &RightFound) -> Result<(), AllocError>
     requires promotion { IsTrue (promotes_well (claim_of f.now.right)) }
     requires texts { HasStuckText f.now }
-    ensures { OnOk result (text.new.items ≡ text.old.items ++ capture_line f.now.finding f.now.stuck f.now.right) }
+    ensures { OnOk result (text.new.items ≡ text.old.items
+        ++ capture_line f.now.finding f.now.stuck f.now.right) }
 {
     match f.right {
         Right::Castling(_) => Ok(()),

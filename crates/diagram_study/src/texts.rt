@@ -161,7 +161,8 @@ pub(crate) fn push_decided(
 ) -> Result<(), AllocError>
     requires promotion { IsTrue (promotes_well claim.now) }
     requires texts { IfSome stuck.now (All (λ u. IsTrue (has_text u))) }
-    ensures { OnOk result (text.new.items ≡ text.old.items ++ decided_lines finding stuck.now claim.now) }
+    ensures { OnOk result (text.new.items ≡ text.old.items
+        ++ decided_lines finding stuck.now claim.now) }
 {
     let mut line: ArrayVec<u8, 128> = ArrayVec::new();
     write_claim(claim, &mut line);
@@ -178,7 +179,8 @@ pub(crate) fn push_decided_steps(
 ) -> Result<(), AllocError>
     requires line { HasLine claim.now }
     requires texts { IfSome stuck.now (All (λ u. IsTrue (has_text u))) }
-    ensures { OnOk result (text.new.items ≡ text.old.items ++ decided_steps finding stuck.now claim.now) }
+    ensures { OnOk result (text.new.items ≡ text.old.items
+        ++ decided_steps finding stuck.now claim.now) }
 {
     let mut line: ArrayVec<u8, 160> = ArrayVec::new();
     write_line_claim(claim, &mut line);

@@ -1,5 +1,5 @@
 use Rattle.diagram_study.proofs.Searching.{outcome_is}
-use Rattle.diagram_study.proofs.searches.search_at.Goals as goal
+use Rattle.diagram_study.proofs.proving.search_at.Goals as goal
 
 pub returns-in-Ok : goal.returns-in-Ok
 returns-in-Ok c =

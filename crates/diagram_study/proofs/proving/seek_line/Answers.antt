@@ -1,5 +1,5 @@
 use Rattle.diagram_study.proofs.Together.{complete_more, line_found, part_plain, rest_plain}
-use Rattle.diagram_study.proofs.line_searches.seek_line.Goals as goal
+use Rattle.diagram_study.proofs.proving.seek_line.Goals as goal
 
 pub invariant_of-asked : goal.invariant_of-asked
 invariant_of-asked c = record { plain = part_plain _ _ _ c.in-Some.ensures c.loop-claimed.invariant.plain }

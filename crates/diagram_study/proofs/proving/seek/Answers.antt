@@ -1,6 +1,6 @@
 use Rattle.std.proofs.Common.{[]}
 use Rattle.query_base.specs.Targets.{target}
-use Rattle.diagram_study.proofs.searches.seek.Goals as goal
+use Rattle.diagram_study.proofs.proving.seek.Goals as goal
 
 pub returns-in-Open-clause-found : goal.returns-in-Open-clause-found
 returns-in-Open-clause-found c =

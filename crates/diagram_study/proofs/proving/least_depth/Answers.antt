@@ -1,6 +1,6 @@
 use Rattle.std.proofs.Common.{◌-◌, arith}
 use Rattle.diagram_study.proofs.Searching.{least_by_none, least_by_open, least_by_spent, raised}
-use Rattle.diagram_study.proofs.searches.least_depth.Goals as goal
+use Rattle.diagram_study.proofs.proving.least_depth.Goals as goal
 
 pub loop-least-preserved : goal.loop-least-preserved
 loop-least-preserved c =

@@ -3,7 +3,7 @@ use Rattle.std.specs.Prelude.{None}
 use Rattle.std.specs.List.{All}
 use Rattle.line_claims.specs.Due.{parts_due}
 use Rattle.diagram_study.proofs.Together.{Completes}
-use Rattle.diagram_study.proofs.line_searches.seek_line.Given as goal
+use Rattle.diagram_study.proofs.proving.seek_line.Given as goal
 
 abbrev pub invariant-loop-claimed : goal.invariant-loop-claimed
 invariant-loop-claimed l = record {

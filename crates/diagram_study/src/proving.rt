@@ -1,9 +1,14 @@
+//! What is found of a claim by searches for a proof.
+
 ghost use Rattle.std.specs.Prelude.{◌≢◌, IfOk};
+ghost use Rattle.line_claims.specs.Listing.{HasParts};
 ghost use Rattle.diagram_study.specs.Findings.{IsFound, IsOutcome, IsProof, IsProvedAt};
+ghost use Rattle.diagram_study.specs.Joined.{IsLineFound};
 
 use crate::findings::Finding;
 use crate::searchers::Searchers;
 use crate::subjects::Subject;
+use line_claims::{Due, LineClaim, parts_bar_no_move, parts_make_lines_hold};
 use query_base::{Claim, target};
 use retro_search::{Limits, Outcome, deeper_searches_refute_more};
 use std::alloc::AllocError;
@@ -73,4 +78,28 @@ pub(crate) fn seek(
         Outcome::Open => Ok(Finding::Open),
         Outcome::Spent => Ok(Finding::Spent),
     }
+}
+
+/// What is found of a claim of several steps: of all its parts due together.
+pub(crate) fn seek_line(
+    searchers: &mut Searchers,
+    subject: &Subject,
+    claim: &LineClaim,
+) -> Result<Finding, AllocError>
+    requires parts { HasParts claim.now subject.now.query }
+    ensures { IfOk result (IsLineFound subject.now.query claim.now subject.now.limits.depth subject.now.limits.nodes) }
+{
+    parts_make_lines_hold();
+    parts_bar_no_move();
+    let mut finding = Finding::Proved(0);
+    let mut due = Due::new(&subject.query, claim);
+    while let Some((claimed, query)) = due.next() {
+        let asked = Subject {
+            query,
+            limits: subject.limits,
+        };
+        let part = seek(searchers, &asked, &claimed)?;
+        finding = finding.joined(part);
+    }
+    Ok(finding)
 }
