@@ -1,0 +1,64 @@
+use board_base::{Colour, Kind};
+use figures::{Figure, Sketch};
+
+/// A number for the figures of a sketch, in whatever order: sketches with other figures have another one, but for a chance.
+#[derive(Clone, Copy, PartialEq, Eq, Hash)]
+pub(crate) struct Fingerprint {
+    digits: [Digit; 16],
+}
+
+/// A digit of a fingerprint, which is hashed by itself.
+#[derive(Clone, Copy, PartialEq, Eq, Hash)]
+struct Digit {
+    value: u8,
+}
+
+/// Spreads what differs in a number over all of its bits.
+fn stirred(number: u64) -> u64 {
+    let once = (number ^ number >> 30).wrapping_mul(0xbf58_476d_1ce4_e5b9);
+    let twice = (once ^ once >> 27).wrapping_mul(0x94d0_49bb_1331_11eb);
+    twice ^ twice >> 31
+}
+
+/// A number for the figure but for its squares.
+fn tag_of(figure: &Figure) -> u64 {
+    let mut tag = u64::from(figure.place) << 8;
+    if figure.colour == Colour::White {
+        tag |= 1;
+    }
+    if figure.marked {
+        tag |= 2;
+    }
+    let kinds = [
+        Kind::Pawn,
+        Kind::Knight,
+        Kind::Bishop,
+        Kind::Rook,
+        Kind::Queen,
+        Kind::King,
+    ];
+    for k in 0..6usize {
+        if figure.may_be(kinds[k]) {
+            tag |= 4 << k;
+        }
+    }
+    tag
+}
+
+/// The fingerprint of a sketch.
+pub(crate) fn fingerprint_of(sketch: &Sketch) -> Fingerprint {
+    let mut first = 0u64;
+    let mut second = 0u64;
+    for figure in sketch.figures() {
+        let number = stirred(figure.squares.bits()).wrapping_add(tag_of(figure));
+        let once = stirred(number);
+        first = first.wrapping_add(once);
+        second = second.wrapping_add(stirred(once ^ 0x9e37_79b9_7f4a_7c15));
+    }
+    let mut digits = [Digit { value: 0 }; 16];
+    for k in 0..8usize {
+        digits[k].value = (first >> (8 * k) & 255) as u8;
+        digits[8 + k].value = (second >> (8 * k) & 255) as u8;
+    }
+    Fingerprint { digits }
+}

@@ -1,0 +1,28 @@
+/// How far a search for a sketch goes.
+#[derive(Clone, Copy)]
+pub struct Limits {
+    /// The most steps of a sketch that is followed, up to 1,024.
+    pub steps: usize,
+    /// How many sketches it looks at that aren't closed at once.
+    pub states: u32,
+    /// How often prices are sought.
+    pub ascents: u32,
+    /// Whether pawns' moves on one file are taken back one by one if nothing else is found.
+    pub files: bool,
+}
+
+/// Enough for most trees that close at all.
+pub const SMALL: Limits = Limits {
+    steps: 100,
+    states: 20,
+    ascents: 40,
+    files: false,
+};
+
+/// For the positions that matter most.
+pub const LARGE: Limits = Limits {
+    steps: 250,
+    states: 1_500,
+    ascents: 1_500,
+    files: true,
+};
