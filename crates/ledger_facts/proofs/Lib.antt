@@ -9,3 +9,4 @@ pub mod Sound
 pub mod Known
 pub mod Counts
 pub mod Listed
+pub mod Pieces

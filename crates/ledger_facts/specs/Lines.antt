@@ -1,7 +1,8 @@
 -- What the lines of a ledger say of a game.
-use Rattle.std.specs.Prelude.{ℕ, ◌≡◌, Bool, true, false, IsTrue, List, Some}
+use Rattle.std.specs.Prelude.{Option, None, not, ℕ, ◌≡◌, Bool, true, false, IsTrue, List, Some}
 use Rattle.std.specs.List.{Contains}
-use Rattle.board_base.specs.Board.{is_in, opponent}
+use Rattle.board_base.specs.Board.{Places, array_of, at, is_a, is_in, opponent}
+use Rattle.board_base.specs.declared.men.Kind.TheVariants.{Pawn}
 use Rattle.board_base.specs.declared.men.Colour.{Colour}
 use Rattle.board_base.specs.declared.moves.Move.{Move}
 use Rattle.men_account.specs.Labels.{label_at, labels_after}
@@ -29,3 +30,12 @@ KeptFile o g s = (h : ℕ) → label_at (labels_after o g) s ≡ Some h → is_s
 -- some pawn of the other side took the man of this side who began on h
 abbrev pub FellToPawn : List Bool → List Move → Colour → ℕ → Type 0
 FellToPawn o g side h = (x : Strike) × Contains (strikes o g (opponent side)) x × (x.of ≡ h)
+
+-- the label is the home of a man who is no pawn
+abbrev pub is_of_piece : Places → Option ℕ → Bool
+is_of_piece first None = false
+is_of_piece first (Some h) = not (is_a Pawn (at first h))
+
+-- the man on s began as no pawn
+abbrev pub began_as_piece : List Bool → List Move → ℕ → Bool
+began_as_piece o g s = is_of_piece (array_of o) (label_at (labels_after o g) s)

@@ -9,5 +9,8 @@ mod lines;
 mod suppositions;
 
 pub use laws::refuted_suppositions_are_false;
-pub use lines::{captures_add_up, fates_are_known, homes_and_counts_are_known, ways_are_listed};
+pub use lines::{
+    captures_add_up, fates_are_known, homes_and_counts_are_known, pieces_have_homes,
+    ways_are_listed,
+};
 pub use suppositions::{Squares, Supposition};

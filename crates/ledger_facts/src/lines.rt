@@ -1,5 +1,5 @@
-ghost use Rattle.std.specs.Prelude.{ℕ, ◌≡◌, ◌≢◌, ◌<◌, ◌≤◌, ◌+◌, Bool, true, false, IsTrue, List, Some, length};
-ghost use Rattle.std.specs.List.{AllPairs, Contains, sum_by};
+ghost use Rattle.std.specs.Prelude.{ℕ, ◌≡◌, ◌≢◌, ◌<◌, ◌≤◌, ◌+◌, Bool, true, false, IsTrue, List, Some, length, not};
+ghost use Rattle.std.specs.List.{AllPairs, Contains, filter, sum_by};
 ghost use Rattle.board_base.specs.Board.{array_of, at, is_a, is_of, opponent};
 ghost use Rattle.board_base.specs.Game.{IsGame};
 ghost use Rattle.board_base.specs.declared.men.Colour.{Colour as AColour};
@@ -14,7 +14,7 @@ ghost use Rattle.men_fates.specs.Deeds.{way_of};
 ghost use Rattle.men_fates.specs.Ways.{captures_on, way_end};
 ghost use Rattle.balance_rule.specs.Balance.{men_on};
 ghost use Rattle.balance_rule.specs.Costs.{ways_from};
-ghost use Rattle.ledger_facts.specs.Lines.{AreOthersRefuted, BeganOn, FellToPawn, HasCaptured, KeptFile};
+ghost use Rattle.ledger_facts.specs.Lines.{AreOthersRefuted, BeganOn, FellToPawn, HasCaptured, KeptFile, began_as_piece};
 ghost use Rattle.ledger_facts.specs.Refuted.{IsRuledOut};
 ghost use Rattle.ledger_facts.specs.Supposed.{captures, is_last};
 ghost use Rattle.ledger_facts.specs.declared.suppositions.Squares.{Squares as ASquares};
@@ -59,4 +59,11 @@ pub fn captures_add_up()
 /// by which the pawn on a square may have come from a home, holds of the way by which he came, if he began there.
 pub fn ways_are_listed()
     ensures { (q : Asked) (set : List Bool) (c : AColour) (s h : ℕ) (test : List ℕ → Bool) → IsFrozen q set → IsTrue (is_a Pawn (at q.board s)) → IsTrue (is_of c (at (array_of q.odds) h)) → ((way : List ℕ) → Contains (ways_from c set h) way → way_end h way ≡ s → IsTrue (test way)) → (g : List Move) → LeadsTo q.odds g q → label_at (labels_after q.odds g) s ≡ Some h → IsTrue (test (way_of q.odds g h)) }
+{}
+
+/// The law of men among whom some were promoted, in every game from the array without any of its men. Of different squares, each of whose men
+/// began on one of some homes if he began as no pawn, those whose men began so are no more than these homes; so the others are all that are
+/// left.
+pub fn pieces_have_homes()
+    ensures { (o : List Bool) (g : List Move) (squares homes : List ℕ) → IsGame o g → AllPairs (λ s t. s ≢ t) squares → ((s h : ℕ) → Contains squares s → label_at (labels_after o g) s ≡ Some h → is_a Pawn (at (array_of o) h) ≡ false → Contains homes h) → length squares ≤ length homes + length (filter (λ s. not (began_as_piece o g s)) squares) }
 {}
