@@ -48,7 +48,7 @@ abbrev pub AreItems : ℕ → List Item → Type 0
 AreItems P [] = Unit {0}
 AreItems P (i ∷ is) = (is_item P i ≡ true) × AreItems P is
 
-say_each : (P : ℕ) (is : List Item) → P ≤ 64 → AreItems P is → SayEach P (map item_text is) is
+pub say_each : (P : ℕ) (is : List Item) → P ≤ 64 → AreItems P is → SayEach P (map item_text is) is
 say_each P [] few known = tt
 say_each P (i ∷ is) few known = (says_from P i few known.0, say_each P is few known.1)
 

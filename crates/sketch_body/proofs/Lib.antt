@@ -6,3 +6,5 @@ pub mod Steps
 pub mod Closing
 pub mod Readings
 pub mod Goings
+pub mod Taking
+pub mod Gathered

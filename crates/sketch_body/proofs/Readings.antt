@@ -1,13 +1,13 @@
 -- Readings and the sketches that they end as.
-use Rattle.std.proofs.Common.{◌≡◌, ℕ, zero, suc, ◌+◌, ◌<◌, ◌≤◌, true, List, [], ◌∷◌, ◌++◌, length, map, nat_le, refl, sym, ap, ◌∙◌, subst, arith, append-nil}
+use Rattle.std.proofs.Common.{◌≡◌, ℕ, zero, suc, ◌+◌, ◌<◌, ◌≤◌, Bool, true, List, [], ◌∷◌, ◌++◌, length, map, nat_le, refl, sym, ap, ◌∙◌, subst, arith, append-nil}
 use Rattle.std.specs.Prelude.{◌↔◌, Option, Some, None}
-use Rattle.std.specs.List.{sum_by}
+use Rattle.std.specs.List.{list_all, sum_by}
 use Rattle.std.specs.Option.{option_and_then, option_map}
 use Rattle.std.proofs.lemmas.Bool.{and_from, and_parts, cond-true, le-leb, leb-true}
-use Rattle.std.proofs.lemmas.Option.{cond_some}
+use Rattle.std.proofs.lemmas.Option.{cond_some, option_and_then_some, same_Some}
 use Rattle.capture_prices.specs.Prices.{PriceList}
 use Rattle.general_lemmas.proofs.Lists.{same_rest}
-use Rattle.sketch_text.specs.Heads.{Head}
+use Rattle.sketch_text.specs.Heads.{Head, are_files, is_head}
 use Rattle.sketch_text.specs.Marks.{Marks}
 use Rattle.sketch_text.specs.Trees.{Line, Node, Nodes, count, height, lines_each, lines_of, more, node, none, of_marks, of_node}
 use Rattle.sketch_text.specs.Nodes.{node_of}
@@ -15,26 +15,24 @@ use Rattle.sketch_text.specs.declared.nodes.SketchNode.{SketchNode}
 use Rattle.sketch_text.proofs.MarkTexts.{mark_read}
 use Rattle.sketch_text.specs.Marks.{are_figures, is_some_figure}
 use Rattle.sketch_body.specs.Bodies.{AreOfTree, AreTextsOf, Body, Item, SayEach, head_of, is_first, is_never_below, is_now, items_of, most_units, of_line, of_prices, units_of, units_of_line}
-use Rattle.sketch_body.specs.Due.{Due, Leads, Reading, gone_on, is_done, is_over, start, step}
+use Rattle.sketch_body.specs.Due.{Due, Leads, Reading, gone_on, is_done, next, is_over, start, step}
 use Rattle.sketch_body.specs.Ends.{EndsAs, IsEnding, ReadsTo}
-use Rattle.sketch_body.specs.Texts.{item_text}
+use Rattle.sketch_body.specs.Texts.{is_item, item_text}
+use Rattle.sketch_body.specs.Whole.{first_due, is_body, on_next, runs_out}
 use Rattle.sketch_body.proofs.Charged.{charges, charges_both, node_charged, prices_free}
-use Rattle.sketch_body.proofs.Closing.{IsSound, closes, closing, closing_said, free, sound_after, texts_are}
+use Rattle.sketch_body.proofs.Closing.{AreItems, IsSound, closes, closing, closing_said, free, say_each, says_is, sound_after, texts_are}
 use Rattle.sketch_body.proofs.Fills.{filled, priced}
 use Rattle.sketch_body.proofs.Runs.{Able, Fits, FitsEach, at, below_never, first_fits, items, node_low, node_runs, run}
-use Rattle.sketch_body.proofs.Steps.{leads_few, leads_from, leads_parts, run_kept, same_items, step_parts}
+use Rattle.sketch_body.proofs.Steps.{leads_few, leads_from, leads_parts, next_kept, run_kept, same_items, step_parts}
 
 -- the start
 
-abbrev first_due : ℕ → Due
-first_due P = record { prices = P; wanted = P; marks = 0; nodes = 1 ∷ [] }
+pub record IsStart (units : ℕ) (h : Head) (first : Reading) : Type 0 where
+  pub due_is : first.due ≡ first_due h.prices
+  pub units_are : first.units ≡ units + (h.prices + 1)
+  pub few : first.units ≤ most_units
 
-record IsStart (units : ℕ) (h : Head) (first : Reading) : Type 0 where
-  due_is : first.due ≡ first_due h.prices
-  units_are : first.units ≡ units + (h.prices + 1)
-  few : first.units ≤ most_units
-
-start_parts : (units : ℕ) (h : Head) (first : Reading) → start units h ≡ Some first → IsStart units h first
+pub start_parts : (units : ℕ) (h : Head) (first : Reading) → start units h ≡ Some first → IsStart units h first
 start_parts units h first e =
     let n : ℕ = units + (h.prices + 1) in
     let c = cond_some (nat_le n most_units) (record { due = first_due h.prices; units = n }) first e in
@@ -257,27 +255,114 @@ nothing_mapped (Some x) P units = refl
 nothing_on : (P units : ℕ) (text : List ℕ) → step (record { due = at P 0 []; units = units }) text ≡ None
 nothing_on P units text = nothing_mapped (node_of P text) P units
 
-leads_sound : (texts : List (List ℕ)) (is : List Item) (r last : Reading) → IsSound r.due → Leads r texts is last → IsSound last.due
-leads_sound [] [] r last sound e = subst (λ (t : Reading). IsSound t.due) e sound
-leads_sound [] (i ∷ is) r last sound e = absurd e
-leads_sound (text ∷ texts) [] r last sound e = absurd e
-leads_sound (text ∷ texts) (i ∷ is) r last sound (s, e, rest) =
-    leads_sound texts is s last (sound_after r.due.prices r.due.wanted r.due.marks r.due.nodes i s.due sound.marks sound.nodes (step_parts r text i s e).on) rest
+-- a reading that is reached
+pub record IsGoing (r : Reading) : Type 0 where
+  pub sound : IsSound r.due
+  pub low : r.due.prices ≤ 64
+  pub few : r.units ≤ most_units
 
-pub ending : (units : ℕ) (h : Head) (texts : List (List ℕ)) (is : List Item) (r : Reading) → h.prices ≤ 64 → ReadsTo units h texts is r → (rest : List (List ℕ)) × (more : List Item) × (last : Reading) × IsEnding r rest more last
-ending units h texts is r low reads =
-    let first : Reading = reads.first in
-    let s = start_parts units h first reads.starts in
-    let begun : IsSound first.due = subst IsSound (sym s.due_is) (record { marks = λ some. absurd (omega arith); nodes = refl }) in
-    let sound : IsSound r.due = leads_sound texts is first r begun reads.leads in
-    let P : r.due.prices ≡ h.prices = run_kept is first.due r.due (leads_parts texts is first r reads.leads).runs ∙ ap (λ (d : Due). d.prices) s.due_is in
-    let few = leads_few texts is first r s.few reads.leads in
+pub going_starts : (units : ℕ) (h : Head) (first : Reading) → h.prices ≤ 64 → start units h ≡ Some first → IsGoing first
+going_starts units h first low e =
+    let s = start_parts units h first e in
+    let prices : first.due.prices ≡ h.prices = ap (λ (d : Due). d.prices) s.due_is in
+    record { sound = subst IsSound (sym s.due_is) (record { marks = λ some. absurd (omega arith); nodes = refl }); low = omega arith; few = s.few }
+
+pub going_on : (r : Reading) (text : List ℕ) (i : Item) (s : Reading) → IsGoing r → step r text ≡ Some (i, s) → IsGoing s
+going_on r text i s going e =
+    let one = step_parts r text i s e in
+    let prices : s.due.prices ≡ r.due.prices = next_kept r.due i s.due one.on in
+    let low = going.low in
+    record { sound = sound_after r.due.prices r.due.wanted r.due.marks r.due.nodes i s.due going.sound.marks going.sound.nodes one.on; low = omega arith; few = one.few }
+
+going_leads : (texts : List (List ℕ)) (is : List Item) (r last : Reading) → IsGoing r → Leads r texts is last → IsGoing last
+going_leads [] [] r last going e = subst IsGoing e going
+going_leads [] (i ∷ is) r last going e = absurd e
+going_leads (text ∷ texts) [] r last going e = absurd e
+going_leads (text ∷ texts) (i ∷ is) r last going (s, e, rest) = going_leads texts is s last (going_on r text i s going e) rest
+
+pub going_ends : (r : Reading) → IsGoing r → (rest : List (List ℕ)) × (more : List Item) × (last : Reading) × IsEnding r rest more last
+going_ends r going =
     let others : List Item = closing r.due in
+    let few = going.few in
     let unchanged : r.units + charges others ≡ r.units = omega (arith, free r.due) in
     let last : Reading = record { due = at r.due.prices 0 []; units = r.units + charges others } in
-    (map item_text others, others, last, record { leads = leads_from (map item_text others) others r (at r.due.prices 0 []) (closing_said r.due (omega arith) sound) (closes r.due sound) (omega arith); over = refl; units_are = unchanged })
+    (map item_text others, others, last, record { leads = leads_from (map item_text others) others r (at r.due.prices 0 []) (closing_said r.due going.low going.sound) (closes r.due going.sound) (omega arith); over = refl; units_are = unchanged })
+
+pub ending : (units : ℕ) (h : Head) (texts : List (List ℕ)) (is : List Item) (r : Reading) → h.prices ≤ 64 → ReadsTo units h texts is r → (rest : List (List ℕ)) × (more : List Item) × (last : Reading) × IsEnding r rest more last
+ending units h texts is r low reads = going_ends r (going_leads texts is reads.first r (going_starts units h reads.first low reads.starts) reads.leads)
 
 pub stops : (r : Reading) (text : List ℕ) → is_over r.due ≡ true → step r text ≡ None
 stops r text over =
     let end : r ≡ record { due = at r.due.prices 0 []; units = r.units } = λ i. record { due = over_is r.due over i; units = r.units } in
     ap (λ (t : Reading). step t text) end ∙ nothing_on r.due.prices r.units text
+
+-- which sketches have texts
+
+on_parts : (o : Option Due) (go : Due → Bool) → on_next o go ≡ true → (e : Due) × (o ≡ Some e) × (go e ≡ true)
+on_parts None go so = absurd cc
+on_parts (Some e) go so = (e, refl, so)
+
+out_runs : (is : List Item) (d : Due) → runs_out d is ≡ true → (e : Due) × (run d is ≡ Some e) × (is_over e ≡ true)
+out_runs [] d over = (d, refl, over)
+out_runs (i ∷ is) d over =
+    let p = on_parts (next d i) (λ e. runs_out e is) over in
+    let rest = out_runs is p.0 p.2 in
+    (rest.0, ap (option_and_then (λ (g : Due). run g is)) p.1 ∙ rest.1, rest.2)
+
+runs_over : (is : List Item) (d e : Due) → run d is ≡ Some e → is_over e ≡ true → runs_out d is ≡ true
+runs_over [] d e runs over = ap is_over (same_Some d e runs) ∙ over
+runs_over (i ∷ is) d e runs over =
+    option_and_then_some (λ (f : Due). run f is) (next d i) e runs (λ f on rest. ap (λ (o : Option Due). on_next o (λ g. runs_out g is)) on ∙ runs_over is f e rest over)
+
+all_items : (P : ℕ) (is : List Item) → list_all (is_item P) is ≡ true → AreItems P is
+all_items P [] known = tt
+all_items P (i ∷ is) known = let parts = and_parts (is_item P i) (list_all (is_item P) is) known in (parts.0, all_items P is parts.1)
+
+known_items : (P : ℕ) (texts : List (List ℕ)) (is : List Item) → SayEach P texts is → list_all (is_item P) is ≡ true
+known_items P [] [] said = refl
+known_items P [] (i ∷ is) said = absurd said
+known_items P (text ∷ texts) [] said = absurd said
+known_items P (text ∷ texts) (i ∷ is) said = and_from _ _ (says_is P text i said.0).known (known_items P texts is said.1)
+
+pub body_known : (texts : List (List ℕ)) (b : Body) → is_head (head_of b) ≡ true → AreTextsOf texts b → is_body b ≡ true
+body_known texts b head t =
+    and_from _ _ head (and_from _ _ (known_items (length b.prices) texts (items_of b) t.said) (runs_over (items_of b) (first_due (length b.prices)) (at (length b.prices) 0 []) (tree_runs b t.tree (able_from (length b.prices) b.prices b.lines texts t.said)) refl))
+
+pub body_texts : (b : Body) → is_body b ≡ true → AreTextsOf (map item_text (items_of b)) b
+body_texts b known =
+    let P : ℕ = length b.prices in
+    let parts = and_parts (is_head (head_of b)) _ known in
+    let rest = and_parts (list_all (is_item P) (items_of b)) (runs_out (first_due P) (items_of b)) parts.1 in
+    let low : P ≤ 64 = leb-true P 64 (and_parts (nat_le P 64) (are_files 0 b.files) parts.0).0 in
+    let out = out_runs (items_of b) (first_due P) rest.1 in
+    let runs : run (first_due P) (items_of b) ≡ Some (at out.0.prices 0 []) = out.1 ∙ ap (λ (d : Due). Some d) (over_is out.0 out.2) in
+    let found = planted (head_of b) out.0.prices (items_of b) runs in
+    let c : Body = found.0 in
+    let p : IsPlanted (head_of b) (items_of b) c = found.1 in
+    let size : P ≡ length c.prices = sym (ap (λ (h : Head). h.prices) p.head) in
+    let lines : b.lines ≡ c.lines = (parted b.prices c.prices b.lines c.lines size p.items_are).1 in
+    record {
+      said = say_each P (items_of b) low (all_items P (items_of b) rest.0);
+      tree = record { tree = p.tree; written = p.written ∙ sym lines; first = fits_first p.tree P p.fits; low = low_zero (height p.tree) (node_low p.tree P 0 (omega arith) p.fits) };
+    }
+
+-- two sketches that begin the same lines
+
+nothing_next : (P : ℕ) (i : Item) → next (at P 0 []) i ≡ None
+nothing_next P (of_prices p) = refl
+nothing_next P (of_line (of_marks m)) = refl
+nothing_next P (of_line (of_node x)) = refl
+
+pub over_next : (d : Due) (i : Item) → is_over d ≡ true → next d i ≡ None
+over_next d i over = ap (λ (e : Due). next e i) (over_is d over) ∙ nothing_next d.prices i
+
+pub body_runs : (texts : List (List ℕ)) (b : Body) → AreTextsOf texts b → run (first_due (length b.prices)) (items_of b) ≡ Some (at (length b.prices) 0 [])
+body_runs texts b t = tree_runs b t.tree (able_from (length b.prices) b.prices b.lines texts t.said)
+
+-- the lines of a sketch in memory
+
+pub leads_more : (texts : List (List ℕ)) (is : List Item) (r s t : Reading) (text : List ℕ) (i : Item) → Leads r texts is s → step s text ≡ Some (i, t) → Leads r (texts ++ text ∷ []) (is ++ i ∷ []) t
+leads_more [] [] r s t text i leads e = (t, ap (λ (q : Reading). step q text) leads ∙ e, refl)
+leads_more [] (j ∷ is) r s t text i leads e = absurd leads
+leads_more (u ∷ texts) [] r s t text i leads e = absurd leads
+leads_more (u ∷ texts) (j ∷ is) r s t text i (q, on, rest) e = (q, on, leads_more texts is q s t text i rest e)

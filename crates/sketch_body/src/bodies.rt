@@ -1,7 +1,12 @@
-ghost use Rattle.std.specs.Prelude.{◌≡◌, [], OnErr, OnOk, map};
+ghost use Rattle.std.specs.Prelude.{◌≡◌, ◌≤◌, [], OnErr, OnOk, length, map};
+ghost use Rattle.sketch_body.specs.Bodies.{head_of, units_of};
+ghost use Rattle.sketch_body.specs.Whole.{is_body, left_of};
 ghost use Rattle.sketch_body.specs.Seen.{item_of, line_of, with_item};
 
+use crate::charges::lines_left;
+use crate::due::SketchDue;
 use crate::lines::{SketchItem, SketchLine};
+use crate::wholes::{are_all_priced, are_files};
 use arrayvec::ArrayVec;
 use board_base::Memory;
 use capture_prices::Prices;
@@ -80,5 +85,45 @@ impl SketchBody {
                 Err(_) => Err(Memory),
             },
         }
+    }
+
+    /// What the first line says, where there are at most 64 lines of prices.
+    pub fn head(&self) -> SketchHead
+        requires { length self.now.prices ≤ 64 }
+        ensures { result ≡ head_of self.now }
+    {
+        let Some(head) = SketchHead::new(self.prices.len() as u8, self.files.as_slice()) else {
+            unreachable!()
+        };
+        head
+    }
+
+    /// Whether the sketch has texts: there are at most 64 lines of prices, the files ascend, and the lines of nodes and of marks are those
+    /// of a tree, with the first node, and no other, labelled `now`, at most 64 nodes one below another under it, and numbers in range.
+    pub fn has_text(&self) -> bool
+        ensures { result ≡ is_body self.now }
+    {
+        let prices = self.prices.as_slice();
+        if prices.len() > 64 {
+            return false;
+        }
+        if !are_files(self.files.as_slice()) {
+            return false;
+        }
+        if !are_all_priced(prices) {
+            return false;
+        }
+        SketchDue::behind_prices(prices.len() as u8).takes_all(self.lines.as_slice())
+    }
+
+    /// How many of so many units are left behind those of this sketch. None comes exactly where it has more.
+    pub fn units_left(&self, left: u32) -> Option<u32>
+        ensures { result ≡ left_of left (units_of self.now) }
+    {
+        let prices = self.prices.len();
+        if prices > left as usize {
+            return None;
+        }
+        lines_left(self.lines.as_slice(), left - prices as u32)
     }
 }

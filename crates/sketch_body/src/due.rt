@@ -1,14 +1,16 @@
-ghost use Rattle.std.specs.Prelude.{◌≡◌, MatchOption, None, Some};
+ghost use Rattle.std.specs.Prelude.{◌≡◌, ◌∷◌, [], MatchOption, None, Some, map};
 ghost use Rattle.std.specs.Bool.{OnFalse, OnTrue};
 ghost use Rattle.std.specs.Option.{option_map};
 ghost use Rattle.sketch_body.specs.Bodies.{of_line};
 ghost use Rattle.sketch_body.specs.Due.{gone_on, is_over, next, start, step};
 ghost use Rattle.sketch_body.specs.Seen.{item_of, line_of};
+ghost use Rattle.sketch_body.specs.Taken.{takes_each};
 
 use crate::charges::charge;
 use crate::counts::Counts;
 use crate::lines::{SketchItem, SketchLine, read_item};
 use crate::nodes::take_node;
+use crate::wholes::is_known;
 use sketch_text::SketchHead;
 use std::marker::Model;
 
@@ -149,5 +151,35 @@ impl SketchDue {
             return None;
         };
         if self.go_on(&item) { Some(item) } else { None }
+    }
+
+    /// What is due of a sketch behind so many lines of prices.
+    pub(crate) fn behind_prices(prices: u8) -> SketchDue
+        ensures { result.due ≡ record { prices = prices; wanted = 0; marks = 0; nodes = 1 ∷ [] } }
+    {
+        SketchDue {
+            prices,
+            wanted: 0,
+            marks: 0,
+            nodes: Counts::one(),
+            units: 0,
+        }
+    }
+
+    /// Whether these lines are all that is due, behind all lines of prices, and have a text each.
+    pub(crate) fn takes_all(self, lines: &[SketchLine]) -> bool
+        requires { self.due.wanted ≡ 0 }
+        ensures { result ≡ takes_each self.due.prices self.due (map line_of lines.now) }
+    {
+        let mut due = self;
+        for line in lines {
+            if !is_known(due.prices, line) {
+                return false;
+            }
+            if !due.take_line(line) {
+                return false;
+            }
+        }
+        due.is_done()
     }
 }

@@ -11,6 +11,7 @@ mod due;
 mod laws;
 mod lines;
 mod nodes;
+mod wholes;
 mod writing;
 
 pub use bodies::SketchBody;

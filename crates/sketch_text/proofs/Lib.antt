@@ -7,3 +7,5 @@ pub mod HeadTexts
 pub mod OneText
 pub mod Parted
 pub mod Written
+pub mod StoredHead
+pub mod PlainTexts

@@ -3,3 +3,4 @@ pub mod Nodes
 pub mod Marks
 pub mod Trees
 pub mod Heads
+pub mod StoredHeads

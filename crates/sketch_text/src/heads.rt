@@ -9,10 +9,12 @@ use std::marker::Model;
 
 /// What the line says that begins a sketch: how many lines of prices follow, and the exact files, on which pawns' moves are taken back one
 /// by one. Contracts see it as this number and those of the files, counted from 0.
-#[derive(Drop)]
+#[derive(Clone, Copy, PartialEq, Eq, Debug)]
 pub struct SketchHead {
     prices: u8,
-    files: ArrayVec<u8, 8>,
+    /// The files come first, and zeros fill the rest.
+    places: [u8; 8],
+    count: u8,
 }
 
 impl Model for SketchHead {
@@ -20,7 +22,15 @@ impl Model for SketchHead {
 
     ghost Value = { Head };
 
-    ghost view = { λ h. record { prices = h.prices; files = h.files.items } };
+    ghost use Rattle.sketch_text.specs.StoredHeads.{seen, stored, IsStored, stored-seen};
+
+    ghost view = { seen };
+
+    ghost invariant = { IsStored };
+
+    ghost inverse = { stored };
+
+    ghost inverse_ok = { stored-seen };
 }
 
 impl SketchHead {
@@ -28,9 +38,23 @@ impl SketchHead {
     pub fn new(prices: u8, files: &[u8]) -> Option<SketchHead>
         ensures { MatchOption result (8 < length files.now) (λ h. (h.prices ≡ prices) × (h.files ≡ files.now)) }
     {
-        match ArrayVec::try_from(files) {
-            Ok(files) => Some(SketchHead { prices, files }),
-            Err(_) => None,
+        if files.len() <= 8 {
+            Some(SketchHead::known(prices, files))
+        } else {
+            None
+        }
+    }
+
+    fn known(prices: u8, files: &[u8]) -> SketchHead
+        requires { length files.now ≤ 8 }
+        ensures { result ≡ record { prices = prices; files = files.now } }
+    {
+        let mut places = [0; 8];
+        places[..files.len()].copy_from_slice(files);
+        SketchHead {
+            prices,
+            places,
+            count: files.len() as u8,
         }
     }
 
@@ -46,7 +70,7 @@ impl SketchHead {
         ensures value { result.now ≡ self.now.files }
         ensures few { length self.now.files ≤ 8 }
     {
-        self.files.as_slice()
+        &self.places[..self.count as usize]
     }
 }
 
@@ -103,10 +127,7 @@ fn read_behind_sketch(text: &[u8]) -> Option<SketchHead>
 {
     let Some((number, rest)) = halves(text) else {
         return match read_prices(text) {
-            Some(prices) => Some(SketchHead {
-                prices,
-                files: ArrayVec::new(),
-            }),
+            Some(prices) => Some(SketchHead::known(prices, &[])),
             None => None,
         };
     };
@@ -114,7 +135,7 @@ fn read_behind_sketch(text: &[u8]) -> Option<SketchHead>
         return None;
     };
     match read_files(rest) {
-        Some(files) => Some(SketchHead { prices, files }),
+        Some(files) => Some(SketchHead::known(prices, files.as_slice())),
         None => None,
     }
 }

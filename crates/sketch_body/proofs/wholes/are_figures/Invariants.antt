@@ -1,0 +1,6 @@
+use Rattle.std.proofs.Common.{◌≡◌, drop}
+use Rattle.sketch_text.specs.Marks.{are_figures}
+use Rattle.sketch_body.proofs.wholes.are_figures.Given as goal
+
+abbrev pub invariant-loop-figure : goal.invariant-loop-figure
+invariant-loop-figure l = are_figures l.least (drop l.figure-index l.figures) ≡ are_figures 1 l.figures
