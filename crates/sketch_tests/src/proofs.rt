@@ -1605,7 +1605,11 @@ fn changed_proofs_are_refused(rt: HostRuntime) {
     let edits = [
         ("nothing", Edit::Nothing, End::Done),
         ("no marks", Edit::Dropped(1), End::Refused(1, misplaced)),
-        ("a step dropped", Edit::Dropped(3), End::Refused(3, SketchFault::Stray { line: 4 })),
+        (
+            "a step dropped",
+            Edit::Dropped(3),
+            End::Refused(3, SketchFault::Stray { line: 4 }),
+        ),
         ("the last step dropped", Edit::Dropped(9), End::Open),
         (
             "the first line dropped",
@@ -1622,7 +1626,11 @@ fn changed_proofs_are_refused(rt: HostRuntime) {
             Edit::Doubled(1),
             End::Refused(2, misplaced),
         ),
-        ("a step doubled", Edit::Doubled(3), End::Refused(4, SketchFault::Stray { line: 5 })),
+        (
+            "a step doubled",
+            Edit::Doubled(3),
+            End::Refused(4, SketchFault::Stray { line: 5 }),
+        ),
         (
             "the last step doubled",
             Edit::Doubled(9),
