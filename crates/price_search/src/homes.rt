@@ -52,19 +52,14 @@ impl Slacks {
         }
     }
 
-    /// Adds a row to the tree, whose slacks are its costs and so much beside the columns' own.
-    fn add_row(&mut self, row: &[i32; 16], beside: i32) {
+    /// Adds a row to the tree, whose slacks are its costs and so much beside the columns' own, and tells the least of all.
+    fn add_row(&mut self, row: &[i32; 16], beside: i32) -> i32 {
+        let mut least = TAKEN;
         for c in 0..16 {
             let slack = row[c].wrapping_add(self.base[c]).wrapping_add(beside);
-            self.each[c] = self.each[c].min(slack);
-        }
-    }
-
-    /// The least of all.
-    fn least(&self) -> i32 {
-        let mut least = TAKEN;
-        for x in &self.each {
-            least = least.min(*x);
+            let here = self.each[c].min(slack);
+            self.each[c] = here;
+            least = least.min(here);
         }
         least
     }
@@ -155,9 +150,9 @@ impl Pairing {
         let mut joined = [0; 16];
         let mut slacks = Slacks::none(self);
         let first = self.row_in(0);
-        slacks.add_row(&rows[first], 0i32.wrapping_sub(self.potentials[first]));
+        let beside = 0i32.wrapping_sub(self.potentials[first]);
+        let mut least = slacks.add_row(&rows[first], beside);
         for k in 1..17 {
-            let least = slacks.least();
             let places = least.unsigned_abs() % 256;
             let reached = least.wrapping_sub(places as i32);
             let from = (places / 16) as usize;
@@ -173,7 +168,7 @@ impl Pairing {
             joined[k % 16] = reached;
             let row = self.row_in(k);
             let beside = reached.wrapping_sub(self.potentials[row]);
-            slacks.add_row(&rows[row], beside.wrapping_add(16 * k as i32));
+            least = slacks.add_row(&rows[row], beside.wrapping_add(16 * k as i32));
         }
         Path {
             parents,
