@@ -11,7 +11,7 @@ use Rattle.castle_history.specs.Homes.{are_at_home}
 use Rattle.query_base.specs.Asked.{Asked}
 use Rattle.static_rules.specs.Supports.{HasRightsHomes}
 use Rattle.proof_prose.specs.Firsts.{is_astray}
-use Rattle.proof_prose.proofs.Finding.{found-stands}
+use Rattle.first_pairing.proofs.Finding.{found-stands}
 
 kept : (held lacks home : Bool) → (held && (lacks || not home)) ≡ false → held ≡ true → (lacks ≡ false) × (home ≡ true)
 kept true false true e h = (refl, refl)

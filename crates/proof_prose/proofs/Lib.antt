@@ -1,13 +1,11 @@
 pub mod Adding
 pub mod Changes
-pub mod Gates
 pub mod Parts
 pub mod Astray
-pub mod Endings
-pub mod Finding
 pub mod Runs
 pub mod Movers
 pub mod Trees
 pub mod Wraps
+pub mod Homeless
 pub mod OneLeast
 pub mod OneText

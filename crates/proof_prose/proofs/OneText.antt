@@ -1,14 +1,16 @@
 -- A certificate has one text: the same is said of each node.
 use Rattle.std.proofs.Common.{◌≡◌, ℕ, Bool, inl, inr, List, [], ◌∷◌, ◌++◌, map, refl, sym, ap, ◌∙◌, subst}
-use Rattle.std.specs.Prelude.{Option, is_none}
+use Rattle.std.specs.Prelude.{Option, None, Some, is_none}
 use Rattle.std.specs.List.{All}
 use Rattle.std.proofs.lemmas.Bool.{both_ways, cases_order}
 use Rattle.std.proofs.lemmas.List.Elements.{All-head, All-tail}
 use Rattle.std.proofs.lemmas.Option.{same_Some}
+use Rattle.balance_prose.specs.Counted.{lowered}
 use Rattle.board_base.specs.Board.{opponent}
 use Rattle.board_base.specs.declared.castles.Castle.{Castle}
 use Rattle.board_base.specs.declared.men.Colour.{Colour}
 use Rattle.board_base.specs.declared.unmoves.Unmove.{Unmove}
+use Rattle.capture_prices.specs.Prices.{PriceList}
 use Rattle.cert_text.specs.Certificate.{Certificate}
 use Rattle.cert_text.specs.declared.reasons.Reason.{Reason}
 use Rattle.cert_text.specs.declared.reasons.Reason.TheVariants.{Line, Balance}
@@ -21,14 +23,14 @@ use Rattle.proof_prose.specs.Firsts.{IsFirst, is_changed, is_king_attacked, is_p
 use Rattle.proof_prose.specs.Heads.{closing_text, opening_text}
 use Rattle.proof_prose.specs.Paragraphs.{told_text}
 use Rattle.proof_prose.specs.Prose.{Explains}
-use Rattle.proof_prose.specs.Reasons.{Adds, AddsLine, IsWayOf, TellsReason, TellsRule, all_words}
+use Rattle.proof_prose.specs.Reasons.{Adds, AddsLine, IsWayOf, TellsBalance, TellsBy, TellsCounted, TellsPriced, TellsReason, TellsRule, all_words, homeless_side}
 use Rattle.proof_prose.specs.Sentences.{Says}
 use Rattle.proof_prose.specs.declared.bodies.Spoken.{Spoken}
 use Rattle.proof_prose.specs.declared.nodes.Line.{Line as OwnLine}
 use Rattle.proof_prose.specs.declared.nodes.Line.TheVariants as line
 use Rattle.proof_prose.specs.declared.nodes.Told.{Told}
 use Rattle.proof_prose.specs.declared.sentences.Sentence.{Sentence}
-use Rattle.proof_prose.specs.declared.sentences.Sentence.TheVariants.{Ranks, Check, Rights, Count, Caged, Changed, Settled, Gone, Promoted, Way, Lacks, Priced, Balanced}
+use Rattle.proof_prose.specs.declared.sentences.Sentence.TheVariants.{Ranks, Check, Rights, Count, Caged, Changed, Settled, Gone, Promoted, Way, Lacks, Priced, Balanced, Counted, Best}
 use Rattle.proof_prose.proofs.OneLeast.{one-least}
 
 one-first : (p : ℕ → Bool) (a b : ℕ) → IsFirst p a → IsFirst p b → a ≡ b
@@ -86,13 +88,37 @@ one-rule now q (rule.Promo c set) o a b (pawns, began, h) (men, start, k) =
     let same : Settled set ∷ Gone c set ∷ Promoted c set pawns began now ∷ [] ≡ Settled set ∷ Gone c set ∷ Promoted c set men start now ∷ [] = cc in
     one-adds q (Settled set ∷ Gone c set ∷ Promoted c set pawns began now ∷ []) (Settled set ∷ Gone c set ∷ Promoted c set men start now ∷ []) o a b same h k
 
-one-reason : (first : Bool) (q : Asked) (r : Reason) (o a b : List ℕ) → TellsReason first q r o a → TellsReason first q r o b → a ≡ b
-one-reason now q (Line r) o a b h k = one-rule now q r o a b h k
-one-reason now q (Balance set p) o a b (white, black, h) (bright, dark, k) =
+-- homes that are given as lists
+abbrev best_on : List Bool → PriceList → List ℕ → List ℕ → Bool → Sentence
+best_on set p white black first = Best set p (record { items = white }) (record { items = black }) first
+
+one-counted : (now : Bool) (q : Asked) (set : List Bool) (p : PriceList) (o a b : List ℕ) → TellsCounted now q set p o a → TellsCounted now q set p o b → a ≡ b
+one-counted now q set p o a b (white, black, first, last, h) (bright, dark, also, too, k) =
+    let w : white.items ≡ bright.items = same_Some white.items bright.items (sym first ∙ also) in
+    let d : black.items ≡ dark.items = same_Some black.items dark.items (sym last ∙ too) in
+    let same : Best set p white black now ≡ Best set p bright dark now = ap (λ (l : List ℕ). best_on set p l black.items now) w ∙ ap (λ (l : List ℕ). best_on set p bright.items l now) d in
+    one-adds q (Settled set ∷ Counted set p ∷ Best set p white black now ∷ []) (Settled set ∷ Counted set p ∷ Best set p bright dark now ∷ []) o a b (ap (λ (x : Sentence). Settled set ∷ Counted set p ∷ x ∷ []) same) h k
+
+one-priced : (q : Asked) (set : List Bool) (p : PriceList) (o a b : List ℕ) → TellsPriced q set p o a → TellsPriced q set p o b → a ≡ b
+one-priced q set p o a b (white, black, h) (bright, dark, k) =
     let w : white ≡ bright = h.0.1.1.0.1 ∙ sym k.0.1.1.0.1 in
     let d : black ≡ dark = h.0.1.1.0.2 ∙ sym k.0.1.1.0.2 in
     let same : Settled set ∷ Priced set p ∷ Balanced set p white black ∷ [] ≡ Settled set ∷ Priced set p ∷ Balanced set p bright dark ∷ [] = cc in
     one-adds q (Settled set ∷ Priced set p ∷ Balanced set p white black ∷ []) (Settled set ∷ Priced set p ∷ Balanced set p bright dark ∷ []) o a b same h k
+
+one-balance : (now : Bool) (q : Asked) (set : List Bool) (p : PriceList) (o a b : List ℕ) → TellsBalance now q set p o a → TellsBalance now q set p o b → a ≡ b
+one-balance now q set p o a b (inl h) (inl k) = one-counted now q set (lowered p) o a b h.1 k.1
+one-balance now q set p o a b (inl h) (inr k) = absurd (k.0 h.0)
+one-balance now q set p o a b (inr h) (inl k) = absurd (h.0 k.0)
+one-balance now q set p o a b (inr h) (inr k) = one-priced q set p o a b h.1 k.1
+
+one-by : (side : Option Colour) (now : Bool) (q : Asked) (set : List Bool) (p : PriceList) (o a b : List ℕ) → TellsBy side now q set p o a → TellsBy side now q set p o b → a ≡ b
+one-by None now q set p o a b h k = one-balance now q set p o a b h k
+one-by (Some c) now q set p o a b h k = h.1 ∙ sym k.1
+
+one-reason : (first : Bool) (q : Asked) (r : Reason) (o a b : List ℕ) → TellsReason first q r o a → TellsReason first q r o b → a ≡ b
+one-reason now q (Line r) o a b h k = one-rule now q r o a b h k
+one-reason now q (Balance set p) o a b h k = one-by (homeless_side q set) now q set p o a b h k
 
 one-line : (label : Option Unmove) (l : OwnLine) (q : Asked) (o a b : List ℕ) → AddsLine label l q o a → AddsLine label l q o b → a ≡ b
 one-line label (line.Because r) q o a b (least, is, h) (other, was, k) =

@@ -1,11 +1,9 @@
 pub mod Heads
 pub mod Labels
 pub mod Nodes
-pub mod Pricing
 pub mod Sentences
 pub mod Firsts
 pub mod Lessened
-pub mod Ways
 pub mod Reasons
 pub mod Rows
 pub mod Bodies
@@ -13,4 +11,3 @@ pub mod Paragraphs
 pub mod Prose
 pub mod Runs
 pub mod Standing
-pub mod Endings

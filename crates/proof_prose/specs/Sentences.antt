@@ -13,6 +13,11 @@ use Rattle.board_base.specs.declared.men.Colour.TheVariants.{White, Black}
 use Rattle.board_base.specs.declared.men.Kind.TheVariants.{King, Pawn}
 use Rattle.assignment.specs.Assignments.{IsInjection, assignment_cost, least_cost}
 use Rattle.assignment.specs.Tables.{cost_at}
+use Rattle.balance_prose.specs.AccountWords.{best_words}
+use Rattle.balance_prose.specs.Accounts.{CountTooMany, HasNoMore}
+use Rattle.balance_prose.specs.Counted.{OneTreads, is_plain}
+use Rattle.balance_prose.specs.CountWords.{count_words as counting_words}
+use Rattle.balance_prose.specs.Pricing.{around, priced_words}
 use Rattle.balance_rule.specs.Balance.{men_on, most_cost, side_cost}
 use Rattle.balance_rule.specs.Costs.{never}
 use Rattle.capture_prices.specs.Prices.{PriceList, all_gates, priced}
@@ -32,9 +37,8 @@ use Rattle.retraction_bars.specs.Told.{NobodyMoved}
 use Rattle.prose_words.specs.Words.{man_words, side_word, squares_words}
 use Rattle.proof_prose.specs.Firsts.{is_astray}
 use Rattle.proof_prose.specs.Heads.{unmoved_words}
-use Rattle.proof_prose.specs.Pricing.{around, priced_words}
 use Rattle.proof_prose.specs.declared.sentences.Sentence.{Sentence}
-use Rattle.proof_prose.specs.declared.sentences.Sentence.TheVariants.{Kings, Ranks, Check, Rights, Count, Caged, Changed, Settled, Gone, Promoted, Way, Lacks, Priced, Balanced, Back, Still, Moved}
+use Rattle.proof_prose.specs.declared.sentences.Sentence.TheVariants.{Kings, Ranks, Check, Rights, Count, Caged, Changed, Settled, Gone, Promoted, Way, Lacks, Priced, Balanced, Counted, Best, Homeless, Back, Still, Moved}
 
 -- an officer's home of this side, on which somebody began of whom nobody is left
 abbrev pub is_gone : Asked → Colour → List Bool → ℕ → Bool
@@ -48,9 +52,14 @@ is_safe q c set h = is_of c (at (array_of q.odds) h) && is_spent q.board set h
 abbrev pub NeverMoved : Asked → List Bool → Type 0
 NeverMoved q set = IsFrozen q set × IsAsArray q.odds q.board set
 
--- a side has no more men than it began with
-abbrev pub HasNoMore : Asked → Colour → Type 0
-HasNoMore q c = men_on c q.board ≤ men_on c (array_of q.odds)
+-- no captures cost anything, and nothing is paid for squares
+abbrev pub free : PriceList
+free = priced (replicate 16 0) (replicate 16 0) []
+
+-- Where nothing has a price, the men of a side cost 96 each with homes of their own, and more than anything costs where some man can't
+-- have a home. Then they can't all have homes at any prices.
+abbrev pub is_homeless : Asked → List Bool → Colour → Bool
+is_homeless q set c = nat_le never (side_cost q.odds q.board free set c)
 
 -- What a sentence says of a query. Not each side has one king; a pawn stands on this square of rank 1 or 8; a king of the side that isn't
 -- to move stands on this square in check; this right is held, and its king or its rook was left out or isn't at home. The side has so
@@ -59,8 +68,11 @@ HasNoMore q c = men_on c q.board ≤ men_on c (array_of q.odds)
 -- began on the homes that are named; so the side has more pawns and promoted men than it had pawns; its pawns have made at least so many
 -- captures, as many as where they began on these files; the side lacks so many men, of whom no pawn took those of the homes that are
 -- named, and the enemy's pawns need more than the others. Captures have these prices, and at these prices the men of both sides cost so
--- much at least, which is more than the gates make up for. The query above, which speaks of the position so many half-moves later, has the
--- same position and asks no more. The side that isn't to move has no retraction, and what is told of its men is so; or it has some.
+-- much at least, which is more than the gates make up for. Captures count as these plain prices say, and of the two pawns of a file who
+-- keep to it at most one treads each square, in every game; with these homes, at which both sides cost the least, the men count more than
+-- they and the gates make up for. The men of a side can't all have begun on homes of their own. The query above, which speaks of the
+-- position so many half-moves later, has the same position and asks no more. The side that isn't to move has no retraction, and what is
+-- told of its men is so; or it has some.
 abbrev pub Says : Sentence → Asked → Type 0
 Says Kings q = HasOneKingEach q.board → ⊥
 Says (Ranks s) q = IsTrue (is_end s && is_a Pawn (at q.board s))
@@ -81,6 +93,9 @@ Says (Lacks c set missing first) q =
 Says (Priced set p) q = NeverMoved q set
 Says (Balanced set p white black) q =
     NeverMoved q set × (white ≡ side_cost q.odds q.board p set White) × (black ≡ side_cost q.odds q.board p set Black) × (most_cost q.odds p < white + black) × HasNoMore q White × HasNoMore q Black
+Says (Counted set p) q = NeverMoved q set × IsTrue (is_plain p) × ((s : ℕ) → OneTreads q.odds s)
+Says (Best set p white black first) q = NeverMoved q set × CountTooMany q p set white.items black.items
+Says (Homeless c set) q = NeverMoved q set × HasNoMore q c × IsTrue (is_homeless q set c)
 Says (Back k above) q = Covers above q
 Says (Still first) q = NobodyMoved q
 Says (Moved first) q = 0 < length (unmoves q)
@@ -199,15 +214,6 @@ difference_words cost own =
 abbrev pub net_words : Colour → ℕ → ℕ → List ℕ
 net_words c cost began = side_word c ++ difference_words cost (96 * began)
 
--- no captures cost anything, and nothing is paid for squares
-abbrev pub free : PriceList
-free = priced (replicate 16 0) (replicate 16 0) []
-
--- Where nothing has a price, the men of a side cost 96 each with homes of their own, and more than anything costs where some man can't
--- have a home. Then they can't all have homes at any prices.
-abbrev pub is_homeless : Asked → List Bool → Colour → Bool
-is_homeless q set c = nat_le never (side_cost q.odds q.board free set c)
-
 -- that the men of a side can't all have homes
 abbrev pub homeless_words : Colour → List ℕ
 homeless_words c = side_word c ++ codes "'s men, with those who are gone, can't all have begun on homes of their own."
@@ -221,11 +227,6 @@ most_words gates =
 abbrev pub account_words : List Bool → ℕ → ℕ → ℕ → List ℕ
 account_words odds gates white black =
     net_words White white (men_on White (array_of odds)) ++ codes ", and " ++ net_words Black black (men_on Black (array_of odds)) ++ most_words gates
-
--- what the men of both sides cost, or that those of a side can't all have homes
-abbrev pub balanced_words : Asked → List Bool → PriceList → ℕ → ℕ → List ℕ
-balanced_words q set p white black =
-    cond (is_homeless q set White) (homeless_words White) (cond (is_homeless q set Black) (homeless_words Black) (account_words q.odds (all_gates p) white black))
 
 -- that the position stands later in the game too
 abbrev pub back_words : ℕ → List ℕ
@@ -259,7 +260,10 @@ words_of (Promoted c set pawns began first) q = count_words first c pawns (began
 words_of (Way c captures files) q = side_word c ++ captures_words q c captures files.items
 words_of (Lacks c set missing first) q = lacks_words first q c set missing
 words_of (Priced set p) q = priced_words p
-words_of (Balanced set p white black) q = balanced_words q set p white black
+words_of (Balanced set p white black) q = account_words q.odds (all_gates p) white black
+words_of (Counted set p) q = counting_words p
+words_of (Best set p white black first) q = best_words first q p set white.items black.items
+words_of (Homeless c set) q = homeless_words c
 words_of (Back k above) q = back_words k
 words_of (Still first) q = barred_words q first
 words_of (Moved first) q = moved_words (opponent q.turn) first

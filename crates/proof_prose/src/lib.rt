@@ -1,6 +1,7 @@
 //! The proof of a certificate in plain words, for readers who know chess.
 #![tactic(auto)]
 
+mod balancing;
 mod bodies;
 mod heads;
 mod labels;
@@ -10,7 +11,6 @@ mod letters;
 mod nodes;
 mod paragraphs;
 mod pawns;
-mod pricing;
 mod prose;
 mod reasons;
 mod rights;

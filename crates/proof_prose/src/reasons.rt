@@ -2,7 +2,6 @@
 
 ghost use Rattle.std.specs.Prelude.{◌≡◌, ◌-◌, ◌≤◌, ◌∷◌, [], length, true, IfOk, IfSome, IsSome, IsTrue, List};
 ghost use Rattle.board_base.specs.Board.{array_of};
-ghost use Rattle.balance_rule.specs.Balance.{BalanceSupports};
 ghost use Rattle.cert_checker.specs.Reasons.{ReasonSupports};
 ghost use Rattle.men_account.specs.Account.{is_any};
 ghost use Rattle.men_account.specs.Homes.{men_of};
@@ -13,15 +12,14 @@ ghost use Rattle.proof_prose.specs.Firsts.{IsFirst, is_changed};
 ghost use Rattle.proof_prose.specs.Reasons.{Adds, AddsReason, IsWayOf, TellsReason, TellsRule};
 ghost use Rattle.proof_prose.specs.Sentences.{NeverMoved, Says};
 
+use crate::balancing::push_balance;
 use crate::lessening::lessened;
 use crate::rights::astray_right;
 use crate::sentences::Sentence;
 use crate::squares::{king_in_check, pawn_on_end};
 use crate::telling::push_sentence;
 use crate::ways::cheapest_way;
-use balance_rule::side_cost;
 use board_base::{Colour, Potentials, Square, SquareSet, array_of, is_same_place};
-use capture_prices::Prices;
 use cert_text::Reason;
 use men_account::{allowance, counts, excess, men_of};
 use pawn_assign::{costs, least};
@@ -141,30 +139,6 @@ fn push_caps(
     Ok(())
 }
 
-/// Who never moved, what captures cost, and what the men of both sides cost.
-fn push_balance(
-    alloc: Global,
-    query: &Query,
-    set: SquareSet,
-    prices: &Prices,
-    out: &mut Vec<u8>,
-) -> Result<(), AllocError>
-    requires { BalanceSupports query.now set prices.now }
-    ensures { IfOk result (λ _. TellsReason true query.now (Reason.Balance set prices.now) out.old.items out.new.items) }
-{
-    let white = side_cost(query, set, prices, Colour::White).unwrap();
-    let black = side_cost(query, set, prices, Colour::Black).unwrap();
-    push_sentence(alloc, query, &Sentence::Settled(set), out)?;
-    push_sentence(alloc, query, &Sentence::Priced(set, *prices), out)?;
-    push_sentence(
-        alloc,
-        query,
-        &Sentence::Balanced(set, *prices, white, black),
-        out,
-    )?;
-    Ok(())
-}
-
 /// A sentence alone.
 pub(crate) fn push_one(
     alloc: Global,
@@ -269,7 +243,7 @@ fn push_supported(
 {
     match reason {
         Reason::Line(rule) => push_rule(alloc, query, first, rule, out),
-        Reason::Balance(set, prices) => push_balance(alloc, query, *set, prices, out),
+        Reason::Balance(set, prices) => push_balance(alloc, query, first, *set, prices, out),
     }
 }
 

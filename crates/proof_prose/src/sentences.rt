@@ -36,6 +36,13 @@ pub enum Sentence {
     Priced(SquareSet, Prices),
     /// At these prices, while the men on these squares stood, the men of both sides cost so much at least, 96 for each man included.
     Balanced(SquareSet, Prices, u32, u32),
+    /// The captures that count at these prices, while the men on these squares stood, and why each gate counts once at most.
+    Counted(SquareSet, Prices),
+    /// What the men count who began on these homes, at which they cost the least, and that those who are gone make up for less; whether
+    /// the query is the first that is told.
+    Best(SquareSet, Prices, ArrayVec<u8, 16>, ArrayVec<u8, 16>, bool),
+    /// The men of this side can't all have begun on homes of their own, while the men on these squares stood.
+    Homeless(Colour, SquareSet),
     /// The position stood so many half-moves later too, where this query asks no more.
     Back(u8, Query),
     /// The side that moved last has no move that can have been the last; whether the query is the first that is told.

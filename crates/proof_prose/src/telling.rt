@@ -4,20 +4,20 @@ ghost use Rattle.std.specs.Prelude.{ℕ, ◌≡◌, [], ◌∷◌, ◌++◌, ◌
 ghost use Rattle.std.specs.List.{All, flat_map, range_with_len};
 ghost use Rattle.std.specs.Fmt.{decimal};
 ghost use Rattle.board_base.specs.Board.{is_in, opponent};
-ghost use Rattle.board_base.specs.declared.men.Colour.TheVariants.{White, Black};
 ghost use Rattle.assignment.specs.Assignments.{IsInjection};
 ghost use Rattle.pawn_assign.specs.PawnCosts.{pawn_costs, pawn_home, pawn_squares};
 ghost use Rattle.capture_prices.specs.Prices.{all_gates};
-ghost use Rattle.proof_prose.specs.Pricing.{around};
-ghost use Rattle.proof_prose.specs.Sentences.{HasNoMore, Says, account_words, at_time, back_words, balanced_words, barred_words, by_right, caged_words, captures_words, check_words, count_words, counted, difference_words, end_words, gone_words, homeless_words, is_gone, is_homeless, is_kept, is_safe, lacks_words, many_shut, missing_words, most_words, moved_words, net_words, one_shut, pawn_words, rights_words, settled_words, shut_words, some_words, still_words, stood_words, unmoved_men, way_words, ways_words, words_of};
+ghost use Rattle.proof_prose.specs.Sentences.{Says, account_words, at_time, back_words, barred_words, by_right, caged_words, captures_words, check_words, count_words, counted, difference_words, end_words, gone_words, homeless_words, is_gone, is_kept, is_safe, lacks_words, many_shut, missing_words, most_words, moved_words, net_words, one_shut, pawn_words, rights_words, settled_words, shut_words, some_words, still_words, stood_words, unmoved_men, way_words, ways_words, words_of};
 ghost use Rattle.prose_words.specs.Words.{side_word, squares_words};
 
 use crate::heads::{push_unmoved, set_squares};
 use crate::pawns::pawn_squares;
-use crate::pricing::{all_gates, push_priced};
 use crate::rights::is_held_home;
 use crate::sentences::Sentence;
-use balance_rule::{begun_with, side_cost};
+use balance_prose::{
+    all_gates, push_account as push_best, push_around, push_counts, push_priced, rest_of,
+};
+use balance_rule::begun_with;
 use board_base::{Castle, Colour, Odds, Square, SquareSet, array_of, is_of};
 use cage_rules::{is_dead, is_officer_home, is_shielded};
 use capture_prices::Prices;
@@ -27,24 +27,6 @@ use prose_words::{push_man, push_number, push_square, push_square_if, say, side_
 use query_base::Query;
 use retraction_bars::push_bars;
 use std::alloc::{AllocError, Global};
-
-/// Nothing where there is no list, else the list with what stands around it.
-pub(crate) fn push_around(
-    front: &[u8],
-    list: &[u8],
-    back: &[u8],
-    out: &mut Vec<u8>,
-) -> Result<(), AllocError>
-    ensures { IfOk result (λ _. out.new.items ≡ out.old.items ++ around front.now list.now back.now) }
-{
-    if list.len() == 0 {
-        return Ok(());
-    }
-    say(front, out)?;
-    say(list, out)?;
-    say(back, out)?;
-    Ok(())
-}
 
 fn is_gone(query: &Query, side: Colour, set: SquareSet, s: Square) -> bool
     ensures { result ≡ is_gone query.now side set s }
@@ -237,13 +219,6 @@ fn ways_of(alloc: Global, query: &Query, side: Colour, files: &[u8]) -> Result<V
     let costs = costs(&query.board, side, query.odds).unwrap();
     list_ways(query, side, files, &costs, &mut list)?;
     Ok(list)
-}
-
-/// The list without its first letter.
-pub(crate) fn rest_of(list: &[u8]) -> &[u8]
-    ensures { result.now ≡ drop 1 list.now }
-{
-    if list.len() == 0 { list } else { &list[1..] }
 }
 
 fn push_few(
@@ -552,16 +527,6 @@ fn push_net(side: Colour, cost: u32, men: u8, out: &mut Vec<u8>) -> Result<(), A
     Ok(())
 }
 
-/// Where nothing has a price, the men of a side cost more with homes of their own than anything does: they can't all have homes. A side
-/// with more men than it began with isn't asked for.
-fn is_homeless(query: &Query, set: SquareSet, side: Colour) -> bool
-    requires { HasNoMore query.now side }
-    ensures { result ≡ is_homeless query.now set side }
-{
-    let free = Prices::known(&[0; 16], &[0; 16], &[]);
-    5000 <= side_cost(query, set, &free, side).unwrap()
-}
-
 fn push_homeless(side: Colour, out: &mut Vec<u8>) -> Result<(), AllocError>
     ensures { IfOk result (λ _. out.new.items ≡ out.old.items ++ homeless_words side) }
 {
@@ -625,28 +590,6 @@ fn push_accounts(
 {
     let gates = all_gates(prices);
     push_account(query.odds, gates, white, black, out)
-}
-
-/// What the men of both sides cost, or that those of a side can't all have homes.
-fn push_balanced(
-    query: &Query,
-    set: SquareSet,
-    prices: &Prices,
-    white: u32,
-    black: u32,
-    out: &mut Vec<u8>,
-) -> Result<(), AllocError>
-    requires white { HasNoMore query.now White }
-    requires black { HasNoMore query.now Black }
-    ensures { IfOk result (λ _. out.new.items ≡ out.old.items ++ balanced_words query.now set prices.now white black) }
-{
-    if is_homeless(query, set, Colour::White) {
-        push_homeless(Colour::White, out)
-    } else if is_homeless(query, set, Colour::Black) {
-        push_homeless(Colour::Black, out)
-    } else {
-        push_accounts(query, prices, white, black, out)
-    }
 }
 
 fn push_back(steps: u8, out: &mut Vec<u8>) -> Result<(), AllocError>
@@ -745,9 +688,21 @@ pub(crate) fn push_sentence(
             push_lacks(alloc, query, *first, *side, *set, *missing, out)
         }
         Sentence::Priced(_, prices) => push_priced(alloc, prices, out),
-        Sentence::Balanced(set, prices, white, black) => {
-            push_balanced(query, *set, prices, *white, *black, out)
+        Sentence::Balanced(_, prices, white, black) => {
+            push_accounts(query, prices, *white, *black, out)
         }
+        Sentence::Counted(_, prices) => push_counts(alloc, prices, out),
+        Sentence::Best(set, prices, white, black, first) => push_best(
+            alloc,
+            *first,
+            query,
+            prices,
+            *set,
+            white.as_slice(),
+            black.as_slice(),
+            out,
+        ),
+        Sentence::Homeless(side, _) => push_homeless(*side, out),
         Sentence::Back(steps, _) => push_back(*steps, out),
         Sentence::Still(first) => push_barred(alloc, query, *first, out),
         Sentence::Moved(first) => push_moved(query.turn.other(), *first, out),

@@ -4,8 +4,8 @@ ghost use Rattle.std.specs.Prelude.{◌≡◌, ◌+◌, ◌*◌, ◌==◌, ◌�
 ghost use Rattle.std.specs.List.{find};
 ghost use Rattle.assignment.specs.Tables.{cost_at};
 ghost use Rattle.assignment.specs.Assignments.{IsBounded, IsInjection, assignment_cost, is_among, least_cost, total};
-ghost use Rattle.proof_prose.specs.Endings.{injections_ending, items_found};
-ghost use Rattle.proof_prose.specs.Ways.{IsFirstCheapest};
+ghost use Rattle.first_pairing.specs.Endings.{injections_ending, items_found};
+ghost use Rattle.first_pairing.specs.FirstPairings.{IsFirstPairing};
 
 use arrayvec::ArrayVec;
 use board_base::Potentials;
@@ -94,7 +94,7 @@ pub(crate) fn cheapest_way(costs: &Costs, least: &Least) -> ArrayVec<u8, 8>
     requires reached { (total least.now.potentials.u +ℤ total least.now.potentials.v) ≡ pos least.now.cost }
     ensures injection { IsInjection 8 (length costs.now) result.items }
     ensures cost { least.now.cost ≡ assignment_cost costs.now result.items }
-    ensures first { IsFirstCheapest costs.now result.items }
+    ensures first { IsFirstPairing 8 costs.now result.items }
 {
     first_ending(costs, least, costs.rows(), ArrayVec::new(), 0).unwrap()
 }

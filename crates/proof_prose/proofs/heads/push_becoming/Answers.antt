@@ -1,4 +1,3 @@
-use Rattle.std.proofs.Common.{◌++◌}
 use Rattle.std.specs.Prelude.{codes}
 use Rattle.prose_words.proofs.Squares.{thence}
 use Rattle.prose_words.specs.Words.{kind_word}

@@ -1,5 +1,3 @@
-use Rattle.std.proofs.Common.{length}
-use Rattle.std.proofs.lemmas.Bool.{ne_eqb}
 use Rattle.proof_prose.proofs.telling.push_shut.Goals as goal
 
 pub returns-then-list-eq3 : goal.returns-then-list-eq3

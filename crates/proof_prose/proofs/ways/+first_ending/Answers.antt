@@ -2,8 +2,8 @@ use Rattle.std.proofs.Common.{◌≡◌, ℕ, suc, ◌-◌, ◌==◌, Bool, fals
 use Rattle.std.specs.Prelude.{Some, None}
 use Rattle.std.specs.List.{find}
 use Rattle.assignment.specs.Assignments.{IsInjection, assignment_cost, is_among}
-use Rattle.proof_prose.specs.Endings.{injections_ending}
-use Rattle.proof_prose.proofs.Endings.{IsInjection-before, cost-more, find-loose, from-first, from-none, from-past, from-some, from-taken, last-found, last-other}
+use Rattle.first_pairing.specs.Endings.{injections_ending}
+use Rattle.first_pairing.proofs.Endings.{IsInjection-before, cost-more, find-loose, from-first, from-none, from-past, from-some, from-taken, last-found, last-other}
 use Rattle.proof_prose.proofs.ways.+first_ending.Goals as goal
 use Rattle.proof_prose.proofs.ways.+first_ending.Goals.{then-is_taken-via-then-is_taken, then-is_taken-via-else-is_taken+then-is_loose}
 

@@ -1,8 +1,8 @@
 use Rattle.std.proofs.Common.{◌≡◌, ◌-◌, ◌==◌}
 use Rattle.std.specs.List.{find}
 use Rattle.assignment.specs.Assignments.{assignment_cost}
-use Rattle.proof_prose.specs.Endings.{injections_ending}
-use Rattle.proof_prose.proofs.Endings.{find_from}
+use Rattle.first_pairing.specs.Endings.{injections_ending}
+use Rattle.first_pairing.proofs.Endings.{find_from}
 use Rattle.proof_prose.proofs.ways.+first_ending.Given as goal
 
 abbrev pub decreases-first_ending : goal.decreases-first_ending

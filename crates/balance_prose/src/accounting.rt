@@ -1,0 +1,270 @@
+//! What the men count at best, and who makes up for it, in words.
+
+ghost use Rattle.std.specs.Prelude.{◌≡◌, ◌++◌, ◌<◌, ◌==◌, [], IfOk, codes, cond, drop};
+ghost use Rattle.std.specs.List.{All, flat_map};
+ghost use Rattle.std.specs.Fmt.{decimal};
+ghost use Rattle.balance_prose.specs.Accounts.{CountTooMany, all_counted, all_made_up};
+ghost use Rattle.balance_prose.specs.Pricing.{around};
+ghost use Rattle.balance_prose.specs.AccountWords.{best_words, either_words, end_words, gate_alone, gate_too, made_up_words, ways_words, whom_words};
+
+use crate::accounts::{Tally, count_men, table_of};
+use crate::lacking::{all_missing, idle_of, push_lacks};
+use crate::making::push_men;
+use crate::words::{either, push_around, rest_of};
+use board_base::{Colour, Square, SquareSet};
+use capture_prices::{Gate, Prices};
+use prose_words::{push_number, push_square, say};
+use query_base::Query;
+use std::alloc::{AllocError, Global};
+
+/// What the men of both sides count with these homes, and for how much they make up.
+fn tally_of(query: &Query, prices: &Prices, set: SquareSet, white: &[u8], black: &[u8]) -> Tally
+    requires { CountTooMany query.now prices.now set white.now black.now }
+    ensures counted { result.counted ≡ all_counted query.now prices.now set white.now black.now }
+    ensures made_up { result.made_up ≡ all_made_up query.now prices.now set white.now black.now }
+{
+    let of_white = count_men(
+        table_of(query, prices, set, Colour::White).as_slice(),
+        white,
+    );
+    let of_black = count_men(
+        table_of(query, prices, set, Colour::Black).as_slice(),
+        black,
+    );
+    Tally {
+        counted: of_white.counted + of_black.counted,
+        made_up: of_white.made_up + of_black.made_up,
+    }
+}
+
+/// The ways of the men of both sides who count.
+fn ways_of(
+    alloc: Global,
+    query: &Query,
+    prices: &Prices,
+    set: SquareSet,
+    white: &[u8],
+    black: &[u8],
+) -> Result<Vec<u8>, AllocError>
+    requires { CountTooMany query.now prices.now set white.now black.now }
+    ensures { IfOk result (λ v. drop 1 v.items ≡ ways_words query.now prices.now set white.now black.now) }
+{
+    let of_white = table_of(query, prices, set, Colour::White);
+    let of_black = table_of(query, prices, set, Colour::Black);
+    let mut list = Vec::new(alloc);
+    push_men(
+        &query.board,
+        Colour::White,
+        of_white.as_slice(),
+        white,
+        &mut list,
+    )?;
+    push_men(
+        &query.board,
+        Colour::Black,
+        of_black.as_slice(),
+        black,
+        &mut list,
+    )?;
+    Ok(list)
+}
+
+/// What a gate makes up for, behind what the men do.
+fn push_gate_too(gate: &Gate, out: &mut Vec<u8>) -> Result<(), AllocError>
+    requires { gate.now.square < 64 }
+    ensures { IfOk result (λ _. out.new.items ≡ out.old.items ++ gate_too gate.now) }
+{
+    say(b", and ", out)?;
+    push_square(Square::known(gate.square), out)?;
+    say(b" for ", out)?;
+    push_number(gate.toll as usize, out)?;
+    Ok(())
+}
+
+/// The same of each gate.
+fn gates_too(alloc: Global, gates: &[Gate]) -> Result<Vec<u8>, AllocError>
+    requires { All (λ g. g.square < 64) gates.now }
+    ensures { IfOk result (λ v. v.items ≡ flat_map gate_too gates.now) }
+{
+    let mut list = Vec::new(alloc);
+    for gate in gates {
+        push_gate_too(gate, &mut list)?;
+    }
+    Ok(list)
+}
+
+/// What a gate makes up for, where no man is gone.
+fn push_gate_alone(gate: &Gate, out: &mut Vec<u8>) -> Result<(), AllocError>
+    requires { gate.now.square < 64 }
+    ensures { IfOk result (λ _. out.new.items ≡ out.old.items ++ gate_alone gate.now) }
+{
+    say(b", ", out)?;
+    push_square(Square::known(gate.square), out)?;
+    say(b" makes up for ", out)?;
+    push_number(gate.toll as usize, out)?;
+    Ok(())
+}
+
+/// The same of each gate.
+fn gates_alone(alloc: Global, gates: &[Gate]) -> Result<Vec<u8>, AllocError>
+    requires { All (λ g. g.square < 64) gates.now }
+    ensures { IfOk result (λ v. v.items ≡ flat_map gate_alone gates.now) }
+{
+    let mut list = Vec::new(alloc);
+    for gate in gates {
+        push_gate_alone(gate, &mut list)?;
+    }
+    Ok(list)
+}
+
+/// A number, or `none`.
+fn push_number_or_none(n: u32, out: &mut Vec<u8>) -> Result<(), AllocError>
+    ensures { IfOk result (λ _. out.new.items ≡ out.old.items ++ cond (n == 0) (codes "none") (decimal n)) }
+{
+    if n == 0 {
+        say(b"none", out)
+    } else {
+        push_number(n as usize, out)
+    }
+}
+
+/// For how much so many men make up.
+fn push_made_up(men: usize, n: u32, out: &mut Vec<u8>) -> Result<(), AllocError>
+    ensures { IfOk result (λ _. out.new.items ≡ out.old.items ++ made_up_words men n) }
+{
+    either(men == 1, b": he makes up for ", b": they make up for ", out)?;
+    push_number_or_none(n, out)?;
+    Ok(())
+}
+
+/// Who of them makes up for nothing, if others make up for something.
+fn push_whom(n: u32, idle: &[u8], out: &mut Vec<u8>) -> Result<(), AllocError>
+    ensures { IfOk result (λ _. out.new.items ≡ out.old.items ++ whom_words n idle.now) }
+{
+    if n == 0 {
+        Ok(())
+    } else {
+        push_around(
+            b", of whom whoever began on",
+            idle,
+            b" makes up for none",
+            out,
+        )
+    }
+}
+
+/// Who makes up for how much, if men are gone.
+fn push_gone(
+    alloc: Global,
+    men: usize,
+    idle: &[u8],
+    n: u32,
+    gates: &[Gate],
+    out: &mut Vec<u8>,
+) -> Result<(), AllocError>
+    requires { All (λ g. g.square < 64) gates.now }
+    ensures { IfOk result (λ _. out.new.items ≡ out.old.items ++ (whom_words n idle.now ++ made_up_words men n ++ flat_map gate_too gates.now)) }
+{
+    let too = gates_too(alloc, gates)?;
+    push_whom(n, idle, out)?;
+    push_made_up(men, n, out)?;
+    say(too.as_slice(), out)?;
+    Ok(())
+}
+
+/// What gates alone make up for.
+fn push_alone(alloc: Global, gates: &[Gate], out: &mut Vec<u8>) -> Result<(), AllocError>
+    requires { All (λ g. g.square < 64) gates.now }
+    ensures { IfOk result (λ _. out.new.items ≡ out.old.items ++ around (codes ": only") (drop 1 (flat_map gate_alone gates.now)) []) }
+{
+    let list = gates_alone(alloc, gates)?;
+    push_around(b": only", rest_of(list.as_slice()), b"", out)?;
+    Ok(())
+}
+
+/// Who makes up for how much, if men are gone and if none is.
+fn push_either(
+    alloc: Global,
+    men: usize,
+    idle: &[u8],
+    n: u32,
+    gates: &[Gate],
+    out: &mut Vec<u8>,
+) -> Result<(), AllocError>
+    requires { All (λ g. g.square < 64) gates.now }
+    ensures { IfOk result (λ _. out.new.items ≡ out.old.items ++ either_words men idle.now n gates.now) }
+{
+    if men == 0 {
+        push_alone(alloc, gates, out)
+    } else {
+        push_gone(alloc, men, idle, n, gates, out)
+    }
+}
+
+/// Who makes up for how much, of so many men who are gone.
+fn push_end(
+    alloc: Global,
+    men: usize,
+    idle: &[u8],
+    n: u32,
+    gates: &[Gate],
+    out: &mut Vec<u8>,
+) -> Result<(), AllocError>
+    requires { All (λ g. g.square < 64) gates.now }
+    ensures { IfOk result (λ _. out.new.items ≡ out.old.items ++ end_words men idle.now n gates.now) }
+{
+    push_either(alloc, men, idle, n, gates, out)?;
+    say(b".", out)?;
+    Ok(())
+}
+
+/// What the men count at best with these homes.
+fn push_best(n: u32, ways: &[u8], out: &mut Vec<u8>) -> Result<(), AllocError>
+    ensures { IfOk result (λ _. out.new.items ≡ out.old.items ++ (codes "At best these are " ++ decimal n ++ codes ":" ++ drop 1 ways.now)) }
+{
+    say(b"At best these are ", out)?;
+    push_number(n as usize, out)?;
+    say(b":", out)?;
+    say(rest_of(ways), out)?;
+    Ok(())
+}
+
+/// Before how many men each side lacks.
+fn push_but(first: bool, out: &mut Vec<u8>) -> Result<(), AllocError>
+    ensures { IfOk result (λ _. out.new.items ≡ out.old.items ++ (codes ". But " ++ cond first [] (codes "before this move "))) }
+{
+    say(b". But ", out)?;
+    either(first, b"", b"before this move ", out)?;
+    Ok(())
+}
+
+/// What the men count at best, with how many men each side lacks, and who makes up for how much.
+pub fn push_account(
+    alloc: Global,
+    first: bool,
+    query: &Query,
+    prices: &Prices,
+    set: SquareSet,
+    white: &[u8],
+    black: &[u8],
+    out: &mut Vec<u8>,
+) -> Result<(), AllocError>
+    requires { CountTooMany query.now prices.now set white.now black.now }
+    ensures { IfOk result (λ _. out.new.items ≡ out.old.items ++ best_words first query.now prices.now set white.now black.now) }
+{
+    let tally = tally_of(query, prices, set, white, black);
+    let ways = ways_of(alloc, query, prices, set, white, black)?;
+    let idle = idle_of(alloc, query, prices, set, white, black)?;
+    push_best(tally.counted, ways.as_slice(), out)?;
+    push_but(first, out)?;
+    push_lacks(first, query, prices, out)?;
+    push_end(
+        alloc,
+        all_missing(query, prices),
+        idle.as_slice(),
+        tally.made_up,
+        prices.gates(),
+        out,
+    )?;
+    Ok(())
+}

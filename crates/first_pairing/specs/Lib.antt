@@ -1,0 +1,2 @@
+pub mod FirstPairings
+pub mod Endings

@@ -1,7 +1,0 @@
-use Rattle.std.proofs.Common.{◌≡◌, take}
-use Rattle.std.specs.List.{flat_map}
-use Rattle.proof_prose.specs.Pricing.{gate_words}
-use Rattle.proof_prose.proofs.pricing.tolls_of.Given as goal
-
-abbrev pub invariant-loop-gate : goal.invariant-loop-gate
-invariant-loop-gate l = l.list.items ≡ flat_map gate_words (take l.gate-index l.gates)
