@@ -1,5 +1,5 @@
 -- Which commands read a game, and which a certificate.
-use Rattle.std.proofs.Common.{◌≡◌, ℕ, List, inl, inr, subst}
+use Rattle.std.proofs.Common.{ℕ, List, inl, inr, subst}
 use Rattle.std.specs.Global.{Global}
 use Rattle.std.specs.Prelude.{String}
 use Rattle.retro_top.specs.Names.{Begin, IsReadBy}

@@ -5,15 +5,15 @@ use Rattle.std.specs.List.{starts_with}
 use Rattle.command_answers.specs.declared.statuses.Status.{Status}
 use Rattle.command_answers.specs.declared.statuses.Status.TheVariants.{BadInput, BadWords, Refused}
 use Rattle.retro_top.specs.Names.{Begin, NameCommand}
-use Rattle.front_door.specs.declared.advice.Advice.{Advice}
-use Rattle.front_door.specs.declared.advice.Advice.TheVariants.{Words, Lines, Fen, Moves, Texts}
-use Rattle.front_door.specs.declared.advice.FenAdvice.{FenAdvice}
-use Rattle.front_door.specs.declared.advice.LineAdvice.{LineAdvice}
-use Rattle.front_door.specs.declared.advice.LineAdvice.TheVariants.{Empty}
-use Rattle.front_door.specs.declared.advice.TextAdvice.{TextAdvice}
-use Rattle.front_door.specs.declared.advice.TextAdvice.TheVariants.{Dossier, DossierToExplain, Length, Claim, ClaimToExplain, CarriageReturns, ReturnsToExplain, PositionToExplain}
-use Rattle.front_door.specs.declared.advice.WordAdvice.{WordAdvice}
-use Rattle.front_door.specs.declared.advice.WordAdvice.TheVariants.{StandsAlone, NoCommand, NearestCommand}
+use Rattle.hint_texts.specs.declared.advice.Advice.{Advice}
+use Rattle.hint_texts.specs.declared.advice.Advice.TheVariants.{Words, Lines, Fen, Moves, Texts}
+use Rattle.hint_texts.specs.declared.advice.FenAdvice.{FenAdvice}
+use Rattle.hint_texts.specs.declared.advice.LineAdvice.{LineAdvice}
+use Rattle.hint_texts.specs.declared.advice.LineAdvice.TheVariants.{Empty}
+use Rattle.hint_texts.specs.declared.advice.TextAdvice.{TextAdvice}
+use Rattle.hint_texts.specs.declared.advice.TextAdvice.TheVariants.{Dossier, DossierToExplain, Length, Claim, ClaimToExplain, CarriageReturns, ReturnsToExplain, PositionToExplain}
+use Rattle.hint_texts.specs.declared.advice.WordAdvice.{WordAdvice}
+use Rattle.hint_texts.specs.declared.advice.WordAdvice.TheVariants.{StandsAlone, NoCommand, NearestCommand}
 
 -- the words ask for a command that reads a game
 abbrev pub AskForGame : List (String Global) → Type 0

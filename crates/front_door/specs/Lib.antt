@@ -1,5 +1,4 @@
 pub mod Hints
-pub mod OneLine
 pub mod WordHints
 pub mod Refusals
 pub mod Fronts

@@ -6,7 +6,7 @@ use Rattle.std.specs.List.{Contains, flat_map, list_all, starts_with}
 use Rattle.retro_top.specs.Names.{IsCommand}
 use Rattle.retro_top.specs.Rows.{names_of}
 use Rattle.retro_top.specs.declared.rows.Row.{Row}
-use Rattle.front_door.specs.OneLine.{is_one_line}
+use Rattle.hint_texts.specs.OneLine.{is_one_line}
 
 -- the row of a command: how it is called, in a column of 36 characters at least, and what it answers
 abbrev pub row_of : Row → List ℕ

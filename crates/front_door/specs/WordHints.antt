@@ -4,9 +4,9 @@ use Rattle.std.specs.Prelude.{◌≡◌, ◌⊎◌, IfSome, List, String}
 use Rattle.std.specs.Global.{Global}
 use Rattle.retro_top.specs.Names.{Begin}
 use Rattle.front_door.specs.Hints.{TellsWords}
-use Rattle.front_door.specs.declared.advice.Advice.TheVariants.{Words}
-use Rattle.front_door.specs.declared.advice.WordAdvice.{WordAdvice}
-use Rattle.front_door.specs.declared.advice.WordAdvice.TheVariants.{NearestCommand}
+use Rattle.hint_texts.specs.declared.advice.Advice.TheVariants.{Words}
+use Rattle.hint_texts.specs.declared.advice.WordAdvice.{WordAdvice}
+use Rattle.hint_texts.specs.declared.advice.WordAdvice.TheVariants.{NearestCommand}
 use Rattle.front_door.specs.declared.hints.Hint.{Hint}
 
 -- the hint is one on words, and fits these

@@ -3,7 +3,7 @@
 ghost use Rattle.std.specs.Prelude.{IfSome, IsTrue};
 ghost use Rattle.front_door.specs.Hints.{HasReturns, TellsText};
 
-use crate::advice::TextAdvice;
+use hint_texts::TextAdvice;
 use question_text::read_lone_question;
 
 /// The lines are those of a certificate, but each ends with a carriage return too.

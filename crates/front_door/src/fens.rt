@@ -1,6 +1,6 @@
 //! What is wrong with a line that is due as a FEN.
 
-use crate::advice::FenAdvice;
+use hint_texts::FenAdvice;
 
 /// How many squares the text of a rank fills.
 fn width(rank: &[u8]) -> usize {

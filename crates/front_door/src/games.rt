@@ -1,7 +1,7 @@
 //! What is wrong with a word of a game.
 
-use crate::advice::MoveAdvice;
 use board_base::read_move;
+use hint_texts::MoveAdvice;
 use retro_top::InputKind;
 
 fn is_blank(byte: u8) -> bool {

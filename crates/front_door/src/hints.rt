@@ -6,11 +6,10 @@ ghost use Rattle.command_answers.specs.declared.statuses.Status.TheVariants.{Bad
 ghost use Rattle.retro_top.specs.Names.{Begin, NameCommand};
 ghost use Rattle.front_door.specs.Hints.{AskForCertificate, AskForGame, Concerns, GoesWith, IsOfFen, Says, status_of};
 ghost use Rattle.front_door.specs.Kinds.{IsGame};
-ghost use Rattle.front_door.specs.declared.advice.Advice.TheVariants.{Lines, Words};
-ghost use Rattle.front_door.specs.declared.advice.LineAdvice.TheVariants.{Empty};
-ghost use Rattle.front_door.specs.declared.advice.WordAdvice.TheVariants.{NearestCommand};
+ghost use Rattle.hint_texts.specs.declared.advice.Advice.TheVariants.{Lines, Words};
+ghost use Rattle.hint_texts.specs.declared.advice.LineAdvice.TheVariants.{Empty};
+ghost use Rattle.hint_texts.specs.declared.advice.WordAdvice.TheVariants.{NearestCommand};
 
-use crate::advice::{Advice, LineAdvice, MoveAdvice};
 use crate::certificates::advise_text;
 use crate::fens::advise_fen;
 use crate::games::{advise_ply, advise_word};
@@ -18,7 +17,8 @@ use crate::inputs::{after_fen, fen_line};
 use crate::lines::advise_line;
 use crate::refusals::{Refusal, refusal_of};
 use crate::words::advise_words;
-use retro_top::{InputKind, Row, Status, first_row};
+use hint_texts::{Advice, LineAdvice, MoveAdvice};
+use retro_top::{Command, InputKind, Row, Status, first_row, parse_words};
 use std::alloc::Global;
 
 /// What a user is told, and how the command that is meant is called.
@@ -92,6 +92,11 @@ fn ask_for_certificate(words: &[String]) -> bool
     }
 }
 
+/// The words ask for the explanation of a certificate.
+fn ask_to_explain(words: &[String]) -> bool {
+    matches!(parse_words(words), Ok(Command::Explain))
+}
+
 /// What is wrong with an input that isn't of the command's form, by the line that says where.
 fn advise_input(kind: InputKind, input: &[u8], answer: &[u8]) -> Advice
     ensures status { status_of result ≡ BadInput }
@@ -109,7 +114,8 @@ fn advise_input(kind: InputKind, input: &[u8], answer: &[u8]) -> Advice
 
 /// What is wrong with a game that is refused, by the line that says so; None where it is a game's text.
 fn advise_game(kind: InputKind, input: &[u8], answer: &[u8]) -> Option<MoveAdvice>
-    ensures { IsSome result → Says answer.now (codes "refused word ") ⊎ Says answer.now (codes "refused ply ") }
+    ensures { IsSome result →
+        Says answer.now (codes "refused word ") ⊎ Says answer.now (codes "refused ply ") }
 {
     let game = if kind == InputKind::Moves {
         input
@@ -135,7 +141,7 @@ fn advise_refused(words: &[String], input: &[u8], answer: &[u8]) -> Option<Advic
     ensures { IfSome result (λ advice. GoesWith advice words.now input.now Refused answer.now) }
 {
     if ask_for_certificate(words) && refuses_first_line(answer) {
-        match advise_text(begin(words, b"explain"), input) {
+        match advise_text(ask_to_explain(words), input) {
             Some(advice) => Some(Advice::Texts(advice)),
             None => None,
         }
@@ -173,16 +179,21 @@ pub fn advise(
 ) -> Option<Hint>
     // A hint goes with the run's status and with the words, the input or the answer that it takes the run for. What its text tells of
     // them is so of three kinds of advice on words, and of an empty input; of the other kinds this says nothing.
-    ensures fits { IfSome result (λ hint. GoesWith hint.advice words.now input.now status answer.now) }
+    ensures fits { IfSome result
+        (λ hint. GoesWith hint.advice words.now input.now status answer.now) }
 
     // One comes at all bad words and all bad input, and is one on the FEN line exactly where the answer names a field of this.
     ensures bad_words { status ≡ BadWords → IsSome result }
     ensures bad_input { status ≡ BadInput → IsSome result }
-    ensures fen { status ≡ BadInput → Says answer.now (codes "bad fen field ") → IfSome result (λ hint. IsOfFen hint.advice) }
+    ensures fen { status ≡ BadInput → Says answer.now (codes "bad fen field ") →
+        IfSome result (λ hint. IsOfFen hint.advice) }
 
     // The call that it shows is that of the first word, or one that it tells as the nearest; an empty input is told with it.
-    ensures called { IfSome result (λ hint. IfSome hint.call (λ call. (hint.advice ≡ Words NearestCommand) ⊎ Begin words.now call.name.now)) }
-    ensures shown { IfSome result (λ hint. hint.advice ≡ Lines Empty → IsSome hint.call ↔ NameCommand words.now) }
+    ensures called { IfSome result
+        (λ hint. IfSome hint.call
+        (λ call. (hint.advice ≡ Words NearestCommand) ⊎ Begin words.now call.name.now)) }
+    ensures shown { IfSome result
+        (λ hint. hint.advice ≡ Lines Empty → IsSome hint.call ↔ NameCommand words.now) }
 {
     match status {
         Status::BadWords => Some(advise_words(alloc, words)),

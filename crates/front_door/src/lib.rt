@@ -14,7 +14,6 @@ ghost use Rattle.retro_top.specs.Answers.{ReadsFor, WritesAnswer, WritesPart};
 ghost use Rattle.retro_top.specs.Commands.{Call as Calls, CallReader, CallSome, TakesMemory};
 ghost use Rattle.retro_top.specs.declared.commands.Command.{Command};
 
-mod advice;
 mod certificates;
 mod fens;
 mod games;
@@ -31,7 +30,7 @@ use crate::help::usage;
 use crate::searches::many_nodes;
 use crate::watching::{Overheard, Watched};
 use crate::words::is_option;
-pub use advice::{Advice, FenAdvice, LineAdvice, MoveAdvice, TextAdvice, WordAdvice};
+pub use hint_texts::{Advice, FenAdvice, LineAdvice, MoveAdvice, TextAdvice, WordAdvice};
 pub use hints::{Hint, advise};
 use retro_ports::{Sink, Source, StdSink, StdSource, write_all};
 use retro_top::{Status, first_row, parse_words, run};
@@ -165,19 +164,27 @@ fn end_of<S: Source, K: Sink>(
 ) -> Ended
     // Words that call no command are told exactly where they do, and nothing is read then.
     ensures bad_words { (result ≡ BadWords) ↔ (CallSome words.now → ⊥) }
-    ensures unread { (CallReader words.now → ⊥) → Keeps (S.left source.old.inner) (S.left source.new.inner) × (S.faults source.new.inner ≡ S.faults source.old.inner) }
+    ensures unread { (CallReader words.now → ⊥) →
+        Keeps (S.left source.old.inner) (S.left source.new.inner)
+        × (S.faults source.new.inner ≡ S.faults source.old.inner) }
 
     // A fault is told exactly where one came.
-    ensures read_fault { result ≡ ReadFault → CallReader words.now × Rose (S.faults source.old.inner) (S.faults source.new.inner) }
-    ensures write_fault { result ≡ WriteFault → Rose (K.faults sink.old.inner) (K.faults sink.new.inner) }
+    ensures read_fault { result ≡ ReadFault →
+        CallReader words.now × Rose (S.faults source.old.inner) (S.faults source.new.inner) }
+    ensures write_fault { result ≡ WriteFault →
+        Rose (K.faults sink.old.inner) (K.faults sink.new.inner) }
     ensures read_kept { result ≢ ReadFault → S.faults source.new.inner ≡ S.faults source.old.inner }
     ensures write_kept { result ≢ WriteFault → K.faults sink.new.inner ≡ K.faults sink.old.inner }
 
     // Too long an input is told only where more was read than the limit, and want of memory only where no more was, and never of
     // a command that takes none.
-    ensures too_long { result ≡ TooLong → CallReader words.now × ReadSome (S.left source.old.inner) (S.left source.new.inner) (λ n. n ≡ most_bytes + 1) }
-    ensures wanting { result ≡ Memory → ReadSome (S.left source.old.inner) (S.left source.new.inner) (λ n. n ≤ most_bytes) }
-    ensures remembers { (command : Command) → Calls words.now command → (TakesMemory command → ⊥) → result ≢ Memory }
+    ensures too_long { result ≡ TooLong →
+        CallReader words.now
+        × ReadSome (S.left source.old.inner) (S.left source.new.inner) (λ n. n ≡ most_bytes + 1) }
+    ensures wanting { result ≡ Memory →
+        ReadSome (S.left source.old.inner) (S.left source.new.inner) (λ n. n ≤ most_bytes) }
+    ensures remembers { (command : Command) → Calls words.now command → (TakesMemory command → ⊥) →
+        result ≢ Memory }
 
     // The status and the text that was written answer what was read, and without an answer nothing is written, or a part of one.
     ensures silent { IsSilent result → Keeps (K.taken sink.old.inner) (K.taken sink.new.inner) }

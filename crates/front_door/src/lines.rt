@@ -1,11 +1,11 @@
 //! What is wrong with the lines of an input.
 
 ghost use Rattle.std.specs.Prelude.{◌≡◌, ◌≢◌, ◌↔◌, []};
-ghost use Rattle.front_door.specs.declared.advice.LineAdvice.TheVariants.{Empty};
+ghost use Rattle.hint_texts.specs.declared.advice.LineAdvice.TheVariants.{Empty};
 
-use crate::advice::LineAdvice;
 use crate::inputs::{asks_for_claim, fen_number, line_at};
 use fen_text::{read_clock, read_odds};
+use hint_texts::LineAdvice;
 use retro_top::InputKind;
 
 /// What is wrong with a line that is due as the claim of `solve` or `settle`.

@@ -5,11 +5,11 @@ ghost use Rattle.std.specs.Global.{Global as AGlobal};
 ghost use Rattle.retro_top.specs.Names.{NameCommand};
 ghost use Rattle.front_door.specs.Hints.{TellsWords};
 ghost use Rattle.front_door.specs.WordHints.{IsOfWords, ShowsCall};
-ghost use Rattle.front_door.specs.declared.advice.Advice.TheVariants.{Words};
-ghost use Rattle.front_door.specs.declared.advice.WordAdvice.TheVariants.{NearestCommand};
+ghost use Rattle.hint_texts.specs.declared.advice.Advice.TheVariants.{Words};
+ghost use Rattle.hint_texts.specs.declared.advice.WordAdvice.TheVariants.{NearestCommand};
 
-use crate::advice::{Advice, WordAdvice};
 use crate::hints::{Hint, begin};
+use hint_texts::{Advice, WordAdvice};
 use retro_top::{Number, ROWS, RestFault, Row, WordFault, parse_words};
 use std::alloc::{AllocError, Global};
 use strsim::osa_distance;

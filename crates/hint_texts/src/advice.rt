@@ -1,7 +1,7 @@
 //! What a user is told whose words or whose input aren't what a command takes: the table of all texts.
 
 ghost use Rattle.std.specs.Prelude.{IsTrue};
-ghost use Rattle.front_door.specs.OneLine.{is_one_line};
+ghost use Rattle.hint_texts.specs.OneLine.{is_one_line};
 
 /// What is wrong with the words of the command line.
 #[derive(Clone, Copy, PartialEq, Eq, Debug)]
