@@ -1,0 +1,3 @@
+pub mod FewFigures
+pub mod OneNode
+pub mod Within
