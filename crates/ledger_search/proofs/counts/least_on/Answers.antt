@@ -1,0 +1,17 @@
+use Rattle.std.proofs.Common.{ℕ, ◌<◌, length, arith, ◌∙◌}
+use Rattle.std.proofs.lemmas.List.{length-set}
+use Rattle.ledger_facts.specs.declared.suppositions.Squares.TheVariants.{Class}
+use Rattle.ledger_search.specs.Ledgers.{IsLeast}
+use Rattle.ledger_search.proofs.Found.{filled-more}
+use Rattle.ledger_search.proofs.counts.least_on.Goals as goal
+
+pub loop-k-preserved : goal.loop-k-preserved
+loop-k-preserved c =
+    let inside : c.loop-k.k < length c.loop-k.numbers = omega (arith, c.loop-k-test.true, c.loop-k.invariant.size) in
+    record {
+      size = length-set c.loop-k.numbers c.loop-k.k c.least.result ∙ c.loop-k.invariant.size;
+      done = filled-more (λ (k n : ℕ). IsLeast c.args.side (Class k) c.args.query.now c.args.set n) c.loop-k.numbers c.loop-k.k c.least.result 0 inside c.loop-k.invariant.done c.least.ensures;
+    }
+
+pub returns : goal.returns
+returns c = λ k low. let past = c.loop-k.auto.k-end in c.loop-k.invariant.done k (omega (arith, low))

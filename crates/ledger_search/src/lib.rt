@@ -1,0 +1,16 @@
+//! The ledger of a position: what flat prices refute of where its men began, what became of them, and how many captures pawns made. It
+//! takes no memory.
+//!
+//! Articles are those of the FIDE Laws of Chess, in force from 1 January 2023.
+#![tactic(auto)]
+
+mod counts;
+mod laws;
+mod ledgers;
+mod questions;
+mod refuting;
+
+pub use counts::{Counts, Range};
+pub use laws::flat_prices_rule_out;
+pub use ledgers::{Fates, Ledger, ledger_of};
+pub use questions::Question;
