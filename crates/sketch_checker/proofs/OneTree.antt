@@ -1,5 +1,5 @@
 -- Some lines are those of one tree.
-use Rattle.std.proofs.Common.{◌≡◌, ℕ, ◌+◌, List, [], ◌∷◌, ◌++◌, append_assoc, append-nil, length, map, refl, ap, sym, ◌∙◌, arith}
+use Rattle.std.proofs.Common.{◌≡◌, ℕ, List, [], ◌∷◌, ◌++◌, append_assoc, append-nil, length, map, refl, ap, sym, ◌∙◌, arith}
 use Rattle.general_lemmas.proofs.Lists.{same_first, same_rest}
 use Rattle.sketch_text.specs.Marks.{Marks}
 use Rattle.sketch_text.specs.declared.nodes.SketchNode.{SketchNode}
