@@ -12,3 +12,8 @@ pub mod Rooted
 pub mod Supporting
 pub mod Settling
 pub mod Finishing
+pub mod OneTree
+pub mod OneLine
+pub mod Leasts
+pub mod SameLabels
+pub mod SomeLine

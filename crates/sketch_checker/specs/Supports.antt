@@ -1,10 +1,10 @@
 -- When a tree of nodes shows that no game comes to a query, and what the walk over it comes to.
-use Rattle.std.specs.Prelude.{ℕ, Bool, IsTrue, List}
+use Rattle.std.specs.Prelude.{ℕ, ◌≡◌, Bool, IsTrue, List}
 use Rattle.std.specs.List.{Contains}
 use Rattle.capture_prices.specs.Prices.{PriceList, are_prices}
 use Rattle.query_base.specs.Asked.{Asked}
 use Rattle.past_sketches.specs.Figures.{sketch_of}
-use Rattle.sketch_text.specs.Trees.{Node}
+use Rattle.sketch_text.specs.Trees.{Line, Node, lines_of}
 use Rattle.sketch_text.specs.declared.labels.Label.TheVariants.{Now}
 use Rattle.sketch_proof.specs.Proofs.{Holds, Setting}
 use Rattle.sketch_checker.specs.DueNodes.{first_due}
@@ -28,3 +28,11 @@ pub record SketchSupports (q : Asked) (exact : List Bool) (prices : List PriceLi
 -- What the walk over the tree comes to, whose first node is on line n. If sketches may not be asked about the board, that is a fault there.
 abbrev pub SketchWalks : Asked → List Bool → List PriceList → Node → ℕ → Walked → Type 0
 SketchWalks q exact prices tree n walked = IfSo (MayAsk q prices) n unsupported walked (Walks tree (setting_of q exact prices) (first_due (sketch_of q.board)) n walked)
+
+-- the tree with these lines supports the query
+abbrev pub BodySupports : Asked → List Bool → List PriceList → List Line → Type 0
+BodySupports q exact prices lines = (tree : Node) × (lines_of tree ≡ lines) × SketchSupports q exact prices tree
+
+-- what the walk over the tree with these lines comes to, the first of which is line n
+abbrev pub BodyWalks : Asked → List Bool → List PriceList → List Line → ℕ → Walked → Type 0
+BodyWalks q exact prices lines n walked = (tree : Node) × (lines_of tree ≡ lines) × SketchWalks q exact prices tree n walked
