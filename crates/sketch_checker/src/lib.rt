@@ -21,7 +21,10 @@ mod walks;
 pub use beginning::can_begin;
 pub use checking::walk_lines;
 pub use faults::SketchFault;
-pub use laws::{lines_walk_the_tree, one_sketch_walk, sketch_walk_proves, sketches_support};
+pub use laws::{
+    bodies_support, lines_walk_the_tree, one_line_walk, one_sketch_walk, sketch_walk_proves,
+    sketches_support,
+};
 pub use lines::SketchLine;
 pub use roots::is_root;
 pub use settings::SketchSetting;
