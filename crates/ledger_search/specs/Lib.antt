@@ -1,2 +1,3 @@
 pub mod Questions
+pub mod Desks
 pub mod Ledgers
