@@ -3,3 +3,4 @@ pub mod Ways
 pub mod Ends
 pub mod Told
 pub mod Rowed
+pub mod Uncounted

@@ -3,10 +3,12 @@
 //! Articles are those of the FIDE Laws of Chess, in force from 1 January 2023.
 #![tactic(auto)]
 
+mod accounts;
 mod lists;
 mod losses;
 mod refuting;
 mod standing;
 mod tables;
 
+pub use accounts::{Account, account_of, refutes_in};
 pub use refuting::refutes;

@@ -12,7 +12,7 @@ use ledger_facts::Supposition;
 use query_base::Query;
 
 /// Whether the set is frozen and as in the array at the query's odds.
-fn is_settled(query: &Query, set: SquareSet) -> bool
+pub(crate) fn is_settled(query: &Query, set: SquareSet) -> bool
     ensures { IsTrue result ↔ IsSettled query.now.odds query.now set }
 {
     is_whole(set);

@@ -158,6 +158,22 @@ fn least_cost(rows: &[[u16; 16]]) -> u32
     solve_large(rows).cost
 }
 
+/// The least that the men of the ground's side cost with homes of their own, if the supposition is true and the side began with so many men;
+/// None exactly where it has more.
+pub(crate) fn cost_beside(
+    ground: &Ground,
+    supposition: &Supposition,
+    board: &Board,
+    begun: u8,
+) -> Option<u32>
+    requires { begun ≤ 16 }
+    ensures value { (o : List Bool) (p : PriceList) → IsGround o p ground.now → begun ≡ men_on ground.now.side (array_of o) → SomeIff result (men_on ground.now.side board.now ≤ begun) (side_cost_if supposition.now o board.now p ground.now.frozen ground.now.side) }
+    ensures small { IfSome result (λ cost. cost ≤ 80_000) }
+{
+    let rows = cost_table(ground, supposition, board, begun)?;
+    Some(least_cost(rows.as_slice()))
+}
+
 /// The least that the men of a side cost with homes of their own, if the supposition is true; None exactly where it has more men than it
 /// began with.
 pub(crate) fn side_cost(

@@ -1,9 +1,10 @@
+ghost use Rattle.ledger_search.specs.Desks.{IsDesk};
 ghost use Rattle.ledger_search.specs.Ledgers.{AreFates, AreHomes, IsLedger, IsLedgerOf};
 ghost use Rattle.ledger_search.specs.declared.questions.Question.TheVariants.{Home};
 
 use crate::counts::{Counts, counts_of};
 use crate::questions::Question;
-use crate::refuting::denied;
+use crate::refuting::{Desk, denied, desk_of};
 use board_base::{Colour, Square, SquareSet};
 use cage_rules::greatest_as_array;
 use query_base::Query;
@@ -40,41 +41,44 @@ pub struct Ledger {
 }
 
 /// For each square, the homes of his side on which the man who stands there didn't begin.
-fn homes(query: &Query, set: SquareSet) -> [SquareSet; 64]
-    ensures { AreHomes query.now set result }
+fn homes(query: &Query, desk: &Desk) -> [SquareSet; 64]
+    requires { IsDesk query.now desk.now }
+    ensures { AreHomes query.now desk.now.set result }
 {
     let mut homes = [SquareSet::from_bits(0); 64];
     for i in 0..64 {
-        homes[i as usize] = denied(query, set, &Question::Home(Square::known(i)));
+        homes[i as usize] = denied(query, desk, &Question::Home(Square::known(i)));
     }
     homes
 }
 
 /// Of each fate the homes whose men didn't meet it.
-fn fates_of(query: &Query, set: SquareSet) -> Fates
-    ensures { AreFates query.now set result }
+fn fates_of(query: &Query, desk: &Desk) -> Fates
+    requires { IsDesk query.now desk.now }
+    ensures { AreFates query.now desk.now.set result }
 {
     Fates {
-        stands: denied(query, set, &Question::Stay(false)),
-        stands_promoted: denied(query, set, &Question::Stay(true)),
-        taken: denied(query, set, &Question::Loss(false, false)),
-        struck: denied(query, set, &Question::Loss(false, true)),
-        taken_promoted: denied(query, set, &Question::Loss(true, false)),
-        struck_promoted: denied(query, set, &Question::Loss(true, true)),
+        stands: denied(query, desk, &Question::Stay(false)),
+        stands_promoted: denied(query, desk, &Question::Stay(true)),
+        taken: denied(query, desk, &Question::Loss(false, false)),
+        struck: denied(query, desk, &Question::Loss(false, true)),
+        taken_promoted: denied(query, desk, &Question::Loss(true, false)),
+        struck_promoted: denied(query, desk, &Question::Loss(true, true)),
     }
 }
 
 /// The ledger beside a set.
-fn ledger_beside(query: &Query, set: SquareSet) -> Ledger
-    ensures { IsLedger query.now set result }
+fn ledger_beside(query: &Query, desk: &Desk) -> Ledger
+    requires { IsDesk query.now desk.now }
+    ensures { IsLedger query.now desk.now.set result }
 {
     Ledger {
-        homes: homes(query, set),
-        captured: denied(query, set, &Question::Way(true)),
-        straight: denied(query, set, &Question::Way(false)),
-        fates: fates_of(query, set),
-        white: counts_of(query, set, Colour::White),
-        black: counts_of(query, set, Colour::Black),
+        homes: homes(query, desk),
+        captured: denied(query, desk, &Question::Way(true)),
+        straight: denied(query, desk, &Question::Way(false)),
+        fates: fates_of(query, desk),
+        white: counts_of(query, desk, Colour::White),
+        black: counts_of(query, desk, Colour::Black),
     }
 }
 
@@ -84,5 +88,6 @@ fn ledger_beside(query: &Query, set: SquareSet) -> Ledger
 pub fn ledger_of(query: &Query) -> Ledger
     ensures { IsLedgerOf query.now result }
 {
-    ledger_beside(query, greatest_as_array(query))
+    let desk = desk_of(query, greatest_as_array(query));
+    ledger_beside(query, &desk)
 }

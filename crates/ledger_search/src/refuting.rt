@@ -1,16 +1,27 @@
-ghost use Rattle.std.specs.Prelude.{◌≡◌, ◌↔◌, IsTrue, cond, slice_set, true};
+ghost use Rattle.std.specs.Prelude.{◌≡◌, ◌↔◌, IfSome, IsTrue, cond, slice_set, true};
 ghost use Rattle.board_base.specs.Board.{array_of};
 ghost use Rattle.ledger_facts.specs.Refuted.{IsRefuted};
 ghost use Rattle.price_search.specs.FlatPrices.{flat_prices};
+ghost use Rattle.ledger_rule.specs.Kept.{IsAccountOf};
+ghost use Rattle.ledger_search.specs.Desks.{IsDesk};
 ghost use Rattle.ledger_search.specs.Questions.{AreAnswered, IsFlatlyRefuted, about, is_asked};
 
 use crate::questions::{Question, about, is_asked};
 use board_base::{Square, SquareSet};
 use capture_prices::Prices;
 use ledger_facts::Supposition;
-use ledger_rule::refutes;
+use ledger_rule::{Account, account_of, refutes, refutes_in};
 use price_search::Payers;
 use query_base::Query;
+
+/// What is reckoned once for all suppositions on a query, beside a set and at each of the flat prices.
+#[derive(Clone, Copy)]
+pub(crate) struct Desk {
+    pub(crate) set: SquareSet,
+    pub(crate) both: Option<Account>,
+    pub(crate) white_alone: Option<Account>,
+    pub(crate) black_alone: Option<Account>,
+}
 
 /// The flat prices at which these pay.
 fn flat_prices(payers: Payers) -> Prices
@@ -23,31 +34,75 @@ fn flat_prices(payers: Payers) -> Prices
     }
 }
 
-/// Whether the flat prices at which these pay refute the supposition.
-fn refuted_at(query: &Query, set: SquareSet, supposition: &Supposition, payers: Payers) -> bool
+/// What is reckoned once at these flat prices; None as `account_of` says.
+fn account_at(query: &Query, set: SquareSet, payers: Payers) -> Option<Account>
+    ensures { IfSome result (IsAccountOf query.now set (flat_prices payers)) }
+{
+    account_of(query, set, &flat_prices(payers))
+}
+
+/// What is reckoned once beside a set, at each of the flat prices.
+pub(crate) fn desk_of(query: &Query, set: SquareSet) -> Desk
+    ensures set { result.set ≡ set }
+    ensures desk { IsDesk query.now result }
+{
+    Desk {
+        set,
+        both: account_at(query, set, Payers::Both),
+        white_alone: account_at(query, set, Payers::WhiteAlone),
+        black_alone: account_at(query, set, Payers::BlackAlone),
+    }
+}
+
+/// Whether the flat prices at which these pay refute the supposition, by their account if there is one.
+fn refuted_at(
+    query: &Query,
+    set: SquareSet,
+    account: &Option<Account>,
+    payers: Payers,
+    supposition: &Supposition,
+) -> bool
+    requires { IfSome account.now (IsAccountOf query.now set (flat_prices payers)) }
     ensures { IsTrue result ↔ IsRefuted supposition.now query.now set (flat_prices payers) }
 {
-    refutes(query, set, &flat_prices(payers), supposition)
+    match account {
+        Some(kept) => refutes_in(query, kept, supposition),
+        None => refutes(query, set, &flat_prices(payers), supposition),
+    }
 }
 
 /// Whether some flat prices refute the supposition.
-pub(crate) fn is_refuted(query: &Query, set: SquareSet, supposition: &Supposition) -> bool
-    ensures { IsTrue result ↔ IsFlatlyRefuted supposition.now query.now set }
+pub(crate) fn is_refuted(query: &Query, desk: &Desk, supposition: &Supposition) -> bool
+    requires { IsDesk query.now desk.now }
+    ensures { IsTrue result ↔ IsFlatlyRefuted supposition.now query.now desk.now.set }
 {
-    if refuted_at(query, set, supposition, Payers::Both) {
+    if refuted_at(query, desk.set, &desk.both, Payers::Both, supposition) {
         return true;
     }
-    if refuted_at(query, set, supposition, Payers::WhiteAlone) {
+    if refuted_at(
+        query,
+        desk.set,
+        &desk.white_alone,
+        Payers::WhiteAlone,
+        supposition,
+    ) {
         return true;
     }
-    refuted_at(query, set, supposition, Payers::BlackAlone)
+    refuted_at(
+        query,
+        desk.set,
+        &desk.black_alone,
+        Payers::BlackAlone,
+        supposition,
+    )
 }
 
 /// Whether the question is asked of a square, and flat prices refute that its answer is yes.
-fn is_denied(query: &Query, set: SquareSet, question: &Question, s: Square) -> bool
-    ensures { IsTrue result ↔ (IsTrue (is_asked question.now query.now.board (array_of query.now.odds) s) × IsFlatlyRefuted (about question.now s) query.now set) }
+fn is_denied(query: &Query, desk: &Desk, question: &Question, s: Square) -> bool
+    requires { IsDesk query.now desk.now }
+    ensures { IsTrue result ↔ (IsTrue (is_asked question.now query.now.board (array_of query.now.odds) s) × IsFlatlyRefuted (about question.now s) query.now desk.now.set) }
 {
-    is_asked(query, question, s) && is_refuted(query, set, &about(question, s))
+    is_asked(query, question, s) && is_refuted(query, desk, &about(question, s))
 }
 
 /// The set, with this square if `more` says so.
@@ -58,13 +113,14 @@ fn with_if(set: SquareSet, s: Square, more: bool) -> SquareSet
 }
 
 /// The squares of which the question is asked and whose answer can't be yes.
-pub(crate) fn denied(query: &Query, set: SquareSet, question: &Question) -> SquareSet
-    ensures { AreAnswered question.now query.now set result }
+pub(crate) fn denied(query: &Query, desk: &Desk, question: &Question) -> SquareSet
+    requires { IsDesk query.now desk.now }
+    ensures { AreAnswered question.now query.now desk.now.set result }
 {
     let mut squares = SquareSet::from_bits(0);
     for i in 0..64 {
         let s = Square::known(i);
-        squares = with_if(squares, s, is_denied(query, set, question, s));
+        squares = with_if(squares, s, is_denied(query, desk, question, s));
     }
     squares
 }

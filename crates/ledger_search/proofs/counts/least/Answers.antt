@@ -9,7 +9,7 @@ pub loop-n-init : goal.loop-n-init
 loop-n-init c = λ m low. absurd (omega (arith, low))
 
 pub loop-n-preserved : goal.loop-n-preserved
-loop-n-preserved c = below-more (λ (m : ℕ). IsFlatlyRefuted (AtMost c.args.side c.args.squares m) c.args.query.now c.args.set) c.loop-n.n c.loop-n.invariant (c.is_refuted.ensures.0 c.if-not-is_refuted.false)
+loop-n-preserved c = below-more (λ (m : ℕ). IsFlatlyRefuted (AtMost c.args.side c.args.squares m) c.args.query.now c.args.desk.now.set) c.loop-n.n c.loop-n.invariant (c.is_refuted.ensures.0 c.if-not-is_refuted.false)
 
 pub returns-then-not-is_refuted : goal.returns-then-not-is_refuted
 returns-then-not-is_refuted c = record {

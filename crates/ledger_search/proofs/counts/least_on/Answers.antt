@@ -10,7 +10,7 @@ loop-k-preserved c =
     let inside : c.loop-k.k < length c.loop-k.numbers = omega (arith, c.loop-k-test.true, c.loop-k.invariant.size) in
     record {
       size = length-set c.loop-k.numbers c.loop-k.k c.least.result ∙ c.loop-k.invariant.size;
-      done = filled-more (λ (k n : ℕ). IsLeast c.args.side (Class k) c.args.query.now c.args.set n) c.loop-k.numbers c.loop-k.k c.least.result 0 inside c.loop-k.invariant.done c.least.ensures;
+      done = filled-more (λ (k n : ℕ). IsLeast c.args.side (Class k) c.args.query.now c.args.desk.now.set n) c.loop-k.numbers c.loop-k.k c.least.result 0 inside c.loop-k.invariant.done c.least.ensures;
     }
 
 pub returns : goal.returns

@@ -9,7 +9,7 @@ loop-k-init c = λ m high small. absurd (omega (arith, high, small))
 
 pub loop-k-preserved : goal.loop-k-preserved
 loop-k-preserved c = λ m high small. elim (cases_eq m (16 - c.loop-k.k)) [
-  | inl same ↦ subst (λ (n : ℕ). IsFlatlyRefuted (AtLeast c.args.side c.args.squares n) c.args.query.now c.args.set) (sym same) (c.is_refuted.ensures.0 c.if-not-is_refuted.false)
+  | inl same ↦ subst (λ (n : ℕ). IsFlatlyRefuted (AtLeast c.args.side c.args.squares n) c.args.query.now c.args.desk.now.set) (sym same) (c.is_refuted.ensures.0 c.if-not-is_refuted.false)
   | inr other ↦ c.loop-k.invariant m (omega (arith, high, small, other)) small
 ]
 

@@ -4,4 +4,4 @@ use Rattle.ledger_search.specs.Questions.{IsFlatlyRefuted}
 use Rattle.ledger_search.proofs.counts.most.Given as goal
 
 abbrev pub invariant-loop-k : goal.invariant-loop-k
-invariant-loop-k l = (m : ℕ) → 16 < m + l.k → m ≤ 16 → IsFlatlyRefuted (AtLeast l.side l.squares m) l.query l.set
+invariant-loop-k l = (m : ℕ) → 16 < m + l.k → m ≤ 16 → IsFlatlyRefuted (AtLeast l.side l.squares m) l.query l.desk.set

@@ -10,7 +10,7 @@ loop-i-preserved c =
     let inside : c.loop-i.i < length c.loop-i.homes = omega (arith, c.loop-i-test.true, c.loop-i.invariant.size) in
     record {
       size = length-set c.loop-i.homes c.loop-i.i c.denied.result ∙ c.loop-i.invariant.size;
-      done = filled-more (λ (s : ℕ) (found : List Bool). AreAnswered (Home s) c.args.query.now c.args.set found) c.loop-i.homes c.loop-i.i c.denied.result [] inside c.loop-i.invariant.done (subst (λ (s : ℕ). AreAnswered (Home s) c.args.query.now c.args.set c.denied.result) c.known.ensures c.denied.ensures);
+      done = filled-more (λ (s : ℕ) (found : List Bool). AreAnswered (Home s) c.args.query.now c.args.desk.now.set found) c.loop-i.homes c.loop-i.i c.denied.result [] inside c.loop-i.invariant.done (subst (λ (s : ℕ). AreAnswered (Home s) c.args.query.now c.args.desk.now.set c.denied.result) c.known.ensures c.denied.ensures);
     }
 
 pub returns : goal.returns

@@ -6,5 +6,5 @@ use Rattle.ledger_search.proofs.ledgers.homes.Given as goal
 abbrev pub invariant-loop-i : goal.invariant-loop-i
 invariant-loop-i l = record {
   size : length l.homes ≡ 64;
-  done : (s : ℕ) → s < l.i → AreAnswered (Home s) l.query l.set (slice_index_or l.homes s []);
+  done : (s : ℕ) → s < l.i → AreAnswered (Home s) l.query l.desk.set (slice_index_or l.homes s []);
 }

@@ -6,4 +6,4 @@ use Rattle.ledger_search.proofs.Found.{Found}
 use Rattle.ledger_search.proofs.refuting.denied.Given as goal
 
 abbrev pub invariant-loop-i : goal.invariant-loop-i
-invariant-loop-i l = Found (λ (s : ℕ). IsTrue (is_asked l.question l.query.board (array_of l.query.odds) s) × IsFlatlyRefuted (about l.question s) l.query l.set) l.squares l.i
+invariant-loop-i l = Found (λ (s : ℕ). IsTrue (is_asked l.question l.query.board (array_of l.query.odds) s) × IsFlatlyRefuted (about l.question s) l.query l.desk.set) l.squares l.i
