@@ -15,6 +15,7 @@ measure.py cages            a greatest frozen set and seven regions beside it, i
 measure.py games FENS       the search for games to the positions of a file, a FEN of four fields a line: builds games.program likewise
 measure.py sketch           closures of sketches, their trims, homes and steps, likewise: builds sketch.program
 measure.py accounts         accounts of sketches at equal prices, anew, at other prices and again, likewise: builds accounts.program
+measure.py trees            searches for sketches, found and not, likewise: builds trees.program
 measure.py balance          the balance of captures at equal prices, and the search for prices, likewise: builds balance.program
 """
 import collections
@@ -70,6 +71,12 @@ CLOSED = [
     "1b3NrR/P1pp2pK/1p2p1RQ/5pP1/1P3p2/1P3k2/2PPP2P/N7 b - -",
     "rnbqkbnr/pppppppp/8/8/4K3/8/PPPPPPPP/RNBQ1BNR w - -",
     "rn2k2r/ppp1pppp/8/3p4/8/8/PPP1PPPP/RRR1K3 w q -",
+]
+# Composed diagrams of few men.
+ORDINARY = [
+    "8/8/4p3/1K2p3/3k4/5Q2/8/8 w - -",
+    "3N4/3p4/K2Br3/1N1kPR2/1p2p3/1P1r1p2/3P1P2/7Q w - -",
+    "r7/p1N3p1/3p3P/P3kB2/4p1Q1/1P6/2P1p1P1/4Kb2 w - -",
 ]
 # Claims of examples/, each with the depth that settles it.
 CLAIMS = {"loyd-1859": 1, "loyd-1891": 1, "dawson-1913": 2, "benko-1996": 2, "dawson-chess-magazine-1913": 4, "barred-kings": 9}
@@ -301,6 +308,14 @@ def sketch():
             print(f"{closed:,} instructions to close, {trimmed:,} to trim, {homes:,} for homes, {walked:,} for {steps} steps: {fen}")
 
 
+def trees():
+    with built("trees", "board_base fen_text query_base sketch_trees sketch_search", ["--", CHAINS[0], "0"]) as program:
+        for fen in [*SKETCHED, *CHAINS, RETRACTED[4], RETRACTED[6], *ORDINARY]:
+            none, once = (instructions([program, fen, times]) for times in ("0", "1"))
+            found, states = timed([program, fen, "1"], b"")[1].split()
+            print(f"{once - none:,} instructions, {found} found, {states} sketches looked at: {fen}")
+
+
 def games(path):
     fens = [" ".join(line.split()[:4]) for line in pathlib.Path(path).read_text().splitlines() if line.strip()]
     with built("games", "board_base fen_text query_base unmove_gen game_search", ["--", "0"]) as program:
@@ -354,6 +369,8 @@ def main():
         balance()
     elif sys.argv[1:] == ["accounts"]:
         accounts()
+    elif sys.argv[1:] == ["trees"]:
+        trees()
     elif sys.argv[1:] == ["sketch"]:
         sketch()
     elif sys.argv[1:2] == ["games"] and len(sys.argv) == 3:

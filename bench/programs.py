@@ -25,6 +25,7 @@ WORDS = {
     "legal_moves": ["1"],
     "pawns": ["least", "a2b2c2d2e2f2g2h2", "1"],
     "sketch": [CASTLED, "1", "1", "1", "1"],
+    "trees": [CASTLED, "1"],
     "unmoves": [CASTLED, "1"],
 }
 # What some read.

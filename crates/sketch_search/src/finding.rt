@@ -1,0 +1,137 @@
+ghost use Rattle.std.specs.Prelude.{IfOk, IfSome, IsSome, List};
+ghost use Rattle.board_base.specs.declared.moves.Move.{Move};
+ghost use Rattle.cage_rules.specs.Reach.{LeadsTo};
+ghost use Rattle.past_sketches.specs.Figures.{sketch_of};
+ghost use Rattle.sketch_node.specs.Nodes.{IsVoid};
+ghost use Rattle.sketch_checker.specs.Beginning.{CanBegin};
+ghost use Rattle.sketch_checker.specs.Roots.{IsRoot};
+ghost use Rattle.sketch_found.specs.Found.{IsProofOf, IsWithin};
+
+use crate::desks::SketchDesk;
+use crate::writing::written;
+use board_base::{Kind, Memory, pawn_rank};
+use figures::Sketch;
+use home_ways::{file_set, squares_of};
+use query_base::Query;
+use sketch_found::{FoundSketch, if_proved, root_of, void_root};
+use sketch_node::is_void;
+use sketch_text::Label;
+use sketch_trees::{Child, Limits, MOST_BELOW, Search, Setting};
+use std::alloc::Global;
+
+/// Whether a pawn on this file has moved.
+fn has_moved_pawn(sketch: &Sketch, file: usize) -> bool {
+    for figure in sketch.figures() {
+        if figure.may_be(Kind::Pawn) {
+            for square in squares_of(figure.squares.bits() & file_set(file)) {
+                if square / 8 != pawn_rank(figure.colour) as usize {
+                    return true;
+                }
+            }
+        }
+    }
+    false
+}
+
+/// What a search has found that refutes this root, if the desk can keep the prices.
+fn found_by(
+    alloc: Global,
+    search: &mut Search,
+    root: &Child,
+    desk: &mut SketchDesk,
+) -> Result<Option<FoundSketch>, Memory> {
+    desk.lend(search)?;
+    let refuted = search.refutes(root, MOST_BELOW)?;
+    desk.count(search);
+    if !refuted {
+        return Ok(None);
+    }
+    desk.keep(search)?;
+    written(alloc, search, root)
+}
+
+/// What one search finds, with these exact files, if it proves that no game comes to the query.
+fn found_with(
+    alloc: Global,
+    query: &Query,
+    sketch: &Sketch,
+    exact: [bool; 8],
+    limits: Limits,
+    desk: &mut SketchDesk,
+) -> Result<Option<FoundSketch>, Memory>
+    ensures proves { IfOk result (λ r. IfSome r (λ found. IsProofOf query.now found)) }
+    ensures games { IfOk result (λ r. IfSome r (λ found. (m : List Move) → LeadsTo query.now.odds m query.now → ⊥)) }
+    ensures within { IfOk result (λ r. IfSome r (λ found. IsWithin limits.steps found)) }
+{
+    let setting = Setting {
+        odds: query.odds,
+        held: query.held,
+        exact,
+    };
+    let mut search = Search::new(alloc, setting, limits);
+    let root = Child {
+        label: Label::Now,
+        sketch: sketch.copied(),
+        unknown: None,
+        rank: 0,
+    };
+    match found_by(alloc, &mut search, &root, desk)? {
+        Some(found) => Ok(if_proved(query, limits.steps, found)),
+        None => Ok(None),
+    }
+}
+
+/// The same with one exact file after another on which a pawn has moved.
+fn found_on_files(
+    alloc: Global,
+    query: &Query,
+    sketch: &Sketch,
+    limits: Limits,
+    desk: &mut SketchDesk,
+) -> Result<Option<FoundSketch>, Memory>
+    ensures proves { IfOk result (λ r. IfSome r (λ found. IsProofOf query.now found)) }
+    ensures games { IfOk result (λ r. IfSome r (λ found. (m : List Move) → LeadsTo query.now.odds m query.now → ⊥)) }
+    ensures within { IfOk result (λ r. IfSome r (λ found. IsWithin limits.steps found)) }
+{
+    for file in 0..8usize {
+        if has_moved_pawn(sketch, file) {
+            let mut exact = [false; 8];
+            exact[file] = true;
+            let found = found_with(alloc, query, sketch, exact, limits, desk)?;
+            if found.is_some() {
+                return Ok(found);
+            }
+        }
+    }
+    Ok(None)
+}
+
+/// Looks for a sketch that shows that no game comes to the query: for prices that close its sketch, marks that they force, and trees over
+/// what was before its steps, as far as the limits allow. If no exact file is needed, none is given; otherwise one at a time is tried. The
+/// same query, limits and desk have the same answer. What is found proves that no game, of any length, leads to the query, and is within the
+/// limits. If the query's own sketch is void, that is found; if nothing is found otherwise, nothing is said of the query.
+pub fn find_sketch(
+    alloc: Global,
+    query: &Query,
+    limits: Limits,
+    desk: &mut SketchDesk,
+) -> Result<Option<FoundSketch>, Memory>
+    ensures proves { IfOk result (λ r. IfSome r (λ found. IsProofOf query.now found)) }
+    ensures games { IfOk result (λ r. IfSome r (λ found. (m : List Move) → LeadsTo query.now.odds m query.now → ⊥)) }
+    ensures within { IfOk result (λ r. IfSome r (λ found. IsWithin limits.steps found)) }
+    ensures root { IfOk result (λ r. IsSome r → IsRoot query.now.odds query.now.board) }
+    // A proof of one node without prices and marks is never missed, if a walk can begin with the query's sketch at all.
+    ensures void { IfOk result (λ r. IsRoot query.now.odds query.now.board → CanBegin query.now.odds (sketch_of query.now.board) → IsVoid query.now.odds query.now.held (sketch_of query.now.board) → IsSome r) }
+{
+    let Some(sketch) = root_of(query) else {
+        return Ok(None);
+    };
+    if is_void(&sketch, query.held, query.odds) {
+        return void_root(alloc, query, limits.steps);
+    }
+    let found = found_with(alloc, query, &sketch, [false; 8], limits, desk)?;
+    if found.is_some() || !limits.files {
+        return Ok(found);
+    }
+    found_on_files(alloc, query, &sketch, limits, desk)
+}
