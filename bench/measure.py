@@ -217,7 +217,7 @@ def study(program, path):
         for total, more in zip((own, inner, calls), profiled([program, "study", "8", "2000"], fen.encode() + b"\n")):
             total.update(more)
     every = sum(own.values())
-    visited, asked = calls["static_rules::closing::close"], calls["price_search::desk::prices_by"]
+    visited, asked = calls["retro_search::searching::search"], calls["price_search::desk::prices_by"]
     games = inner["game_search::finding::find_game"]
     rest = every - games
     print(f"{len(fens)} diagrams, {every:,} instructions, {games:,} of them for games, {visited:,} positions visited, {asked:,} asked for prices")
