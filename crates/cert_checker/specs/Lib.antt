@@ -1,4 +1,5 @@
 pub mod Reasons
+pub mod Sketches
 pub mod Proving
 pub mod Walk
 pub mod Answers

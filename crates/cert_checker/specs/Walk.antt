@@ -10,9 +10,12 @@ use Rattle.query_base.specs.Ancestors.{CoversAt}
 use Rattle.cert_checker.specs.Reasons.{ReasonSupports}
 use Rattle.unmove_gen.specs.Listed.{unmoves}
 use Rattle.unmove_gen.specs.Predecessor.{predecessor}
-use Rattle.cert_text.specs.Tree.{Tree, Forest, rule, back, expand, none, more}
+use Rattle.cert_text.specs.Tree.{Tree, Forest, rule, back, expand, sketch, none, more}
 use Rattle.cert_text.specs.Certificate.{Certificate, root_at}
+use Rattle.sketch_checker.specs.TreeWalk.{Walked as SketchWalked}
+use Rattle.sketch_checker.specs.TreeWalk as sketches
 use Rattle.cert_checker.specs.Proving.{target_of}
+use Rattle.cert_checker.specs.Sketches.{WalksSketch, why_of}
 use Rattle.cert_checker.specs.declared.refusals.Why.{Why}
 use Rattle.cert_checker.specs.declared.refusals.Why.TheVariants as why
 
@@ -36,6 +39,11 @@ abbrev pub Onwards : Walked → (ℕ → Walked → Type 0) → Walked → Type 
 Onwards (fault_at n f) Rest walked = walked ≡ fault_at n f
 Onwards (next_line n) Rest walked = Rest n walked
 
+-- what the walk over a sketch comes to, as the walk of a tree
+abbrev pub walked_by : SketchWalked → Walked
+walked_by (sketches.fault_at n w) = fault_at n (unsupported (why_of w))
+walked_by (sketches.next_line n) = next_line n
+
 -- A child on line n whose label comes before the unmove u, the first that no child had: it is stray. After u: u is left out. If it
 -- is u, the child is walked.
 abbrev pub ByLabel : Ordering → Unmove → ℕ → Walked → Type 0 → Type 0
@@ -50,6 +58,7 @@ abbrev mutual
   Walks (back k) q ancestors n walked = Unless (CoversAt q ancestors k) why.Back n walked
   Walks (expand kids) q ancestors n walked =
       (Reaches [] q × (walked ≡ fault_at n (unsupported why.Array))) ⊎ ((Reaches [] q → ⊥) × WalksEach kids q (unmoves q) ancestors n (n + 1) walked)
+  Walks (sketch b) q ancestors n walked = (k : SketchWalked) × WalksSketch b q n k × (walked ≡ walked_by k)
 
   -- what the walk of the children that are left comes to, with the unmoves that are left; top is the parent's line, n the next one
   pub WalksEach : Forest → Asked → List Unmove → List Asked → ℕ → ℕ → Walked → Type 0

@@ -1,28 +1,38 @@
 -- Where a certificate's text goes bad.
-use Rattle.std.proofs.Common.{◌≡◌, ℕ, suc, ◌+◌, ◌-◌, inl, inr, List, [], ◌∷◌, ◌++◌, length, take, refl, sym, ap, ◌∙◌, subst, arith, append_assoc, length-append}
+use Rattle.std.proofs.Common.{◌≡◌, ℕ, suc, ◌+◌, ◌-◌, ◌≤◌, inl, inr, List, [], ◌∷◌, ◌++◌, length, map, nat_le, take, refl, sym, ap, ◌∙◌, subst, arith, append_assoc, length-append}
 use Rattle.std.specs.Prelude.{Some, None, codes}
 use Rattle.std.proofs.Math.Seq.{take-append-add}
 use Rattle.std.proofs.lemmas.List.{append-nil, take_at}
+use Rattle.std.proofs.lemmas.Bool.{cond-true, le-leb}
+use Rattle.std.proofs.lemmas.Option.{same_Some}
+use Rattle.board_base.proofs.TextLemmas.{mapped_some}
 use Rattle.general_lemmas.proofs.Lists.{same_first, same_rest}
 use Rattle.query_base.specs.Asked.{Asked}
 use Rattle.query_base.specs.declared.claims.Claim.{Claim}
 use Rattle.query_base.specs.declared.rule_lines.RuleLine.TheVariants.{Kings}
 use Rattle.cert_text.specs.declared.reasons.Reason.TheVariants.{Line}
-use Rattle.cert_text.specs.Tree.{Tree, rule, back, expand}
+use Rattle.sketch_text.specs.Heads.{Head as SketchHead}
+use Rattle.sketch_body.specs.Bodies.{most_units}
+use Rattle.sketch_body.specs.Due.{Reading, start}
+use Rattle.sketch_body.specs.Whole.{first_due}
+use Rattle.sketch_body.proofs.Readings.{whole_law}
+use Rattle.cert_text.specs.Tree.{Tree, rule, back, expand, sketch, units_in}
 use Rattle.cert_text.specs.Lines.{ended, said}
 use Rattle.cert_text.specs.Texts.{Begins, IsBadAt, IfBadText}
 use Rattle.cert_text.specs.NodeLines.{root_body, body_at}
 use Rattle.cert_text.specs.Certificate.{Lines, Certificate, AreLinesOf, AreBelow, AreKids, body_of}
-use Rattle.cert_text.specs.Due.{put_due, refused}
+use Rattle.cert_text.specs.Due.{Due, nodes_due, put_due, refused, sketch_due}
 use Rattle.cert_text.specs.Heads.{Leads, head_step}
 use Rattle.cert_text.specs.declared.heads.Head.{Head}
 use Rattle.cert_text.specs.declared.heads.Head.TheVariants.{FormatDue, RootDue}
 use Rattle.cert_text.specs.declared.node_lines.BodyLine.{BodyLine}
-use Rattle.cert_text.specs.declared.node_lines.BodyLine.TheVariants.{Rule, Back, Expand}
-use Rattle.cert_text.specs.Reading.{HasHeader, ReadsBelow, IsRefused}
+use Rattle.cert_text.specs.declared.node_lines.BodyLine.TheVariants.{Rule, Back, Expand, Sketch}
+use Rattle.cert_text.specs.Reading.{CanStart, HasHeader, HasRoom, ReadsBelow, IsRefused}
 use Rattle.cert_text.specs.declared.faults.CertFault.{CertFault}
 use Rattle.cert_text.specs.declared.faults.CertFault.TheVariants.{BadText, Memory}
-use Rattle.cert_text.proofs.Due.{Fills, fills, stops, below_runs}
+use Rattle.cert_text.proofs.Children.{put_from}
+use Rattle.cert_text.proofs.Due.{EndsSketch, Fills, FillsDue, IsDue, fills, low_body, put_is, stops, below_runs}
+use Rattle.cert_text.proofs.Fitting.{root_room}
 use Rattle.cert_text.proofs.HeadSteps.{GoesOn, at_root, closes, goes_on, head_leads, leads_both, leads_head}
 
 some_root : List ℕ
@@ -46,6 +56,7 @@ begins front h leads =
         heading = leads_head (front ++ c.lines) c.claim c.query (leads_both front c.lines FormatDue h (RootDue c.claim c.query) leads c.leads);
         root = root_known;
         nodes = refl;
+        few = omega arith;
       },
     )
 
@@ -105,31 +116,60 @@ bad_root front l ls claim q n at leads none = bad_at front l ls (RootDue claim q
     let found = a.root in
     cc)
 
+root_starts : (body : BodyLine) → HasRoom 0 body → CanStart 0 body
+root_starts (Rule r) room = tt
+root_starts (Back k) room = tt
+root_starts (Expand n) room = tt
+root_starts (Sketch h) room =
+    let n : ℕ = 0 + (h.prices + 1) in
+    let first : Reading = record { due = first_due h.prices; units = n } in
+    (first, cond-true (nat_le n most_units) (Some first) None (le-leb n most_units (omega arith)))
+
+-- what is due below a root's line
+pub root_put : (root : List ℕ) (body : BodyLine) → said root_body root ≡ Some body → (d : Due) × (put_due 0 body [] ≡ Some d) × IsDue d
+root_put root body e =
+    let room : HasRoom 0 body = root_room root body e in
+    let put = put_from 0 body [] (root_starts body room) in
+    (put.0, put.1, put_is 0 body [] put.0 (omega arith) (low_body 0 body room) put.1)
+
 -- a tree for all that is due below a root's line
-pub planted : (body : BodyLine) (lines : Lines) → Fills (put_due body []) lines → (t : Tree) × (body_of t ≡ body) × AreBelow t 0 lines
-planted (Rule r) lines below = (rule r, refl, below)
-planted (Back k) lines below = (back k, refl, below)
-planted (Expand n) lines (kids, front, others, size, e, are, none) =
-    (expand kids, ap Expand size, subst (AreKids kids 1) (sym (e ∙ ap (λ (l : Lines). front ++ l) none ∙ append-nil front)) are)
+planted : (body : BodyLine) (d : Due) (lines : Lines) → put_due 0 body [] ≡ Some d → FillsDue d lines → (t : Tree) × (body_of t ≡ body) × AreBelow t 0 lines × (units_in t ≤ most_units)
+planted (Rule r) d lines put below =
+    let f : Fills 0 [] lines = subst (λ (e : Due). FillsDue e lines) (sym (same_Some (nodes_due 0 []) d put)) below in
+    (rule r, refl, f.0, f.1)
+planted (Back k) d lines put below =
+    let f : Fills 0 [] lines = subst (λ (e : Due). FillsDue e lines) (sym (same_Some (nodes_due 0 []) d put)) below in
+    (back k, refl, f.0, f.1)
+planted (Expand n) d lines put below =
+    let f : Fills 0 (n ∷ []) lines = subst (λ (e : Due). FillsDue e lines) (sym (same_Some (nodes_due 0 (n ∷ [])) d put)) below in
+    let few = f.6.1 in
+    (expand f.0, ap Expand f.3, subst (AreKids f.0 1) (sym (f.4 ∙ ap (λ (l : Lines). f.1 ++ l) f.6.0 ∙ append-nil f.1)) f.5, omega arith)
+planted (Sketch h) d lines put below =
+    let m = mapped_some (λ (r : Reading). sketch_due r []) (start 0 h) d put in
+    let e : EndsSketch m.0 [] lines = subst (λ (x : Due). FillsDue x lines) (sym m.2) below in
+    let found = (whole_law 0 h e.texts e.items e.last).0 (record { first = m.0; starts = m.1; leads = e.leads }, e.over) in
+    let is = found.1 in
+    let few = is.few in
+    (sketch found.0, ap (λ (x : SketchHead). Sketch x) is.head, (e.texts, e.parts ∙ ap (λ (l : Lines). map ended e.texts ++ l) e.fills.0 ∙ append-nil (map ended e.texts), is.texts_are), omega arith)
 
 -- the text of a tree isn't refused
-tree_runs : (t : Tree) (n : ℕ) (lines : Lines) → AreBelow t 0 lines → refused (put_due (body_of t) []) n lines ≡ None
-tree_runs t n lines below = ap (refused (put_due (body_of t) []) n) (sym (append-nil lines)) ∙ below_runs t [] n lines [] below
+tree_runs : (t : Tree) (n : ℕ) (lines : Lines) (d : Due) → AreBelow t 0 lines → units_in t ≤ most_units → put_due 0 (body_of t) [] ≡ Some d → refused d n lines ≡ None
+tree_runs t n lines d below few put = ap (refused d n) (sym (append-nil lines)) ∙ below_runs t 0 [] n lines [] d below (omega arith) put
 
 -- a certificate's text is not refused below its root's line
-cert_runs : (front : Lines) (root : List ℕ) (claim : Claim) (q : Asked) (body : BodyLine) (n : ℕ) (lines : Lines) (cert : Certificate) → Leads FormatDue front (RootDue claim q) → said root_body root ≡ Some body → AreLinesOf (front ++ root ∷ lines) cert → refused (put_due body []) n lines ≡ None
-cert_runs front root claim q body n lines cert leads here a =
+cert_runs : (front : Lines) (root : List ℕ) (claim : Claim) (q : Asked) (body : BodyLine) (n : ℕ) (lines : Lines) (d : Due) (cert : Certificate) → Leads FormatDue front (RootDue claim q) → said root_body root ≡ Some body → put_due 0 body [] ≡ Some d → AreLinesOf (front ++ root ∷ lines) cert → refused d n lines ≡ None
+cert_runs front root claim q body n lines d cert leads here put a =
     let is = at_root claim cert.claim q cert.query _ _ (continues front (root ∷ lines) (RootDue claim q) cert leads a) in
     let same-root : root ≡ a.root_line = same_first is.rest in
     let same : lines ≡ a.below = same_rest is.rest in
     let bodies : Some body ≡ Some (body_of cert.root) = sym here ∙ ap (said root_body) same-root ∙ a.root in
     let body-is : body ≡ body_of cert.root = cc in
-    ap (λ (b : BodyLine). refused (put_due b []) n lines) body-is ∙ ap (refused (put_due (body_of cert.root) []) n) same ∙ tree_runs cert.root n a.below a.nodes
+    ap (refused d n) same ∙ tree_runs cert.root n a.below d a.nodes a.few (ap (λ (b : BodyLine). put_due 0 b []) (sym body-is) ∙ put)
 
 -- lines that are all that is due below a root's are the text of a certificate
-pub planted_text : (front : Lines) (root : List ℕ) (claim : Claim) (q : Asked) (body : BodyLine) (n : ℕ) (lines : Lines) → Leads FormatDue front (RootDue claim q) → said root_body root ≡ Some body → refused (put_due body []) n lines ≡ None → (t : Tree) × (body_of t ≡ body) × AreBelow t 0 lines × AreLinesOf (front ++ root ∷ lines) (record { claim = claim; query = q; root = t })
-planted_text front root claim q body n lines leads here runs =
-    let t = planted body lines (fills lines (put_due body []) n runs) in (
+pub planted_text : (front : Lines) (root : List ℕ) (claim : Claim) (q : Asked) (body : BodyLine) (n : ℕ) (lines : Lines) (d : Due) → Leads FormatDue front (RootDue claim q) → said root_body root ≡ Some body → put_due 0 body [] ≡ Some d → IsDue d → refused d n lines ≡ None → (t : Tree) × (body_of t ≡ body) × AreBelow t 0 lines × AreLinesOf (front ++ root ∷ lines) (record { claim = claim; query = q; root = t })
+planted_text front root claim q body n lines d leads here put is runs =
+    let t = planted body d lines put (fills lines d n is runs) in (
       t.0,
       t.1,
       t.2,
@@ -141,12 +181,13 @@ planted_text front root claim q body n lines leads here runs =
         heading = leads_head front claim q leads;
         root = here ∙ ap (λ (b : BodyLine). Some b) (sym t.1);
         nodes = t.2;
+        few = t.3;
       },
     )
 
-begins_as : (front : Lines) (root : List ℕ) (claim : Claim) (q : Asked) (body : BodyLine) (n : ℕ) (some rest : Lines) → Leads FormatDue front (RootDue claim q) → said root_body root ≡ Some body → refused (put_due body []) n (some ++ rest) ≡ None → Begins AreLinesOf (front ++ root ∷ some)
-begins_as front root claim q body n some rest leads here runs =
-    let t = planted_text front root claim q body n (some ++ rest) leads here runs in (
+begins_as : (front : Lines) (root : List ℕ) (claim : Claim) (q : Asked) (body : BodyLine) (n : ℕ) (some rest : Lines) (d : Due) → Leads FormatDue front (RootDue claim q) → said root_body root ≡ Some body → put_due 0 body [] ≡ Some d → IsDue d → refused d n (some ++ rest) ≡ None → Begins AreLinesOf (front ++ root ∷ some)
+begins_as front root claim q body n some rest d leads here put is runs =
+    let t = planted_text front root claim q body n (some ++ rest) d leads here put is runs in (
       rest,
       record { claim = claim; query = q; root = t.0 },
       subst (λ (l : Lines). AreLinesOf l (record { claim = claim; query = q; root = t.0 })) (sym (append_assoc front (root ∷ some) rest)) t.3,
@@ -156,48 +197,53 @@ take_behind : (front : Lines) (root : List ℕ) (lines : Lines) (k n : ℕ) → 
 take_behind front root lines k n e = ap (λ (i : ℕ). take i (front ++ root ∷ lines)) e ∙ take-append-add front (root ∷ lines) (suc k)
 
 -- what is refused below a root's line is bad there
-pub bad_below_root : (front : Lines) (root : List ℕ) (claim : Claim) (q : Asked) (body : BodyLine) (m : ℕ) (lines : Lines) (n : ℕ) → m ≡ length front + 2 → Leads FormatDue front (RootDue claim q) → said root_body root ≡ Some body → refused (put_due body []) m lines ≡ Some n → IsBadAt AreLinesOf (front ++ root ∷ lines) n
-bad_below_root front root claim q body m lines n at leads here bad =
-    let s = stops lines (put_due body []) m n bad in
+pub bad_below_root : (front : Lines) (root : List ℕ) (claim : Claim) (q : Asked) (body : BodyLine) (m : ℕ) (lines : Lines) (n : ℕ) (d : Due) → m ≡ length front + 2 → Leads FormatDue front (RootDue claim q) → said root_body root ≡ Some body → put_due 0 body [] ≡ Some d → IsDue d → refused d m lines ≡ Some n → IsBadAt AreLinesOf (front ++ root ∷ lines) n
+bad_below_root front root claim q body m lines n d at leads here put is bad =
+    let s = stops lines d m n is bad in
     let place = s.at in
     let size : length (front ++ root ∷ lines) ≡ length front + suc (length lines) = length-append front (root ∷ lines) in
     let before : take (n - 1) (front ++ root ∷ lines) ≡ front ++ root ∷ take s.before lines = take_behind front root lines s.before (n - 1) (omega arith) in
     let with : take n (front ++ root ∷ lines) ≡ front ++ root ∷ take (suc s.before) lines = take_behind front root lines (suc s.before) n (omega arith) in
     record {
       counted = omega arith;
-      front = subst (λ (l : Lines). Begins AreLinesOf l) (sym before) (begins_as front root claim q body m (take s.before lines) s.rest leads here s.front);
+      front = subst (λ (l : Lines). Begins AreLinesOf l) (sym before) (begins_as front root claim q body m (take s.before lines) s.rest d leads here put is s.front);
       bad = elim s.bad [
         | inl b ↦ inl (
           let inside = b.0 in omega arith,
           λ begun.
               let text : AreLinesOf (front ++ root ∷ (take (suc s.before) lines ++ begun.0)) begun.1 = subst (λ (l : Lines). AreLinesOf l begun.1) (ap (λ (l : Lines). l ++ begun.0) with ∙ append_assoc front (root ∷ take (suc s.before) lines) begun.0) begun.2 in
-              let runs = cert_runs front root claim q body m (take (suc s.before) lines ++ begun.0) begun.1 leads here text in
+              let runs = cert_runs front root claim q body m (take (suc s.before) lines ++ begun.0) d begun.1 leads here put text in
               let stops = b.1 begun.0 in cc,
         )
-        | inr b ↦ inr (omega arith, λ cert a. let runs = cert_runs front root claim q body m lines cert leads here a in cc)
+        | inr b ↦ inr (omega arith, λ cert a. let runs = cert_runs front root claim q body m lines d cert leads here put a in cc)
       ];
     }
 
 -- what is refused after a header
-below_header : (lines : Lines) (claim : Claim) (q : Asked) (body : BodyLine) (m : ℕ) (rest : Lines) (n : ℕ) → HasHeader lines claim q body m rest → refused (put_due body []) m rest ≡ Some n → IsBadAt AreLinesOf lines n
-below_header lines claim q body m rest n h bad =
-    subst (λ (l : Lines). IsBadAt AreLinesOf l n) (sym h.parts) (bad_below_root h.front h.root_line claim q body m rest n h.counted h.leads h.body_is bad)
+below_header : (lines : Lines) (claim : Claim) (q : Asked) (body : BodyLine) (m : ℕ) (rest : Lines) (n : ℕ) (d : Due) → HasHeader lines claim q body m rest → put_due 0 body [] ≡ Some d → IsDue d → refused d m rest ≡ Some n → IsBadAt AreLinesOf lines n
+below_header lines claim q body m rest n d h put is bad =
+    subst (λ (l : Lines). IsBadAt AreLinesOf l n) (sym h.parts) (bad_below_root h.front h.root_line claim q body m rest n d h.counted h.leads h.body_is put is bad)
 
-pub bad_fault : (fault : CertFault) (lines : Lines) (claim : Claim) (q : Asked) (body : BodyLine) (m : ℕ) (rest : Lines) → HasHeader lines claim q body m rest → IfBadText fault (IsRefused (put_due body) 0 rest m) → IfBadText fault (IsBadAt AreLinesOf lines)
+pub bad_fault : (fault : CertFault) (lines : Lines) (claim : Claim) (q : Asked) (body : BodyLine) (m : ℕ) (rest : Lines) → HasHeader lines claim q body m rest → IfBadText fault (IsRefused 0 body 0 rest m) → IfBadText fault (IsBadAt AreLinesOf lines)
 bad_fault Memory lines claim q body m rest h bad = tt
-bad_fault (BadText n) lines claim q body m rest h bad = below_header lines claim q body m rest n h (bad [] refl)
+bad_fault (BadText n) lines claim q body m rest h bad =
+    let put = root_put h.root_line body h.body_is in
+    below_header lines claim q body m rest n put.0 h put.1 put.2 (bad [] put.0 refl put.1)
 
 -- a line after the last node
-pub extra_line : (lines : Lines) (claim : Claim) (q : Asked) (body : BodyLine) (m : ℕ) (rest : Lines) (t : Tree) (line : List ℕ) (after others : Lines) (next : ℕ) → HasHeader lines claim q body m rest → ReadsBelow body 0 rest m t after next → after ≡ line ∷ others → IsBadAt AreLinesOf lines next
-extra_line lines claim q body m rest t line after others next h b e =
-    let runs : refused (put_due body []) m rest ≡ Some next =
-    ap (refused (put_due body []) m) (b.parts ∙ ap (λ (l : Lines). b.front ++ l) e) ∙ ap (λ (c : BodyLine). refused (put_due c []) m (b.front ++ line ∷ others)) (sym b.says)
-    ∙ below_runs t [] m b.front (line ∷ others) b.below ∙ ap (λ (k : ℕ). Some k) (sym b.lines_count) in
-    below_header lines claim q body m rest next h runs
+pub extra_line : (lines : Lines) (claim : Claim) (q : Asked) (body : BodyLine) (m : ℕ) (rest : Lines) (t : Tree) (line : List ℕ) (after others : Lines) (next all : ℕ) → HasHeader lines claim q body m rest → ReadsBelow body 0 rest m 0 t after next all → after ≡ line ∷ others → IsBadAt AreLinesOf lines next
+extra_line lines claim q body m rest t line after others next all h b e =
+    let put = root_put h.root_line body h.body_is in
+    let own : put_due 0 (body_of t) [] ≡ Some put.0 = ap (λ (c : BodyLine). put_due 0 c []) b.says ∙ put.1 in
+    let few : 0 + units_in t ≤ most_units = let few = b.few in let is = b.units_are in omega arith in
+    let runs : refused put.0 m rest ≡ Some next =
+    ap (refused put.0 m) (b.parts ∙ ap (λ (l : Lines). b.front ++ l) e)
+    ∙ below_runs t 0 [] m b.front (line ∷ others) put.0 b.below few own ∙ ap (λ (k : ℕ). Some k) (sym b.lines_count) in
+    below_header lines claim q body m rest next put.0 h put.1 put.2 runs
 
 -- what was read to the end is a certificate's text
-pub whole_text : (lines : Lines) (claim : Claim) (q : Asked) (body : BodyLine) (m : ℕ) (rest : Lines) (t : Tree) (after : Lines) (next : ℕ) → HasHeader lines claim q body m rest → ReadsBelow body 0 rest m t after next → after ≡ [] → AreLinesOf lines (record { claim = claim; query = q; root = t })
-whole_text lines claim q body m rest t after next h b none = record {
+pub whole_text : (lines : Lines) (claim : Claim) (q : Asked) (body : BodyLine) (m : ℕ) (rest : Lines) (t : Tree) (after : Lines) (next all : ℕ) → HasHeader lines claim q body m rest → ReadsBelow body 0 rest m 0 t after next all → after ≡ [] → AreLinesOf lines (record { claim = claim; query = q; root = t })
+whole_text lines claim q body m rest t after next all h b none = record {
   head = h.front;
   root_line = h.root_line;
   below = rest;
@@ -205,4 +251,12 @@ whole_text lines claim q body m rest t after next h b none = record {
   heading = leads_head h.front claim q h.leads;
   root = h.body_is ∙ ap (λ (c : BodyLine). Some c) (sym b.says);
   nodes = subst (AreBelow t 0) (sym (b.parts ∙ ap (λ (l : Lines). b.front ++ l) none ∙ append-nil b.front)) b.below;
+  few = let few = b.few in let is = b.units_are in omega arith;
 }
+
+-- the root's sketch can start
+pub header_starts : (lines : Lines) (claim : Claim) (q : Asked) (body : BodyLine) (m : ℕ) (rest : Lines) → HasHeader lines claim q body m rest → CanStart 0 body
+header_starts lines claim q body m rest h = root_starts body (root_room h.root_line body h.body_is)
+
+pub header_room : (lines : Lines) (claim : Claim) (q : Asked) (body : BodyLine) (m : ℕ) (rest : Lines) → HasHeader lines claim q body m rest → HasRoom 0 body
+header_room lines claim q body m rest h = root_room h.root_line body h.body_is

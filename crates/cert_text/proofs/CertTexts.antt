@@ -1,8 +1,10 @@
 -- Certificates and their texts.
-use Rattle.std.proofs.Common.{◌≡◌, ℕ, ◌==◌, Bool, true, false, cond, List, [], ◌∷◌, ◌++◌, None, refl, sym, ap, ◌∙◌, subst, arith}
+use Rattle.std.proofs.Common.{◌≡◌, ℕ, ◌≤◌, ◌==◌, Bool, true, false, cond, List, [], ◌∷◌, ◌++◌, None, refl, sym, ap, ◌∙◌, subst, arith}
 use Rattle.std.specs.List.{concat, onto_first}
 use Rattle.query_base.specs.Asked.{Asked}
 use Rattle.query_base.specs.declared.claims.Claim.{Claim}
+use Rattle.sketch_body.specs.Bodies.{most_units}
+use Rattle.cert_text.specs.Tree.{units_in}
 use Rattle.cert_text.specs.Lines.{cut, ended}
 use Rattle.cert_text.specs.Certificate.{Lines, Certificate, AreHeadLines, AreLinesOf, IsTextOf, HasText, body_of}
 use Rattle.cert_text.specs.Writable.{is_written, IsQuery, fits}
@@ -18,6 +20,7 @@ pub record IsWritable (cert : Certificate) : Type 0 where
   pub claim : is_written cert.claim ≡ true
   pub plain : cert.query.barred ≡ None
   pub root : fits 0 cert.root ≡ true
+  pub few : units_in cert.root ≤ most_units
 
 pub has_text : (cert : Certificate) → IsQuery cert.query → IsWritable cert → HasText cert
 has_text cert known writable =
@@ -36,6 +39,7 @@ has_text cert known writable =
         heading = head_back cert.claim cert.query writable.claim known writable.plain;
         root = root_back (body_of cert.root) own;
         nodes = below.are;
+        few = writable.few;
       }),
     )
 
@@ -46,6 +50,7 @@ writable lines cert a =
       claim = head_written a.head cert.claim cert.query a.heading;
       plain = head_plain a.head cert.claim cert.query a.heading;
       root = below_fits cert.root 0 a.below root.fits a.nodes;
+      few = a.few;
     }
 
 -- the lines of a certificate are the ones that are written of it

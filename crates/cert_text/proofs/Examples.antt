@@ -1,5 +1,5 @@
 -- The text of a certificate, and lines that go bad.
-use Rattle.std.proofs.Common.{◌≡◌, ℕ, Bool, true, List, [], ◌∷◌, ◌++◌, refl}
+use Rattle.std.proofs.Common.{arith, ◌≡◌, ℕ, Bool, true, List, [], ◌∷◌, ◌++◌, refl}
 use Rattle.std.specs.Prelude.{None, Option, Some, codes, slice_set}
 use Rattle.board_base.specs.Board.{no_men, no_odds}
 use Rattle.board_base.specs.declared.men.Colour.TheVariants.{White}
@@ -80,6 +80,7 @@ text_with format_line odds_lines clock_lines odds clock format named demanded = 
   heading = head_with format_line odds_lines clock_lines odds clock format named demanded;
   root = refl;
   nodes = refl;
+  few = omega arith;
 }
 
 -- where nothing is demanded, the first three lines are the head

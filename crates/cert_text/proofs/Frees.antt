@@ -19,8 +19,9 @@ use Rattle.fen_text.proofs.Spelled.{spelled}
 use Rattle.cert_text.specs.Writable.{fits_depth}
 use Rattle.cert_text.specs.NodeLines.{body_text}
 use Rattle.cert_text.specs.declared.node_lines.BodyLine.{BodyLine}
-use Rattle.cert_text.specs.declared.node_lines.BodyLine.TheVariants.{Rule, Back, Expand}
+use Rattle.cert_text.specs.declared.node_lines.BodyLine.TheVariants.{Rule, Back, Expand, Sketch}
 use Rattle.fen_text.proofs.Decimals.{model}
+use Rattle.sketch_text.proofs.PlainTexts.{plain_head}
 use Rattle.cert_text.proofs.ReasonTexts.{reason_free}
 use Rattle.fen_text.proofs.MoveFrees.{higher}
 
@@ -37,6 +38,7 @@ body_free depth (Back k) low fits =
 body_free depth (Expand n) low fits =
     let parts = and_parts ((n == 0) || nat_lt depth 255) (nat_le n 999999) fits in
     decimal_free n (leb-true n 999999 parts.1)
+body_free depth (Sketch h) low fits = (plain_head h fits).free
 
 -- the four fields of a query
 

@@ -32,3 +32,6 @@ pub mod OneCertificate
 pub mod OneFault
 pub mod WrittenNumbers
 pub mod WrittenTrees
+pub mod SketchReading
+pub mod UnitsLeft
+pub mod SketchWritten

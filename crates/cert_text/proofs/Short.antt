@@ -43,8 +43,16 @@ use Rattle.cert_text.specs.declared.reasons.Reason.{Reason}
 use Rattle.cert_text.specs.declared.reasons.Reason.TheVariants.{Line, Balance}
 use Rattle.price_text.proofs.PricesWritten.{prices_short}
 use Rattle.cert_text.specs.declared.node_lines.BodyLine.{BodyLine}
-use Rattle.cert_text.specs.declared.node_lines.BodyLine.TheVariants.{Rule, Back, Expand}
+use Rattle.cert_text.specs.declared.node_lines.BodyLine.TheVariants.{Rule, Back, Expand, Sketch}
 use Rattle.fen_text.proofs.Begun.{begun}
+use Rattle.sketch_text.specs.Trees.{of_marks, of_node}
+use Rattle.sketch_text.proofs.PlainTexts.{plain_head, plain_marks, plain_node}
+use Rattle.sketch_body.specs.Bodies.{Item, of_line, of_prices}
+use Rattle.sketch_body.specs.Due.{Reading}
+use Rattle.sketch_body.specs.Due as sketches
+use Rattle.sketch_body.specs.Texts.{is_item, item_text}
+use Rattle.sketch_body.proofs.Closing.{says_is}
+use Rattle.sketch_body.proofs.Steps.{step_parts}
 use Rattle.cert_text.proofs.ClaimTexts.{text_read}
 use Rattle.fen_text.proofs.HexTexts.{set_length}
 use Rattle.cert_text.proofs.NearNumbers.{within}
@@ -95,6 +103,7 @@ body_short : (depth : ℕ) (b : BodyLine) → fits_depth depth b ≡ true → nu
 body_short depth (Rule r) fits few = omega (arith, name_short r fits)
 body_short depth (Back k) fits few = omega (arith, length-decimal-le 6 k (omega arith) (omega arith) (omega arith))
 body_short depth (Expand n) fits few = omega (arith, length-decimal-le 6 n (omega arith) (omega arith) (omega arith))
+body_short depth (Sketch h) fits few = let plain = plain_head h fits in let short = plain.short in omega arith
 
 pub claim_short : (claim : Claim) → length (claim_text claim) ≤ 16
 claim_short Illegal = omega arith
@@ -122,6 +131,17 @@ kid_text_short : (depth : ℕ) (text : List ℕ) (u : Unmove) (b : BodyLine) →
 kid_text_short depth text u b e =
     let read = kid_text_read depth text u b e in
     omega (arith, ap length read.text_is, length-append (unmove_text u) (32 ∷ body_text b), unmove_short u, body_short depth b read.fits read.few)
+
+item_short : (P : ℕ) (i : Item) → P ≤ 64 → is_item P i ≡ true → length (item_text i) ≤ 195
+item_short P (of_prices p) low known = prices_short p known
+item_short P (of_line (of_node x)) low known = let plain = plain_node P x low known in let short = plain.short in omega arith
+item_short P (of_line (of_marks m)) low known = let plain = plain_marks P m low known in let short = plain.short in omega arith
+
+sketch_text_short : (r : Reading) (text : List ℕ) (p : Item × Reading) → r.due.prices ≤ 64 → sketches.step r text ≡ Some p → length text ≤ 195
+sketch_text_short r text p low e =
+    let s = step_parts r text p.0 p.1 e in
+    let is = says_is r.due.prices text p.0 s.says in
+    omega (arith, ap length is.text_is, item_short r.due.prices p.0 low is.known)
 
 -- the line of a grammar's short texts is short
 pub line_short : {A : Type 0} (grammar : List ℕ → Option A) (most : ℕ) (line : List ℕ) (x : A) → ((text : List ℕ) → grammar text ≡ Some x → length text ≤ most) → said grammar line ≡ Some x → length line ≤ most + 1
@@ -173,6 +193,7 @@ long_mute line long = record {
       (nothing_said query_of line (λ x e. let short = line_short query_of 85 line x (λ text. query_text_short text x) e in omega arith));
   root = nothing_said root_body line (λ x e. let short = line_short root_body 230 line x (λ text. root_text_short text x) e in omega arith);
   kid = λ depth. nothing_said (kid_body depth) line (λ x e. let short = line_short (kid_body depth) 233 line x (λ text. kid_text_short depth text x.0 x.1) e in omega arith);
+  sketch = λ r low. nothing_said (sketches.step r) line (λ x e. let short = line_short (sketches.step r) 195 line x (λ text. sketch_text_short r text x low) e in omega arith);
 }
 
 -- lines whose reason, if there is one, is a rule line
@@ -182,12 +203,14 @@ IsBrief (Rule (Line r)) = Unit {0}
 IsBrief (Rule (Balance set p)) = ⊥
 IsBrief (Back k) = Unit {0}
 IsBrief (Expand n) = Unit {0}
+IsBrief (Sketch h) = Unit {0}
 
 body_brief : (depth : ℕ) (b : BodyLine) → IsBrief b → fits_depth depth b ≡ true → number_in b ≤ 999999 → length (body_text b) ≤ 94
 body_brief depth (Rule (Line r)) brief fits few = omega (arith, rule_short r fits)
 body_brief depth (Rule (Balance set p)) brief fits few = absurd brief
 body_brief depth (Back k) brief fits few = omega (arith, length-decimal-le 6 k (omega arith) (omega arith) (omega arith))
 body_brief depth (Expand n) brief fits few = omega (arith, length-decimal-le 6 n (omega arith) (omega arith) (omega arith))
+body_brief depth (Sketch h) brief fits few = let plain = plain_head h fits in let short = plain.short in omega arith
 
 -- they have at most 128 bytes
 
@@ -212,4 +235,5 @@ unended_mute line other = record {
   head = no_step line (unended_said format_of line other) (unended_said claim_of line other) (unended_said odds_line line other) (unended_said clock_line line other) (unended_said query_of line other);
   root = unended_said root_body line other;
   kid = λ depth. unended_said (kid_body depth) line other;
+  sketch = λ r low. unended_said (sketches.step r) line other;
 }

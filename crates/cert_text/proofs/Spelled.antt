@@ -1,21 +1,23 @@
 -- What is read as a line is its one text, and is read of it.
-use Rattle.std.proofs.Common.{◌≡◌, ℕ, ◌≤◌, ◌==◌, ◌||◌, ◌&&◌, true, List, ◌++◌, drop, Option, Some, None, refl, sym, ap, ◌∙◌, arith, nat_eq, nat_lt, nat_le}
+use Rattle.std.proofs.Common.{◌≡◌, ℕ, ◌≤◌, ◌==◌, ◌||◌, ◌&&◌, true, false, List, ◌++◌, drop, Option, Some, None, refl, sym, ap, ◌∙◌, arith, nat_eq, nat_lt, nat_le}
 use Rattle.std.specs.Prelude.{codes}
-use Rattle.std.proofs.lemmas.Bool.{and_parts, and_from, cond-true, cond_both, le-leb}
+use Rattle.std.proofs.lemmas.Bool.{and_parts, and_from, cond-false, cond-true, cond_both, le-leb}
 use Rattle.std.proofs.lemmas.Bool.Decides.{nat_tests}
 use Rattle.std.proofs.lemmas.Option.{cond_some, same_Some}
 use Rattle.std.specs.List.{starts_with}
 use Rattle.std.specs.Option.{option_map, option_and_then}
+use Rattle.sketch_text.specs.Heads.{Head, head_line, head_text, is_head}
+use Rattle.sketch_text.proofs.HeadTexts.{head_read, head_stands}
 use Rattle.cert_text.specs.declared.reasons.Reason.{Reason}
 use Rattle.fen_text.specs.Numbers.{number}
 use Rattle.cert_text.specs.NodeLines.{reason_of, back_at, expand_at, body_at, body_text}
 use Rattle.cert_text.specs.Writable.{fits_depth, is_reason}
 use Rattle.cert_text.specs.declared.node_lines.BodyLine.{BodyLine}
-use Rattle.cert_text.specs.declared.node_lines.BodyLine.TheVariants.{Rule, Back, Expand}
+use Rattle.cert_text.specs.declared.node_lines.BodyLine.TheVariants.{Rule, Back, Expand, Sketch}
 use Rattle.fen_text.proofs.Begun.{begun}
 use Rattle.fen_text.proofs.Decimals.{number_back, number_read}
 use Rattle.cert_text.proofs.ReasonTexts.{reason_back, reason_read}
-use Rattle.cert_text.proofs.RuleTexts.{Only, only_none}
+use Rattle.cert_text.proofs.RuleTexts.{Only}
 
 -- bodies
 
@@ -31,6 +33,17 @@ expand_read : (depth n : ℕ) → n ≤ 999999 → body_at depth (body_text (Exp
 unfolding body_at
 expand_read depth n few = ap (option_and_then (expand_at depth)) (number_back n few)
 
+starts_sketch : (h : Head) → (starts_with nat_eq (head_text h) (codes "rule ") ≡ false) × (starts_with nat_eq (head_text h) (codes "back ") ≡ false) × (starts_with nat_eq (head_text h) (codes "expand ") ≡ false)
+unfolding head_text
+starts_sketch h = (refl, refl, refl)
+
+sketch_read : (depth : ℕ) (h : Head) → is_head h ≡ true → body_at depth (head_text h) ≡ Some (Sketch h)
+unfolding body_at
+sketch_read depth h known =
+    let other = starts_sketch h in
+    cond-false (starts_with nat_eq (head_text h) (codes "rule ")) _ _ other.0 ∙ cond-false (starts_with nat_eq (head_text h) (codes "back ")) _ _ other.1
+    ∙ cond-false (starts_with nat_eq (head_text h) (codes "expand ")) _ _ other.2 ∙ ap (option_map (λ (x : Head). Sketch x)) (head_stands h known)
+
 -- the text of a body is read as this body
 pub body_back : (depth : ℕ) (b : BodyLine) → depth ≤ 255 → fits_depth depth b ≡ true → body_at depth (body_text b) ≡ Some b
 body_back depth (Rule r) low fits = rule_back depth r fits
@@ -40,12 +53,14 @@ body_back depth (Back k) low fits =
 body_back depth (Expand n) low fits =
     let parts = and_parts ((n == 0) || nat_lt depth 255) (nat_le n 999999) fits in
     expand_read depth n (grind (arith, nat_tests)) ∙ cond-true ((n == 0) || nat_lt depth 255) (Some (Expand n)) None parts.0
+body_back depth (Sketch h) low fits = sketch_read depth h fits
 
 -- the number in a body, if there is one
 abbrev pub number_in : BodyLine → ℕ
 number_in (Rule r) = 0
 number_in (Back k) = k
 number_in (Expand n) = n
+number_in (Sketch h) = 0
 
 -- a text is the one of a body, which the depth admits
 pub record IsTextOfBody (depth : ℕ) (text : List ℕ) (b : BodyLine) : Type 0 where
@@ -86,6 +101,17 @@ after_expand depth text (Some n) whole e b is =
       few = omega (arith, number.few, ap number_in at.1);
     }
 
+after_sketch : (depth : ℕ) (text : List ℕ) (o : Option Head) → head_line text ≡ o → Only (IsTextOfBody depth text) (option_map (λ h. Sketch h) o)
+after_sketch depth text None e b is = absurd cc
+after_sketch depth text (Some h) e b is =
+    let same : Sketch h ≡ b = same_Some _ _ is in
+    let head = head_read text h e in
+    record {
+      text_is = head.text_is ∙ ap body_text same;
+      fits = ap (fits_depth depth) (sym same) ∙ head.known;
+      few = omega (arith, ap number_in same);
+    }
+
 -- what is read as a body is its text
 pub body_read : (depth : ℕ) (text : List ℕ) → Only (IsTextOfBody depth text) (body_at depth text)
 unfolding body_at
@@ -93,4 +119,4 @@ body_read depth text =
     cond_both (starts_with nat_eq text (codes "rule ")) _ _ (Only (IsTextOfBody depth text)) (λ t. after_rule depth text (reason_of (drop 5 text)) (begun text (codes "rule ") t) refl)
     (λ f. cond_both (starts_with nat_eq text (codes "back ")) _ _ (Only (IsTextOfBody depth text)) (λ t. after_back depth text (number (drop 5 text)) (begun text (codes "back ") t) refl)
     (λ f. cond_both (starts_with nat_eq text (codes "expand ")) _ _ (Only (IsTextOfBody depth text)) (λ t. after_expand depth text (number (drop 7 text)) (begun text (codes "expand ") t) refl)
-    (λ f. only_none (IsTextOfBody depth text))))
+    (λ f. after_sketch depth text (head_line text) refl)))

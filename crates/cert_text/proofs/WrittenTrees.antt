@@ -1,5 +1,5 @@
 -- Lines that are put after one another.
-use Rattle.std.proofs.Common.{◌≡◌, ℕ, zero, suc, ◌+◌, ◌<◌, ◌^◌, ◌==◌, ◌&&◌, ◌||◌, true, nat_lt, nat_le, List, [], ◌∷◌, ◌++◌, sym, ap, ◌∙◌, subst, arith}
+use Rattle.std.proofs.Common.{◌≡◌, ℕ, zero, suc, ◌+◌, ◌<◌, ◌≤◌, ◌^◌, ◌==◌, ◌&&◌, ◌||◌, true, nat_lt, nat_le, List, [], ◌∷◌, ◌++◌, length, sym, ap, ◌∙◌, subst, arith}
 use Rattle.std.specs.Prelude.{Some, None}
 use Rattle.std.specs.List.{concat}
 use Rattle.std.proofs.lemmas.Bool.{and_parts, leb-true}
@@ -7,18 +7,21 @@ use Rattle.std.proofs.lemmas.List.{append_assoc}
 use Rattle.std.proofs.lemmas.List.Folds.{concat-append}
 use Rattle.std.proofs.lemmas.Option.{some_pair_parts}
 use Rattle.board_base.specs.declared.unmoves.Unmove.{Unmove}
-use Rattle.cert_text.specs.Tree.{Tree, Forest, rule, back, expand, none, more, count, kid_at}
+use Rattle.sketch_text.specs.Heads.{Head, are_files, is_head}
+use Rattle.sketch_body.specs.Bodies.{Body, head_of}
+use Rattle.sketch_body.specs.Whole.{is_body}
+use Rattle.cert_text.specs.Tree.{Tree, Forest, rule, back, expand, sketch, none, more, count, kid_at}
 use Rattle.cert_text.specs.Sizes.{rest_of}
 use Rattle.cert_text.specs.Lines.{ended}
 use Rattle.cert_text.specs.Certificate.{Certificate, body_of}
 use Rattle.cert_text.specs.NodeLines.{kid_body, root_body, root_text, kid_text, IsLine}
 use Rattle.cert_text.specs.Writable.{all_fit, fits, fits_depth, has_text}
-use Rattle.cert_text.specs.Written.{IsLabel, cert_lines, head_lines, lines_below, lines_of}
+use Rattle.cert_text.specs.Written.{IsLabel, IsSketchLine, cert_lines, head_lines, lines_below, lines_of}
 use Rattle.cert_text.specs.declared.node_lines.BodyLine.{BodyLine}
-use Rattle.cert_text.specs.declared.node_lines.BodyLine.TheVariants.{Expand}
+use Rattle.cert_text.specs.declared.node_lines.BodyLine.TheVariants.{Rule, Back, Expand, Sketch}
 use Rattle.cert_text.specs.declared.node_lines.NodeLine.{NodeLine}
 use Rattle.cert_text.proofs.Forests.{rest-more}
-use Rattle.cert_text.proofs.SpelledLines.{kid_text_read}
+use Rattle.cert_text.proofs.SpelledLines.{kid_text_read, root_text_read}
 use Rattle.board_base.proofs.TextLemmas.{mapped_some}
 
 -- a child that the grammar admits
@@ -74,8 +77,45 @@ line_label n (suc depth, text, e) =
 pub few_children : (t : Tree) (depth n : ℕ) → fits depth t ≡ true → body_of t ≡ Expand n → n < 2 ^ 32
 few_children (rule r) depth n fit e = absurd cc
 few_children (back k) depth n fit e = absurd cc
+few_children (sketch b) depth n fit e = absurd cc
 few_children (expand kids) depth n fit e =
     let own = and_parts (fits_depth depth (Expand (count kids))) (all_fit (suc depth) kids) fit in
     let few = and_parts ((count kids == 0) || nat_lt depth 255) (nat_le (count kids) 999999) own.0 in
     let same : count kids ≡ n = cc in
     omega (arith, leb-true (count kids) 999999 few.1)
+
+body_head : (b : Body) → is_body b ≡ true → is_head (head_of b) ≡ true
+body_head b known = (and_parts (is_head (head_of b)) _ known).0
+
+-- the sketch of a tree that the grammar admits has few lines of prices
+pub few_prices : (t : Tree) (depth : ℕ) (h : Head) → fits depth t ≡ true → body_of t ≡ Sketch h → h.prices ≤ 64
+few_prices (rule r) depth h fit e = absurd cc
+few_prices (back k) depth h fit e = absurd cc
+few_prices (expand kids) depth h fit e = absurd cc
+few_prices (sketch b) depth h fit e =
+    let same : head_of b ≡ h = cc in
+    let few = leb-true (length b.prices) 64 (and_parts (nat_le (length b.prices) 64) (are_files 0 b.files) (body_head b fit)).0 in
+    let size : length b.prices ≡ h.prices = ap (λ (x : Head). x.prices) same in
+    omega arith
+
+-- and a first line
+pub sketch_line : (t : Tree) (depth : ℕ) → fits depth t ≡ true → IsSketchLine (body_of t)
+sketch_line (rule r) depth fit = tt
+sketch_line (back k) depth fit = tt
+sketch_line (expand kids) depth fit = tt
+sketch_line (sketch b) depth fit = body_head b fit
+
+-- what is read as a line has one, if it begins a sketch
+known_line : (b : BodyLine) (depth : ℕ) → fits_depth depth b ≡ true → IsSketchLine b
+known_line (Rule r) depth fit = tt
+known_line (Back k) depth fit = tt
+known_line (Expand n) depth fit = tt
+known_line (Sketch h) depth fit = fit
+
+pub line_known : (n : NodeLine) → IsLine n → IsSketchLine n.body
+line_known n (zero, text, e) =
+    let m = mapped_some (λ (b : BodyLine). record { label = None; body = b }) (root_body text) n e in
+    subst (λ (k : NodeLine). IsSketchLine k.body) m.2 (known_line m.0 0 (root_text_read text m.0 m.1).fits)
+line_known n (suc depth, text, e) =
+    let m = mapped_some (λ (k : Unmove × BodyLine). record { label = Some k.0; body = k.1 }) (kid_body (suc depth) text) n e in
+    subst (λ (k : NodeLine). IsSketchLine k.body) m.2 (known_line m.0.1 (suc depth) (kid_text_read (suc depth) text m.0.0 m.0.1 m.1).fits)

@@ -1,5 +1,5 @@
 -- The text of a certificate.
-use Rattle.std.specs.Prelude.{ℕ, suc, ◌+◌, ◌≡◌, Bool, cond, nat_eq, List, [], ◌∷◌, ◌++◌, length, drop, codes, Option, Some, None}
+use Rattle.std.specs.Prelude.{ℕ, suc, ◌+◌, ◌≡◌, ◌≤◌, Bool, cond, nat_eq, List, [], ◌∷◌, ◌++◌, length, drop, map, codes, Option, Some, None}
 use Rattle.std.specs.List.{starts_with}
 use Rattle.std.specs.Option.{option_map}
 use Rattle.std.specs.Str.{bytes_eq}
@@ -10,14 +10,15 @@ use Rattle.fen_text.specs.ClockLines.{clock_line, clock_text}
 use Rattle.fen_text.specs.Fen.{fen_of_four}
 use Rattle.fen_text.specs.OddsLines.{is_no_odds, odds_line, odds_text}
 use Rattle.fen_text.specs.Spelling.{spelling}
-use Rattle.cert_text.specs.Tree.{Tree, Forest, rule, back, expand, none, more, count}
+use Rattle.sketch_body.specs.Bodies.{AreTextsOf, head_of, most_units}
+use Rattle.cert_text.specs.Tree.{Tree, Forest, rule, back, expand, sketch, none, more, count, units_in}
 use Rattle.cert_text.specs.Lines.{cut, ended, said}
 use Rattle.cert_text.specs.ClaimLines.{claim_of}
 use Rattle.cert_text.specs.NodeLines.{root_body, kid_body}
 use Rattle.cert_text.specs.declared.heads.Format.{Format}
 use Rattle.cert_text.specs.declared.heads.Format.TheVariants.{One, Two}
 use Rattle.cert_text.specs.declared.node_lines.BodyLine.{BodyLine}
-use Rattle.cert_text.specs.declared.node_lines.BodyLine.TheVariants.{Rule, Back, Expand}
+use Rattle.cert_text.specs.declared.node_lines.BodyLine.TheVariants.{Rule, Back, Expand, Sketch}
 
 -- lines of bytes, each with its end
 abbrev pub Lines : Type 0
@@ -93,6 +94,7 @@ abbrev pub body_of : Tree → BodyLine
 body_of (rule r) = Rule r
 body_of (back k) = Back k
 body_of (expand kids) = Expand (count kids)
+body_of (sketch b) = Sketch (head_of b)
 
 abbrev mutual
   -- these lines, and no others, follow the own line of a node at this depth
@@ -100,6 +102,7 @@ abbrev mutual
   AreBelow (rule r) depth lines = lines ≡ []
   AreBelow (back k) depth lines = lines ≡ []
   AreBelow (expand kids) depth lines = AreKids kids (suc depth) lines
+  AreBelow (sketch b) depth lines = (texts : Lines) × (lines ≡ map ended texts) × AreTextsOf texts b
 
   -- these lines, and no others, are those of children at this depth, one child after another
   pub AreKids : Forest → ℕ → Lines → Type 0
@@ -107,7 +110,7 @@ abbrev mutual
   AreKids (more label tree rest) depth lines =
       (line : List ℕ) × (below : Lines) × (others : Lines) × (lines ≡ line ∷ (below ++ others)) × (said (kid_body depth) line ≡ Some (label, body_of tree)) × AreBelow tree depth below × AreKids rest depth others
 
--- these lines, and no others, are the text of the certificate
+-- these lines, and no others, are the text of the certificate; its sketches together don't have too many units
 pub record AreLinesOf (lines : Lines) (cert : Certificate) : Type 0 where
   pub head : Lines
   pub root_line : List ℕ
@@ -116,6 +119,7 @@ pub record AreLinesOf (lines : Lines) (cert : Certificate) : Type 0 where
   pub heading : AreHeadLines head cert.claim cert.query
   pub root : said root_body root_line ≡ Some (body_of cert.root)
   pub nodes : AreBelow cert.root 0 below
+  pub few : units_in cert.root ≤ most_units
 
 -- the bytes are the text of the certificate
 abbrev pub IsTextOf : List ℕ → Certificate → Type 0

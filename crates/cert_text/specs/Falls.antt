@@ -7,7 +7,7 @@ use Rattle.cert_text.specs.Sizes.{size, size_all}
 use Rattle.cert_text.specs.Seen.{body_tree}
 use Rattle.cert_text.specs.SeenKids.{forest_of}
 use Rattle.cert_text.specs.declared.nodes.Body.{Body}
-use Rattle.cert_text.specs.declared.nodes.Body.TheVariants.{Rule, Back, Expand}
+use Rattle.cert_text.specs.declared.nodes.Body.TheVariants.{Rule, Back, Expand, Sketch}
 use Rattle.cert_text.specs.declared.nodes.Kid.{Kid}
 use Rattle.cert_text.specs.declared.nodes.Kids.TheDeep.{deep-Kid, deep-Body}
 
@@ -15,6 +15,7 @@ body_falls : (b : Body) → deep-Body b ≤ size (body_tree b)
 body_falls (Rule r) = omega arith
 body_falls (Back k) = omega arith
 body_falls (Expand kids) = omega arith
+body_falls (Sketch b) = omega arith
 
 pub kids_fall : (ks : List Kid) → most deep-Kid ks ≤ size_all (forest_of ks)
 kids_fall [] = omega arith

@@ -14,12 +14,13 @@ use Rattle.fen_text.specs.Spelling.{turn_letter}
 use Rattle.fen_text.specs.Numbers.{number}
 use Rattle.fen_text.specs.Parts.{parted}
 use Rattle.fen_text.specs.Sets.{set_of, set_text}
+use Rattle.sketch_text.specs.Heads.{head_line, head_text}
 use Rattle.cert_text.specs.Arguments.{potentials_of, potentials_text}
 use Rattle.price_text.specs.PriceTexts.{prices_of, prices_text}
 use Rattle.cert_text.specs.declared.reasons.Reason.{Reason}
 use Rattle.cert_text.specs.declared.reasons.Reason.TheVariants.{Line, Balance}
 use Rattle.cert_text.specs.declared.node_lines.BodyLine.{BodyLine}
-use Rattle.cert_text.specs.declared.node_lines.BodyLine.TheVariants.{Rule, Back, Expand}
+use Rattle.cert_text.specs.declared.node_lines.BodyLine.TheVariants.{Rule, Back, Expand, Sketch}
 use Rattle.cert_text.specs.declared.node_lines.NodeLine.{NodeLine}
 
 -- behind `count`, `promo` and `caps` stands the letter of a side; then a set, and potentials
@@ -62,12 +63,12 @@ back_at depth k = cond (nat_le 1 k && nat_le k depth) (Some (Back k)) None
 abbrev pub expand_at : ℕ → ℕ → Option BodyLine
 expand_at depth n = cond ((n == 0) || nat_lt depth 255) (Some (Expand n)) None
 
--- the body of a text at this depth: `rule` and a name, `back` or `expand` and a number
+-- the body of a text at this depth: `rule` and a name, `back` or `expand` and a number, or the first line of a sketch
 unfoldable pub body_at : ℕ → List ℕ → Option BodyLine
 body_at depth text =
     cond (starts_with nat_eq text (codes "rule ")) (option_map (λ r. Rule r) (reason_of (drop 5 text))) (
     cond (starts_with nat_eq text (codes "back ")) (option_and_then (back_at depth) (number (drop 5 text))) (
-    cond (starts_with nat_eq text (codes "expand ")) (option_and_then (expand_at depth) (number (drop 7 text))) None))
+    cond (starts_with nat_eq text (codes "expand ")) (option_and_then (expand_at depth) (number (drop 7 text))) (option_map (λ h. Sketch h) (head_line text))))
 
 -- what the root's line says: `root` and a body
 unfoldable pub root_body : List ℕ → Option BodyLine
@@ -103,6 +104,7 @@ abbrev pub body_text : BodyLine → List ℕ
 body_text (Rule r) = codes "rule " ++ reason_name r
 body_text (Back k) = codes "back " ++ decimal k
 body_text (Expand n) = codes "expand " ++ decimal n
+body_text (Sketch h) = head_text h
 
 -- the one text of a child
 abbrev pub kid_text : Unmove → BodyLine → List ℕ

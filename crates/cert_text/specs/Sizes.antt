@@ -2,7 +2,7 @@
 -- The sizes of trees, and the children from a place on.
 use Rattle.std.specs.Prelude.{ℕ, ◌+◌}
 use Rattle.std.proofs.Common.{zero, suc}
-use Rattle.cert_text.specs.Tree.{Tree, Forest, rule, back, expand, none, more}
+use Rattle.cert_text.specs.Tree.{Tree, Forest, rule, back, expand, sketch, none, more}
 
 -- the children from this place on
 abbrev pub rest_of : Forest → ℕ → Forest
@@ -16,6 +16,7 @@ abbrev mutual
   size (rule r) = 1
   size (back k) = 1
   size (expand kids) = suc (size_all kids)
+  size (sketch b) = 1
 
   pub size_all : Forest → ℕ
   size_all none = 1

@@ -7,12 +7,43 @@ use Rattle.board_base.specs.declared.unmoves.Unmove.{Unmove}
 use Rattle.board_base.specs.contracts.unmoves.Unmove as unmoves
 use Rattle.cert_text.specs.declared.reasons.Reason.{Reason}
 use Rattle.cert_text.specs.contracts.reasons.Reason as reasons
-use Rattle.cert_text.specs.Tree.{Tree, Forest, rule, back, expand, none, more}
+use Rattle.capture_prices.specs.Prices.{PriceList}
+use Rattle.capture_prices.specs.contracts.prices.Prices as prices
+use Rattle.sketch_text.specs.Marks.{Marks}
+use Rattle.sketch_text.specs.Trees.{Line, of_marks, of_node}
+use Rattle.sketch_text.specs.contracts.nodes.SketchNode as nodes
+use Rattle.sketch_text.specs.declared.nodes.SketchNode.{SketchNode}
+use Rattle.sketch_body.specs.Bodies.{Body}
+use Rattle.cert_text.specs.Tree.{Tree, Forest, rule, back, expand, sketch, none, more}
 use Rattle.cert_text.specs.Sizes.{size, size_all}
 
--- 0 for a list, or one more than a number of steps; a reason; a label
+-- 0 for a list, or one more than a number of steps; a reason; a label; a sketch
 abbrev pub Token : Type 0
-Token = ℕ ⊎ (Reason ⊎ Unmove)
+Token = ℕ ⊎ (Reason ⊎ (Unmove ⊎ Body))
+
+-- sketches as lists
+
+abbrev marks_code : Coded Marks
+marks_code = code_by (ℕ × List ℕ) (coded× coded_ℕ (coded_list coded_ℕ)) (λ m. (m.by, m.figures)) (λ p. record { by = p.0; figures = p.1 }) (λ _. refl)
+
+abbrev parts_of : Line → SketchNode ⊎ Marks
+parts_of (of_node x) = inl x
+parts_of (of_marks m) = inr m
+
+abbrev line_from : SketchNode ⊎ Marks → Line
+line_from (inl x) = of_node x
+line_from (inr m) = of_marks m
+
+pub line_from-parts_of : (l : Line) → line_from (parts_of l) ≡ l
+line_from-parts_of (of_node x) = refl
+line_from-parts_of (of_marks m) = refl
+
+abbrev line_code : Coded Line
+line_code = code_by (SketchNode ⊎ Marks) (coded⊎ nodes.the_row.coded marks_code) parts_of line_from line_from-parts_of
+
+abbrev body_code : Coded Body
+body_code =
+    code_by (List ℕ × (List PriceList × List Line)) (coded× (coded_list coded_ℕ) (coded× (coded_list prices.the_row.coded) (coded_list line_code))) (λ b. (b.files, (b.prices, b.lines))) (λ p. record { files = p.0; prices = p.1.0; lines = p.1.1 }) (λ _. refl)
 
 -- a tree, in front of a list
 abbrev mutual
@@ -20,10 +51,11 @@ abbrev mutual
   put (rule r) xs = inr (inl r) ∷ xs
   put (back k) xs = inl (suc k) ∷ xs
   put (expand kids) xs = inl 0 ∷ put_all kids xs
+  put (sketch b) xs = inr (inr (inr b)) ∷ xs
 
   pub put_all : Forest → List Token → List Token
   put_all none xs = inl 0 ∷ xs
-  put_all (more label tree rest) xs = inr (inr label) ∷ put tree (put_all rest xs)
+  put_all (more label tree rest) xs = inr (inr (inl label)) ∷ put tree (put_all rest xs)
 
 abbrev pub as_tree : Forest × List Token → Tree × List Token
 as_tree p = (expand p.0, p.1)
@@ -39,14 +71,16 @@ abbrev mutual
   get (suc n) (inl zero ∷ xs) = as_tree (get_all n xs)
   get (suc n) (inl (suc k) ∷ xs) = (back k, xs)
   get (suc n) (inr (inl r) ∷ xs) = (rule r, xs)
-  get (suc n) (inr (inr label) ∷ xs) = (back 0, xs)
+  get (suc n) (inr (inr (inl label)) ∷ xs) = (back 0, xs)
+  get (suc n) (inr (inr (inr b)) ∷ xs) = (sketch b, xs)
 
   pub get_all : ℕ → List Token → Forest × List Token
   get_all zero xs = (none, xs)
   get_all (suc n) [] = (none, [])
   get_all (suc n) (inl k ∷ xs) = (none, xs)
   get_all (suc n) (inr (inl r) ∷ xs) = (none, xs)
-  get_all (suc n) (inr (inr label) ∷ xs) = joined label (get n xs).0 (get_all n (get n xs).1)
+  get_all (suc n) (inr (inr (inr b)) ∷ xs) = (none, xs)
+  get_all (suc n) (inr (inr (inl label)) ∷ xs) = joined label (get n xs).0 (get_all n (get n xs).1)
 
 one-more : (k : ℕ) → 1 + k ≡ suc k
 one-more k = omega arith
@@ -67,6 +101,7 @@ mutual
   get-put : (t : Tree) (k : ℕ) (xs : List Token) → get (size t + k) (put t xs) ≡ (t, xs)
   get-put (rule r) k xs = rw one-more refl
   get-put (back n) k xs = rw one-more refl
+  get-put (sketch b) k xs = rw one-more refl
   get-put (expand kids) k xs = rw (suc-more (size_all kids) k) (ap as_tree (get_all-put_all kids k xs))
 
   get_all-put_all : (f : Forest) (k : ℕ) (xs : List Token) → get_all (size_all f + k) (put_all f xs) ≡ (f, xs)
@@ -89,4 +124,4 @@ forest_from-tokens f =
 
 abbrev pub forest_code : Coded Forest
 forest_code =
-    code_by (ℕ × List Token) (coded× coded_ℕ (coded_list (coded⊎ coded_ℕ (coded⊎ reasons.the_row.coded unmoves.the_row.coded)))) tokens forest_from forest_from-tokens
+    code_by (ℕ × List Token) (coded× coded_ℕ (coded_list (coded⊎ coded_ℕ (coded⊎ reasons.the_row.coded (coded⊎ unmoves.the_row.coded body_code))))) tokens forest_from forest_from-tokens

@@ -14,12 +14,14 @@ use Rattle.query_base.specs.declared.rule_lines.RuleLine.TheVariants.{Kings, Ran
 use Rattle.query_base.specs.Asked.{Asked, IsShortClock, is_of_other_side}
 use Rattle.capture_prices.specs.Prices.{are_prices}
 use Rattle.fen_text.specs.Sets.{is_whole}
+use Rattle.sketch_text.specs.Heads.{is_head}
+use Rattle.sketch_body.specs.Whole.{is_body}
 use Rattle.cert_text.specs.ClaimLines.{promotes_well}
-use Rattle.cert_text.specs.Tree.{Tree, Forest, rule, back, expand, none, more, count}
+use Rattle.cert_text.specs.Tree.{Tree, Forest, rule, back, expand, sketch, none, more, count}
 use Rattle.cert_text.specs.declared.reasons.Reason.{Reason}
 use Rattle.cert_text.specs.declared.reasons.Reason.TheVariants.{Line, Balance}
 use Rattle.cert_text.specs.declared.node_lines.BodyLine.{BodyLine}
-use Rattle.cert_text.specs.declared.node_lines.BodyLine.TheVariants.{Rule, Back, Expand}
+use Rattle.cert_text.specs.declared.node_lines.BodyLine.TheVariants.{Rule, Back, Expand, Sketch}
 
 -- the move's squares are on the board
 abbrev pub is_on_board : Move → Bool
@@ -69,6 +71,7 @@ abbrev pub fits_depth : ℕ → BodyLine → Bool
 fits_depth depth (Rule r) = is_reason r
 fits_depth depth (Back k) = nat_le 1 k && nat_le k depth
 fits_depth depth (Expand n) = ((n == 0) || nat_lt depth 255) && nat_le n 999999
+fits_depth depth (Sketch h) = is_head h
 
 abbrev mutual
   -- the grammar admits the tree at this depth
@@ -76,6 +79,7 @@ abbrev mutual
   fits depth (rule r) = is_reason r
   fits depth (back k) = fits_depth depth (Back k)
   fits depth (expand kids) = fits_depth depth (Expand (count kids)) && all_fit (suc depth) kids
+  fits depth (sketch b) = is_body b
 
   -- the grammar admits the children at this depth
   pub all_fit : ℕ → Forest → Bool

@@ -1,13 +1,22 @@
 -- Inner: no public clause cites this file.
 -- What is written of lines, trees and certificates.
-use Rattle.std.specs.Prelude.{ℕ, List, [], ◌∷◌, ◌++◌, codes, IfSome, IsTrue, Option, Some, None}
+use Rattle.std.specs.Prelude.{ℕ, List, [], ◌∷◌, ◌++◌, codes, map, IfSome, IsTrue, Option, Some, None}
 use Rattle.board_base.specs.Texts.{unmove_text}
 use Rattle.board_base.specs.declared.unmoves.Unmove.{Unmove}
 use Rattle.query_base.specs.Asked.{Asked}
 use Rattle.query_base.specs.declared.claims.Claim.{Claim}
 use Rattle.cert_text.specs.declared.heads.Format.{Format}
 use Rattle.cert_text.specs.declared.heads.Format.TheVariants.{One, Two}
-use Rattle.cert_text.specs.Tree.{Tree, Forest, rule, back, expand, none, more}
+use Rattle.sketch_text.specs.Heads.{is_head}
+use Rattle.capture_prices.specs.Prices.{PriceList}
+use Rattle.price_text.specs.PriceTexts.{prices_text}
+use Rattle.sketch_body.specs.Bodies.{items_of, of_line}
+use Rattle.sketch_body.specs.Seen.{line_of}
+use Rattle.sketch_body.specs.declared.lines.SketchLine.{SketchLine}
+use Rattle.sketch_body.specs.Texts.{item_text}
+use Rattle.cert_text.specs.Tree.{Tree, Forest, rule, back, expand, sketch, none, more}
+use Rattle.cert_text.specs.declared.node_lines.BodyLine.{BodyLine}
+use Rattle.cert_text.specs.declared.node_lines.BodyLine.TheVariants.{Rule, Back, Expand, Sketch}
 use Rattle.cert_text.specs.Lines.{ended}
 use Rattle.cert_text.specs.Certificate.{Certificate, Lines, body_of, demand_lines, format_for, query_lines}
 use Rattle.cert_text.specs.ClaimLines.{claim_text}
@@ -17,6 +26,13 @@ use Rattle.cert_text.specs.Writable.{has_text}
 -- the label, if there is one, has a text
 abbrev pub IsLabel : Option Unmove → Type 0
 IsLabel label = IfSome label (λ u. IsTrue (has_text u))
+
+-- a sketch that the body begins, if it begins one, has a first line
+abbrev pub IsSketchLine : BodyLine → Type 0
+IsSketchLine (Rule r) = Unit {0}
+IsSketchLine (Back k) = Unit {0}
+IsSketchLine (Expand n) = Unit {0}
+IsSketchLine (Sketch h) = IsTrue (is_head h)
 
 -- what stands before a node's body
 abbrev pub label_text : Option Unmove → List ℕ
@@ -29,6 +45,7 @@ abbrev mutual
   lines_below (rule r) = []
   lines_below (back k) = []
   lines_below (expand kids) = lines_of kids
+  lines_below (sketch b) = map ended (map item_text (items_of b))
 
   -- the lines of children, one child after another
   pub lines_of : Forest → Lines
@@ -47,3 +64,11 @@ head_lines claim q = ended (format_text (format_for (demand_lines q))) ∷ ended
 -- the lines of a certificate
 abbrev pub cert_lines : Certificate → Lines
 cert_lines cert = head_lines cert.claim cert.query ++ ended (root_text (body_of cert.root)) ∷ lines_below cert.root
+
+-- the lines of prices
+abbrev pub price_texts : List PriceList → Lines
+price_texts prices = map (λ p. ended (prices_text p)) prices
+
+-- the lines of nodes and of marks
+abbrev pub line_texts : List SketchLine → Lines
+line_texts lines = map (λ l. ended (item_text (of_line (line_of l)))) lines

@@ -1,5 +1,6 @@
-ghost use Rattle.std.specs.Prelude.{ℕ, List, ◌≡◌, ◌<◌, ◌^◌, ◌++◌, IfOk, OnOk, true};
+ghost use Rattle.std.specs.Prelude.{ℕ, List, ◌≡◌, ◌<◌, ◌≤◌, ◌^◌, ◌++◌, IfOk, OnOk, true};
 ghost use Rattle.std.specs.List.{concat};
+ghost use Rattle.sketch_text.specs.Heads.{Head};
 ghost use Rattle.cert_text.specs.Certificate.{AreLinesOf, Certificate as AnyCertificate, HasText, IsTextOf, body_of};
 ghost use Rattle.cert_text.specs.Lines.{cut, ended};
 ghost use Rattle.cert_text.specs.Seen.{tree_of};
@@ -14,12 +15,13 @@ use crate::head_writing::write_head;
 use crate::line_writing::push_line;
 use crate::node_lines::{BodyLine, NodeLine};
 use crate::nodes::{Body, Kids, Node};
+use crate::sketch_writing::push_sketch;
 use arrayvec::ArrayVec;
 use board_base::{Memory, Unmove};
 use std::alloc::{AllocError, Global};
 
 /// Puts the text after the others, with a line end.
-fn push_ended(text: &[u8], out: &mut Vec<u8>) -> Result<(), AllocError>
+pub(crate) fn push_ended(text: &[u8], out: &mut Vec<u8>) -> Result<(), AllocError>
     ensures { OnOk result (out.new.items ≡ out.old.items ++ ended text.now) }
 {
     out.extend_from_slice(text)?;
@@ -27,15 +29,17 @@ fn push_ended(text: &[u8], out: &mut Vec<u8>) -> Result<(), AllocError>
     Ok(())
 }
 
-/// What the own line of a node says of it. The node has fewer than 2^32 children.
+/// What the own line of a node says of it. The node has fewer than 2^32 children, or its sketch at most 64 lines of prices.
 pub fn body_line(node: &Node) -> BodyLine
-    requires { (n : ℕ) → body_of (tree_of node.now) ≡ BodyLine.Expand n → n < 2 ^ 32 }
+    requires children { (n : ℕ) → body_of (tree_of node.now) ≡ BodyLine.Expand n → n < 2 ^ 32 }
+    requires prices { (h : Head) → body_of (tree_of node.now) ≡ BodyLine.Sketch h → h.prices ≤ 64 }
     ensures { result ≡ body_of (tree_of node.now) }
 {
     match &node.body {
         Body::Rule(rule) => BodyLine::Rule(*rule),
         Body::Back(steps) => BodyLine::Back(*steps),
         Body::Expand(kids) => BodyLine::Expand(kids.len() as u32),
+        Body::Sketch(body) => BodyLine::Sketch(body.head()),
     }
 }
 
@@ -60,6 +64,7 @@ fn push_below(node: &Node, out: &mut Vec<u8>) -> Result<(), AllocError>
     match &node.body {
         Body::Rule(_) | Body::Back(_) => Ok(()),
         Body::Expand(kids) => push_kids(kids, out),
+        Body::Sketch(body) => push_sketch(body, out),
     }
 }
 

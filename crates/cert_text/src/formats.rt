@@ -1,6 +1,7 @@
 ghost use Rattle.std.specs.Prelude.{◌≡◌, ◌↔◌, ◌&&◌, ◌<◌, IsTrue, None, suc};
 ghost use Rattle.board_base.specs.Texts.{can_capture, can_promote};
-ghost use Rattle.cert_text.specs.Tree.{count};
+ghost use Rattle.sketch_body.specs.Whole.{left_of};
+ghost use Rattle.cert_text.specs.Tree.{count, units_each, units_in};
 ghost use Rattle.cert_text.specs.Seen.{tree_of};
 ghost use Rattle.cert_text.specs.SeenCert.{cert_of};
 ghost use Rattle.cert_text.specs.Certificate.{HasText};
@@ -86,6 +87,7 @@ fn fits_node(node: &Node, depth: u8) -> bool
         Body::Rule(reason) => is_reason(reason),
         Body::Back(steps) => is_back(*steps, depth),
         Body::Expand(kids) => is_expand(kids.len(), depth) && all_fit(kids, depth),
+        Body::Sketch(body) => body.has_text(),
     }
 }
 
@@ -106,6 +108,34 @@ fn all_fit(kids: &Kids, depth: u8) -> bool
         }
     }
     true
+}
+
+/// How many of so many units are left behind those of the sketches in the node and below it. None comes exactly where they have more.
+#[cycle(units)]
+fn units_left(node: &Node, left: u32) -> Option<u32>
+    ensures { result ≡ left_of left (units_in (tree_of node.now)) }
+{
+    match &node.body {
+        Body::Rule(_) | Body::Back(_) => Some(left),
+        Body::Expand(kids) => kids_left(kids, left),
+        Body::Sketch(body) => body.units_left(left),
+    }
+}
+
+/// How many are left behind those of the children.
+#[cycle(units)]
+fn kids_left(kids: &Kids, left: u32) -> Option<u32>
+    ensures { result ≡ left_of left (units_each kids.now) }
+{
+    let mut rest = left;
+    for i in 0..kids.len() {
+        let kid = kids.get(i).unwrap();
+        let Some(more) = units_left(&kid.node, rest) else {
+            return None;
+        };
+        rest = more;
+    }
+    Some(rest)
 }
 
 /// The squares of a move are on the board.
@@ -136,8 +166,8 @@ fn is_plain(query: &Query) -> bool
 }
 
 /// Whether some text stands for the certificate: the claim is one that `read_claim` reads, no move is barred in the query, each
-/// label is one that `read_unmove` reads of some text, each `back` leads to an ancestor, and no node has more than 999,999
-/// children or, at depth 255, any. It takes no memory.
+/// label is one that `read_unmove` reads of some text, each `back` leads to an ancestor, no node has more than 999,999
+/// children or, at depth 255, any, each sketch has texts, and all sketches together have at most 262,144 units. It takes no memory.
 pub fn fits_format(cert: &Cert) -> bool
     ensures { IsTrue result ↔ HasText (cert_of cert.now) }
 {
@@ -147,5 +177,8 @@ pub fn fits_format(cert: &Cert) -> bool
     if !is_plain(&cert.query) {
         return false;
     }
-    fits_node(&cert.root, 0)
+    if !fits_node(&cert.root, 0) {
+        return false;
+    }
+    units_left(&cert.root, 262_144).is_some()
 }

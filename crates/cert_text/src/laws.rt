@@ -41,7 +41,7 @@ pub fn one_fault_each()
     ensures line { (bytes : List ℕ) (m n : ℕ) → IsBadAt AreLinesOf (cut bytes) m → IsBadAt AreLinesOf (cut bytes) n → m ≡ n }
 {}
 
-/// No line of a certificate has more than 234 bytes, with its end, and each has one. This does nothing when it runs.
+/// No line of a certificate, or of a sketch in it, has more than 234 bytes, with its end, and each has one. This does nothing when it runs.
 pub fn no_long_lines()
     ensures long { (line : List ℕ) → 234 < length line → IsMute line }
     ensures unended { (line : List ℕ) → ((text : List ℕ) → line ≢ ended text) → IsMute line }

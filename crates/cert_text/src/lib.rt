@@ -21,6 +21,9 @@ mod query_lines;
 mod query_reading;
 mod reading;
 mod reasons;
+mod sketch_lines;
+mod sketch_reading;
+mod sketch_writing;
 
 pub use argument_writing::push_duals;
 pub use arguments::read_duals;
@@ -45,3 +48,4 @@ pub use query_lines::write_query_lines;
 pub use query_reading::{FirstQuery, take_fen, take_odds, take_query};
 pub use reading::{read_cert, read_kid_line};
 pub use reasons::Reason;
+pub use sketch_lines::read_sketch_line;

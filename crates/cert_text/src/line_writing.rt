@@ -1,7 +1,8 @@
-ghost use Rattle.std.specs.Prelude.{ℕ, List, ◌≡◌, ◌+◌, ◌≤◌, ◌++◌, [], Some, length};
+ghost use Rattle.std.specs.Prelude.{ℕ, List, ◌≡◌, ◌+◌, ◌≤◌, ◌++◌, [], IsTrue, Some, length};
+ghost use Rattle.sketch_text.specs.Heads.{head_text, is_head};
 ghost use Rattle.std.specs.Fmt.{decimal};
 ghost use Rattle.cert_text.specs.NodeLines.{node_line, body_text, line_text, reason_name, rule_name, IsLine};
-ghost use Rattle.cert_text.specs.Written.{IsLabel, label_text};
+ghost use Rattle.cert_text.specs.Written.{IsLabel, IsSketchLine, label_text};
 
 use crate::argument_writing::{push_potentials, push_set};
 use crate::node_lines::{BodyLine, NodeLine};
@@ -12,6 +13,7 @@ use fen_text::{push_text, turn_letter};
 use itoa::Buffer;
 use price_text::push_prices;
 use query_base::RuleLine;
+use sketch_text::{SketchHead, write_sketch_head};
 
 fn push_number(number: u32, out: &mut ArrayVec<u8, 256>)
     requires { length out.old.items + 10 ≤ 256 }
@@ -75,8 +77,22 @@ fn push_reason(reason: &Reason, out: &mut ArrayVec<u8, 256>)
     }
 }
 
+/// Puts the first line of a sketch after the others.
+#[inline(never)]
+fn push_head(head: &SketchHead, out: &mut ArrayVec<u8, 256>)
+    requires room { length out.old.items + 24 ≤ 256 }
+    requires known { IsTrue (is_head head.now) }
+    ensures text { out.new.items ≡ out.old.items ++ head_text head.now }
+    ensures short { length out.new.items ≤ length out.old.items + 24 }
+{
+    let mut text: ArrayVec<u8, 256> = ArrayVec::new();
+    write_sketch_head(head, &mut text);
+    push_text(text.as_slice(), out);
+}
+
 fn push_body(body: &BodyLine, out: &mut ArrayVec<u8, 256>)
-    requires { length out.old.items + 225 ≤ 256 }
+    requires room { length out.old.items + 225 ≤ 256 }
+    requires known { IsSketchLine body.now }
     ensures text { out.new.items ≡ out.old.items ++ body_text body.now }
     ensures short { length out.new.items ≤ length out.old.items + 225 }
 {
@@ -93,6 +109,7 @@ fn push_body(body: &BodyLine, out: &mut ArrayVec<u8, 256>)
             push_text(b"expand ", out);
             push_number(*count, out);
         }
+        BodyLine::Sketch(head) => push_head(head, out),
     }
 }
 
@@ -117,6 +134,7 @@ fn push_label(label: &Option<Unmove>, out: &mut ArrayVec<u8, 256>)
 pub(crate) fn push_line(line: &NodeLine, out: &mut ArrayVec<u8, 256>)
     requires empty { out.old.items ≡ [] }
     requires label { IsLabel line.now.label }
+    requires known { IsSketchLine line.now.body }
     ensures text { out.new.items ≡ line_text line.now }
     ensures short { length out.new.items ≤ 233 }
 {

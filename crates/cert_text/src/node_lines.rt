@@ -1,5 +1,7 @@
 ghost use Rattle.std.specs.Prelude.{◌≡◌, ◌<◌, ◌==◌, IfSome, None, Some, is_none};
+ghost use Rattle.std.specs.Option.{option_map};
 ghost use Rattle.fen_text.specs.Fen.{turn};
+ghost use Rattle.sketch_text.specs.Heads.{head_line};
 ghost use Rattle.cert_text.specs.NodeLines.{back_at, body_at, caps_of, expand_at, kid_body, node_line, promo_of, root_body, rule_of, set_and_potentials};
 
 use crate::arguments::read_potentials;
@@ -8,6 +10,7 @@ use crate::reasons::{Reason, read_reason};
 use board_base::{Colour, Unmove, read_unmove};
 use fen_text::{read_number, read_set, read_turn, split_part};
 use query_base::RuleLine;
+use sketch_text::{SketchHead, read_sketch_head};
 
 /// What the line of a node says of its body.
 #[derive(Clone, Copy, PartialEq, Eq, Debug)]
@@ -18,6 +21,8 @@ pub enum BodyLine {
     Back(u8),
     /// `expand` and the number of the node's children, from 0 to 999,999; 0 at depth 255.
     Expand(u32),
+    /// `sketch`: the first line of a sketch, whose other lines follow.
+    Sketch(SketchHead),
 }
 
 /// What the line of a node says.
@@ -130,6 +135,17 @@ fn expand_line(depth: u8, number: u32) -> Option<BodyLine>
     }
 }
 
+// It is long, and most lines begin no sketch.
+#[inline(never)]
+fn read_sketch(text: &[u8]) -> Option<BodyLine>
+    ensures { result ≡ option_map (λ h. BodyLine.Sketch h) (head_line text.now) }
+{
+    match read_sketch_head(text) {
+        Some(head) => Some(BodyLine::Sketch(head)),
+        None => None,
+    }
+}
+
 #[tactic(auto, unfolding(crate::specs::NodeLines::body_at))]
 #[inline(always)]
 fn read_body(depth: u8, text: &[u8]) -> Option<BodyLine>
@@ -153,7 +169,7 @@ fn read_body(depth: u8, text: &[u8]) -> Option<BodyLine>
             None => None,
         };
     }
-    None
+    read_sketch(text)
 }
 
 #[tactic(auto, unfolding(crate::specs::NodeLines::root_body))]
@@ -189,7 +205,8 @@ pub(crate) fn read_kid(depth: u8, text: &[u8]) -> Option<(Unmove, BodyLine)>
 /// then a space, and its body. That is `rule` with one of the names `kings`, `ranks`, `check`, `rights`, `count w` and `count b`, or with
 /// `frozen` and a set, `promo` with `w` or `b` and a set, `caps` with `w` or `b`, a set, zero to eight numbers, `/` and eight numbers, or
 /// `balance` with a set, sixteen numbers, `/`, sixteen numbers, `/`, and at most sixteen squares in ascending order, each with a number;
-/// `back` with a number from 1 to the depth, or `expand` with one from 0 to 999,999, which at depth 255 is 0. Numbers are decimal,
+/// `back` with a number from 1 to the depth, `expand` with one from 0 to 999,999, which at depth 255 is 0, or the first line of a sketch, as
+/// `read_sketch_head` reads it. Numbers are decimal,
 /// with no leading zero other than `0` itself; those of `caps` are from -64 to 64, with a `-` in front of those below 0, those of `balance` from 0 to 96,
 /// and behind a square from 1; a set is its number
 /// of sixteen hexadecimal digits, with letters in lower case. One space parts two words. None comes exactly where the text is none of these.

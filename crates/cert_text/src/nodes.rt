@@ -3,6 +3,7 @@ ghost use Rattle.cert_text.specs.Tree.{none, kid_at, with_last, count};
 
 use crate::reasons::Reason;
 use board_base::{Memory, Unmove};
+use sketch_body::SketchBody;
 use std::alloc::Global;
 use std::marker::Model;
 
@@ -25,6 +26,8 @@ pub enum Body {
     Back(u8),
     /// The array isn't its board, and no game reaches any of the queries before it.
     Expand(Kids),
+    /// No game comes to the sketch of its board, as these lines say.
+    Sketch(SketchBody),
 }
 
 /// A child of a node.

@@ -1,11 +1,12 @@
 ghost use Rattle.std.specs.Prelude.{◌≡◌, ◌<◌, ◌≤◌, ◌+◌, ◌∷◌, ◌^◌, IfErr, IfOk, IfSome, MatchOption, Some, length, suc, List, ℕ};
+ghost use Rattle.sketch_body.specs.Bodies.{most_units};
 ghost use Rattle.cert_text.specs.Seen.{tree_of};
 ghost use Rattle.cert_text.specs.SeenCert.{cert_of};
 ghost use Rattle.cert_text.specs.Lines.{cut, said};
 ghost use Rattle.cert_text.specs.Texts.{IsBadAt, IfBadText};
 ghost use Rattle.cert_text.specs.NodeLines.{kid_body};
-ghost use Rattle.cert_text.specs.Reading.{HasRoom, IsRefused, ReadsBelow, ReadsKids, SaysKid};
-ghost use Rattle.cert_text.specs.Due.{put_due, refused};
+ghost use Rattle.cert_text.specs.Reading.{AreRefused, CanStart, HasRoom, IsRefused, ReadsBelow, ReadsKids, SaysKid};
+ghost use Rattle.cert_text.specs.Due.{nodes_due, refused};
 ghost use Rattle.cert_text.specs.Certificate.{AreLinesOf, IsTextOf};
 
 use crate::certificates::Cert;
@@ -14,6 +15,7 @@ use crate::headers::read_header;
 use crate::lines::{first_line, without_end};
 use crate::node_lines::{BodyLine, read_kid};
 use crate::nodes::{Body, Kid, Kids, Node};
+use crate::sketch_reading::{can_start, read_sketch};
 use board_base::Unmove;
 use std::alloc::Global;
 
@@ -29,10 +31,11 @@ pub fn read_kid_line(depth: u8, line: &[u8]) -> Option<(Unmove, BodyLine)>
 }
 
 /// What the first line says of a child at this depth, and what follows it.
+#[inline(always)]
 fn next_kid(bytes: &[u8], depth: u8) -> Option<(Unmove, BodyLine, &[u8])>
     ensures says { IfSome result (λ kid. SaysKid depth (cut bytes.now) kid.0 kid.1 (cut kid.2.now)) }
     ensures fits { IfSome result (λ kid. HasRoom depth kid.1) }
-    ensures none { MatchOption result ((m n : ℕ) (due : List ℕ) → suc (length due) ≡ depth → refused (suc m ∷ due) n (cut bytes.now) ≡ Some n) (λ kid. Unit {0}) }
+    ensures none { MatchOption result ((m n units : ℕ) (due : List ℕ) → suc (length due) ≡ depth → refused (nodes_due units (suc m ∷ due)) n (cut bytes.now) ≡ Some n) (λ kid. Unit {0}) }
 {
     match first_line(bytes) {
         None => None,
@@ -43,20 +46,22 @@ fn next_kid(bytes: &[u8], depth: u8) -> Option<(Unmove, BodyLine, &[u8])>
     }
 }
 
-/// A node, what follows its lines, and the number of the line there.
+/// A node, what follows its lines, the number of the line there, and the units of sketches up to there.
 #[derive(Drop)]
 struct Below<'a> {
     node: Node,
     rest: &'a [u8],
     line: u32,
+    units: u32,
 }
 
-/// Children, what follows their lines, and the number of the line there.
+/// Children, what follows their lines, the number of the line there, and the units of sketches up to there.
 #[derive(Drop)]
 struct Children<'a> {
     kids: Kids,
     rest: &'a [u8],
     line: u32,
+    units: u32,
 }
 
 /// The node with this body, whose lines below its own begin the bytes.
@@ -65,13 +70,16 @@ fn read_below(
     alloc: Global,
     body: BodyLine,
     depth: u8,
+    units: u32,
     bytes: &[u8],
     line: u32,
 ) -> Result<Below<'_>, CertFault>
     requires fits { HasRoom depth body }
+    requires starts { CanStart units body }
+    requires few { units ≤ most_units }
     requires room { line + length (cut bytes.now) < 2 ^ 32 }
-    ensures ok { IfOk result (λ b. ReadsBelow body depth (cut bytes.now) line (tree_of b.node) (cut b.rest.now) b.line) }
-    ensures bad { IfErr result (λ e. IfBadText e (IsRefused (put_due body) depth (cut bytes.now) line)) }
+    ensures ok { IfOk result (λ b. ReadsBelow body depth (cut bytes.now) line units (tree_of b.node) (cut b.rest.now) b.line b.units) }
+    ensures bad { IfErr result (λ e. IfBadText e (IsRefused units body depth (cut bytes.now) line)) }
 {
     match body {
         BodyLine::Rule(rule) => Ok(Below {
@@ -80,6 +88,7 @@ fn read_below(
             },
             rest: bytes,
             line,
+            units,
         }),
         BodyLine::Back(steps) => Ok(Below {
             node: Node {
@@ -87,14 +96,27 @@ fn read_below(
             },
             rest: bytes,
             line,
+            units,
         }),
-        BodyLine::Expand(count) => match read_kids(alloc, count, depth, bytes, line) {
+        BodyLine::Expand(count) => match read_kids(alloc, count, depth, units, bytes, line) {
             Ok(children) => Ok(Below {
                 node: Node {
                     body: Body::Expand(children.kids),
                 },
                 rest: children.rest,
                 line: children.line,
+                units: children.units,
+            }),
+            Err(fault) => Err(fault),
+        },
+        BodyLine::Sketch(head) => match read_sketch(alloc, &head, units, bytes, line) {
+            Ok(sketched) => Ok(Below {
+                node: Node {
+                    body: Body::Sketch(sketched.body),
+                },
+                rest: sketched.rest,
+                line: sketched.line,
+                units: sketched.units,
             }),
             Err(fault) => Err(fault),
         },
@@ -107,26 +129,33 @@ fn read_kids(
     alloc: Global,
     count: u32,
     depth: u8,
+    units: u32,
     bytes: &[u8],
     line: u32,
 ) -> Result<Children<'_>, CertFault>
     requires fits { 0 < count → depth < 255 }
+    requires few { units ≤ most_units }
     requires room { line + length (cut bytes.now) < 2 ^ 32 }
-    ensures ok { IfOk result (λ b. ReadsKids count depth (cut bytes.now) line b.kids (cut b.rest.now) b.line) }
-    ensures bad { IfErr result (λ e. IfBadText e (IsRefused (λ due. count ∷ due) depth (cut bytes.now) line)) }
+    ensures ok { IfOk result (λ b. ReadsKids count depth (cut bytes.now) line units b.kids (cut b.rest.now) b.line b.units) }
+    ensures bad { IfErr result (λ e. IfBadText e (AreRefused units count depth (cut bytes.now) line)) }
 {
     let mut kids = Kids::new(alloc);
     let mut rest = bytes;
     let mut next = line;
+    let mut all = units;
     for _i in 0..count {
         let (label, body, after) = match next_kid(rest, depth + 1) {
             Some(kid) => kid,
             None => return Err(CertFault::BadText { line: next }),
         };
-        match read_below(alloc, body, depth + 1, after, next + 1) {
+        if !can_start(&body, all) {
+            return Err(CertFault::BadText { line: next });
+        }
+        match read_below(alloc, body, depth + 1, all, after, next + 1) {
             Ok(below) => {
                 rest = below.rest;
                 next = below.line;
+                all = below.units;
                 match kids.push(Kid {
                     label,
                     node: below.node,
@@ -142,6 +171,7 @@ fn read_kids(
         kids,
         rest,
         line: next,
+        units: all,
     })
 }
 
@@ -153,7 +183,8 @@ fn read_kids(
 ///    reads it, if one is demanded: one of the two, or both.
 /// 4. `fen`, a space, and a FEN of four fields.
 /// 5. The root's line, and then the lines of the other nodes, as `read_line` reads them. After a node with `expand n` come its n
-///    children, each with all that is below it; after another node comes nothing of its own. The labels may be any unmoves in any
+///    children, each with all that is below it, and after one with `sketch` the lines of the sketch, as `SketchDue::read` reads them; after
+///    another node comes nothing of its own. All sketches together have at most 262,144 units. The labels may be any unmoves in any
 ///    order, and `back` may lead to any ancestor.
 ///
 /// `Ok` comes exactly where the bytes are so, with the certificate that they say. `BadText` comes exactly otherwise: the lines
@@ -168,7 +199,7 @@ pub fn read_cert(alloc: Global, bytes: &[u8]) -> Result<Cert, CertFault>
         Ok(header) => header,
         Err(line) => return Err(CertFault::BadText { line }),
     };
-    match read_below(alloc, header.body, 0, header.rest, header.line) {
+    match read_below(alloc, header.body, 0, 0, header.rest, header.line) {
         Ok(below) => match first_line(below.rest) {
             Some(_) => Err(CertFault::BadText { line: below.line }),
             None => Ok(Cert {

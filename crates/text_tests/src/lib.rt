@@ -18,6 +18,8 @@ mod notation;
 #[cfg(test)]
 mod sketch_bodies;
 #[cfg(test)]
+mod sketch_certificates;
+#[cfg(test)]
 mod sketch_lines;
 #[cfg(test)]
 mod written_certificates;

@@ -10,4 +10,4 @@ abbrev pub decreases-read_kids : goal.decreases-read_kids
 decreases-read_kids l = 2 * (255 - l.depth)
 
 abbrev pub invariant-read_kids-loop-i : goal.invariant-read_kids-loop-i
-invariant-read_kids-loop-i l = ReadsKids l._i l.depth (cut l.fn.bytes) l.fn.line l.kids (cut l.rest) l.next
+invariant-read_kids-loop-i l = ReadsKids l._i l.depth (cut l.fn.bytes) l.fn.line l.units l.kids (cut l.rest) l.next l.all
