@@ -1,5 +1,6 @@
 -- The lines of a certificate that has a text.
-use Rattle.std.proofs.Common.{◌≡◌, ℕ, zero, suc, ◌+◌, ◌<◌, ◌≤◌, ◌^◌, List, ◌∷◌, ◌++◌, ap, subst, arith}
+use Rattle.std.proofs.Common.{◌≡◌, ℕ, zero, suc, ◌+◌, ◌<◌, ◌≤◌, ◌^◌, nat_le, true, List, ◌∷◌, ◌++◌, ap, subst, arith}
+use Rattle.std.proofs.lemmas.Bool.{and_parts, leb-true}
 use Rattle.std.proofs.lemmas.Option.{same_Some}
 use Rattle.std.specs.List.{concat}
 use Rattle.std.proofs.lemmas.List.Folds.{concat-append}
@@ -11,15 +12,20 @@ use Rattle.cert_text.specs.Certificate.{AreBelow, AreKids, Certificate, Lines, b
 use Rattle.cert_text.specs.Lines.{ended, said}
 use Rattle.cert_text.specs.NodeLines.{IsLine, kid_body, kid_text, root_body, root_text}
 use Rattle.cert_text.specs.Sizes.{rest_of}
-use Rattle.cert_text.specs.Tree.{Forest, Tree, count, kid_at, more, none}
-use Rattle.cert_text.specs.Written.{cert_lines, head_lines, lines_below, lines_of}
+use Rattle.cert_text.specs.Tree.{Forest, Tree, count, kid_at, more, none, sketch}
+use Rattle.sketch_body.specs.Bodies.{Body}
+use Rattle.sketch_body.specs.Whole.{is_body}
+use Rattle.sketch_body.proofs.Readings.{body_known}
+use Rattle.command_answers.specs.Told.{HasLinesBelow}
+use Rattle.cert_text.specs.Written.{IsSketchLine, cert_lines, head_lines, lines_below, lines_of}
+use Rattle.sketch_text.specs.Heads.{Head, are_files}
 use Rattle.cert_text.specs.declared.node_lines.BodyLine.{BodyLine}
-use Rattle.cert_text.specs.declared.node_lines.BodyLine.TheVariants.{Expand}
+use Rattle.cert_text.specs.declared.node_lines.BodyLine.TheVariants.{Back, Expand, Rule, Sketch}
 use Rattle.cert_text.specs.declared.node_lines.NodeLine.{NodeLine}
 use Rattle.cert_text.proofs.Forests.{rest-end}
 use Rattle.cert_text.proofs.Spelled.{number_in}
 use Rattle.cert_text.proofs.SpelledLines.{kid_text_read, root_text_read, said_read}
-use Rattle.cert_text.proofs.WrittenTrees.{lines_next}
+use Rattle.cert_text.proofs.WrittenTrees.{line_known, lines_next}
 use Rattle.retro_ports.proofs.Pieces.{StillToCome, all_written, nothing_written, piece_written}
 use Rattle.board_base.proofs.TextLemmas.{mapped_some}
 
@@ -34,6 +40,11 @@ line-few n (suc depth, text, e) =
 
 pub few-children : (label : Option Unmove) (b : BodyLine) (n : ℕ) → IsLine (record { label = label; body = b }) → b ≡ Expand n → n < 2 ^ 32
 few-children label b n line e = omega (arith, line-few (record { label = label; body = b }) line, ap number_in e)
+
+pub few-prices : (label : Option Unmove) (b : BodyLine) (h : Head) → IsLine (record { label = label; body = b }) → b ≡ Sketch h → h.prices ≤ 64
+few-prices label b h line e =
+    let known : IsSketchLine (Sketch h) = subst IsSketchLine e (line_known (record { label = label; body = b }) line) in
+    leb-true h.prices 64 (and_parts (nat_le h.prices 64) (are_files 0 h.files) known).0
 
 -- the root's line
 pub root-line : (t : Tree) (line : List ℕ) → said root_body line ≡ Some (body_of t) → IsLine (record { label = None; body = body_of t })
@@ -58,6 +69,13 @@ pub child-line : (depth : ℕ) (label : Unmove) (t : Tree) → HasChild (suc dep
 child-line depth label t child =
     let says = said_read (kid_body (suc depth)) child.line (label, body_of t) child.says in
     (suc depth, says.text, ap (option_map (λ (k : Unmove × BodyLine). record { label = Some k.0; body = k.1 })) says.stands)
+
+-- below a node with lines of its own, those of a child, and those of a sketch
+pub child-below : (depth : ℕ) (label : Unmove) (t : Tree) → HasChild (suc depth) label t → HasLinesBelow t
+child-below depth label t child = (suc depth, child.below, child.are, line_known (record { label = Some label; body = body_of t }) (child-line depth label t child))
+
+pub sketch-known : (b : Body) → HasLinesBelow (sketch b) → is_body b ≡ true
+sketch-known b (depth, lines, (texts, e, are), head) = body_known texts b head are
 
 -- the lines of a child come before those of the children after it
 pub at-child : (a b : Option (List ℕ)) (f g : ℕ) (text : List ℕ) (kids : Forest) (i : ℕ) (label : Unmove) (t : Tree) → kid_at kids i ≡ Some (label, t) → StillToCome a b f g text (concat (lines_of (rest_of kids i)))

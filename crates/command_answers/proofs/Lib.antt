@@ -1,4 +1,5 @@
 pub mod CertificateLines
+pub mod SketchLines
 pub mod Inputs
 pub mod Retracting
 pub mod Pieces

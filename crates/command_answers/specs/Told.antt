@@ -8,9 +8,9 @@ use Rattle.codex_verdict.specs.declared.kinds.Right.{Right}
 use Rattle.query_base.specs.Asked.{Asked}
 use Rattle.board_base.specs.declared.unmoves.Unmove.{Unmove}
 use Rattle.cert_text.specs.Tree.{Forest, Tree}
-use Rattle.cert_text.specs.Certificate.{AreBelow, AreKids, Lines}
+use Rattle.cert_text.specs.Certificate.{AreBelow, AreKids, Lines, body_of}
 use Rattle.cert_text.specs.SeenCert.{cert_of}
-use Rattle.cert_text.specs.Written.{cert_lines}
+use Rattle.cert_text.specs.Written.{IsSketchLine, cert_lines}
 use Rattle.retro_search.specs.Lone.{IsDear}
 use Rattle.retro_search.specs.declared.answers.Found.{Found}
 use Rattle.retro_search.specs.declared.answers.Found.TheVariants as found
@@ -18,9 +18,9 @@ use Rattle.command_answers.specs.Solves.{countered_line, spent_line, undecided_l
 use Rattle.command_answers.specs.declared.statuses.Status.{Status}
 use Rattle.command_answers.specs.declared.statuses.Status.TheVariants as status
 
--- at some depth the grammar has lines for what stands below the node
+-- at some depth the grammar has lines for what stands below the node, and for its own line, if that begins a sketch
 abbrev pub HasLinesBelow : Tree → Type 0
-HasLinesBelow tree = (depth : ℕ) × (lines : Lines) × AreBelow tree depth lines
+HasLinesBelow tree = (depth : ℕ) × (lines : Lines) × AreBelow tree depth lines × IsSketchLine (body_of tree)
 
 -- below a node at some depth the grammar has lines for these children
 abbrev pub HaveLines : Forest → Type 0

@@ -14,6 +14,7 @@ ghost use Rattle.retro_ports.specs.Causes.{HasCause};
 ghost use Rattle.retro_ports.specs.Ends.{TakesPrefix};
 ghost use Rattle.command_answers.specs.Told.{HaveLines, HasLinesBelow};
 
+use crate::sketches::write_sketch;
 use arrayvec::ArrayVec;
 use board_base::Unmove;
 use cert_text::{Body, Cert, Kids, Node, NodeLine, body_line, write_head, write_line};
@@ -54,6 +55,7 @@ fn write_below<K: Sink>(sink: &mut K, node: &Node) -> Result<(), Failed>
     match &node.body {
         Body::Rule(_) | Body::Back(_) => Ok(()),
         Body::Expand(kids) => write_kids(sink, kids),
+        Body::Sketch(sketch) => write_sketch(sink, sketch),
     }
 }
 

@@ -13,6 +13,7 @@ mod questions;
 mod samples;
 mod sans;
 mod settles;
+mod sketches;
 mod solves;
 mod spells;
 mod statements;

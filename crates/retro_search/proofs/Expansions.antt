@@ -33,7 +33,8 @@ use Rattle.retro_search.specs.declared.unrefuted.Unrefuted.{Unrefuted}
 use Rattle.retro_search.specs.declared.unrefuted.Unrefuted.TheVariants as stop
 use Rattle.retro_search.proofs.Trees.Ancestors.{each_below, proves_below, take_extends, whole_extends}
 use Rattle.retro_search.proofs.Costs.CostSums.{cost_below, first_number, later_numbers}
-use Rattle.retro_search.proofs.Trees.Forests.{height_last, lined_more, lines_more, proves_more}
+use Rattle.retro_search.specs.SketchTexts.{HaveSketchTexts}
+use Rattle.retro_search.proofs.Trees.Forests.{height_last, lined_more, lines_more, proves_more, texts_more}
 use Rattle.retro_search.proofs.Trees.Heights.{refutable_each}
 use Rattle.retro_search.proofs.Lines.OpenLines.{longer_open, stop_large, stop_open, stop_spent}
 use Rattle.retro_search.proofs.Lines.OpenEnds.{longer_unsettled}
@@ -76,6 +77,7 @@ no_children c q below ancestors empty numbers = record {
   low = omega (arith, numbers.1);
   counted = ap lines_in_all empty ∙ sym numbers.2;
   few = omega (arith, numbers.2);
+  texts = subst HaveSketchTexts (sym empty) tt;
 }
 
 pub expands_none : (q : Asked) (below : ℕ) (ancestors : List Asked) (rest : List Unmove) (c : Children) (run : Run) → rest ≡ unmoves q → c.kids ≡ none → (c.lean ≡ 0) × (c.highest ≡ 0) × (c.lines ≡ 0) → IsSound run.memo → (run.reasons ≡ RuleLines → KeepsRuleLines run.memo) → Expands q below ancestors rest c run run
@@ -115,6 +117,7 @@ one_more c more q p done u r below ancestors above here up are f a =
       low = omega (arith, a.highest, are.low, f.low);
       counted = ap lines_in_all a.kids ∙ lines_more c.kids u (tree_of r.node) ∙ ap (λ (n : ℕ). n + lines_in (tree_of r.node)) are.counted ∙ ap (λ (n : ℕ). c.lines + n) f.counted ∙ sym a.lines;
       few = omega (arith, a.room);
+      texts = subst HaveSketchTexts (sym a.kids) (texts_more c.kids u (tree_of r.node) are.texts f.texts);
     }
 
 -- a child's facts, by the query and the ancestors that it has

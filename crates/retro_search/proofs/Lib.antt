@@ -8,6 +8,7 @@ pub mod Expansions
 pub mod Sizing
 pub mod Bound
 pub mod Roots
+pub mod SketchLines
 pub mod TextSizes
 pub mod Telling
 mod Examples

@@ -16,9 +16,12 @@ use Rattle.cert_checker.proofs.Sound.{sound}
 use Rattle.retro_search.specs.Refutable.{IsRefutable}
 use Rattle.retro_search.specs.RuleLines.{IsByRuleLines}
 use Rattle.retro_search.specs.Searched.{Refutes}
+use Rattle.retro_search.specs.LineCounts.{lines_in}
 use Rattle.retro_search.specs.Sizes.{nodes_in}
+use Rattle.retro_search.specs.SketchTexts.{HasSketchTexts}
 use Rattle.retro_search.specs.Answers.{IsProofOf}
 use Rattle.retro_search.proofs.Trees.Fitting.{tree_fits}
+use Rattle.retro_search.proofs.Trees.LineCounts.{nodes_few, units_few}
 use Rattle.retro_search.proofs.Trees.Heights.{refutable_by}
 
 -- the certificate of this tree
@@ -31,12 +34,13 @@ proof_of t claim q depth r few = record { claim_is = refl; query_is = refl; prov
 pub refutable_root : (t : Tree) (q : Asked) (depth : ℕ) → Refutes t q depth [] → IsByRuleLines t → IsRefutable q depth []
 refutable_root t q depth r lined = refutable_by t q depth [] r.proves lined r.low
 
-pub written : (t : Tree) (claim : Claim) (q : Asked) (depth : ℕ) → IsQuery q → IsTrue (stays_on_board claim) → IsTrue (promotes_well claim) → q.barred ≡ None → depth ≤ 64 → nodes_in t ≤ 500000 → Refutes t (target q claim) depth [] → HasText (certified claim q t)
-written t claim q depth known on_board well plain shallow few r =
+pub written : (t : Tree) (claim : Claim) (q : Asked) (depth : ℕ) → IsQuery q → IsTrue (stays_on_board claim) → IsTrue (promotes_well claim) → q.barred ≡ None → depth ≤ 64 → lines_in t ≤ 500000 → HasSketchTexts t → Refutes t (target q claim) depth [] → HasText (certified claim q t)
+written t claim q depth known on_board well plain shallow few sketches r =
     texts.has_text (certified claim q t) known (record {
       claim = and_from (stays_on_board claim) (promotes_well claim) on_board well;
       plain = plain;
-      root = tree_fits t (target q claim) [] 0 r.proves refl (omega (arith, r.low)) (omega arith);
+      root = tree_fits t (target q claim) [] 0 r.proves refl (omega (arith, r.low)) (omega (arith, nodes_few t)) sketches;
+      few = omega (arith, units_few t);
     })
 
 -- no game contradicts the claim

@@ -156,7 +156,7 @@ answered claim q depth nodes run f known on_board plain shallow t = record {
   holds = on_proved claim q nodes t.came f _ t.tells
       (if_ok t.came _ _ (λ r is. held (tree_of r.node) claim q depth (refutes_whole r _ depth [] is)) t.comes.refuted);
   written = λ well. on_proved claim q nodes t.came f (λ cert. HasText (cert_of cert)) t.tells
-      (if_ok t.came _ _ (λ r is. roots.written (tree_of r.node) claim q depth known on_board well plain shallow (few_nodes r _ depth is) (refutes_whole r _ depth [] is)) t.comes.refuted);
+      (if_ok t.came _ _ (λ r is. roots.written (tree_of r.node) claim q depth known on_board well plain shallow (omega (arith, is.counted, is.few)) is.texts (refutes_whole r _ depth [] is)) t.comes.refuted);
   short_line = on_undecided claim q nodes t.came f (λ l. length l < nodes) t.tells
       (if_err t.came _ _ (λ s. if_open s _ _ (λ line deep l whole apart. omega (arith, deep, ap length whole, length-reverse line.back.items))) t.comes.deep);
   short_game = on_countered claim q nodes t.came f (λ g. length g < nodes) t.tells
@@ -168,7 +168,7 @@ answered claim q depth nodes run f known on_board plain shallow t = record {
 pub told_short : (claim : Claim) (q : Asked) (depth nodes : ℕ) (run : Run) (f : Found) → IsTold depth nodes run claim q f → IfProved f (λ cert. IsShort (cert_of cert))
 told_short claim q depth nodes run f t =
     on_proved claim q nodes t.came f (λ cert. IsShort (cert_of cert)) t.tells
-    (if_ok t.came _ _ (λ r is bytes text. few_bytes bytes (certified claim q (tree_of r.node)) text (omega (arith, is.counted, is.few))) t.comes.refuted)
+    (if_ok t.came _ _ (λ r is bytes text. few_bytes bytes (certified claim q (tree_of r.node)) text is.texts (omega (arith, is.counted, is.few))) t.comes.refuted)
 
 pub told_unsettled : (claim : Claim) (q : Asked) (depth nodes : ℕ) (run : Run) (f : Found) → IsTold depth nodes run claim q f → IfUndecided f (λ l. StaysUnsettled l (target q claim) depth)
 told_unsettled claim q depth nodes run f t =

@@ -6,6 +6,7 @@ use Rattle.query_base.specs.Asked.{Asked}
 use Rattle.cert_checker.specs.Proving.{ProvesEach}
 use Rattle.retro_search.specs.Heights.{height_of_all}
 use Rattle.retro_search.specs.LineCounts.{lines_in_all}
+use Rattle.retro_search.specs.SketchTexts.{HaveSketchTexts}
 use Rattle.retro_search.specs.declared.refutations.Children.{Children}
 
 -- the children prove the predecessors of the query by these unmoves, and have the height and the lines that are noted
@@ -15,3 +16,4 @@ pub record AreChildren (c : Children) (q : Asked) (done : List Unmove) (below : 
   pub low : c.highest ≤ below
   pub counted : lines_in_all c.kids ≡ c.lines
   pub few : c.lines ≤ 499999
+  pub texts : HaveSketchTexts c.kids

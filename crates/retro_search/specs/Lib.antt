@@ -10,6 +10,7 @@ pub mod Answers
 pub mod Unsettled
 pub mod Outcomes
 pub mod LineCounts
+pub mod SketchTexts
 pub mod Unrefuted
 pub mod Kept
 pub mod Runs

@@ -1,5 +1,5 @@
 -- Trees all of whose reasons are rule lines.
-use Rattle.cert_text.specs.Tree.{Tree, Forest, rule, back, expand, none, more}
+use Rattle.cert_text.specs.Tree.{Tree, Forest, rule, back, expand, sketch, none, more}
 use Rattle.cert_text.specs.declared.reasons.Reason.{Reason}
 use Rattle.cert_text.specs.declared.reasons.Reason.TheVariants.{Line, Balance}
 
@@ -14,6 +14,7 @@ abbrev mutual
   IsByRuleLines (rule r) = IsRuleLine r
   IsByRuleLines (back k) = Unit {0}
   IsByRuleLines (expand kids) = AreByRuleLines kids
+  IsByRuleLines (sketch b) = ⊥
 
   pub AreByRuleLines : Forest → Type 0
   AreByRuleLines none = Unit {0}

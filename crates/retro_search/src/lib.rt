@@ -16,6 +16,7 @@ mod runs;
 mod searchers;
 mod searching;
 mod shutting;
+mod sketch_copies;
 mod solving;
 mod unrefuted;
 

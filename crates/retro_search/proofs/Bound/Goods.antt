@@ -14,7 +14,7 @@ use Rattle.query_base.specs.Reach.{Reaches}
 use Rattle.static_rules.specs.Supports.{IsClosed}
 use Rattle.unmove_gen.specs.Listed.{unmoves}
 use Rattle.unmove_gen.specs.Predecessor.{predecessor}
-use Rattle.cert_text.specs.Tree.{Tree, rule, back, expand}
+use Rattle.cert_text.specs.Tree.{Tree, rule, back, expand, sketch}
 use Rattle.cert_text.specs.Seen.{tree_of}
 use Rattle.cert_checker.specs.Proving.{Proves}
 use Rattle.query_base.specs.Ancestors.{IsCovered}
@@ -55,6 +55,7 @@ visited run = record { left = run.left - 1; reasons = run.reasons; memo = run.me
 pub leaf_eager : (t : Tree) (q : Asked) (above : List Asked) → Proves t q above → height t ≡ 0 → (IsCovered q above → ⊥) → ((k : ℕ) → t ≡ back k → IsCovered q above) → IsEager t q
 leaf_eager (rule r) q above p low lone covers = tt
 leaf_eager (back k) q above p low lone covers = absurd (lone (covers k refl))
+leaf_eager (sketch b) q above p low lone covers = tt
 leaf_eager (expand kids) q above p low lone covers = absurd (omega arith)
 
 -- it is a rule line that supports the query
@@ -62,6 +63,7 @@ eager-closed : (t : Tree) (q : Asked) (above : List Asked) → Proves t q above 
 eager-closed (rule (Line r)) q above p low eager lined = (r, p)
 eager-closed (rule (Balance set d)) q above p low eager lined = absurd lined
 eager-closed (back k) q above p low eager lined = absurd eager
+eager-closed (sketch b) q above p low eager lined = absurd lined
 eager-closed (expand kids) q above p low eager lined = absurd (omega arith)
 
 stay : (ps : List Asked) (n : ℕ) (q : Asked) (depth : ℕ) (ancestors : List Asked) (run : Run) (r : Refutation) → run.left ≢ 0 → IsGood ps n q depth ancestors run → IsEager (tree_of r.node) q → r.lean ≡ 0 → r.lines ≤ n → IsDone (kept_in run.memo) q → GoesWell ps n q depth ancestors r run (visited run)

@@ -7,7 +7,7 @@ use Rattle.query_base.specs.Targets.{Covers}
 use Rattle.query_base.specs.Ancestors.{ancestor}
 use Rattle.unmove_gen.specs.Listed.{unmoves}
 use Rattle.unmove_gen.specs.Predecessor.{predecessor}
-use Rattle.cert_text.specs.Tree.{Tree, Forest, rule, back, expand, none, more}
+use Rattle.cert_text.specs.Tree.{Tree, Forest, rule, back, expand, sketch, none, more}
 use Rattle.cert_checker.specs.Proving.{Proves, ProvesEach}
 
 -- each ancestor of the first stands in the second at the same place
@@ -33,6 +33,7 @@ mutual
   pub proves_below : (t : Tree) (q : Asked) (a b : List Asked) → Extends a b → Proves t q a → Proves t q b
   proves_below (rule r) q a b e p = p
   proves_below (back k) q a b e p = ancestor-there k a b (λ c. Covers c q) e p
+  proves_below (sketch s) q a b e p = p
   proves_below (expand kids) q a b e p = (p.0, each_below kids q (unmoves q) a b e p.1)
 
   pub each_below : (f : Forest) (q : Asked) (us : List Unmove) (a b : List Asked) → Extends a b → ProvesEach f q us a → ProvesEach f q us b

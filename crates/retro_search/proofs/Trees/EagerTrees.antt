@@ -9,7 +9,7 @@ use Rattle.query_base.specs.Targets.{Covers}
 use Rattle.static_rules.specs.Supports.{IsClosed}
 use Rattle.unmove_gen.specs.Listed.{unmoves}
 use Rattle.unmove_gen.specs.Predecessor.{predecessor}
-use Rattle.cert_text.specs.Tree.{Tree, Forest, rule, back, expand, none, more}
+use Rattle.cert_text.specs.Tree.{Tree, Forest, rule, back, expand, sketch, none, more}
 use Rattle.cert_checker.specs.Proving.{Proves, ProvesEach}
 use Rattle.query_base.specs.Ancestors.{IsCovered}
 use Rattle.retro_search.specs.Refutable.{IsRefutable, IsShut}
@@ -34,6 +34,7 @@ mutual
   pub eager_low : (t : Tree) (q : Asked) (depth : ℕ) (ancestors above : List Asked) → IsEager t q → Proves t q above → IsLone q depth ancestors → IsRefutable q depth ancestors → height t ≤ depth
   eager_low (rule r) q depth ancestors above eager p lone ref = omega arith
   eager_low (back k) q depth ancestors above eager p lone ref = absurd eager
+  eager_low (sketch b) q depth ancestors above eager p lone ref = omega arith
   eager_low (expand kids) q zero ancestors above eager p lone ref = absurd (lone_unshut zero q ancestors lone eager.0 ref)
   eager_low (expand kids) q (suc depth) ancestors above eager p lone (inl shut) = absurd (lone_unshut (suc depth) q ancestors lone eager.0 shut)
   eager_low (expand kids) q (suc depth) ancestors above eager p lone (inr ref) =
@@ -53,6 +54,7 @@ mutual
   pub eager_small : (t : Tree) (q : Asked) (depth : ℕ) (ancestors above : List Asked) (n : ℕ) → IsEager t q → Proves t q above → IsLone q depth ancestors → IsRefutable q depth ancestors → IsCost q depth ancestors n → nodes_in t ≤ n
   eager_small (rule r) q depth ancestors above n eager p lone ref cost = cost_positive depth q ancestors n cost
   eager_small (back k) q depth ancestors above n eager p lone ref cost = absurd eager
+  eager_small (sketch b) q depth ancestors above n eager p lone ref cost = cost_positive depth q ancestors n cost
   eager_small (expand kids) q zero ancestors above n eager p lone ref cost = absurd (lone_unshut zero q ancestors lone eager.0 ref)
   eager_small (expand kids) q (suc depth) ancestors above n eager p lone (inl shut) cost = absurd (lone_unshut (suc depth) q ancestors lone eager.0 shut)
   eager_small (expand kids) q (suc depth) ancestors above n eager p lone (inr ref) (inl (inl shut, e)) = absurd (lone_unshut (suc depth) q ancestors lone eager.0 shut)

@@ -13,7 +13,7 @@ use Rattle.unmove_gen.specs.Listed.{candidates, is_listed, unmoves}
 use Rattle.unmove_gen.specs.Predecessor.{predecessor}
 use Rattle.unmove_gen.proofs.Numbered.{numbered}
 use Rattle.unmove_gen.proofs.Spelled.{captures_spelled, promotions_spelled}
-use Rattle.cert_text.specs.Tree.{Tree, Forest, rule, back, expand, none, more, count}
+use Rattle.cert_text.specs.Tree.{Tree, Forest, rule, back, expand, sketch, none, more, count}
 use Rattle.cert_text.specs.Writable.{fits, all_fit, has_text, is_reason, is_rule}
 use Rattle.cert_text.proofs.NearNumbers.{potentials_near}
 use Rattle.query_base.specs.declared.rule_lines.RuleLine.{RuleLine}
@@ -25,6 +25,7 @@ use Rattle.cert_checker.specs.Reasons.{ReasonSupports}
 use Rattle.cert_checker.specs.Proving.{Proves, ProvesEach}
 use Rattle.retro_search.specs.Heights.{height, height_of_all}
 use Rattle.retro_search.specs.Sizes.{nodes_in, nodes_in_all}
+use Rattle.retro_search.specs.SketchTexts.{HasSketchTexts, HaveSketchTexts}
 
 -- the squares of an unmove are on the board
 record OnBoard (u : Unmove) : Type 0 where
@@ -74,25 +75,27 @@ some_nodes : (t : Tree) → 1 ≤ nodes_in t
 some_nodes (rule r) = omega arith
 some_nodes (back k) = omega arith
 some_nodes (expand kids) = omega arith
+some_nodes (sketch b) = omega arith
 
 few_kids : (f : Forest) → count f ≤ nodes_in_all f
 few_kids none = omega arith
 few_kids (more label t rest) = omega (arith, some_nodes t, few_kids rest)
 
 mutual
-  -- a low tree of few nodes that proves a query fits the grammar at its depth
-  pub tree_fits : (t : Tree) (q : Asked) (ancestors : List Asked) (depth : ℕ) → Proves t q ancestors → length ancestors ≡ depth → depth + height t ≤ 255 → nodes_in t ≤ 999999 → fits depth t ≡ true
-  tree_fits (rule r) q ancestors depth p size low few = reason_known q r p
-  tree_fits (back zero) q ancestors depth p size low few = absurd p
-  tree_fits (back (suc k)) q ancestors depth p size low few = back_fits (suc k) depth (omega arith) (omega (arith, within_list ancestors k _ p))
-  tree_fits (expand kids) q ancestors depth p size low few =
-      and_from _ _ (expand_fits (count kids) depth (omega arith) (omega (arith, few_kids kids))) (each_fits kids q (unmoves q) ancestors depth p.1 (λ u there. there) size (omega arith) (omega arith))
+  -- a low tree of few nodes that proves a query, and whose sketches have texts, fits the grammar at its depth
+  pub tree_fits : (t : Tree) (q : Asked) (ancestors : List Asked) (depth : ℕ) → Proves t q ancestors → length ancestors ≡ depth → depth + height t ≤ 255 → nodes_in t ≤ 999999 → HasSketchTexts t → fits depth t ≡ true
+  tree_fits (rule r) q ancestors depth p size low few texts = reason_known q r p
+  tree_fits (sketch b) q ancestors depth p size low few texts = texts
+  tree_fits (back zero) q ancestors depth p size low few texts = absurd p
+  tree_fits (back (suc k)) q ancestors depth p size low few texts = back_fits (suc k) depth (omega arith) (omega (arith, within_list ancestors k _ p))
+  tree_fits (expand kids) q ancestors depth p size low few texts =
+      and_from _ _ (expand_fits (count kids) depth (omega arith) (omega (arith, few_kids kids))) (each_fits kids q (unmoves q) ancestors depth p.1 (λ u there. there) size (omega arith) (omega arith) texts)
 
-  each_fits : (f : Forest) (q : Asked) (us : List Unmove) (ancestors : List Asked) (depth : ℕ) → ProvesEach f q us ancestors → ((u : Unmove) → Contains us u → Contains (unmoves q) u) → length ancestors ≡ depth → suc depth + height_of_all f ≤ 255 → nodes_in_all f ≤ 999999 → all_fit (suc depth) f ≡ true
-  each_fits none q us ancestors depth p listed size low few = refl
-  each_fits (more label t rest) q us ancestors depth (others, first, p, each) listed size low few =
+  each_fits : (f : Forest) (q : Asked) (us : List Unmove) (ancestors : List Asked) (depth : ℕ) → ProvesEach f q us ancestors → ((u : Unmove) → Contains us u → Contains (unmoves q) u) → length ancestors ≡ depth → suc depth + height_of_all f ≤ 255 → nodes_in_all f ≤ 999999 → HaveSketchTexts f → all_fit (suc depth) f ≡ true
+  each_fits none q us ancestors depth p listed size low few texts = refl
+  each_fits (more label t rest) q us ancestors depth (others, first, p, each) listed size low few texts =
       let there : Contains us label = subst (λ (l : List Unmove). Contains l label) (sym first) (contains-first label others) in
       let later : (u : Unmove) → Contains others u → Contains (unmoves q) u = λ u h. listed u (subst (λ (l : List Unmove). Contains l u) (sym first) (contains-later label others u h)) in
       and_from _ _
-      (and_from _ _ (label_fits q label (listed label there)) (tree_fits t (predecessor q label) (q ∷ ancestors) (suc depth) p (ap suc size) (omega arith) (omega arith)))
-      (each_fits rest q others ancestors depth each later size (omega arith) (omega arith))
+      (and_from _ _ (label_fits q label (listed label there)) (tree_fits t (predecessor q label) (q ∷ ancestors) (suc depth) p (ap suc size) (omega arith) (omega arith) texts.0))
+      (each_fits rest q others ancestors depth each later size (omega arith) (omega arith) texts.1)

@@ -6,6 +6,7 @@ use Rattle.unmove_gen.specs.Predecessor.{predecessor}
 use Rattle.cert_text.specs.Tree.{Tree, Forest, none, more, with_last}
 use Rattle.cert_checker.specs.Proving.{Proves, ProvesEach}
 use Rattle.retro_search.specs.Heights.{height, height_of_all}
+use Rattle.retro_search.specs.SketchTexts.{HasSketchTexts, HaveSketchTexts}
 use Rattle.retro_search.specs.RuleLines.{AreByRuleLines, IsByRuleLines}
 use Rattle.retro_search.specs.LineCounts.{lines_in, lines_in_all}
 
@@ -21,6 +22,10 @@ lines_more (more label s rest) u t = omega (arith, lines_more rest u t)
 pub height_last : (f : Forest) (u : Unmove) (t : Tree) → height_of_all (with_last f u t) ≡ max (height_of_all f) (height t)
 height_last none u t = omega arith
 height_last (more label s rest) u t = omega (arith, height_last rest u t)
+
+pub texts_more : (f : Forest) (u : Unmove) (t : Tree) → HaveSketchTexts f → HasSketchTexts t → HaveSketchTexts (with_last f u t)
+texts_more none u t all one = (one, tt)
+texts_more (more label s rest) u t all one = (all.0, texts_more rest u t all.1 one)
 
 pub lined_more : (f : Forest) (u : Unmove) (t : Tree) → AreByRuleLines f → IsByRuleLines t → AreByRuleLines (with_last f u t)
 lined_more none u t all one = (one, tt)

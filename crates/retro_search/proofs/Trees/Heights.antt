@@ -6,7 +6,7 @@ use Rattle.general_lemmas.proofs.Lists.{contains-cases, contains-none}
 use Rattle.query_base.specs.Asked.{Asked}
 use Rattle.unmove_gen.specs.Listed.{unmoves}
 use Rattle.unmove_gen.specs.Predecessor.{predecessor}
-use Rattle.cert_text.specs.Tree.{Tree, Forest, rule, back, expand, none, more}
+use Rattle.cert_text.specs.Tree.{Tree, Forest, rule, back, expand, sketch, none, more}
 use Rattle.cert_text.specs.declared.reasons.Reason.TheVariants.{Line, Balance}
 use Rattle.cert_checker.specs.Proving.{Proves, ProvesEach}
 use Rattle.retro_search.specs.RuleLines.{AreByRuleLines, IsByRuleLines}
@@ -24,6 +24,7 @@ mutual
   refutable_by (rule (Balance set d)) q depth ancestors p lined low = absurd lined
   refutable_by (rule (Line r)) q depth ancestors p lined low = shut_refutable depth q ancestors (inl (r, p))
   refutable_by (back k) q depth ancestors p lined low = shut_refutable depth q ancestors (inr (covered ancestors k q p))
+  refutable_by (sketch b) q depth ancestors p lined low = absurd lined
   refutable_by (expand kids) q zero ancestors p lined low = absurd (omega arith)
   refutable_by (expand kids) q (suc depth) ancestors p lined low =
       inr (p.0, refutable_each kids q (unmoves q) depth ancestors p.1 lined (omega arith))

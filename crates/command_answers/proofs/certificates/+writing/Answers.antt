@@ -4,7 +4,7 @@ use Rattle.cert_text.specs.Sizes.{size, size_all}
 use Rattle.cert_text.proofs.Forests.{kid_smaller}
 use Rattle.retro_ports.proofs.Pieces.{piece_cut, piece_written}
 use Rattle.command_answers.specs.Told.{HasLinesBelow}
-use Rattle.command_answers.proofs.CertificateLines.{at-child, child-at, child-line, kids-end}
+use Rattle.command_answers.proofs.CertificateLines.{at-child, child-at, child-below, child-line, kids-end, sketch-known}
 use Rattle.command_answers.proofs.certificates.+writing.Goals as goal
 
 pub write_kids-own_line-requires : goal.write_kids-own_line-requires
@@ -17,7 +17,7 @@ write_kids-write_below-requires g t c =
     let kid = rw c.unwrap-kid.ensures at c.get.ensures.kid in
     let child = child-at _ _ _ _ _ _ c.requires.2 kid in
     let smaller : suc (size (tree_of c.unwrap-kid.result.now.node)) ≤ size_all c.args.kids.now = kid_smaller c.args.kids.now c.loop-i.i _ _ kid in
-    let below : HasLinesBelow (tree_of c.unwrap-kid.result.now.node) = (suc c.requires.0, child.below, child.are) in
+    let below : HasLinesBelow (tree_of c.unwrap-kid.result.now.node) = child-below c.requires.0 _ _ child in
     search rules
 
 pub write_kids-returns-in_err-write_all-clause-failed : goal.write_kids-returns-in_err-write_all-clause-failed
@@ -42,3 +42,6 @@ write_kids-loop-i-preserved g t c =
 
 pub write_kids-returns-clause-ok : goal.write_kids-returns-clause-ok
 write_kids-returns-clause-ok g t c = kids-end _ _ _ _ _ c.args.kids.now c.loop-i.i (omega (arith, c.loop-i-test.false, c.len-i-end.ensures)) c.loop-i.invariant
+
+pub write_below-write_sketch-requires : goal.write_below-write_sketch-requires
+write_below-write_sketch-requires g t c = sketch-known _ c.requires

@@ -9,6 +9,7 @@ use Rattle.cert_text.specs.SeenCert.{cert_of}
 use Rattle.cert_text.specs.Writable.{stays_on_board}
 use Rattle.cert_text.specs.Written.{cert_lines, head_lines, lines_below}
 use Rattle.cert_text.proofs.CertTexts.{writable}
+use Rattle.cert_text.proofs.WrittenTrees.{sketch_line}
 use Rattle.retro_ports.proofs.Pieces.{last_failed, last_ok, piece_cut}
 use Rattle.command_answers.proofs.CertificateLines.{after_head, begun, head-written, root-line, root-written}
 use Rattle.command_answers.proofs.certificates.write_certificate.Goals as goal
@@ -24,7 +25,7 @@ pub own_line-requires : goal.own_line-requires
 own_line-requires g c = root-line (tree_of c.args.cert.now.root) c.requires.1.root_line c.requires.1.root
 
 pub write_below-requires : goal.write_below-requires
-write_below-requires g c = (0, c.requires.1.below, c.requires.1.nodes)
+write_below-requires g c = (0, c.requires.1.below, c.requires.1.nodes, sketch_line (tree_of c.args.cert.now.root) 0 (writable _ (cert_of c.args.cert.now) c.requires.1).root)
 
 pub returns-in_err-write_all-clause-failed : goal.returns-in_err-write_all-clause-failed
 returns-in_err-write_all-clause-failed g c =
