@@ -4,4 +4,6 @@
 #[cfg(test)]
 mod first_faults;
 #[cfg(test)]
+mod sketches;
+#[cfg(test)]
 mod streams;
