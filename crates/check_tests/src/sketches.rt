@@ -93,7 +93,7 @@ fn answers_to_marks_and_steps(rt: HostRuntime) {
         // A king is marked, and a figure that isn't there; a mark isn't forced at the second line.
         (&["now marks 1 steps 0\n", "mark 1 3\n"], rule(8)),
         (&["now marks 1 steps 0\n", "mark 1 31\n"], rule(8)),
-        (&["now marks 1 steps 0\n", "mark 2 4\n"], rule(8)),
+        (&["now marks 1 steps 0\n", "mark 2 15\n"], rule(8)),
     ];
     for (parts, refused) in rows {
         let Ok(node) = joined(rt.alloc(), parts) else {
