@@ -64,7 +64,11 @@ fn is_alike(alloc: Global, text: &[u8], piece: usize) -> Result<bool, AllocError
 }
 
 /// Whether a text is refused so, or is accepted where no refusal is given: whole, and in reads of one byte and of seven.
-pub(crate) fn is_answered(alloc: Global, text: &[u8], refused: Option<Refused>) -> Result<bool, AllocError> {
+pub(crate) fn is_answered(
+    alloc: Global,
+    text: &[u8],
+    refused: Option<Refused>,
+) -> Result<bool, AllocError> {
     let whole = checked(alloc, text);
     let as_wanted = match refused {
         Some(refused) => whole == Err(refused),
