@@ -1,8 +1,6 @@
 ghost use Rattle.std.specs.Prelude.{◌≡◌, IfOk};
 ghost use Rattle.cert_text.specs.Seen.{tree_of};
-ghost use Rattle.retro_search.specs.SketchTexts.{HasSketchTexts, HaveSketchTexts};
 
-use crate::sketch_copies::copied_sketch;
 use board_base::Memory;
 use cert_text::{Body, Kid, Kids, Node};
 use std::alloc::Global;
@@ -10,7 +8,6 @@ use std::alloc::Global;
 /// A copy of the node and of all that is below it.
 #[cycle(copying)]
 pub(crate) fn copied(alloc: Global, node: &Node) -> Result<Node, Memory>
-    requires { HasSketchTexts (tree_of node.now) }
     ensures { IfOk result (λ copy. tree_of copy ≡ tree_of node.now) }
 {
     match &node.body {
@@ -24,7 +21,7 @@ pub(crate) fn copied(alloc: Global, node: &Node) -> Result<Node, Memory>
             body: Body::Expand(copied_all(alloc, kids)?),
         }),
         Body::Sketch(sketch) => Ok(Node {
-            body: Body::Sketch(copied_sketch(alloc, sketch)?),
+            body: Body::Sketch(sketch.copied(alloc)?),
         }),
     }
 }
@@ -32,7 +29,6 @@ pub(crate) fn copied(alloc: Global, node: &Node) -> Result<Node, Memory>
 /// Copies of the children and of all that is below them.
 #[cycle(copying)]
 fn copied_all(alloc: Global, kids: &Kids) -> Result<Kids, Memory>
-    requires { HaveSketchTexts kids.now }
     ensures { IfOk result (λ copies. copies ≡ kids.now) }
 {
     let mut copies = Kids::new(alloc);

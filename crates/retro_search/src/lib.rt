@@ -16,7 +16,6 @@ mod runs;
 mod searchers;
 mod searching;
 mod shutting;
-mod sketch_copies;
 mod solving;
 mod unrefuted;
 
