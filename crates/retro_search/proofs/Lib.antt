@@ -11,3 +11,5 @@ pub mod Roots
 pub mod TextSizes
 pub mod Telling
 mod Examples
+pub use Rattle.cert_checker.proofs.Contradicted
+pub use Rattle.cert_checker.proofs.Sound

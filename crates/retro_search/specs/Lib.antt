@@ -20,3 +20,4 @@ pub mod Searched
 pub mod Attempts
 pub mod Told
 pub mod Good
+pub use Rattle.cert_checker.specs.Proving
