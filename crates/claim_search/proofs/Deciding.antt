@@ -7,7 +7,7 @@ use Rattle.query_base.specs.Targets.{target}
 use Rattle.query_base.specs.declared.claims.Claim.{Claim}
 use Rattle.price_search.specs.FlatPrices.{FlatPricesSupport, flat_prices}
 use Rattle.balance_rule.proofs.Sound.{balance-unreached}
-use Rattle.cert_checker.proofs.Contradicted.{contradiction-reaches}
+use Rattle.retro_search.proofs.Contradicted.{contradiction-reaches}
 use Rattle.retro_search.specs.Answers.{IfSpentAt, IfUndecided, IsAnswer, IsProved, IsUndecided}
 use Rattle.retro_search.specs.Lines.{EndsAtArray}
 use Rattle.retro_search.specs.Lone.{IsDear}

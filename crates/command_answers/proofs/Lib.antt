@@ -8,3 +8,5 @@ pub mod GameTexts
 pub mod Settled
 pub mod LegalGames
 pub mod Finding
+pub use Rattle.diagram_study.proofs.Truths
+pub use Rattle.claim_search.proofs.Unreached

@@ -6,7 +6,7 @@ use Rattle.query_base.specs.declared.claims.Claim.{Claim}
 use Rattle.line_claims.specs.Due.{parts_due}
 use Rattle.line_claims.specs.Listing.{HasParts, LacksStep}
 use Rattle.line_claims.specs.declared.claims.LineClaim.{LineClaim}
-use Rattle.dossier_text.specs.Proving.{IsDossier}
+use Rattle.dossier_checker.specs.Proving.{IsDossier}
 use Rattle.dossier_search.specs.ReachedParts.{IsDearPart, IsFirstOpenPart, IsPartAfforded, IsPartPriced, IsPartProved, IsPartRefutable}
 use Rattle.question_text.specs.declared.faults.InputFault.{InputFault}
 use Rattle.command_answers.specs.Lines.{step_line}

@@ -21,3 +21,7 @@ pub mod Explains
 pub mod Samples
 pub mod Forms
 pub mod Told
+pub use Rattle.diagram_study.specs.Facts
+pub use Rattle.diagram_study.specs.Studies as DiagramStudyStudies
+pub use Rattle.claim_search.specs.Settlements
+pub use Rattle.proof_prose.specs.Prose

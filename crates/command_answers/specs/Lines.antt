@@ -5,7 +5,7 @@ use Rattle.query_base.specs.Asked.{Asked}
 use Rattle.cert_text.specs.Lines.{ended}
 use Rattle.line_claims.specs.Lines.{line_claim_text}
 use Rattle.line_claims.specs.declared.claims.LineClaim.{LineClaim}
-use Rattle.dossier_text.specs.Proving.{IsDossier}
+use Rattle.dossier_checker.specs.Proving.{IsDossier}
 use Rattle.dossier_checker.specs.DossierAnswers.{AnswersDossier, DossierAnswer, bad_text_in, fault_in, line_accepted, no_head, no_part, other_part, unlisted_step}
 use Rattle.command_answers.specs.Checks.{accepted_words_line, fault_words}
 use Rattle.command_answers.specs.declared.statuses.Status.{Status}

@@ -16,9 +16,9 @@ use Rattle.unmove_gen.specs.Listed.{before, candidates, fits_ends, is_legal_befo
 use Rattle.unmove_gen.specs.Predecessor.{predecessor}
 use Rattle.unmove_gen.specs.Sane.{is_sane}
 use Rattle.cert_text.specs.Tree.{Forest, expand, none, more}
-use Rattle.cert_checker.specs.Proving.{Proves, ProvesEach}
-use Rattle.cert_checker.proofs.Contradicted.{contradiction-reaches}
-use Rattle.cert_checker.proofs.Sound.{sound}
+use Rattle.retro_search.specs.Proving.{Proves, ProvesEach}
+use Rattle.retro_search.proofs.Contradicted.{contradiction-reaches}
+use Rattle.retro_search.proofs.Sound.{sound}
 use Rattle.retro_search.specs.Heights.{height_of_all}
 use Rattle.retro_search.specs.Outcomes.{HasProof}
 use Rattle.retro_search.specs.declared.searchers.Outcome.{Outcome}

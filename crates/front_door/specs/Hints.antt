@@ -2,8 +2,8 @@
 use Rattle.std.specs.Prelude.{ℕ, ◌≡◌, ◌⊎◌, IsTrue, List, [], ◌∷◌, ◌++◌, codes, nat_eq, String}
 use Rattle.std.specs.Global.{Global}
 use Rattle.std.specs.List.{starts_with}
-use Rattle.command_answers.specs.declared.statuses.Status.{Status}
-use Rattle.command_answers.specs.declared.statuses.Status.TheVariants.{BadInput, BadWords, Refused}
+use Rattle.retro_top.specs.Status.{Status}
+use Rattle.retro_top.specs.Status.TheVariants.{BadInput, BadWords, Refused}
 use Rattle.retro_top.specs.Names.{Begin, NameCommand}
 use Rattle.hint_texts.specs.declared.advice.Advice.{Advice}
 use Rattle.hint_texts.specs.declared.advice.Advice.TheVariants.{Words, Lines, Fen, Moves, Texts}

@@ -2,7 +2,7 @@
 
 ghost use Rattle.std.specs.Prelude.{◌≡◌, ◌↔◌, ◌⊎◌, IfSome, IsSome, IsTrue, List, Some, None, String, codes};
 ghost use Rattle.std.specs.Global.{Global as AGlobal};
-ghost use Rattle.command_answers.specs.declared.statuses.Status.TheVariants.{BadInput, BadWords, Refused};
+ghost use Rattle.retro_top.specs.Status.TheVariants.{BadInput, BadWords, Refused};
 ghost use Rattle.retro_top.specs.Names.{Begin, NameCommand};
 ghost use Rattle.front_door.specs.Hints.{AskForCertificate, AskForGame, Concerns, GoesWith, IsOfFen, Says, status_of};
 ghost use Rattle.front_door.specs.Kinds.{IsGame};

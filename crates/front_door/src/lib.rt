@@ -7,9 +7,9 @@ ghost use Rattle.std.specs.Io.KnownBytes.{Keeps};
 ghost use Rattle.std.specs.Process.{exit_status};
 ghost use Rattle.retro_ports.specs.Causes.{Rose};
 ghost use Rattle.retro_ports.specs.Ends.{ReadSome};
-ghost use Rattle.command_answers.specs.Limits.{most_bytes};
-ghost use Rattle.command_answers.specs.Statuses.{IsAnswer, IsSilent, code_of};
-ghost use Rattle.command_answers.specs.declared.statuses.Status.TheVariants.{BadWords, Memory, ReadFault, TooLong, WriteFault};
+ghost use Rattle.retro_top.specs.Limits.{most_bytes};
+ghost use Rattle.retro_top.specs.Statuses.{IsAnswer, IsSilent, code_of};
+ghost use Rattle.retro_top.specs.Status.TheVariants.{BadWords, Memory, ReadFault, TooLong, WriteFault};
 ghost use Rattle.retro_top.specs.Answers.{ReadsFor, WritesAnswer, WritesPart};
 ghost use Rattle.retro_top.specs.Commands.{Call as Calls, CallReader, CallSome, TakesMemory};
 ghost use Rattle.retro_top.specs.declared.commands.Command.{Command};
@@ -50,7 +50,7 @@ pub struct Ended {
 
 impl Model for Ended {
     ghost use Rattle.std.specs.Prelude.{◌≡◌, IfSome};
-    ghost use Rattle.command_answers.specs.declared.statuses.Status.{Status};
+    ghost use Rattle.retro_top.specs.Status.{Status};
     ghost use Rattle.front_door.specs.Hints.{status_of};
 
     ghost Value = { Status };

@@ -2,7 +2,7 @@
 
 use front_door::{Advice, FenAdvice, LineAdvice, MoveAdvice, TextAdvice, WordAdvice, advise};
 use retro_ports::{MemSink, MemSource};
-use retro_top::{Status, run};
+use front_door::{Status, run};
 use std::alloc::{AllocError, Global};
 
 /// Words that call no command, what is said of them, and how the command that is meant is called.

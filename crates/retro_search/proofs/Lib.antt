@@ -12,3 +12,5 @@ pub mod SketchLines
 pub mod TextSizes
 pub mod Telling
 mod Examples
+pub use Rattle.cert_checker.proofs.Contradicted
+pub use Rattle.cert_checker.proofs.Sound

@@ -21,3 +21,4 @@ pub mod Searched
 pub mod Attempts
 pub mod Told
 pub mod Good
+pub use Rattle.cert_checker.specs.Proving

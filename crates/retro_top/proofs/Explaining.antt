@@ -3,7 +3,7 @@ use Rattle.std.proofs.Common.{◌≡◌, ℕ, List, refl}
 use Rattle.query_base.specs.Reach.{Holds}
 use Rattle.cert_text.specs.Certificate.{Certificate, IsTextOf}
 use Rattle.cert_checker.specs.Proving.{ProvesClaim}
-use Rattle.proof_prose.specs.Prose.{Explains}
+use Rattle.command_answers.specs.Prose.{Explains}
 use Rattle.command_answers.specs.Explains.{AnswersExplain}
 use Rattle.command_answers.specs.Statuses.{IsAnswer}
 use Rattle.command_answers.specs.declared.statuses.Status.{Status}

@@ -11,8 +11,8 @@ use Rattle.cert_checker.specs.Proving.{ProvesClaim}
 use Rattle.cert_checker.proofs.Contradicted.{contradiction-reaches}
 use Rattle.retro_search.specs.Refutable.{IsRefutable}
 use Rattle.retro_search.specs.SearchSizes.{IsSmallSearch}
-use Rattle.claim_search.specs.Settlements.{IsCounterable}
-use Rattle.claim_search.proofs.Unreached.{refutable-unreached}
+use Rattle.command_answers.specs.Settlements.{IsCounterable}
+use Rattle.command_answers.proofs.Unreached.{refutable-unreached}
 use Rattle.retro_top.specs.Answers.{IsUnspent, StatesCheap, StatesCounterable, StatesPriced, StatesProved, StatesRefutable, StatesSmall}
 use Rattle.command_answers.specs.Settles.{AnswersSettle, AnswersSettling}
 use Rattle.command_answers.specs.Solves.{IsCheap}

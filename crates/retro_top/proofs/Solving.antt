@@ -11,7 +11,7 @@ use Rattle.retro_search.specs.Answers.{IsProofOf}
 use Rattle.retro_search.specs.Lines.{EndsAtArray}
 use Rattle.retro_search.specs.Refutable.{IsRefutable}
 use Rattle.retro_search.proofs.Lines.OneLine.{line_one}
-use Rattle.claim_search.specs.Settlements.{IsCounterable}
+use Rattle.command_answers.specs.Settlements.{IsCounterable}
 use Rattle.retro_top.specs.Answers.{IsUnspent, StatesCheap, StatesCounterable, StatesRefutable}
 use Rattle.command_answers.specs.Solves.{AnswersClaim, AnswersSolve, IsCheap, countered_line}
 use Rattle.command_answers.specs.Statements.{States}

@@ -16,9 +16,9 @@ use Rattle.cert_text.specs.Certificate.{Certificate, IsTextOf}
 use Rattle.game_text.specs.Words.{words, AreTextsOf}
 use Rattle.san_text.specs.FromArray.{Tells}
 use Rattle.cert_checker.specs.Proving.{ProvesClaim}
-use Rattle.proof_prose.specs.Prose.{Explains}
+use Rattle.command_answers.specs.Prose.{Explains}
 use Rattle.price_search.specs.FlatPrices.{FlatPricesSupport}
-use Rattle.claim_search.specs.Settlements.{IsCounterable}
+use Rattle.command_answers.specs.Settlements.{IsCounterable}
 use Rattle.retro_search.specs.Answers.{IsProofOf}
 use Rattle.retro_search.specs.Refutable.{IsRefutable}
 use Rattle.retro_search.specs.SearchSizes.{IsSmallSearch}
@@ -49,8 +49,8 @@ use Rattle.command_answers.specs.Dossiers.{AnswersDossier, StatesCheapLine, Stat
 use Rattle.command_answers.specs.Lines.{AnswersLine, ProvesLine, accepted_steps_line}
 use Rattle.command_answers.specs.AtLeasts.{AnswersAtLeast, ShowsLength, bound_line}
 use Rattle.command_answers.specs.Studies.{AnswersStudy}
-use Rattle.diagram_study.specs.Facts.{SaysTrue}
-use Rattle.diagram_study.specs.Studies.{IsStudy}
+use Rattle.command_answers.specs.Facts.{SaysTrue}
+use Rattle.command_answers.specs.DiagramStudyStudies.{IsStudy}
 use Rattle.command_answers.specs.Verdicts.{AnswersVerdict, AsksForCheap, Each, verdicts_text}
 use Rattle.command_answers.specs.declared.statuses.Status.{Status}
 use Rattle.command_answers.specs.declared.statuses.Status.TheVariants.{Done, Refused, Undecided, Countered, Memory}

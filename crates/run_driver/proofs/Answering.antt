@@ -2,8 +2,8 @@
 use Rattle.std.proofs.Common.{ℕ, ◌≡◌, ◌≤◌, ◌++◌, List, [], append-nil, length, map, ap, sym, subst, ◌∙◌, arith}
 use Rattle.std.specs.Global.{Global}
 use Rattle.std.specs.Prelude.{Some, String, string_bytes}
-use Rattle.command_answers.specs.Limits.{most_bytes}
-use Rattle.command_answers.specs.declared.statuses.Status.{Status}
+use Rattle.retro_top.specs.Limits.{most_bytes}
+use Rattle.retro_top.specs.Status.{Status}
 use Rattle.retro_top.specs.Answers.{AnswersAs, ReadsBy, ReadsFor, WritesAnswer}
 use Rattle.retro_top.specs.Commands.{Call}
 use Rattle.retro_top.specs.declared.commands.Command.{Command}

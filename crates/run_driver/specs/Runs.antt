@@ -1,7 +1,7 @@
 -- What a run in memory answers.
 use Rattle.std.specs.Prelude.{ℕ, ◌≡◌, ◌≤◌, List, [], length}
-use Rattle.command_answers.specs.Limits.{most_bytes}
-use Rattle.command_answers.specs.declared.statuses.Status.{Status}
+use Rattle.retro_top.specs.Limits.{most_bytes}
+use Rattle.retro_top.specs.Status.{Status}
 use Rattle.retro_top.specs.Answers.{AnswersAs}
 use Rattle.retro_top.specs.Commands.{AreWordsOf, IsInRange}
 use Rattle.retro_top.specs.declared.commands.Command.{Command}

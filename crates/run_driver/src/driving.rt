@@ -1,5 +1,5 @@
 ghost use Rattle.std.specs.Prelude.{[], ◌≡◌, IfOk, IsTrue, map, string_bytes};
-ghost use Rattle.command_answers.specs.Statuses.{IsAnswer, IsSilent};
+ghost use Rattle.retro_top.specs.Statuses.{IsAnswer, IsSilent};
 ghost use Rattle.run_driver.specs.Runs.{Runs};
 
 use retro_ports::{MemSink, MemSource};

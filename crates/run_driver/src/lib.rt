@@ -4,3 +4,4 @@
 mod driving;
 
 pub use driving::{Ports, Row, WHOLE, is_answered, run_on};
+pub use retro_top::{Status, run};

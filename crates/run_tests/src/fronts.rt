@@ -2,7 +2,7 @@
 
 use crate::refusals::is_refused;
 use crate::rows::TWO_STEPS;
-use retro_top::Status;
+use run_driver::Status;
 use run_driver::{Row, WHOLE, is_answered};
 use std::test::Fail;
 

@@ -1,6 +1,6 @@
 //! Certificates are refused.
 
-use retro_top::Status;
+use run_driver::Status;
 use run_driver::{Ports, Row, WHOLE, is_answered};
 use std::alloc::{AllocError, Global};
 

@@ -1,6 +1,6 @@
 //! Words and inputs whose runs are made to fail, and their answers.
 
-use retro_top::Status;
+use run_driver::Status;
 use run_driver::Row;
 
 /// No kings: the whole certificate has 64 bytes.

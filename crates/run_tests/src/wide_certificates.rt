@@ -4,7 +4,7 @@ ghost use Rattle.std.specs.Prelude.{None};
 
 use cert_checker::{StreamRefused, Why, check_stream};
 use retro_ports::{Failed, MemSink, Source};
-use retro_top::{Status, run};
+use run_driver::{Status, run};
 use std::alloc::Global;
 use std::process::Abort;
 use std::test::Fail;

@@ -1,6 +1,6 @@
 //! Words that call no command, since a blank is in one, or nothing. Others stand among the rows of `rows_run`.
 
-use retro_top::Status;
+use run_driver::Status;
 use run_driver::{Row, WHOLE, is_answered};
 use std::test::Fail;
 

@@ -9,8 +9,8 @@ use Rattle.past_sketches.specs.Figures.{Sketch}
 use Rattle.past_sketches.specs.Homes.{may_be_array}
 use Rattle.sketch_account.specs.Basis.{IsClosedAt}
 use Rattle.sketch_list.specs.Listed.{Earlier, earlier}
-use Rattle.sketch_node.specs.Nodes.{IsFirstUnknown, IsLeastAbove, IsUnknownOn, IsVoid}
-use Rattle.sketch_node.proofs.Least.{least-one}
+use Rattle.sketch_proof.specs.Nodes.{IsFirstUnknown, IsLeastAbove, IsUnknownOn, IsVoid}
+use Rattle.sketch_proof.proofs.Least.{least-one}
 use Rattle.sketch_walk.specs.Values.{can_step_back}
 use Rattle.sketch_text.specs.declared.labels.Officer.TheVariants.{Knight}
 use Rattle.sketch_text.specs.declared.nodes.End.TheVariants.{Void, Closed, Steps, Split}

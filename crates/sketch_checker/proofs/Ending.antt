@@ -3,7 +3,7 @@ use Rattle.std.proofs.Common.{◌≡◌, ℕ, ◌+◌, ◌≤◌, false, List, [
 use Rattle.past_sketches.specs.Figures.{Sketch}
 use Rattle.past_sketches.specs.Homes.{may_be_array}
 use Rattle.sketch_list.specs.Listed.{Earlier, earlier}
-use Rattle.sketch_node.specs.Nodes.{IsFirstUnknown, IsLeastAbove, IsVoid}
+use Rattle.sketch_proof.specs.Nodes.{IsFirstUnknown, IsLeastAbove, IsVoid}
 use Rattle.sketch_account.specs.Basis.{IsClosedAt}
 use Rattle.sketch_text.specs.Marks.{Marks}
 use Rattle.sketch_text.specs.declared.labels.Officer.TheVariants.{Knight}

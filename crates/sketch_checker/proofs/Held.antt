@@ -7,7 +7,7 @@ use Rattle.past_sketches.specs.Clashes.{is_nowhere}
 use Rattle.past_sketches.specs.Figures.{Sketch}
 use Rattle.sketch_account.specs.Basis.{IsClosedAt}
 use Rattle.sketch_list.specs.Listed.{Earlier, earlier}
-use Rattle.sketch_node.specs.Nodes.{IsVoid, marked_with}
+use Rattle.sketch_proof.specs.Nodes.{IsVoid, marked_with}
 use Rattle.sketch_text.specs.Marks.{Marks}
 use Rattle.sketch_text.specs.Trees.{Node, Nodes, Reason, closed, more, node, none, split, steps, void}
 use Rattle.sketch_text.specs.declared.labels.Officer.TheVariants as officer

@@ -21,7 +21,7 @@ use Rattle.sketch_sets.specs.Remade.{AreWhole}
 use Rattle.sketch_sets.proofs.Closing.{OnTheWay, map-at, under-widened, way-end, way-least, way-next, way-start, widened-whole}
 use Rattle.sketch_sets.proofs.Sizes.{AreInside, inside-length, same-sets, smaller, total, total-most}
 use Rattle.sketch_sets.proofs.Under.{AreUnder}
-use Rattle.sketch_node.specs.Nodes.{IsLeastAbove}
+use Rattle.sketch_proof.specs.Nodes.{IsLeastAbove}
 
 -- a sketch is inside one above it
 inside-of : (T W : Sketch) → AreUnder T W → AreInside W T

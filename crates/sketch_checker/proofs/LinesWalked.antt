@@ -3,7 +3,7 @@ use Rattle.std.proofs.Common.{◌≡◌, ℕ, zero, suc, ◌+◌, ◌-◌, inl, 
 use Rattle.std.specs.Prelude.{Some, None}
 use Rattle.past_sketches.specs.Figures.{Sketch}
 use Rattle.sketch_list.specs.Listed.{earlier}
-use Rattle.sketch_node.specs.Nodes.{marked_with}
+use Rattle.sketch_proof.specs.Nodes.{marked_with}
 use Rattle.sketch_text.specs.Marks.{Marks}
 use Rattle.sketch_text.specs.declared.labels.Officer.TheVariants as officer
 use Rattle.sketch_text.specs.declared.nodes.End.{End}

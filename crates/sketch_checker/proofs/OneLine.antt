@@ -4,7 +4,7 @@ use Rattle.std.specs.Prelude.{Option, Some, None}
 use Rattle.past_sketches.specs.Figures.{Sketch}
 use Rattle.sketch_account.specs.Basis.{IsClosedAt}
 use Rattle.sketch_list.specs.Listed.{earlier}
-use Rattle.sketch_node.specs.Nodes.{IsVoid, marked_with}
+use Rattle.sketch_proof.specs.Nodes.{IsVoid, marked_with}
 use Rattle.sketch_text.specs.Trees.{Line, of_marks, of_node}
 use Rattle.sketch_text.specs.declared.labels.Officer.TheVariants.{Knight}
 use Rattle.sketch_text.specs.declared.nodes.End.{End}

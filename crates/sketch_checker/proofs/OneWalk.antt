@@ -3,8 +3,8 @@ use Rattle.std.proofs.Common.{◌≡◌, ℕ, ◌+◌, inl, inr, List, [], ◌�
 use Rattle.past_sketches.specs.Figures.{Sketch}
 use Rattle.sketch_account.specs.Basis.{IsClosedAt}
 use Rattle.sketch_list.specs.Listed.{earlier}
-use Rattle.sketch_node.specs.Nodes.{IsVoid, marked_with}
-use Rattle.sketch_node.proofs.Least.{least-one}
+use Rattle.sketch_proof.specs.Nodes.{IsVoid, marked_with}
+use Rattle.sketch_proof.proofs.Least.{least-one}
 use Rattle.sketch_text.specs.Marks.{Marks}
 use Rattle.sketch_text.specs.Trees.{Node, Nodes, Reason, closed, more, node, none, split, steps, void}
 use Rattle.sketch_text.specs.declared.labels.Officer.TheVariants as officer

@@ -6,8 +6,8 @@ use Rattle.std.specs.List.{All}
 use Rattle.capture_prices.specs.Prices.{PriceList}
 use Rattle.past_sketches.specs.Figures.{Sketch}
 use Rattle.past_sketches.specs.Homes.{may_be_array}
-use Rattle.sketch_node.specs.Nodes.{IsLeastAbove, IsMarkable, marked_with}
-use Rattle.sketch_node.proofs.Least.{least-one}
+use Rattle.sketch_proof.specs.Nodes.{IsLeastAbove, IsMarkable, marked_with}
+use Rattle.sketch_proof.proofs.Least.{least-one}
 use Rattle.sketch_text.specs.Marks.{Marks}
 use Rattle.sketch_text.specs.Trees.{Line, Node, lines_of}
 use Rattle.sketch_proof.specs.Proofs.{AreForced, Setting}

@@ -22,10 +22,10 @@ use Rattle.past_account.specs.Account.{CostTooMuch, Counted, against, by_marks}
 use Rattle.past_account.specs.Frozen.{AreBegun, IsBegun}
 use Rattle.past_account.specs.Zones.{room_past}
 use Rattle.sketch_account.specs.Basis.{AreFew, Basis, IsAbove, IsClosedAt, basis_of}
-use Rattle.sketch_grounds.specs.Begun.{begins_on, is_begun}
-use Rattle.sketch_grounds.specs.FrozenSets.{greatest_frozen}
-use Rattle.sketch_rule.specs.Trees.{is_heavy}
-use Rattle.sketch_node.specs.Nodes.{IsFirstUnknown, IsMarkable, IsMarkableOn, IsUnknownOn, IsVoid, marked_with}
+use Rattle.sketch_proof.specs.Begun.{begins_on, is_begun}
+use Rattle.sketch_proof.specs.FrozenSets.{greatest_frozen}
+use Rattle.sketch_proof.specs.Trees.{is_heavy}
+use Rattle.sketch_proof.specs.Nodes.{IsFirstUnknown, IsMarkable, IsMarkableOn, IsUnknownOn, IsVoid, marked_with}
 use Rattle.sketch_list.specs.Listed.{earlier}
 use Rattle.sketch_text.specs.Marks.{Marks}
 use Rattle.sketch_text.specs.Trees.{Line, of_marks, of_node}

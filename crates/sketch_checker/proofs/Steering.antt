@@ -12,7 +12,7 @@ use Rattle.sketch_text.specs.declared.labels.Label.TheVariants.{Now}
 use Rattle.sketch_text.specs.Trees.{Line, lines_below, lines_of, more, none, of_marks, of_node}
 use Rattle.sketch_proof.specs.Proofs.{AreForced, Proves, Setting}
 use Rattle.sketch_checker.specs.Walks.{Completes, CompletesOpened, Frame, FinishesAt, Opened}
-use Rattle.sketch_node.specs.Nodes.{IsMarkable, marked_with}
+use Rattle.sketch_proof.specs.Nodes.{IsMarkable, marked_with}
 use Rattle.sketch_checker.specs.Placed.{IsNext, announced_by}
 use Rattle.sketch_checker.specs.Steering.{AllAble, IsLineAt, IsOpen, IsReady, is_over, read}
 use Rattle.sketch_checker.proofs.Completing.{all-done, frame, line-due, marks-tells, marks-told, more-due, node-tells, node-told, none-due, opened}

@@ -8,7 +8,7 @@ use Rattle.cage_rules.proofs.Histories.{reaches-leads}
 use Rattle.past_sketches.specs.Figures.{sketch_of}
 use Rattle.past_sketches.proofs.Queries.{query-fits}
 use Rattle.past_account.proofs.Refutes.{no-game}
-use Rattle.sketch_rule.proofs.Refuting.{tree-refutes}
+use Rattle.sketch_proof.proofs.Refuting.{tree-refutes}
 use Rattle.sketch_text.specs.Trees.{Line, Node}
 use Rattle.sketch_text.specs.declared.labels.Label.TheVariants.{Now}
 use Rattle.sketch_proof.proofs.Sound.{node-refutes}

@@ -6,7 +6,7 @@ use Rattle.past_sketches.specs.Figures.{Sketch}
 use Rattle.past_sketches.specs.Homes.{may_be_array}
 use Rattle.sketch_account.specs.Basis.{IsClosedAt}
 use Rattle.sketch_list.specs.Listed.{earlier}
-use Rattle.sketch_node.specs.Nodes.{IsFirstUnknown, IsLeastAbove, IsUnknownOn, IsVoid, marked_with}
+use Rattle.sketch_proof.specs.Nodes.{IsFirstUnknown, IsLeastAbove, IsUnknownOn, IsVoid, marked_with}
 use Rattle.sketch_text.specs.Marks.{Marks}
 use Rattle.sketch_text.specs.Trees.{Node, Nodes, Reason, closed, more, node, none, split, steps, void}
 use Rattle.sketch_text.specs.declared.labels.Officer.TheVariants as officer

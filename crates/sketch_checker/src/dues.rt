@@ -7,7 +7,7 @@ use board_base::Kind;
 use figures::Sketch;
 use play_rules::is_end;
 use sketch_list::Victim as WhoFell;
-use sketch_node::known_at;
+use sketch_proof::known_at;
 use sketch_text::{Label, Officer, StepLabel, Taken, Victim, Way};
 use sketch_walk::{Listed, StepsBack};
 use std::marker::Model;

@@ -15,7 +15,7 @@ use crate::settings::SketchSetting;
 use board_base::Square;
 use figures::Sketch;
 use sketch_account::closes;
-use sketch_node::{before_steps, first_unknown, is_void};
+use sketch_proof::{before_steps, first_unknown, is_void};
 use sketch_text::{End, Officer};
 use sketch_walk::StepsBack;
 

@@ -9,7 +9,7 @@ ghost use Rattle.sketch_checker.specs.Walks.{CompletesOpened, Frame as AFrame};
 use crate::faults::SketchFault;
 use crate::opening::Opened;
 use crate::settings::SketchSetting;
-use sketch_node::marked;
+use sketch_proof::marked;
 use sketch_text::MarkLine;
 
 /// Marks the figures that a line of marks names, if that is forced.

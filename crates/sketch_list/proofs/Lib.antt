@@ -6,3 +6,4 @@ pub mod Twins
 pub mod Before
 pub mod Refuting
 mod Examples
+pub use Rattle.past_account.proofs.Refutes

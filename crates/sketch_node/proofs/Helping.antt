@@ -22,7 +22,7 @@ use Rattle.past_account.specs.Closes.{Forces}
 use Rattle.past_account.specs.Frozen.{IsFrozenIn, enters_as, figure_enters}
 use Rattle.past_account.specs.Limits.{Limit, any, other, plain}
 use Rattle.past_account.specs.Zones.{AreZones, IsZone, Room, goes_on, may_hold, room_past}
-use Rattle.sketch_list.proofs.Narrowed.{changed-there}
+use Rattle.sketch_rule.proofs.Narrowed.{changed-there}
 use Rattle.sketch_node.proofs.Dearer.{IsLooser, IsTighter, side-le}
 
 abbrev pub marked_if : Bool → Figure → Figure

@@ -5,3 +5,7 @@ pub mod Several
 pub mod Trees
 pub mod Least
 pub mod Unknown
+pub use Rattle.sketch_rule.proofs.Refuting
+pub use Rattle.sketch_grounds.proofs.Freezing
+pub use Rattle.sketch_grounds.proofs.Joining
+pub use Rattle.past_account.proofs.Refutes

@@ -8,7 +8,7 @@ use Rattle.past_sketches.specs.Figures.{Sketch}
 use Rattle.past_sketches.specs.Homes.{may_be_array}
 use Rattle.past_sketches.specs.Known.{known_at}
 use Rattle.past_account.specs.Closes.{Closes}
-use Rattle.sketch_list.specs.Listed.{Earlier, earlier}
+use Rattle.sketch_rule.specs.Listed.{Earlier, earlier}
 use Rattle.sketch_rule.specs.Trees.{Forest, RefutesEach, closed, more, none, split, stepped}
 use Rattle.sketch_node.specs.Nodes.{HasTree, IsFirstUnknown, IsLeastAbove}
 

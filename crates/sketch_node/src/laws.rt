@@ -7,7 +7,7 @@ ghost use Rattle.past_sketches.specs.Figures.{Sketch};
 ghost use Rattle.past_sketches.specs.Homes.{may_be_array};
 ghost use Rattle.past_sketches.specs.Known.{known_at, marked_at};
 ghost use Rattle.past_account.specs.Closes.{Closes, Forces};
-ghost use Rattle.sketch_list.specs.Listed.{Earlier, earlier};
+ghost use Rattle.sketch_rule.specs.Listed.{Earlier, earlier};
 ghost use Rattle.sketch_node.specs.Nodes.{HasTree, IsFirstUnknown, IsLeastAbove, marked_with};
 
 /// The laws of nodes. Some tree refutes a sketch if an account closes it (`closed`); if one refutes it with marks that accounts force in it,

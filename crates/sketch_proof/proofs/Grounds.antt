@@ -18,11 +18,11 @@ use Rattle.cage_rules.proofs.Tested.{at_board, member-inside}
 use Rattle.men_fates.specs.Ways.{is_pawn_step}
 use Rattle.past_sketches.specs.Figures.{Figure, Sketch, is_fixed_on}
 use Rattle.past_sketches.proofs.Sketches.{any-figure}
-use Rattle.past_account.specs.Frozen.{IsBarred, IsFrozenIn, figure_enters}
-use Rattle.past_account.specs.Zones.{AreZones, IsZone, goes_on, is_closed_by, may_hold}
-use Rattle.sketch_grounds.specs.FrozenSets.{greatest_frozen, is_frozen_in, is_shut_in}
-use Rattle.sketch_grounds.specs.LeastZones.{has_all, has_pair, is_pair, is_zone, least_zone, pair_zones}
-use Rattle.sketch_grounds.proofs.Freezing.{number-of}
+use Rattle.sketch_node.specs.Frozen.{IsBarred, IsFrozenIn, figure_enters}
+use Rattle.sketch_node.specs.Zones.{AreZones, IsZone, goes_on, is_closed_by, may_hold}
+use Rattle.sketch_node.specs.FrozenSets.{greatest_frozen, is_frozen_in, is_shut_in}
+use Rattle.sketch_node.specs.LeastZones.{has_all, has_pair, is_pair, is_zone, least_zone, pair_zones}
+use Rattle.sketch_node.proofs.Freezing.{number-of}
 
 -- where not each set fails the test, some set passes it
 some-list : (n : ℕ) (p : List Bool → Bool) → all_lists n p ≡ false → (set : List Bool) × (length set ≡ n) × (p set ≡ false)

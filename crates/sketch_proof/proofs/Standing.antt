@@ -3,12 +3,12 @@ use Rattle.std.proofs.Common.{◌≡◌, Bool, true, ℕ, List}
 use Rattle.board_base.specs.Rights.{Rights}
 use Rattle.capture_prices.specs.Prices.{PriceList, are_prices}
 use Rattle.past_sketches.specs.Figures.{Sketch}
-use Rattle.past_account.specs.Account.{AreTooDear, Counted, against, by_marks}
-use Rattle.past_account.specs.Closes.{Closes, Forces, costs, foreign}
-use Rattle.sketch_grounds.specs.FrozenSets.{greatest_frozen}
-use Rattle.sketch_grounds.specs.LeastZones.{pair_zones}
-use Rattle.sketch_grounds.proofs.Joining.{frozen-fixed}
-use Rattle.sketch_account.specs.Basis.{IsAbove, IsClosedAt, basis_of}
+use Rattle.sketch_node.specs.Account.{AreTooDear, Counted, against, by_marks}
+use Rattle.sketch_node.specs.Closes.{Closes, Forces, costs, foreign}
+use Rattle.sketch_node.specs.FrozenSets.{greatest_frozen}
+use Rattle.sketch_node.specs.LeastZones.{pair_zones}
+use Rattle.sketch_node.proofs.Joining.{frozen-fixed}
+use Rattle.sketch_node.specs.Basis.{IsAbove, IsClosedAt, basis_of}
 use Rattle.sketch_node.specs.Nodes.{IsMarkable, IsVoid}
 use Rattle.sketch_proof.proofs.Grounds.{greatest-frozen, greatest-size, pairs-are}
 use Rattle.sketch_proof.proofs.Whole.{AreWhole}

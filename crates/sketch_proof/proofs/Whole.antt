@@ -16,10 +16,10 @@ use Rattle.past_sketches.specs.Known.{known_at}
 use Rattle.past_sketches.specs.Steps.{Step, bystander, changed_by, pawn_before, victim_on}
 use Rattle.past_sketches.specs.Trimmed.{trimmed, trimmed_figure, trims}
 use Rattle.sketch_steps.specs.Places.{placed_in, recounted}
-use Rattle.sketch_list.specs.Listed.{Earlier, Listed, earlier, figures_before, is_open, sketch_before, step_for, steps_by, victims_as, ways_to}
+use Rattle.sketch_node.specs.Listed.{Earlier, Listed, earlier, figures_before, is_open, sketch_before, step_for, steps_by, victims_as, ways_to}
 use Rattle.sketch_sets.specs.TrimmedOut.{trimmed_out}
-use Rattle.sketch_list.specs.declared.steps.Victim.{Victim}
-use Rattle.sketch_list.specs.declared.steps.Victim.TheVariants.{Nobody, TakenPawn, TakenBishop, TakenOther, PassedPawn}
+use Rattle.sketch_node.specs.Victim.{Victim}
+use Rattle.sketch_node.specs.Victim.TheVariants.{Nobody, TakenPawn, TakenBishop, TakenOther, PassedPawn}
 use Rattle.sketch_text.specs.Marks.{Marks}
 use Rattle.sketch_node.specs.Nodes.{marked_with}
 use Rattle.sketch_proof.specs.Proofs.{with_lines}

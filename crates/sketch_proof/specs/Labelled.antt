@@ -1,9 +1,9 @@
 -- How the listed steps of a sketch are written.
 use Rattle.std.specs.Prelude.{ℕ, Bool, true, false}
 use Rattle.play_rules.specs.Laws.{is_end}
-use Rattle.sketch_list.specs.Listed.{Listed}
-use Rattle.sketch_list.specs.declared.steps.Victim.{Victim as WhoFell}
-use Rattle.sketch_list.specs.declared.steps.Victim.TheVariants.{Nobody, TakenPawn, TakenBishop, TakenOther, PassedPawn}
+use Rattle.sketch_node.specs.Listed.{Listed}
+use Rattle.sketch_node.specs.Victim.{Victim as WhoFell}
+use Rattle.sketch_node.specs.Victim.TheVariants.{Nobody, TakenPawn, TakenBishop, TakenOther, PassedPawn}
 use Rattle.sketch_text.specs.declared.labels.Label.{Label}
 use Rattle.sketch_text.specs.declared.labels.Label.TheVariants.{Step}
 use Rattle.sketch_text.specs.declared.labels.Taken.TheVariants as taken

@@ -7,8 +7,8 @@ use Rattle.capture_prices.specs.Prices.{PriceList}
 use Rattle.past_sketches.specs.Figures.{Sketch}
 use Rattle.past_sketches.specs.Homes.{may_be_array}
 use Rattle.past_sketches.specs.Known.{known_at}
-use Rattle.sketch_account.specs.Basis.{IsClosedAt}
-use Rattle.sketch_list.specs.Listed.{Earlier, earlier}
+use Rattle.sketch_node.specs.Basis.{IsClosedAt}
+use Rattle.sketch_node.specs.Listed.{Earlier, earlier}
 use Rattle.sketch_node.specs.Nodes.{IsFirstUnknown, IsLeastAbove, IsMarkable, IsVoid, marked_with}
 use Rattle.sketch_text.specs.Marks.{Marks}
 use Rattle.sketch_text.specs.declared.labels.Label.{Label}

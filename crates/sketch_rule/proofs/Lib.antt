@@ -1,1 +1,2 @@
 pub mod Refuting
+pub use Rattle.sketch_list.proofs.Narrowed

@@ -8,7 +8,7 @@ use Rattle.board_base.specs.declared.men.Kind.{Kind}
 use Rattle.board_base.specs.declared.men.Kind.TheVariants.{Pawn, Knight, Bishop, Rook, Queen, King}
 use Rattle.past_sketches.specs.Figures.{Sketch}
 use Rattle.past_sketches.specs.Known.{known_at, marked_at}
-use Rattle.past_account.specs.Refuted.{Refuted, account, kinds, mark, wider}
+use Rattle.sketch_list.specs.Refuted.{Refuted, account, kinds, mark, wider}
 use Rattle.sketch_list.specs.Listed.{Earlier, earlier}
 use Rattle.sketch_list.proofs.Refuting.{listed-enough}
 use Rattle.sketch_rule.specs.Trees.{Forest, Refutes, RefutesEach, Tree, closed, is_heavy, marked, more, none, split, stepped}

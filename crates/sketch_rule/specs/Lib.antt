@@ -1,1 +1,3 @@
 pub mod Trees
+pub use Rattle.sketch_list.specs.Listed
+pub use Rattle.sketch_list.specs.declared.steps.Victim

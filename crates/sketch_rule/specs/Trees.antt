@@ -6,7 +6,7 @@ use Rattle.board_base.specs.declared.men.Kind.TheVariants.{Pawn, Knight, Bishop,
 use Rattle.past_sketches.specs.Figures.{Figure, Sketch, figure_at, may_be}
 use Rattle.past_sketches.specs.Homes.{may_be_array}
 use Rattle.past_sketches.specs.Known.{known_at, marked_at}
-use Rattle.past_account.specs.Closes.{Closes, Forces}
+use Rattle.sketch_list.specs.Closes.{Closes, Forces}
 use Rattle.sketch_sets.specs.Leasts.{IsClosedAbove}
 use Rattle.sketch_list.specs.Listed.{Earlier, earlier}
 

@@ -3,7 +3,7 @@ ghost use Rattle.board_base.specs.Rights.{Rights};
 ghost use Rattle.board_base.specs.declared.moves.Move.{Move};
 ghost use Rattle.query_base.specs.Asked.{Asked};
 ghost use Rattle.cage_rules.specs.Reach.{LeadsTo};
-ghost use Rattle.past_account.specs.Refuted.{Refuted};
+ghost use Rattle.sketch_list.specs.Refuted.{Refuted};
 ghost use Rattle.past_sketches.specs.Figures.{Sketch, sketch_of};
 ghost use Rattle.sketch_rule.specs.Trees.{Refutes, Tree};
 

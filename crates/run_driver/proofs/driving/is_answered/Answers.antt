@@ -1,8 +1,8 @@
 use Rattle.std.proofs.Common.{ℕ, ◌≡◌, ◌∙◌, List, map, sym, subst, arith}
 use Rattle.std.proofs.lemmas.Slice.Eq.{bytes_eq-Decides}
 use Rattle.std.specs.Prelude.{IsTrue}
-use Rattle.command_answers.specs.Statuses.{IsAnswer}
-use Rattle.command_answers.specs.declared.statuses.Status.{Status}
+use Rattle.retro_top.specs.Statuses.{IsAnswer}
+use Rattle.retro_top.specs.Status.{Status}
 use Rattle.run_driver.specs.Runs.{Runs}
 use Rattle.run_driver.proofs.driving.is_answered.Goals as goal
 

@@ -1,6 +1,6 @@
 use Rattle.std.proofs.Common.{ℕ, List, ap, map, string_bytes, subst, ◌∙◌}
 use Rattle.std.specs.Prelude.{Some}
-use Rattle.command_answers.specs.Limits.{most_bytes}
+use Rattle.retro_top.specs.Limits.{most_bytes}
 use Rattle.retro_top.specs.Answers.{ReadsFor, WritesAnswer}
 use Rattle.run_driver.specs.Runs.{Runs}
 use Rattle.run_driver.proofs.Answering.{answered}

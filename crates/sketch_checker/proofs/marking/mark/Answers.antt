@@ -3,7 +3,7 @@ use Rattle.sketch_text.specs.Trees.{Line, of_marks}
 use Rattle.sketch_proof.specs.Proofs.{AreForced, Setting}
 use Rattle.sketch_checker.specs.Able.{IsAble}
 use Rattle.sketch_checker.specs.Walks.{CompletesOpened, Frame, Opened}
-use Rattle.sketch_node.specs.Nodes.{marked_with}
+use Rattle.sketch_proof.specs.Nodes.{marked_with}
 use Rattle.sketch_checker.specs.LineWalk.{OnOpened, StopsUnless, Walking}
 use Rattle.sketch_checker.specs.TreeWalk.{unsupported}
 use Rattle.sketch_checker.specs.Steering.{IsLineAt}
