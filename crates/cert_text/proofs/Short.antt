@@ -132,7 +132,7 @@ kid_text_short depth text u b e =
     let read = kid_text_read depth text u b e in
     omega (arith, ap length read.text_is, length-append (unmove_text u) (32 ∷ body_text b), unmove_short u, body_short depth b read.fits read.few)
 
-item_short : (P : ℕ) (i : Item) → P ≤ 64 → is_item P i ≡ true → length (item_text i) ≤ 195
+pub item_short : (P : ℕ) (i : Item) → P ≤ 64 → is_item P i ≡ true → length (item_text i) ≤ 195
 item_short P (of_prices p) low known = prices_short p known
 item_short P (of_line (of_node x)) low known = let plain = plain_node P x low known in let short = plain.short in omega arith
 item_short P (of_line (of_marks m)) low known = let plain = plain_marks P m low known in let short = plain.short in omega arith
