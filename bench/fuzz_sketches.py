@@ -2,8 +2,8 @@
 import functools
 from typing import NamedTuple
 
-from fuzz_rules import CASTLINGS, NEVER, OFFICERS, STEPS, Costs, Prices, Query, array, behind, beside, last_rank, least_cost, other, side_of
-from fuzz_texts import square_of
+from fuzz_rules import CASTLINGS, NEVER, OFFICERS, STEPS, Costs, Prices, Query, array, behind, beside, is_exposed, last_rank, least_cost, next_to, other, root_query, side_of
+from fuzz_texts import read_nodes, square_of
 
 # Knight, rook or queen: it isn't known which.
 UNKNOWN = "nrq"
@@ -56,7 +56,7 @@ def ahead(side, s, across=(0,)):
 @functools.cache
 def touched(side, kind, s):
     """The squares next to s, or a leap away, that such a man attacks."""
-    return frozenset(ahead(side, s, (-1, 1)) if kind == "p" else beside(s, STEPS[kind]))
+    return frozenset(ahead(side, s, (-1, 1)) if kind == "p" else next_to(kind, s))
 
 
 @functools.cache
@@ -128,29 +128,34 @@ def entries(side, kinds, marked, s):
     if kinds == "p":
         return frozenset(behind(side, s, (0,) if marked else (-1, 0, 1)) if s // 8 != pawn_rank(side) else [])
     promoted = not marked and kinds != "k" and s // 8 == last_rank(side)
-    return frozenset(behind(side, s) if promoted else []).union(*(beside(s, STEPS[kind]) for kind in kinds))
+    return frozenset(behind(side, s) if promoted else []).union(*(next_to(kind, s) for kind in kinds))
 
 
-class Terrain:
+class Terrain(NamedTuple):
     """The frozen squares of a sketch, where men never moved, and its zones: pairs of squares of pawns who stood on no others."""
 
-    def __init__(self, asked, sketch):
-        wide, old = [f.squares for f in sketch], None
-        while wide != old:
-            old = wide
-            self.frozen = frozenset().union(*(squares for squares in wide if len(squares) == 1))
-            wide = [self.wider(asked, f, squares) for f, squares in zip(sketch, wide)]
-        self.zones = {squares for f, squares in zip(sketch, wide) if f.is_pawn() and len(squares) == 2}
-
-    def wider(self, asked, figure, squares):
-        # Of officers and kings it is only asked whether they have a second square.
-        if len(squares) == 1 and squares <= asked.held or len(squares) > 1 and not figure.is_pawn():
-            return squares
-        found = frozenset().union(*(entries(*figure[:2], figure.marked, s) for s in squares))
-        return squares | (found - self.frozen)
+    frozen: frozenset
+    zones: frozenset
 
     def is_frozen(self, figure):
         return figure.is_fixed() and figure.squares <= self.frozen
+
+
+def terrain_of(asked, sketch):
+    wide, old = [f.squares for f in sketch], None
+    while wide != old:
+        old = wide
+        frozen = frozenset().union(*(squares for squares in wide if len(squares) == 1))
+        wide = [wider(asked, f, squares, frozen) for f, squares in zip(sketch, wide)]
+    return Terrain(frozen, frozenset(squares for f, squares in zip(sketch, wide) if f.is_pawn() and len(squares) == 2))
+
+
+def wider(asked, figure, squares, frozen):
+    # Of officers and kings it is only asked whether they have a second square.
+    if len(squares) == 1 and squares <= asked.held or len(squares) > 1 and not figure.is_pawn():
+        return squares
+    found = frozenset().union(*(entries(figure.side, figure.kinds, figure.marked, s) for s in squares))
+    return squares | (found - frozen)
 
 
 def homes(asked, figure):
@@ -161,7 +166,7 @@ def homes(asked, figure):
 
 def is_void(asked, sketch):
     """Somebody never moved who doesn't begin where he stands."""
-    terrain = Terrain(asked, sketch)
+    terrain = terrain_of(asked, sketch)
     return any(terrain.is_frozen(f) and not homes(asked, f) for f in sketch)
 
 
@@ -177,7 +182,7 @@ def line_from(s, step):
     return squares
 
 
-@functools.cache
+@functools.lru_cache(maxsize=100_000)
 def sources(kind, s, walls):
     """The squares from which an officer or a king may have come to s, past walls."""
     found = set()
@@ -189,7 +194,7 @@ def sources(kind, s, walls):
     return frozenset(found)
 
 
-@functools.cache
+@functools.lru_cache(maxsize=100_000)
 def pawn_sources(side, s, walls):
     """The squares from which a pawn may have come straight to s, past walls."""
     found = []
@@ -322,13 +327,16 @@ class Steps:
 # Accounts.
 
 
+@functools.lru_cache(maxsize=100_000)
 def room(terrain, kind, start):
     """The squares to which an officer goes from there, neither onto frozen ones nor from one of a zone to the other."""
+    frozen, zones = terrain
     found, due = {start}, [start]
     while due:
         s = due.pop()
-        for t in beside(s, STEPS[kind]):
-            if t not in terrain.frozen and t not in found and (kind == "n" or {s, t} not in terrain.zones):
+        beyond = [] if kind == "n" else [t for zone in zones if s in zone for t in zone]
+        for t in next_to(kind, s):
+            if t not in frozen and t not in found and t not in beyond:
                 found.add(t)
                 due.append(t)
     return frozenset(found)
@@ -341,9 +349,15 @@ class SketchCosts(Costs):
         self.terrain = terrain
         super().__init__(None, terrain.frozen, prices, side)
         self.homes = [(h, asked.first[h]) for h in (range(16) if side == "w" else range(48, 64))]
+        self.men = sum(man is not None for _, man in self.homes)
+        self.pays = {s: prices.take(other(side), s) for s in range(64) if is_exposed(terrain.frozen, side, s)}
+        self.figure_row, self.gone_row = functools.cache(self.figure_row), functools.cache(self.gone_row)
 
     def region(self, kind, start):
         return room(self.terrain, kind, start)
+
+    def earned(self, squares):
+        return max((self.pays[s] for s in squares if s in self.pays), default=0)
 
     def comes(self, figure, home, against):
         """What a way of the pawn from this home to the figure's squares pays, or one of those that a mark would rule out."""
@@ -370,23 +384,22 @@ class SketchCosts(Costs):
     def figure_row(self, figure, against=False):
         return self.row(lambda man, home: self.stood(figure, home, man, against))
 
+    def gone_row(self):
+        return self.row(self.gone)
+
     def sketch_table(self, sketch):
-        rows = [self.figure_row(f) for f in sketch if f.side == self.side]
-        missing = sum(man is not None for _, man in self.homes) - len(rows)
-        return rows + ([self.row(self.gone)] * missing if missing else [])
+        rows = [self.figure_row(f._replace(place=0)) for f in sketch if f.side == self.side]
+        return rows + [self.gone_row() for _ in range(self.men - len(rows))]
 
 
 class Account:
-    """The account of a sketch at a line of prices."""
+    """The account of a sketch at the prices of the costs of both sides."""
 
-    def __init__(self, asked, sketch, prices):
-        self.sketch = sketch
-        terrain = Terrain(asked, sketch)
-        takes = Prices(dict(zip("wb", prices)), prices[2])
-        self.costs = {side: SketchCosts(asked, terrain, takes, side) for side in "wb"}
-        self.tables = {side: costs.sketch_table(sketch) for side, costs in self.costs.items()}
+    def __init__(self, sketch, costs, gates):
+        self.sketch, self.costs = sketch, costs
+        self.tables = {side: costs[side].sketch_table(sketch) for side in "wb"}
         self.least = {side: least_cost(table) for side, table in self.tables.items()}
-        self.most = 96 * sum(map(len, self.tables.values())) + sum(prices[2].values())
+        self.most = 96 * sum(map(len, self.tables.values())) + gates
 
     def is_above(self):
         return sum(self.least.values()) > self.most
@@ -395,7 +408,7 @@ class Account:
         """Whether the account is above 0 if what a mark would say of the figure is false."""
         figure = self.sketch[number]
         table = list(self.tables[figure.side])
-        table[sum(f.side == figure.side for f in self.sketch[:number])] = self.costs[figure.side].figure_row(figure, True)
+        table[sum(f.side == figure.side for f in self.sketch[:number])] = self.costs[figure.side].figure_row(figure._replace(place=0), True)
         return least_cost(table) + self.least[other(figure.side)] > self.most
 
 
@@ -406,8 +419,16 @@ class Walk:
     """The walk over the nodes of a sketch, in preorder. It raises the first fault."""
 
     def __init__(self, asked, sketch):
-        self.asked, self.prices = asked, sketch.prices
+        self.asked, self.prices = asked, [Prices({"w": white, "b": black}, gates) for white, black, gates in sketch.prices]
+        # The costs at terrains and lines of prices that came last.
+        self.costs = functools.lru_cache(maxsize=1000)(self.costs)
         self.lines = list(enumerate(sketch.lines, sketch.line + 1 + len(sketch.prices)))[::-1]
+
+    def costs(self, terrain, price):
+        return {side: SketchCosts(self.asked, terrain, self.prices[price - 1], side) for side in "wb"}
+
+    def account(self, sketch, price):
+        return Account(sketch, self.costs(terrain_of(self.asked, sketch), price), sum(self.prices[price - 1].gates.values()))
 
     def node(self, label, sketch):
         line, node = self.lines.pop()
@@ -428,8 +449,7 @@ class Walk:
         numbers = [number - 1 for number in marks.figures]
         if any(i >= len(sketch) or sketch[i].marked or sketch[i].kinds == "k" for i in numbers):
             raise Refused(Fault(line, "rule"))
-        account = Account(self.asked, sketch, self.prices[marks.price - 1])
-        if not all(map(account.forces, numbers)):
+        if not all(map(self.account(sketch, marks.price).forces, numbers)):
             raise Refused(Fault(line, "rule"))
         return [f._replace(marked=True) if i in numbers else f for i, f in enumerate(sketch)]
 
@@ -438,7 +458,7 @@ class Walk:
         if node.end == "void":
             return is_void(self.asked, sketch)
         if node.end == "closed":
-            return Account(self.asked, sketch, self.prices[node.value - 1]).is_above()
+            return self.account(sketch, node.value).is_above()
         if node.end == "split":
             return any(f.kinds == UNKNOWN and f.squares == {node.value} for f in sketch)
         return not may_be_array(self.asked, closed(self.asked, sketch))
@@ -500,3 +520,15 @@ def predecessor(query, label):
         men[rook], men[(a + b) // 2] = men[(a + b) // 2], None
         rights = "".join(letter for letter in "KQkq" if letter in rights + right)
     return Query(men, rights, query.odds)
+
+
+def sketches_before(text, root, line):
+    """The sketches that begin before this line in a certificate with a good text, whose root's line has the number `root`, each with its query."""
+    queries = []
+    for node in read_nodes(text, root)[0]:
+        if node.line >= line:
+            return
+        del queries[node.depth :]
+        queries.append(predecessor(queries[-1], node.label) if queries else root_query(text))
+        if node.sketch:
+            yield node.sketch, queries[-1]

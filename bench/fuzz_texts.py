@@ -227,6 +227,11 @@ def read_nodes(text, first):
     return nodes, len(lines) + 1 if rest or sketch or any(wanted) else None
 
 
+def root_of(text):
+    """The number of the root's line, behind the line of the FEN; None where there is no such line among the first five."""
+    return next((at + 2 for at, line in enumerate(text.split("\n")[:5]) if line.startswith("fen ")), None)
+
+
 def bad_node(text, first):
     """The number of the line at which the nodes go bad, None where they don't."""
     return read_nodes(text, first)[1]

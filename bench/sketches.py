@@ -1,0 +1,247 @@
+#!/usr/bin/env python3
+"""Asks the built program about certificates with sketches, and whether it answers as fuzz_sketches.py does.
+
+sketches.py PROGRAM [FOLDER] [--changes N] [--seed N]    cases by hand, and N changes of each kind to certificates that hold
+sketches.py --second [FOLDER] ..                         the same with fuzz_sketches.py alone
+sketches.py PROGRAM --limits                             a text with all units that a certificate may have, and how long it takes
+
+The certificates are those of sketch_cases.py, or those of FOLDER: files of a line `fen ..` and a sketch. Each has to be accepted, each case
+by hand refused as the table says, and each text with a line dropped or doubled, lines swapped, a label or a count changed refused. The exit
+status is 1 where an answer differs.
+"""
+import argparse
+import collections
+import pathlib
+import random
+import re
+import subprocess
+import sys
+
+from fuzz_sketches import sketch_fault, sketches_before
+from fuzz_texts import MOST_UNITS, bad_node, root_of
+from sketch_cases import ALFIERE, BEFORE, CHANGES, REFUSED, SKETCHES, certificate, changed, put
+
+RULE, STRAY, TEXT = "unsupported rule", "unsupported stray", "text"
+PRICES = ALFIERE[2]
+BARE = "fen 4k3/8/8/8/8/8/8/4K3 w - -"
+MARKED = "mark 1 2 3 4 5 9 11 16 17 21 32"
+END = len(ALFIERE) + 2
+
+
+def at(number, line):
+    """L'Alfiere's certificate with another line of this number."""
+    return certificate(put(ALFIERE, number - 3, line))
+
+
+def bare(*lines, fen=BARE):
+    return certificate([fen, "sketch 0", *lines])
+
+
+def deep(*lines):
+    """63 nodes one below another, and these lines."""
+    return bare("now steps 1", *["a2-a3 steps 1"] * 63, *lines)
+
+
+def split(*lines):
+    return certificate([*ALFIERE[:3], "now split a1", *lines])
+
+
+def many_prices(number):
+    lines = [ALFIERE[0], f"sketch {number}", *[PRICES] * number, *ALFIERE[3:]]
+    return certificate([line.replace("mark 1 ", "mark 64 ") for line in lines])
+
+
+WHOLE = certificate(ALFIERE)
+EIGHT, SEVEN, NINE = ALFIERE[3], "now marks 1 steps 7", "now marks 1 steps 9"
+# Each with the line and the word of the fault that is due, or nothing where there is none.
+CASES = [
+    ("as it is", WHOLE, None),
+    ("no sketch", certificate([]), (3, TEXT)),
+    ("no end of the last line", WHOLE[:-1], (END, TEXT)),
+    ("a line too many", WHOLE + "now void\n", (END + 1, TEXT)),
+    ("a letter too many", WHOLE + "x", (END + 1, TEXT)),
+    ("a line too few", certificate(ALFIERE[:-1]), (END, TEXT)),
+    ("a step left out, and its count", certificate(put(ALFIERE, 3, SEVEN)[:11] + ALFIERE[12:]), (14, STRAY)),
+    ("the last step left out, and its count", certificate(put(ALFIERE, 3, SEVEN)[:12]), (6, RULE)),
+    ("a step too many, and its count", certificate([*put(ALFIERE, 3, NINE), ALFIERE[12]]), (16, STRAY)),
+    ("bad text behind another fault", certificate(put(put(ALFIERE, 5, "h3xg4b closed 1"), 11, "g2xf1nrq= closed 2")), (14, TEXT)),
+    ("steps in another order", certificate([*ALFIERE[:5], ALFIERE[6], ALFIERE[5], *ALFIERE[7:]]), (8, STRAY)),
+    ("a king marked", at(7, MARKED), (7, RULE)),
+    ("marks in another order", at(7, "mark 1 3 2"), (7, TEXT)),
+    ("figure 0", at(7, "mark 1 0 2"), (7, TEXT)),
+    ("figure 33", at(7, "mark 1 2 33"), (7, TEXT)),
+    ("nobody marked", at(7, "mark 1"), (7, TEXT)),
+    ("no lines of marks", at(6, "now marks 0 steps 8"), (6, TEXT)),
+    ("nine lines of marks", at(6, "now marks 9 steps 8"), (6, TEXT)),
+    ("line 0 of prices", at(8, "h3xg4p closed 0"), (8, TEXT)),
+    ("a zero in front", at(8, "h3xg4p closed 01"), (8, TEXT)),
+    ("0 above", at(8, "h3xg4p0 closed 1"), (8, TEXT)),
+    ("6 above", at(8, "h3xg4p6 closed 1"), (8, TEXT)),
+    ("5 above", at(8, "h3xg4p5 closed 1"), (8, STRAY)),
+    ("a pawn taken by a promotion", at(8, "h3xg4p= closed 1"), (8, TEXT)),
+    ("now below", at(8, "now closed 1"), (8, TEXT)),
+    ("a case among steps", at(8, "case n closed 1"), (8, STRAY)),
+    ("a case of a bishop", at(8, "case b closed 1"), (8, TEXT)),
+    ("a step first", at(6, "h3xg4p marks 1 steps 8"), (6, TEXT)),
+    ("64 lines of prices", many_prices(64), None),
+    ("65 lines of prices", many_prices(65), (4, TEXT)),
+    ("files in another order", at(4, "sketch 1 files ba"), (4, TEXT)),
+    ("a file twice", at(4, "sketch 1 files aa"), (4, TEXT)),
+    ("no file", at(4, "sketch 1 files "), (4, TEXT)),
+    ("no word of files", at(4, "sketch 1 files"), (4, TEXT)),
+    ("a price of 97", at(5, PRICES.replace("21 21 /", "21 97 /")), (5, TEXT)),
+    ("a gate of 0", at(5, f"{PRICES} h4 0"), (5, TEXT)),
+    ("gates in another order", at(5, f"{PRICES} a1 3"), (5, TEXT)),
+    ("a space at an end", at(8, f"{ALFIERE[5]} "), (8, TEXT)),
+    ("a split of nobody unknown", split("case n void", "case r void", "case q void"), (6, RULE)),
+    ("a split in two", split("case n void", "case r void"), (9, TEXT)),
+    ("what can be the array", bare("now steps 0"), (5, RULE)),
+    ("1,025 steps", bare("now steps 1025"), (5, TEXT)),
+    ("1,024 steps, and none there", bare("now steps 1024"), (6, TEXT)),
+    ("depth 64", deep("a2-a3 steps 0"), (5, RULE)),
+    ("depth 65", deep("a2-a3 steps 1", "a2-a3 void"), (69, TEXT)),
+    ("a split at depth 64", deep("a2-a3 split a1", "case n void", "case r void", "case q void"), (69, TEXT)),
+    ("a pawn on rank 8", bare("now void", fen="fen P3k3/8/8/8/8/8/8/4K3 w - -"), (5, RULE)),
+    ("17 men", bare("now void", fen="fen 4k3/8/8/8/8/P7/PPPPPPPP/RNBQKBNR w - -"), (5, RULE)),
+    ("two kings", bare("now void", fen="fen 4k3/8/8/8/8/8/8/K3K3 w - -"), (5, RULE)),
+    ("a right with another man at home", bare("now void", fen="fen 4k3/8/8/8/8/8/8/4K2N w K -"), None),
+    ("a right with nobody at home", bare("now void", fen="fen 4k3/8/8/8/8/8/8/4K3 w K -"), (5, RULE)),
+    ("a double step isn't looked at", WHOLE.replace(" w Q -", " w Q e6"), None),
+    ("nor the side to move", WHOLE.replace(" w Q -", " b Q -"), None),
+    ("steps of other rights", WHOLE.replace(" w Q -", " w - -"), (8, STRAY)),
+    ("marks without prices", bare("now marks 1 void", "mark 1 1"), (5, TEXT)),
+    ("a mark twice", certificate([*put(ALFIERE, 3, "now marks 2 steps 8")[:5], "mark 1 4", *ALFIERE[5:]]), (8, RULE)),
+    ("a line of 234 bytes", at(8, "h" * 234), (8, TEXT)),
+]
+# What was before the king's last move, if he took nobody or a man: a knight may have been promoted on many squares.
+BELOW = "retro 1\nclaim illegal\nfen 4k3/8/8/8/8/8/4PPPP/5BK1 b - -\nroot expand 5\n"
+LEAVES = [f"h1g1{taken} sketch 0\nnow steps 0\n" for taken in ("", "xn", "xb", "xr", "xq")]
+ODDS, FEN, NODES = BEFORE
+ONE = "\n".join(["retro 2", "claim illegal", ODDS[:-1], f"fen {FEN}", *NODES, ""])
+CASES += [
+    ("below the root", ONE, None),
+    ("void below the root", ONE.replace("steps 0", "void"), (7, RULE)),
+    ("bad text below the root", ONE.replace("steps 0", "closed 1"), (7, TEXT)),
+    ("the men who are left out", ONE.replace("odds 4200", "odds 4000"), (7, RULE)),
+    ("steps of a knight", BELOW + "".join(LEAVES), (8, RULE)),
+    ("void before another fault", BELOW + "".join([LEAVES[0].replace("steps 0", "void"), *LEAVES[1:]]), (6, RULE)),
+]
+
+
+def laden(units):
+    """The lines of a sketch behind its first, with so many units, nearly all of them figures in lines of marks."""
+    steps = 1020
+    figures = units - 34 - steps
+    full, rest = divmod(figures, 32)
+    marks = [" ".join(["mark 1", *map(str, range(1, n + 1))]) for n in [32] * full + [rest]]
+    nodes = []
+    for i in range(0, len(marks), 8):
+        some = marks[i : i + 8]
+        nodes += [f"a2-a3 marks {len(some)} void", *some]
+    bare_nodes = steps - (len(marks) + 7) // 8
+    return [PRICES, f"now steps {steps}", *["a2-a3 void"] * bare_nodes, *nodes]
+
+
+ALL, MORE = (certificate([BARE, "sketch 1", *laden(MOST_UNITS + n)]) for n in (0, 1))
+# Behind four sketches of 33 units.
+LAST = f"h1g1xq sketch 1\n{{}}\n".format("\n".join(laden(MOST_UNITS - 4 * 33)))
+CASES += [
+    ("all units", ALL, (6, RULE)),
+    ("a unit too many", MORE, (MORE.count("\n"), TEXT)),
+    ("all units together", BELOW + "".join(LEAVES[:4]) + LAST, (8, RULE)),
+    ("a unit too many together", BELOW + "".join([LEAVES[0].replace("steps 0", "steps 1\na2-a3 void"), *LEAVES[1:4]]) + LAST, (13 + LAST.count("\n"), TEXT)),
+]
+
+
+def second(text):
+    """The answer of fuzz_sketches.py to a certificate with a good head, if it has one: None where it finds no fault, else line and words."""
+    root = root_of(text)
+    bad = bad_node(text, root) if root else text.count("\n") + 1
+    if bad:
+        return bad, TEXT
+    faults = (sketch_fault(query, sketch) for sketch, query in sketches_before(text, root, sys.maxsize))
+    return next(((fault.line, f"unsupported {fault.word}") for fault in faults if fault), None)
+
+
+def asked(program, text):
+    """The answer of the program: None where it accepts, else the line and the words of the fault; or what else it said."""
+    done = subprocess.run([program, "check"], input=text.encode("latin-1"), capture_output=True)
+    line = done.stdout.decode("ascii", "replace")
+    found = re.fullmatch(r"refused line (\d+) ([^\n]+)\n", line)
+    if done.returncode == 0 and line.startswith("accepted "):
+        return None
+    return (int(found[1]), found[2]) if done.returncode == 1 and found else (done.returncode, line)
+
+
+class Trial:
+    """What was asked, and how many answers weren't as they should be."""
+
+    def __init__(self, program):
+        self.program, self.wrong, self.counts = program, 0, collections.Counter()
+
+    def answer(self, name, text):
+        """The program's answer, which has to be that of fuzz_sketches.py, if that isn't asked alone."""
+        due = second(text)
+        given = asked(self.program, text) if self.program else due
+        self.expect(name, text, given, due)
+        return given
+
+    def expect(self, name, text, given, due):
+        if given != due:
+            self.wrong += 1
+            print(f"{name}: {given}, not {due}\n{text[:500]}")
+
+    def cases(self):
+        for name, text, due in CASES:
+            self.expect(name, text, self.answer(name, text), due)
+        print(f"{len(CASES)} cases by hand")
+
+    def certificates(self, sketches):
+        for name, lines in sketches.items():
+            self.expect(name, certificate(lines), self.answer(name, certificate(lines)), None)
+        print(f"{len(sketches)} certificates")
+
+    def changes(self, sketches, number, seed):
+        """So many changes of each kind, to certificates at random, small ones more often than large ones."""
+        rng, names = random.Random(seed), list(sketches)
+        weights = [1 / len(sketches[name]) for name in names]
+        for kind in CHANGES:
+            tried = 0
+            for _ in range(50 * number):
+                name = rng.choices(names, weights)[0]
+                lines = changed(rng, sketches[name], kind)
+                if not lines or tried == number:
+                    continue
+                tried += 1
+                given = self.answer(f"{kind} in {name}", certificate(lines))
+                self.counts[kind, given[1] if given else "accepted"] += 1
+                if given is None and kind in REFUSED:
+                    self.expect(f"{kind} in {name}", certificate(lines), None, "refused")
+            self.tell(kind)
+
+    def tell(self, kind):
+        counts = {word: count for (of, word), count in sorted(self.counts.items()) if of == kind}
+        print(f"{kind}: {sum(counts.values())},", ", ".join(f"{count} {word}" for word, count in counts.items()), flush=True)
+
+
+def main():
+    parser = argparse.ArgumentParser(description=__doc__, formatter_class=argparse.RawDescriptionHelpFormatter)
+    parser.add_argument("places", nargs="*", help="PROGRAM and FOLDER, or FOLDER with --second")
+    parser.add_argument("--second", action="store_true")
+    parser.add_argument("--changes", type=int, default=30)
+    parser.add_argument("--seed", type=int, default=1)
+    args = parser.parse_args()
+    program = None if args.second else args.places.pop(0)
+    sketches = {lines[0]: lines for lines in SKETCHES}
+    for folder in args.places:
+        sketches |= {str(path.relative_to(folder)): path.read_text().split("\n")[:-1] for path in sorted(pathlib.Path(folder).rglob("*.txt"))}
+    trial = Trial(program)
+    trial.cases()
+    trial.certificates(sketches)
+    trial.changes(sketches, args.changes, args.seed)
+    print(f"{trial.wrong} wrong")
+    sys.exit(1 if trial.wrong else 0)
+
+
+if __name__ == "__main__":
+    main()
