@@ -259,6 +259,9 @@ class Steps:
         self.asked, self.sketch, self.found = asked, sketch, []
         men = {side: sum(man is not None and side_of(man) == side for man in asked.first) for side in "wb"}
         for i, f in enumerate(sketch):
+            # Whoever else gives check now gave it before each step too.
+            if gives_check(sketch[:i] + sketch[i + 1 :], f.side):
+                continue
             self.may_take = not f.marked and sum(g.side != f.side for g in sketch) < men[other(f.side)]
             for t in sorted(f.squares):
                 if f.is_pawn() and t // 8 != pawn_rank(f.side):
@@ -488,16 +491,23 @@ def may_ask(query, first):
     return not any(man and man.lower() == "p" for man in query.board[:8] + query.board[56:])
 
 
+def first_sketch(board):
+    """Each man on his square, unmarked."""
+    return trimmed([Figure(side_of(man), man.lower(), frozenset([s]), place=s // 8 if man in "Pp" else 0) for s, man in enumerate(board) if man])
+
+
+def held_homes(rights):
+    return frozenset(home for right in rights for home in CASTLINGS[right])
+
+
 def sketch_fault(query, sketch):
     """The first fault of a sketch that was read, None where it supports the query: its line, and `rule` or `stray`."""
     first = array(query.odds)
     if not may_ask(query, first):
         return Fault(sketch.line + 1 + len(sketch.prices), "rule")
-    held = frozenset(home for right in query.rights for home in CASTLINGS[right])
-    asked = Asked(first, held, frozenset("abcdefgh".index(letter) for letter in sketch.files))
-    figures = [Figure(side_of(man), man.lower(), frozenset([s]), place=s // 8 if man in "Pp" else 0) for s, man in enumerate(query.board) if man]
+    asked = Asked(first, held_homes(query.rights), frozenset("abcdefgh".index(letter) for letter in sketch.files))
     try:
-        Walk(asked, sketch).node("now", trimmed(figures))
+        Walk(asked, sketch).node("now", first_sketch(query.board))
     except Refused as refused:
         return refused.args[0]
     return None

@@ -41,7 +41,6 @@ DEMANDING = [
     ("illegal", "odds 0200000000000000\nclock 0\n", TAEGLICHE[0][4:], CERTIFICATES[3][2]),
 ]
 HEADS = ["sketch 0", "sketch 1", "sketch 2", "sketch 64", "sketch 65", "sketch 0 files a", "sketch 1 files dh", "sketch 1 files hd", "sketch"]
-SQUARE = re.compile("[a-h][1-8]")
 COUNT = re.compile(r"(?<=sketch |.steps |.marks )\d+")
 
 
@@ -90,13 +89,15 @@ def doubled(rng, lines, at):
 def swapped(rng, lines, at):
     """A node's line with the next, or with any other, that has another label."""
     _, nodes, _ = parts(lines, at)
+    if not nodes:
+        return None
     i = rng.choice(nodes)
     j = min(i + 1, len(lines) - 1) if rng.random() < 0.5 else rng.randrange(at, len(lines))
     return put(put(lines, i, lines[j]), j, lines[i]) if label_of(lines[i]) != label_of(lines[j]) else None
 
 
 def relabelled(rng, lines, at):
-    nodes = parts(lines, at)[1][1:]
+    nodes = [i for i in parts(lines, at)[1][1:] if re.match(r"case |..[-=x]..", lines[i])]
     if not nodes:
         return None
     i, kind = rng.choice(nodes), rng.randrange(4)
@@ -104,7 +105,7 @@ def relabelled(rng, lines, at):
     if label.startswith("case "):
         label = f"case {rng.choice('nrq')}"
     elif kind == 0:
-        found = rng.choice(list(SQUARE.finditer(label)))
+        found = re.compile("..").match(label, rng.choice([0, 3]))
         label = label[: found.start()] + square(rng) + label[found.end() :]
     elif kind == 1:
         label = re.sub(r"(?<=.....)(?:nrq|ep|p|b)(=?\d*)$", lambda found: rng.choice(["nrq", "b", "p", "ep"]) + found[1], label)
@@ -117,7 +118,10 @@ def relabelled(rng, lines, at):
 
 def recounted(rng, lines, at):
     """A number of prices, marks or steps one more or less."""
-    i = rng.choice([i for i in [at, *parts(lines, at)[1]] if COUNT.search(lines[i])])
+    counting = [i for i in [at, *parts(lines, at)[1]] if COUNT.search(lines[i])]
+    if not counting:
+        return None
+    i = rng.choice(counting)
     found = rng.choice(list(COUNT.finditer(lines[i])))
     number = max(0, int(found[0]) + rng.choice([-1, 1]))
     return put(lines, i, lines[i][: found.start()] + str(number) + lines[i][found.end() :])
@@ -137,6 +141,8 @@ def remarked(rng, lines, at, change):
         return None
     i = rng.choice(marks)
     _, price, *figures = lines[i].split(" ")
+    if not all(map(str.isdigit, [price, *figures])) or not figures:
+        return None
     return put(lines, i, " ".join(["mark", *change(price, figures, len(prices))]))
 
 
@@ -161,7 +167,10 @@ def mark_left_out(rng, lines, at):
 
 
 def ended_otherwise(rng, lines, at):
-    i = rng.choice(parts(lines, at)[1])
+    nodes = parts(lines, at)[1]
+    if not nodes:
+        return None
+    i = rng.choice(nodes)
     ends = ["void", "closed 1", "steps 0", "steps 1", f"split {square(rng)}"]
     return put(lines, i, re.sub(r"(?:void|closed \d+|steps \d+|split ..)$", rng.choice(ends), lines[i]))
 

@@ -4,6 +4,7 @@
 sketches.py PROGRAM [FOLDER] [--changes N] [--seed N]    cases by hand, and N changes of each kind to certificates that hold
 sketches.py --second [FOLDER] ..                         the same with fuzz_sketches.py alone
 sketches.py PROGRAM --limits                             a text with all units that a certificate may have, and how long it takes
+sketches.py --second --limits                            that text itself
 
 The certificates are those of sketch_cases.py, or those of FOLDER: files of a line `fen ..` and a sketch. Each has to be accepted, each case
 by hand refused as the table says, and each text with a line dropped or doubled, lines swapped, a label or a count changed refused. The exit
@@ -16,8 +17,10 @@ import random
 import re
 import subprocess
 import sys
+import time
 
-from fuzz_sketches import sketch_fault, sketches_before
+from fuzz_rules import array, men_of
+from fuzz_sketches import Asked, Steps, closed, first_sketch, held_homes, sketch_fault, sketches_before
 from fuzz_texts import MOST_UNITS, bad_node, root_of
 from sketch_cases import ALFIERE, BEFORE, CHANGES, REFUSED, SKETCHES, certificate, changed, put
 
@@ -51,7 +54,12 @@ def many_prices(number):
     return certificate([line.replace("mark 1 ", "mark 64 ") for line in lines])
 
 
-WHOLE = certificate(ALFIERE)
+def left_out(squares, fen):
+    """A void sketch in format 2."""
+    return bare("now void", fen=fen).replace("retro 1", "retro 2").replace("fen", f"odds {squares:016x}\nfen")
+
+
+WHOLE, HOME = certificate(ALFIERE), "fen 4k3/8/8/8/8/8/8/4K2R w K -"
 EIGHT, SEVEN, NINE = ALFIERE[3], "now marks 1 steps 7", "now marks 1 steps 9"
 # Each with the line and the word of the fault that is due, or nothing where there is none.
 CASES = [
@@ -122,7 +130,9 @@ CASES += [
     ("below the root", ONE, None),
     ("void below the root", ONE.replace("steps 0", "void"), (7, RULE)),
     ("bad text below the root", ONE.replace("steps 0", "closed 1"), (7, TEXT)),
-    ("the men who are left out", ONE.replace("odds 4200", "odds 4000"), (7, RULE)),
+    ("a rook at home, with his right", bare("now void", fen=HOME), (5, RULE)),
+    ("one who was left out", left_out(0x80, HOME), None),
+    ("a man too many for the odds", left_out(0x100, "fen rnbqkbnr/pppppppp/8/8/8/8/PPPPPPPP/RNBQKBNR w - -"), (6, RULE)),
     ("steps of a knight", BELOW + "".join(LEAVES), (8, RULE)),
     ("void before another fault", BELOW + "".join([LEAVES[0].replace("steps 0", "void"), *LEAVES[1:]]), (6, RULE)),
 ]
@@ -151,6 +161,40 @@ CASES += [
     ("all units together", BELOW + "".join(LEAVES[:4]) + LAST, (8, RULE)),
     ("a unit too many together", BELOW + "".join([LEAVES[0].replace("steps 0", "steps 1\na2-a3 void"), *LEAVES[1:4]]) + LAST, (13 + LAST.count("\n"), TEXT)),
 ]
+
+
+# Black's pawn on d2 stays, and from there attacks White's king, so that nothing that Black may have done is a step; but each is tried. Two of
+# White's pawns are unmarked and may have taken three men. White has nine pawns, so each sketch has an account above 0, and none is the array.
+CROWDED = "4k3/PPP1PPPP/P7/8/8/pppPpppp/p1ppp1p1/4K2R w K -"
+CROWDED_MARKS = "mark 1 5 11 16 17 18 21 22 23"
+
+
+class Crowded:
+    """A certificate with all units, of nodes most of which have no step, though hundreds have to be tried."""
+
+    def __init__(self):
+        board = men_of(CROWDED.split(" ")[0])
+        self.asked = Asked(array(frozenset()), held_homes("K"), frozenset())
+        marked = [int(word) - 1 for word in CROWDED_MARKS.split(" ")[2:]]
+        sketch = [f._replace(marked=i in marked) for i, f in enumerate(first_sketch(board))]
+        left, (first, *lines) = self.lines("now marks 1", sketch, MOST_UNITS - 1 - len(marked))
+        # What is left goes into lines of prices.
+        self.text = certificate([f"fen {CROWDED}", f"sketch {1 + left}", *[PRICES] * (1 + left), first, CROWDED_MARKS, *lines])
+
+    def lines(self, label, sketch, units):
+        """The lines of a node and of those below it, with at most so many units, and how many are left of these."""
+        if units < 33:
+            return units - 1, [f"{label} closed 1"]
+        if sum(f.side == "b" for f in sketch) == 16:
+            return units - 33, [f"{label} steps 0"]
+        due = Steps(self.asked, closed(self.asked, sketch)).found
+        left, lines = units - 33 - len(due), [f"{label} steps {len(due)}"]
+        if left < 0:
+            return units - 1, [f"{label} closed 1"]
+        for label, earlier in due:
+            left, more = self.lines(label, earlier, left + 1)
+            lines += more
+        return left, lines
 
 
 def second(text):
@@ -224,14 +268,29 @@ class Trial:
         print(f"{kind}: {sum(counts.values())},", ", ".join(f"{count} {word}" for word, count in counts.items()), flush=True)
 
 
+def limits(program):
+    """Writes the text with all units to standard output, or has the program check it, and tells how long that took."""
+    text = Crowded().text
+    if not program:
+        print(text, end="")
+        return 0
+    begun = time.perf_counter()
+    given = asked(program, text)
+    print(f"{len(text)} bytes, {given or 'accepted'}, {time.perf_counter() - begun:.1f} seconds")
+    return 1 if given else 0
+
+
 def main():
     parser = argparse.ArgumentParser(description=__doc__, formatter_class=argparse.RawDescriptionHelpFormatter)
     parser.add_argument("places", nargs="*", help="PROGRAM and FOLDER, or FOLDER with --second")
     parser.add_argument("--second", action="store_true")
+    parser.add_argument("--limits", action="store_true")
     parser.add_argument("--changes", type=int, default=30)
     parser.add_argument("--seed", type=int, default=1)
     args = parser.parse_args()
     program = None if args.second else args.places.pop(0)
+    if args.limits:
+        sys.exit(limits(program))
     sketches = {lines[0]: lines for lines in SKETCHES}
     for folder in args.places:
         sketches |= {str(path.relative_to(folder)): path.read_text().split("\n")[:-1] for path in sorted(pathlib.Path(folder).rglob("*.txt"))}
