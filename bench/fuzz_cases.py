@@ -293,10 +293,11 @@ class Maker:
         return f"retro length 1\n{odds}fen {' '.join(fen.split(' ')[:4])}\natleast {number}\nmoves {side} {' '.join(words)}\n".encode()
 
     def certificate(self, rng):
-        lines = resketched(rng, rng.choice(self.certs)).split(b"\n")
+        text = resketched(rng, rng.choice(self.certs))
+        lines = text.split(b"\n")
         lines = [rebalanced(rng, line) if b" balance " in line and rng.random() < 0.4 else line for line in lines]
         head = next(at for at, line in enumerate(lines) if line.startswith(b"fen ")) + 1
-        if rng.random() < 0.5:
+        if rng.random() < (0.05 if b" sketch " in text else 0.5):
             at = rng.randrange(head, len(lines) - 1)
             label = lines[at].split(b" ")[0] if rng.random() < 0.8 else move(rng).encode()
             lines[at] = label + b" " + rng.choice(BODIES)

@@ -3,8 +3,8 @@
 
 sketches.py PROGRAM [FOLDER] [--changes N] [--seed N]    cases by hand, and N changes of each kind to certificates that hold
 sketches.py --second [FOLDER] ..                         the same with fuzz_sketches.py alone
-sketches.py PROGRAM --limits                             a text with all units that a certificate may have, and how long it takes
-sketches.py --second --limits                            that text itself
+sketches.py PROGRAM --limits                             two texts with all units that a certificate may have, and how long they take
+sketches.py --second --limits                            these texts
 
 The certificates are those of sketch_cases.py, or those of FOLDER: files of a line `fen ..` and a sketch. Each has to be accepted, each case
 by hand refused as the table says, and each text with a line dropped or doubled, lines swapped, a label or a count changed refused. The exit
@@ -170,9 +170,10 @@ CROWDED_MARKS = "mark 1 5 11 16 17 18 21 22 23"
 
 
 class Crowded:
-    """A certificate with all units, of nodes most of which have no step, though hundreds have to be tried."""
+    """A certificate with all units: of nodes most of which have no step, though hundreds have to be tried, or with a mark in each line of marks."""
 
-    def __init__(self):
+    def __init__(self, by_marks):
+        self.by_marks = by_marks
         board = men_of(CROWDED.split(" ")[0])
         self.asked = Asked(array(frozenset()), held_homes("K"), frozenset())
         marked = [int(word) - 1 for word in CROWDED_MARKS.split(" ")[2:]]
@@ -183,9 +184,14 @@ class Crowded:
 
     def lines(self, label, sketch, units):
         """The lines of a node and of those below it, with at most so many units, and how many are left of these."""
+        crowded = sum(f.side == "b" for f in sketch) == 16
+        if crowded and self.by_marks:
+            figures = [i for i, f in enumerate(sketch, 1) if not f.marked and f.kinds != "k"][: min(8, units - 1)]
+            marks = f"marks {len(figures)} " if figures else ""
+            return units - 1 - len(figures), [f"{label} {marks}closed 1", *(f"mark 1 {i}" for i in figures)]
         if units < 33:
             return units - 1, [f"{label} closed 1"]
-        if sum(f.side == "b" for f in sketch) == 16:
+        if crowded:
             return units - 33, [f"{label} steps 0"]
         due = Steps(self.asked, closed(self.asked, sketch)).found
         left, lines = units - 33 - len(due), [f"{label} steps {len(due)}"]
@@ -269,15 +275,18 @@ class Trial:
 
 
 def limits(program):
-    """Writes the text with all units to standard output, or has the program check it, and tells how long that took."""
-    text = Crowded().text
-    if not program:
-        print(text, end="")
-        return 0
-    begun = time.perf_counter()
-    given = asked(program, text)
-    print(f"{len(text)} bytes, {given or 'accepted'}, {time.perf_counter() - begun:.1f} seconds")
-    return 1 if given else 0
+    """Prints the two texts with all units, or has the program check them, and tells how long that takes."""
+    wrong = 0
+    for kind in ("steps", "marks"):
+        text = Crowded(kind == "marks").text
+        if not program:
+            print(text, end="")
+            continue
+        begun = time.perf_counter()
+        given = asked(program, text)
+        print(f"{kind}: {len(text)} bytes, {given or 'accepted'}, {time.perf_counter() - begun:.1f} seconds")
+        wrong += given is not None
+    return 1 if wrong else 0
 
 
 def main():
