@@ -70,7 +70,7 @@ def enemy_king(sketch, side):
 
 
 def gives_check(sketch, side):
-    """Whether a man of the side stands next to the enemy king and surely attacks it."""
+    """Whether a man of the side surely attacks the enemy king next to him."""
     king = enemy_king(sketch, side)
     return king is not None and any(f.side == side and f.is_fixed() and king in surely_touched(side, f.kinds, min(f.squares)) for f in sketch)
 
@@ -439,45 +439,47 @@ class Walk:
             raise Refused(Fault(line, "stray"))
         for _ in range(node.marks):
             sketch = self.marked(sketch)
-        if not self.holds(node, sketch):
-            raise Refused(Fault(line, "rule"))
-        if node.end == "steps":
-            self.children(line, node.value, Steps(self.asked, closed(self.asked, sketch)).found)
-        if node.end == "split":
+        if node.end == "void":
+            need(is_void(self.asked, sketch), line)
+        elif node.end == "closed":
+            need(self.account(sketch, node.value).is_above(), line)
+        elif node.end == "steps":
+            wide = closed(self.asked, sketch)
+            need(not may_be_array(self.asked, wide), line)
+            self.children(line, node.value, Steps(self.asked, wide).found)
+        else:
+            need(any(is_unknown_on(f, node.value) for f in sketch), line)
             self.children(line, 3, [(f"case {kind}", known(sketch, node.value, kind)) for kind in UNKNOWN])
 
     def marked(self, sketch):
         """The sketch with the marks of a line, all of which are forced."""
         line, marks = self.lines.pop()
         numbers = [number - 1 for number in marks.figures]
-        if any(i >= len(sketch) or sketch[i].marked or sketch[i].kinds == "k" for i in numbers):
-            raise Refused(Fault(line, "rule"))
-        if not all(map(self.account(sketch, marks.price).forces, numbers)):
-            raise Refused(Fault(line, "rule"))
+        need(all(i < len(sketch) and not sketch[i].marked and sketch[i].kinds != "k" for i in numbers), line)
+        need(all(map(self.account(sketch, marks.price).forces, numbers)), line)
         return [f._replace(marked=True) if i in numbers else f for i, f in enumerate(sketch)]
-
-    def holds(self, node, sketch):
-        """Whether the end of the node is so, whatever is below it."""
-        if node.end == "void":
-            return is_void(self.asked, sketch)
-        if node.end == "closed":
-            return self.account(sketch, node.value).is_above()
-        if node.end == "split":
-            return any(f.kinds == UNKNOWN and f.squares == {node.value} for f in sketch)
-        return not may_be_array(self.asked, closed(self.asked, sketch))
 
     def children(self, line, listed, due):
         for number in range(listed):
             if number == len(due):
                 raise Refused(Fault(self.lines[-1][0], "stray"))
             self.node(*due[number])
-        if listed < len(due):
-            raise Refused(Fault(line, "rule"))
+        need(listed >= len(due), line)
+
+
+def need(so, line):
+    """What the line says has to be so."""
+    if not so:
+        raise Refused(Fault(line, "rule"))
+
+
+def is_unknown_on(figure, s):
+    return figure.kinds == UNKNOWN and figure.squares == {s}
 
 
 def known(sketch, s, kind):
     """The sketch in which the first man of unknown kind on that square is of this one."""
-    at = next(i for i, f in enumerate(sketch) if f.kinds == UNKNOWN and f.squares == {s})
+    at = next(i for i, f in enumerate(sketch) if is_unknown_on(f, s))
     return [f._replace(kinds=kind) if i == at else f for i, f in enumerate(sketch)]
 
 
