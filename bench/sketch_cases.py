@@ -2,8 +2,7 @@
 import re
 
 FLAT = " ".join(["24"] * 16)
-# Each a position and a sketch: a king that can't have come from home, L'Alfiere 1922, RA 51, Tägliche Rundschau; and three with exact files, no
-# rights and a man of unknown kind.
+# Each a position and a sketch: a king that can't have come from home, L'Alfiere 1922, RA 51, Tägliche Rundschau.
 KING = ["fen 4k3/8/8/8/8/8/4PPPP/5BK1 w - -", "sketch 0", "now steps 0"]
 ALFIERE = [
     "fen 8/pbp5/1b6/8/PPPPPPP1/pprprpp1/2N1PR1n/R3K2k w Q -",
@@ -23,11 +22,11 @@ RA_51 = [
     *(f"{pawn}7xe6{victim} closed 1" for pawn in "df" for victim in ("p", "b", "nrq")),
 ]
 TAEGLICHE = ["fen 8/5p2/5p2/2R5/k5P1/P2PpP2/1PP1P2P/4K2R w K -", "sketch 1", f"{FLAT} / {FLAT} /", "now closed 1"]
-SKETCHES = [KING, ALFIERE, RA_51, TAEGLICHE]
+SKETCHES = {"king": KING, "alfiere": ALFIERE, "ra 51": RA_51, "taegliche": TAEGLICHE}
 # The king, of whom it is asked what was before his last move. Black's men are shut in, and nobody was taken.
 BEFORE = ("odds 4200000000000000\n", "r1bqkb1r/pppppppp/8/8/8/8/4PPPP/5BK1 b - -", ["root expand 1", "h1g1 sketch 0", "now steps 0"])
 # Lines, in the order of fuzz_cases.py: claim, demands, FEN, nodes.
-CERTIFICATES = [("illegal", lines[0][4:], [f"root {lines[1]}", *lines[2:]]) for lines in SKETCHES]
+CERTIFICATES = [("illegal", lines[0][4:], [f"root {lines[1]}", *lines[2:]]) for lines in SKETCHES.values()]
 CERTIFICATES += [
     ("lost Q", ALFIERE[0][4:].replace(" Q ", " - "), CERTIFICATES[1][2]),
     ("lost k", RA_51[0][4:].replace(" k ", " - "), CERTIFICATES[2][2]),

@@ -1,10 +1,10 @@
 #!/usr/bin/env python3
 """Asks the built program about certificates with sketches, and whether it answers as fuzz_sketches.py does.
 
-sketches.py PROGRAM [FOLDER] [--changes N] [--seed N]    cases by hand, and N changes of each kind to certificates that hold
-sketches.py --second [FOLDER] ..                         the same with fuzz_sketches.py alone
-sketches.py PROGRAM --limits                             two texts with all units that a certificate may have, and how long they take
-sketches.py --second --limits                            these texts
+sketches.py PROGRAM [FOLDER] [--changes N] [--seed N] [--largest N]    cases by hand, and N changes of each kind to certificates that hold
+sketches.py --second [FOLDER] ..                                       the same with fuzz_sketches.py alone
+sketches.py PROGRAM --limits                                           two texts with all units that a certificate may have, and how long they take
+sketches.py --second --limits                                          these texts
 
 The certificates are those of sketch_cases.py, or those of FOLDER: files of a line `fen ..` and a sketch. Each has to be accepted, each case
 by hand refused as the table says, and each text with a line dropped or doubled, lines swapped, a label or a count changed refused. The exit
@@ -226,14 +226,16 @@ def asked(program, text):
 class Trial:
     """What was asked, and how many answers weren't as they should be."""
 
-    def __init__(self, program):
-        self.program, self.wrong, self.counts = program, 0, collections.Counter()
+    def __init__(self, program, largest):
+        self.program, self.largest, self.wrong, self.counts = program, largest, 0, collections.Counter()
 
     def answer(self, name, text):
-        """The program's answer, which has to be that of fuzz_sketches.py, if that isn't asked alone."""
-        due = second(text)
-        given = asked(self.program, text) if self.program else due
-        self.expect(name, text, given, due)
+        """The program's answer, which has to be that of fuzz_sketches.py if the text isn't too large for it; or that alone."""
+        if not self.program:
+            return second(text)
+        given = asked(self.program, text)
+        if text.count("\n") <= self.largest:
+            self.expect(name, text, given, second(text))
         return given
 
     def expect(self, name, text, given, due):
@@ -252,9 +254,10 @@ class Trial:
         print(f"{len(sketches)} certificates")
 
     def changes(self, sketches, number, seed):
-        """So many changes of each kind, to certificates at random, small ones more often than large ones."""
+        """So many changes of each kind, to certificates at random: of each folder alike, and to small ones more often than to large ones."""
         rng, names = random.Random(seed), list(sketches)
-        weights = [1 / len(sketches[name]) for name in names]
+        folders = [name.rpartition("/")[0] or name for name in names]
+        weights = [1 / folders.count(folder) / len(sketches[name]) ** 0.5 for folder, name in zip(folders, names)]
         for kind in CHANGES:
             tried = 0
             for _ in range(50 * number):
@@ -296,14 +299,15 @@ def main():
     parser.add_argument("--limits", action="store_true")
     parser.add_argument("--changes", type=int, default=30)
     parser.add_argument("--seed", type=int, default=1)
+    parser.add_argument("--largest", type=int, default=5000, help="lines of a text that fuzz_sketches.py judges beside the program")
     args = parser.parse_args()
     program = None if args.second else args.places.pop(0)
     if args.limits:
         sys.exit(limits(program))
-    sketches = {lines[0]: lines for lines in SKETCHES}
+    sketches = dict(SKETCHES)
     for folder in args.places:
         sketches |= {str(path.relative_to(folder)): path.read_text().split("\n")[:-1] for path in sorted(pathlib.Path(folder).rglob("*.txt"))}
-    trial = Trial(program)
+    trial = Trial(program, args.largest)
     trial.cases()
     trial.certificates(sketches)
     trial.changes(sketches, args.changes, args.seed)
