@@ -5,13 +5,13 @@ fuzz.py PROGRAM [--cases N] [--jobs N] [--seed N] [--found FOLDER]
 fuzz.py PROGRAM --again FOLDER     runs the cases again that were found and kept there
 
 What is looked for: a death by a signal; a run over ten seconds; a status that the command hasn't, or that bad words, failing reads and
-writes, or too long an input don't allow; something written at a status that writes nothing; an answer that hasn't the form of its
-status; a certificate of `solve` or `settle` that `check` doesn't accept; a game of theirs that `play` doesn't call legal; nodes that
-`check` calls bad text at another line than fuzz_texts.py, and a balance at the root that it weighs otherwise than fuzz_rules.py; a
-verdict that `solve` doesn't bear out; a legal game that `spell` doesn't spell or `san` doesn't read; a length of `length` that `atleast` doesn't accept, a
-dossier of `dossier` that `line` doesn't accept; an answer of `explain` to what `check` refuses that isn't that of `check`, to what it accepts that
-explains nothing, or that shows another diagram; and two runs that differ. Each finding goes into a file of FOLDER, with the words, the
-input and what was wrong.
+writes, or too long an input don't allow; something written at a status that writes nothing; an answer that hasn't the form of its status; a
+certificate of `solve` or `settle` that `check` doesn't accept; a game of theirs that `play` doesn't call legal; nodes that `check` calls
+bad text at another line than fuzz_texts.py, a balance at the root that it weighs otherwise than fuzz_rules.py, and a sketch that it judges
+otherwise than fuzz_sketches.py; a verdict that `solve` doesn't bear out; a legal game that `spell` doesn't spell or `san` doesn't read; a
+length of `length` that `atleast` doesn't accept, a dossier of `dossier` that `line` doesn't accept; an answer of `explain` to what `check`
+refuses that isn't that of `check`, to what it accepts that explains nothing, or that shows another diagram; and two runs that differ. Each
+finding goes into a file of FOLDER, with the words, the input and what was wrong.
 The same seed gives the same cases, with any number of jobs. The exit status is 1 where something was found.
 """
 import argparse
@@ -25,9 +25,10 @@ import subprocess
 import sys
 import time
 
-from fuzz_cases import LIMIT, Case, Maker, men_of, mutated, parted
-from fuzz_rules import Prices, Query, balances
-from fuzz_texts import bad_node, prices_of, squares_of
+from fuzz_cases import LIMIT, Case, Maker, mutated, parted
+from fuzz_rules import Prices, balances, men_of, root_query
+from fuzz_sketches import sketch_fault, sketches_before
+from fuzz_texts import bad_node, prices_of, root_of, squares_of
 
 SECONDS = 10
 CHUNK = 250
@@ -44,7 +45,8 @@ MOVE = r"[a-h][1-8][a-h][1-8][nbrq]?"
 UNMOVE = rf"(?:{MOVE}(?:x[pnbrq])?|[a-h][1-8][a-h][1-8]ep)"
 FEN = r"[1-8PNBRQKpnbrqk]{1,8}(?:/[1-8PNBRQKpnbrqk]{1,8}){7} [wb] (?:-|K?Q?k?q?) (?:-|[a-h][36])"
 CLAIM = rf"(?:illegal|last {MOVE}|lost [KQkq]|ep [a-h][1-8][a-h][1-8])"
-NODE = r"(?:rule [^\n]+|back [1-9]\d*|expand \d+)"
+SKETCH = r"sketch \d+(?: files [a-h]+)?(?:\n(?:\d|mark |now |case |[a-h][1-8][-=x])[^\n]+)+"
+NODE = rf"(?:rule [^\n]+|back [1-9]\d*|expand \d+|{SKETCH})"
 ODDS = r"odds [0-9a-f]{16}"
 CLOCK = r"clock (?:0|[1-9]\d{0,3})"
 STEPS = rf"(?:notboth [KQkq] [KQkq]|line {UNMOVE}(?: {UNMOVE}){{0,15}})"
@@ -201,11 +203,6 @@ def misformed(case, command, status, out):
     return check(case, text) if check else None
 
 
-def root_of(text):
-    """The number of the root's line, behind the line of the FEN; None where there is no such line among the first five."""
-    return next((at + 2 for at, line in enumerate(text.split("\n")[:5]) if line.startswith("fen ")), None)
-
-
 def wrong_said(case, text):
     """An accepted line names the claim, the position, the odds and the clock of the input."""
     _, claim, *lines = case.input.decode("ascii").split("\n")
@@ -218,7 +215,8 @@ def wrong_said(case, text):
 
 def wrong_accepted(case, text):
     given = case.input.decode("ascii")
-    return wrong_said(case, text) or ("bad text that is accepted" if bad_node(given, root_of(given)) else wrong_balance(case, True))
+    wrong = wrong_said(case, text) or ("bad text that is accepted" if bad_node(given, root_of(given)) else wrong_balance(case, True))
+    return wrong or wrong_sketches(given, root_of(given))
 
 
 def wrong_refused(case, text):
@@ -232,7 +230,19 @@ def wrong_refused(case, text):
         return "a fault of a text without a head"
     if bad_node(given, root) != (line if words[3] == "text" else None):
         return "text that goes bad at another line"
-    return wrong_balance(case, False) if words[2:] == [str(root), "unsupported", "rule"] else None
+    if words[3] == "text":
+        return None
+    wrong = wrong_balance(case, False) if words[2:] == [str(root), "unsupported", "rule"] else None
+    return wrong or wrong_sketches(given, root, line, words[-1])
+
+
+def wrong_sketches(text, root, line=sys.maxsize, word=""):
+    """Whether fuzz_sketches.py judges the sketches likewise that were looked at before the text ended or the fault was met at this line."""
+    for sketch, query in sketches_before(text, root, line):
+        faulty = line <= sketch.line + len(sketch.prices) + len(sketch.lines)
+        if sketch_fault(query, sketch) != ((line, word) if faulty else None):
+            return "a sketch that is judged otherwise"
+    return None
 
 
 def wrong_explained(case, text):
@@ -251,17 +261,14 @@ def wrong_explained(case, text):
 
 
 def wrong_balance(case, accepted):
-    """Whether the reason `balance` of a root that claims `illegal` is weighed as fuzz_rules.py weighs it."""
-    _, claim, *lines = case.input.decode("ascii").split("\n")
-    at = next(at for at, line in enumerate(lines) if line.startswith("fen "))
-    if claim != "claim illegal" or not lines[at + 1].startswith("root rule balance "):
+    """Whether the reason `balance` of a root is weighed as fuzz_rules.py weighs it."""
+    text = case.input.decode("ascii")
+    line = text.split("\n")[root_of(text) - 1]
+    if not line.startswith("root rule balance "):
         return None
-    placement, _, rights, _ = lines[at][4:].split(" ")
-    odds = next((squares_of(line[5:]) for line in lines[:at] if line.startswith("odds ")), frozenset())
-    frozen, *words = lines[at + 1].split(" ")[3:]
+    frozen, *words = line.split(" ")[3:]
     white, black, gates = prices_of(words)
-    query = Query(men_of(placement), rights.strip("-"), odds)
-    supports = balances(query, squares_of(frozen), Prices({"w": white, "b": black}, gates))
+    supports = balances(root_query(text), squares_of(frozen), Prices({"w": white, "b": black}, gates))
     return None if supports == accepted else "a balance that is weighed otherwise"
 
 

@@ -3,6 +3,9 @@ import pathlib
 import random
 from dataclasses import dataclass
 
+import sketch_cases
+from fuzz_rules import men_of
+
 EXAMPLES = pathlib.Path(__file__).resolve().parent.parent / "examples"
 LIMIT = 67_108_864
 
@@ -80,6 +83,8 @@ FORMAT_2 = [
     ("illegal", "odds 0000000000000100\n", BALANCED, [f"root rule {BALANCE} d6 2"]),
     ("ep e5d6", "clock 0\n", "rnbqkbnr/ppp1pppp/8/2KpP3/8/8/PPPP1PPP/RNBQ1BNR w kq -", ["root expand 0"]),
 ]
+CERTIFICATES += sketch_cases.CERTIFICATES
+FORMAT_2 += sketch_cases.DEMANDING
 LENGTHS = [
     (FENS[4], 7, "w", "0 0 0 0 0 0 1 0 1 0 0 0 0 0 0 0 / 0 0 0 0 0 0 0 0 0 0 0 0 0 0 0 0"),
     (FENS[0], 0, "b", "0 0 0 0 0 0 0 0 0 0 0 0 0 0 0 0 / 0 0 0 0 0 0 0 0 0 0 0 0 0 0 0 0"),
@@ -108,13 +113,15 @@ SAN_WORDS = ["Nf3", "Nbd2", "R1e2", "e4", "exd5", "e8=Q", "O-O", "O-O-O", "Qh4#"
 BODIES = [b"rule kings", b"rule ranks", b"rule check", b"rule rights", b"rule count w", b"rule count b", b"rule frozen 0000000000004080",
           b"rule promo b 0000000000000000", b"rule caps w 0000000000000000 / 0 0 0 0 0 0 0 0", b"back 1", b"back 2", b"expand 0", b"expand 1",
           b"rule " + BALANCE.encode(), b"rule " + BALANCE.encode() + b" e4 1 e6 12", b"rule " + BALANCE.encode().replace(b" 1", b" 96")]
+BODIES += [head.encode() for head in sketch_cases.HEADS]
 NO_PRICES = [b"0", b"1", b"2", b"95", b"96", b"97", b"096", b"-1", b"", b"/", b"e4"]
 PLACES = [b"a1", b"h8", b"e4", b"e6", b"b5", b"i9", b"e0", b"E4", b"4e"]
 TOKENS = [b"0", b"1", b"2", b"00", b"01", b"-0", b"+1", b"-1", b"8", b"64", b"65", b"-64", b"-65", b"255", b"256", b"999999", b"1000000", b"500000",
           b"500001", b"4294967296", b"18446744073709551615", b"18446744073709551616", b"", b"-", b"/", b"w", b"b", b"K", b"KQkq", b"QK", b"e3", b"d6",
           b"e2e4", b"e7e8q", b"d7d8nxr", b"c5d6ep", b"e9e5", b"e1g1", b"retro", b"claim", b"fen", b"root", b"rule", b"back", b"expand", b"illegal",
           b"last", b"lost", b"ep", b"000000000000000", b"000000000000000A", b"ffffffffffffffff", b"odds", b"clock", b"0000000000000002", b"0000000000000010", b"9999", b"10000",
-          b"length", b"atleast", b"moves", b"line", b"part", b"notboth", b"67108864", b"67108865"]
+          b"length", b"atleast", b"moves", b"line", b"part", b"notboth", b"67108864", b"67108865", b"sketch", b"now", b"marks", b"mark", b"closed", b"steps",
+          b"split", b"case", b"files", b"a2xb1nrq=", b"1024", b"1025", b"262144"]
 BYTES = b" \n\r\t-/+0123456789abcdefghKQkqPNBRpnbrwx\x00\x7f\x80\xff"
 MEN = "PNBRQKpnbrqk"
 
@@ -140,14 +147,6 @@ def placed(men):
             empty = 0
         ranks.append(text + (str(empty) if empty else ""))
     return "/".join(ranks)
-
-
-def men_of(placement):
-    men = []
-    for rank in reversed(placement.split("/")):
-        for letter in rank:
-            men += [None] * int(letter) if letter.isdigit() else [letter]
-    return men
 
 
 def parted(text):
@@ -294,10 +293,11 @@ class Maker:
         return f"retro length 1\n{odds}fen {' '.join(fen.split(' ')[:4])}\natleast {number}\nmoves {side} {' '.join(words)}\n".encode()
 
     def certificate(self, rng):
-        lines = rng.choice(self.certs).split(b"\n")
+        text = resketched(rng, rng.choice(self.certs))
+        lines = text.split(b"\n")
         lines = [rebalanced(rng, line) if b" balance " in line and rng.random() < 0.4 else line for line in lines]
         head = next(at for at, line in enumerate(lines) if line.startswith(b"fen ")) + 1
-        if rng.random() < 0.5:
+        if rng.random() < (0.05 if b" sketch " in text else 0.5):
             at = rng.randrange(head, len(lines) - 1)
             label = lines[at].split(b" ")[0] if rng.random() < 0.8 else move(rng).encode()
             lines[at] = label + b" " + rng.choice(BODIES)
@@ -328,6 +328,14 @@ class Maker:
         if rng.random() < 0.08:
             words = changed_words(rng, words)
         return Case(words, text, rng.choices(["", "read", "write", "pipe"], [96, 2, 1, 1])[0])
+
+
+def resketched(rng, text):
+    """The text with up to three changes to its first sketch, if it has one."""
+    lines = text.decode().split("\n")[:-1]
+    for _ in range(rng.choice([0, 0, 1, 1, 1, 2, 3]) if sketch_cases.sketch_at(lines) else 0):
+        lines = sketch_cases.changed(rng, lines) or lines
+    return "\n".join([*lines, ""]).encode()
 
 
 def rebalanced(rng, line):

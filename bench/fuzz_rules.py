@@ -2,6 +2,8 @@
 import functools
 from dataclasses import dataclass
 
+from fuzz_texts import squares_of
+
 NEVER = 5000
 OFFICERS = "nbrq"
 BACK_RANK = "RNBQKBNR"
@@ -32,6 +34,25 @@ class Prices:
         return self.takes[side][2 * (s % 8) + (s % 8 + s // 8) % 2]
 
 
+def men_of(placement):
+    """64 men, from a1 on, None for an empty square."""
+    men = []
+    for rank in reversed(placement.split("/")):
+        for letter in rank:
+            men += [None] * int(letter) if letter.isdigit() else [letter]
+    return men
+
+
+def root_query(text):
+    """What the root of a certificate with a good head is about."""
+    _, claim, *lines = text.split("\n")
+    at = next(at for at, line in enumerate(lines) if line.startswith("fen "))
+    placement, _, rights, _ = lines[at][4:].split(" ")
+    lost = claim[-1] if claim.startswith("claim lost ") else ""
+    odds = next((squares_of(line[5:]) for line in lines[:at] if line.startswith("odds ")), frozenset())
+    return Query(men_of(placement), "".join(letter for letter in "KQkq" if letter in rights + lost), odds)
+
+
 def side_of(man):
     return "w" if man.isupper() else "b"
 
@@ -54,6 +75,13 @@ def beside(s, steps):
     return [8 * (s // 8 + up) + s % 8 + across for across, up in steps if 0 <= s % 8 + across < 8 and 0 <= s // 8 + up < 8]
 
 
+@functools.cache
+def next_to(kind, s):
+    """The squares next to s, or a leap away, as an officer or a king goes."""
+    return beside(s, STEPS[kind])
+
+
+@functools.cache
 def behind(side, s, across=(-1, 0, 1)):
     return beside(s, [(file, -1 if side == "w" else 1) for file in across])
 
@@ -65,7 +93,7 @@ def entries(man, s):
     if kind == "p":
         return behind(side, s) if 2 <= from_home <= 6 else []
     promoted = behind(side, s) if kind != "k" and s // 8 == last_rank(side) else []
-    return beside(s, STEPS[kind]) + promoted
+    return next_to(kind, s) + promoted
 
 
 def is_settled(query, frozen):
@@ -83,7 +111,7 @@ def region(frozen, kind, start):
     """The squares to which an officer of this kind can go from there."""
     found, due = {start}, [start]
     while due:
-        for t in beside(due.pop(), STEPS[kind]):
+        for t in next_to(kind, due.pop()):
             if t not in frozen and t not in found:
                 found.add(t)
                 due.append(t)
@@ -172,22 +200,23 @@ def least_cost(table):
     width = len(table[0]) if table else 0
     u, v, taken = [0] * len(table), [0] * width, [None] * width
     for i in range(len(table)):
-        best, before, done, row, column = [10**9] * width, [None] * width, set(), i, None
+        best, before, done, left, row, column = [10**9] * width, [None] * width, [], list(range(width)), i, None
         while row is not None:
-            if column is not None:
-                done.add(column)
-            for j in set(range(width)) - done:
-                slack = table[row][j] - u[row] - v[j]
+            costs, own = table[row], u[row]
+            for j in left:
+                slack = costs[j] - own - v[j]
                 if slack < best[j]:
                     best[j], before[j] = slack, column
-            following = min(set(range(width)) - done, key=lambda j: best[j])
+            following = min(left, key=best.__getitem__)
             step = best[following]
             u[i] += step
             for j in done:
                 u[taken[j]] += step
                 v[j] -= step
-            for j in set(range(width)) - done:
+            for j in left:
                 best[j] -= step
+            left.remove(following)
+            done.append(following)
             column, row = following, taken[following]
         while column is not None:
             taken[column] = taken[before[column]] if before[column] is not None else i

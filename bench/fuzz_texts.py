@@ -1,5 +1,6 @@
-"""Reads the nodes of a certificate by itself, for fuzz.py. docs/FORMATS.md has the grammar."""
+"""Reads the nodes of a certificate by itself, for fuzz.py and sketches.py. docs/FORMATS.md has the grammar."""
 import re
+from dataclasses import dataclass
 
 MOVE = r"[a-h][1-8][a-h][1-8]"
 LABEL = re.compile(rf"{MOVE}(?:[nbrq]?(?:x[pnbrq])?|ep)")
@@ -7,8 +8,11 @@ NUMBER = re.compile(r"0|[1-9][0-9]*")
 SIGNED = re.compile(r"0|-?[1-9][0-9]*")
 SET = re.compile(r"[0-9a-f]{16}")
 SQUARE = re.compile(r"[a-h][1-8]")
+STEP = re.compile(r"[a-h][1-8](?:[-=][a-h][1-8]|x[a-h][1-8](?:(?:p|b|nrq|ep)[1-5]?|(?:b|nrq)=))")
 MOST_CHILDREN = 999_999
 DEEPEST = 255
+# Of sketches: nodes one below another, steps of a node, lines of prices; and the units of all sketches of a certificate.
+LOWEST, MOST_STEPS, MOST_PRICES, MOST_UNITS = 64, 1024, 64, 262_144
 
 
 def is_number(word, low, high):
@@ -66,6 +70,8 @@ def children(body, depth):
     kind, *words = body.split(" ")
     if kind == "rule" and words:
         return 0 if is_rule(words) else None
+    if kind == "sketch":
+        return 0 if sketch_head(words) else None
     if len(words) != 1:
         return None
     if kind == "back":
@@ -75,20 +81,157 @@ def children(body, depth):
     return None
 
 
-def bad_node(text, first):
-    """The number of the line at which the nodes go bad, from the root's on, which has the number `first`; None where they don't."""
+def sketch_head(words):
+    """How many lines of prices a sketch has, and its exact files; None where the words behind `sketch` say none."""
+    number, files = words[:1], words[2:]
+    if not number or not is_number(number[0], 0, MOST_PRICES) or words[1:2] not in ([], ["files"]) or len(files) != len(words[1:2]):
+        return None
+    exact = files[0] if files else ""
+    letters = [letter for letter in "abcdefgh" if letter in exact]
+    return (int(number[0]), letters) if not files or exact and exact == "".join(letters) else None
+
+
+@dataclass
+class SketchNode:
+    label: str
+    # How many lines of marks follow, and the end: its word, and a number or a square behind it.
+    marks: int
+    end: str
+    value: int = 0
+
+    def below(self):
+        """How many nodes it has below it."""
+        return {"steps": self.value, "split": 3}.get(self.end, 0)
+
+
+@dataclass
+class Marks:
+    price: int
+    figures: list
+
+
+def node_of(line, prices):
+    """What the line of a node of a sketch says, None where it says nothing."""
+    label, *words = line.split(" ")
+    if label == "case":
+        if words[:1] not in (["n"], ["r"], ["q"]):
+            return None
+        label = f"case {words.pop(0)}"
+    elif label != "now" and not STEP.fullmatch(label):
+        return None
+    marks = 0
+    if words[:1] == ["marks"]:
+        if len(words) < 2 or not is_number(words[1], 1, 8):
+            return None
+        marks, words = int(words[1]), words[2:]
+    if words == ["void"]:
+        return SketchNode(label, marks, "void")
+    if len(words) != 2:
+        return None
+    end, word = words
+    if end == "closed" and is_number(word, 1, prices) or end == "steps" and is_number(word, 0, MOST_STEPS):
+        return SketchNode(label, marks, end, int(word))
+    return SketchNode(label, marks, end, square_of(word)) if end == "split" and SQUARE.fullmatch(word) else None
+
+
+def marks_of(line, prices):
+    """What a line of marks says, None where it says nothing."""
+    kind, *words = line.split(" ")
+    if kind != "mark" or len(words) < 2 or not is_number(words[0], 1, prices) or not all(is_number(word, 1, 32) for word in words[1:]):
+        return None
+    figures = [int(word) for word in words[1:]]
+    return Marks(int(words[0]), figures) if all(a < b for a, b in zip(figures, figures[1:])) else None
+
+
+class Sketch:
+    """A sketch in a certificate as far as its lines are read: what they say, what is due, and the units that are certain by now."""
+
+    def __init__(self, line, prices, files, units):
+        # The number of its first line, its lines of prices, and its other lines.
+        self.line, self.files, self.prices, self.lines = line, files, [], []
+        self.wanted, self.marks, self.nodes = prices, 0, [1]
+        self.units = units + prices + 1
+
+    def is_over(self):
+        return not self.wanted and not self.marks and not self.nodes
+
+    def goes_on(self, line):
+        """Whether the line is one that is due, within the limits."""
+        if self.wanted:
+            prices = prices_of(line.split(" "))
+            self.prices.append(prices)
+            self.wanted -= 1
+            return prices is not None
+        said = marks_of(line, len(self.prices)) if self.marks else node_of(line, len(self.prices))
+        self.lines.append(said)
+        if said is None or not self.marks and not self.has_room(said):
+            return False
+        if self.marks:
+            self.marks -= 1
+            self.units += len(said.figures) - 1
+        else:
+            self.announce(said)
+        return self.units <= MOST_UNITS
+
+    def has_room(self, node):
+        """Whether the node may stand where one is due."""
+        depth = len(self.nodes) - 1
+        return (node.label == "now") == (depth == 0) and not (node.below() and depth >= LOWEST) and not (node.marks and not self.prices)
+
+    def announce(self, node):
+        """Charges what must follow the node: a unit for each line of marks and each node, and 32 for its own steps or cases."""
+        self.units += node.marks + node.below() + (32 if node.end in ("steps", "split") else 0)
+        self.marks = node.marks
+        self.nodes[-1] -= 1
+        self.nodes.append(node.below())
+        while self.nodes and self.nodes[-1] == 0:
+            self.nodes.pop()
+
+
+@dataclass
+class Node:
+    line: int
+    depth: int
+    label: str
+    body: str
+    sketch: Sketch | None = None
+
+
+def read_nodes(text, first):
+    """The nodes of a certificate, from the root's on, which has the number `first`; and the line at which they go bad, None where they don't."""
     *lines, rest = text.split("\n")
-    wanted = [1]
+    nodes, wanted, sketch, units = [], [1], None, 0
     for number, line in enumerate(lines[first - 1 :], first):
+        if sketch:
+            if not sketch.goes_on(line):
+                return nodes, number
+            if sketch.is_over():
+                units, sketch = sketch.units, None
+            continue
         while wanted and wanted[-1] == 0:
             wanted.pop()
         if not wanted:
-            return number
+            return nodes, number
         label, _, body = line.partition(" ")
         depth = len(wanted) - 1
         count = children(body, depth) if (label == "root" if depth == 0 else LABEL.fullmatch(label)) else None
         if count is None:
-            return number
+            return nodes, number
+        if body.startswith("sketch "):
+            sketch = Sketch(number, *sketch_head(body.split(" ")[1:]), units)
+            if sketch.units > MOST_UNITS:
+                return nodes, number
+        nodes.append(Node(number, depth, label, body, sketch))
         wanted[-1] -= 1
         wanted.append(count)
-    return len(lines) + 1 if rest or any(wanted) else None
+    return nodes, len(lines) + 1 if rest or sketch or any(wanted) else None
+
+
+def root_of(text):
+    """The number of the root's line, behind the line of the FEN; None where there is no such line among the first five."""
+    return next((at + 2 for at, line in enumerate(text.split("\n")[:5]) if line.startswith("fen ")), None)
+
+
+def bad_node(text, first):
+    """The number of the line at which the nodes go bad, None where they don't."""
+    return read_nodes(text, first)[1]
