@@ -2,3 +2,9 @@ pub mod Singles
 pub mod Numbered
 pub mod OfMen
 pub mod EachKind
+pub use Rattle.past_sketches.proofs.Sketches
+pub use Rattle.past_sketches.proofs.Filling
+pub use Rattle.past_sketches.proofs.SetAlgebra
+pub use Rattle.past_sketches.proofs.Tested
+pub use Rattle.past_sketches.proofs.Walls
+pub use Rattle.past_sketches.proofs.Queries

@@ -8,9 +8,9 @@ use Rattle.std.proofs.lemmas.List.Folds.{list_any_more}
 use Rattle.board_base.specs.Board.{is_in}
 use Rattle.board_base.specs.Squares.{squares_of}
 use Rattle.board_base.specs.SquareNumbers.{length-squares_of}
-use Rattle.cage_rules.proofs.Filling.{Filled, filled-in, filled-out, in-that, is_in-that, none-in-zero}
-use Rattle.cage_rules.proofs.SetAlgebra.{that-is}
-use Rattle.cage_rules.proofs.Tested.{all_board, at_board, member-inside}
+use Rattle.past_sketches.proofs.Filling.{Filled, filled-in, filled-out, in-that, is_in-that, none-in-zero}
+use Rattle.past_sketches.proofs.SetAlgebra.{that-is}
+use Rattle.past_sketches.proofs.Tested.{all_board, at_board, member-inside}
 use Rattle.past_sketches.specs.Figures.{Figure, fixed_squares, is_fixed_on, only_on}
 
 pub only-made : (s : ℕ) → s < 64 → set (squares_of 0) s true ≡ only_on s

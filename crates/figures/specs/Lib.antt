@@ -1,1 +1,14 @@
 pub mod Kinds
+pub use Rattle.past_sketches.specs.Clashes
+pub use Rattle.past_sketches.specs.Closed
+pub use Rattle.past_sketches.specs.Figures
+pub use Rattle.past_sketches.specs.FileOrder
+pub use Rattle.past_sketches.specs.Homes
+pub use Rattle.past_sketches.specs.Touching
+pub use Rattle.past_sketches.specs.Trimmed
+pub use Rattle.past_sketches.specs.Frozen
+pub use Rattle.past_sketches.specs.Regions
+pub use Rattle.past_sketches.specs.Sets
+pub use Rattle.past_sketches.specs.CageRulesSteps
+pub use Rattle.past_sketches.specs.Steps
+pub use Rattle.past_sketches.specs.Known

@@ -1,6 +1,6 @@
 ghost use Rattle.std.specs.Prelude.{◌≡◌, ◌↔◌, ◌<◌, ◌&&◌, ℕ, Bool, IsTrue, MatchOption, cond, length, not, slice_set, true};
 ghost use Rattle.board_base.specs.Board.{is_in};
-ghost use Rattle.cage_rules.specs.Sets.{squares_that, union};
+ghost use Rattle.past_sketches.specs.Sets.{squares_that, union};
 ghost use Rattle.past_sketches.specs.Figures.{only_on};
 
 use board_base::{Square, SquareSet};

@@ -15,3 +15,9 @@ pub mod Refutes
 mod Examples
 mod FrozenExamples
 mod QueryExamples
+pub use Rattle.past_sketches.proofs.Changed
+pub use Rattle.past_sketches.proofs.Order
+pub use Rattle.past_sketches.proofs.Sketches
+pub use Rattle.cage_rules.proofs.Filling
+pub use Rattle.cage_rules.proofs.Tested
+pub use Rattle.past_sketches.proofs.Queries

@@ -4,3 +4,15 @@ pub mod Account
 pub mod Frozen
 pub mod Closes
 pub mod Refuted
+pub use Rattle.men_fates.specs.Ways
+pub use Rattle.past_sketches.specs.Clashes
+pub use Rattle.past_sketches.specs.Closed
+pub use Rattle.past_sketches.specs.Figures
+pub use Rattle.past_sketches.specs.FileOrder
+pub use Rattle.past_sketches.specs.Homes
+pub use Rattle.past_sketches.specs.Steps
+pub use Rattle.past_sketches.specs.Touching
+pub use Rattle.past_sketches.specs.Trimmed
+pub use Rattle.cage_rules.specs.Sets
+pub use Rattle.past_sketches.specs.Known
+pub use Rattle.cage_rules.specs.Reach

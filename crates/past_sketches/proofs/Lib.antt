@@ -25,3 +25,7 @@ pub mod Listed
 pub mod Drawn
 pub mod Examples
 pub mod MomentExamples
+pub use Rattle.cage_rules.proofs.Filling
+pub use Rattle.cage_rules.proofs.SetAlgebra
+pub use Rattle.cage_rules.proofs.Tested
+pub use Rattle.cage_rules.proofs.Walls

@@ -18,8 +18,8 @@ use Rattle.cage_rules.proofs.Tested.{any-told}
 use Rattle.balance_rule.specs.LeastWays.{seen_by}
 use Rattle.balance_rule.proofs.Brought.{last-number, last-rank}
 use Rattle.balance_rule.proofs.Seen.{seen-inside, seen-seen}
-use Rattle.past_sketches.specs.Figures.{Figure, may_be}
-use Rattle.past_account.specs.Zones.{Room}
+use Rattle.figures.specs.Figures.{Figure, may_be}
+use Rattle.sketch_grounds.specs.Zones.{Room}
 use Rattle.sketch_account.proofs.Algebra.{in-both}
 use Rattle.sketch_account.specs.Coming.{has_room, is_free, is_goal, is_promoted}
 use Rattle.sketch_grounds.proofs.Freezing.{kinds-six}

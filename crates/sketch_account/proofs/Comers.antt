@@ -17,9 +17,9 @@ use Rattle.balance_rule.specs.LeastWays.{IsLeast}
 use Rattle.balance_rule.proofs.Leasts.{least-plus}
 use Rattle.balance_rule.proofs.Listed.{least-listed}
 use Rattle.balance_rule.proofs.Seen.{end-inside}
-use Rattle.past_sketches.specs.Figures.{Figure, may_be}
-use Rattle.past_account.specs.Limits.{Limit, allows, brings_in, comes_as, may_come_by, pawn_comes}
-use Rattle.past_account.specs.Zones.{Room}
+use Rattle.figures.specs.Figures.{Figure, may_be}
+use Rattle.sketch_grounds.specs.Limits.{Limit, allows, brings_in, comes_as, may_come_by, pawn_comes}
+use Rattle.sketch_grounds.specs.Zones.{Room}
 use Rattle.sketch_account.specs.Coming.{comes_by, comes_to, has_room, is_free, is_goal, is_promoted}
 use Rattle.sketch_account.specs.Over.{IsLeastOver}
 use Rattle.sketch_grounds.proofs.Freezing.{kind-there, some-kind}

@@ -10,3 +10,4 @@ mod Repriced
 mod Weighed
 mod Plain
 mod Opened
+pub use Rattle.balance_rule.proofs.Rowed

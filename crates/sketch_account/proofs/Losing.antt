@@ -9,8 +9,8 @@ use Rattle.board_base.specs.declared.men.Kind.TheVariants.{Knight, Bishop, Rook,
 use Rattle.men_fates.specs.Ways.{fee, toll, way_end}
 use Rattle.capture_prices.specs.Prices.{PriceList, are_prices, gate, take}
 use Rattle.balance_rule.specs.Costs.{earned, most_earned, never, way_cost}
-use Rattle.past_account.specs.Limits.{brings_some, loss_in, pawn_lost}
-use Rattle.past_account.specs.Zones.{Room}
+use Rattle.sketch_grounds.specs.Limits.{brings_some, loss_in, pawn_lost}
+use Rattle.sketch_grounds.specs.Zones.{Room}
 use Rattle.sketch_account.specs.Grounds.{comes_promoted}
 use Rattle.balance_rule.specs.LeastWays.{AreLeastTo, IsLeast, ends_on, fee_of, seen_by, toll_of}
 use Rattle.balance_rule.proofs.Brought.{last-rank, short-of}

@@ -20,8 +20,8 @@ use Rattle.balance_rule.proofs.Begun.{begins-on}
 use Rattle.balance_rule.proofs.Earned.{greatest-same}
 use Rattle.balance_rule.proofs.Filled.{any-default}
 use Rattle.balance_rule.proofs.Seen.{seen-inside}
-use Rattle.past_account.specs.Zones.{Room, room_past}
-use Rattle.past_account.proofs.NoZones.{room-region}
+use Rattle.sketch_grounds.specs.Zones.{Room, room_past}
+use Rattle.sketch_grounds.proofs.NoZones.{room-region}
 use Rattle.sketch_account.specs.Grounds.{AreRooms, IsGround, comes_promoted}
 use Rattle.sketch_account.proofs.Plain.{begun-is}
 

@@ -9,7 +9,7 @@ use Rattle.board_base.specs.declared.men.Kind.{Kind}
 use Rattle.board_base.proofs.KindsOfMen.{kind_is, same_kind-self}
 use Rattle.balance_rule.specs.Costs.{least, never}
 use Rattle.balance_rule.proofs.Listed.{least-below}
-use Rattle.past_sketches.specs.Figures.{Figure, may_be}
+use Rattle.figures.specs.Figures.{Figure, may_be}
 use Rattle.sketch_account.specs.Over.{IsLeastOver}
 
 least-most : (xs : List ℕ) → least xs ≤ never

@@ -26,11 +26,11 @@ use Rattle.capture_prices.specs.Prices.{PriceList, take}
 use Rattle.balance_rule.specs.Balance.{cost_table, gone_row, men_on, side_cost, stand_row}
 use Rattle.balance_rule.specs.Costs.{brings_officer, earned, gone, gone_as, least, loss_cost, never, pawn_gone, pawn_stands, piece_stands, stands, stands_as, way_cost, ways_from}
 use Rattle.balance_rule.proofs.Earned.{greatest-same}
-use Rattle.past_sketches.specs.Figures.{Sketch, figure_of, only_on, sketch_of}
-use Rattle.past_account.specs.Account.{Counted, by_marks, figure_comes, figure_row, figure_table, figures_cost, is_figure_of, lost_row}
-use Rattle.past_account.specs.Limits.{any, brings_in, brings_some, comes, comes_as, loss_in, lost, lost_as, may_come_by, pawn_comes, pawn_lost, piece_comes, piece_lost}
-use Rattle.past_account.specs.Zones.{Room, room_past}
-use Rattle.past_account.proofs.NoZones.{room-region}
+use Rattle.figures.specs.Figures.{Sketch, figure_of, only_on, sketch_of}
+use Rattle.sketch_grounds.specs.Account.{Counted, by_marks, figure_comes, figure_row, figure_table, figures_cost, is_figure_of, lost_row}
+use Rattle.sketch_grounds.specs.Limits.{any, brings_in, brings_some, comes, comes_as, loss_in, lost, lost_as, may_come_by, pawn_comes, pawn_lost, piece_comes, piece_lost}
+use Rattle.sketch_grounds.specs.Zones.{Room, room_past}
+use Rattle.sketch_grounds.proofs.NoZones.{room-region}
 use Rattle.sketch_account.proofs.RowsMade.{same-man}
 
 -- lists

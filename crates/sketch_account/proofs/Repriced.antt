@@ -11,7 +11,7 @@ use Rattle.balance_rule.specs.Costs.{most_earned}
 use Rattle.balance_rule.specs.Grounds.{IsGround as IsOpenGround}
 use Rattle.balance_rule.specs.LeastWays.{seen_by}
 use Rattle.balance_rule.proofs.Earned.{greatest-same}
-use Rattle.past_account.specs.Zones.{Room}
+use Rattle.sketch_grounds.specs.Zones.{Room}
 use Rattle.sketch_account.specs.Grounds.{AreRooms, IsGround, comes_promoted}
 use Rattle.sketch_account.specs.declared.grounds.Ground.{Ground}
 

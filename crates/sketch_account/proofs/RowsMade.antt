@@ -14,10 +14,10 @@ use Rattle.board_base.specs.declared.men.Man.{Man}
 use Rattle.cage_rules.proofs.Tested.{any-told}
 use Rattle.capture_prices.specs.Prices.{PriceList}
 use Rattle.balance_rule.specs.Costs.{never}
-use Rattle.past_sketches.specs.Figures.{Figure, may_be}
-use Rattle.past_account.specs.Account.{figure_comes}
-use Rattle.past_account.specs.Limits.{Limit, comes, comes_as}
-use Rattle.past_account.specs.Zones.{Room}
+use Rattle.figures.specs.Figures.{Figure, may_be}
+use Rattle.sketch_grounds.specs.Account.{figure_comes}
+use Rattle.sketch_grounds.specs.Limits.{Limit, comes, comes_as}
+use Rattle.sketch_grounds.specs.Zones.{Room}
 use Rattle.sketch_account.specs.Over.{IsLeastOver}
 use Rattle.sketch_account.specs.Rows.{counted}
 use Rattle.sketch_grounds.proofs.Freezing.{kinds-six}

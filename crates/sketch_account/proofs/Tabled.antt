@@ -7,11 +7,11 @@ use Rattle.std.specs.List.{filter}
 use Rattle.board_base.specs.Board.{Places}
 use Rattle.capture_prices.specs.Prices.{PriceList}
 use Rattle.balance_rule.specs.Balance.{men_on}
-use Rattle.past_account.specs.Zones.{Room}
+use Rattle.sketch_grounds.specs.Zones.{Room}
 use Rattle.board_base.specs.declared.men.Colour.{Colour}
-use Rattle.past_sketches.specs.Figures.{Figure, Sketch}
-use Rattle.past_account.specs.Account.{Counted, counted_by, figure_row, figure_table, is_figure_of, lost_row, mark_limit}
-use Rattle.past_account.specs.Limits.{Limit, allows, any, other, plain}
+use Rattle.figures.specs.Figures.{Figure, Sketch}
+use Rattle.sketch_grounds.specs.Account.{Counted, counted_by, figure_row, figure_table, is_figure_of, lost_row, mark_limit}
+use Rattle.sketch_grounds.specs.Limits.{Limit, allows, any, other, plain}
 use Rattle.sketch_account.specs.Counting.{limit_by}
 use Rattle.sketch_account.specs.Rows.{IsManner, counted}
 use Rattle.sketch_account.specs.declared.rows.Manner.{Manner}

@@ -7,8 +7,8 @@ use Rattle.board_base.specs.declared.men.Colour.{Colour}
 use Rattle.board_base.specs.declared.men.Colour.TheVariants.{White, Black}
 use Rattle.capture_prices.specs.Prices.{PriceList}
 use Rattle.balance_rule.specs.Balance.{men_on, most_cost}
-use Rattle.past_account.specs.Account.{Counted, figures_cost, is_figure_of}
-use Rattle.past_account.specs.Zones.{Room, room_past}
+use Rattle.sketch_grounds.specs.Account.{Counted, figures_cost, is_figure_of}
+use Rattle.sketch_grounds.specs.Zones.{Room, room_past}
 use Rattle.sketch_account.specs.Basis.{AreFew, Basis, IsAbove, cost_on}
 use Rattle.sketch_account.specs.Grounds.{IsGround, IsGroundOf}
 use Rattle.sketch_account.specs.declared.grounds.Ground.{Ground}

@@ -7,9 +7,9 @@ use Rattle.board_base.specs.declared.men.Colour.{Colour}
 use Rattle.board_base.specs.declared.men.Colour.TheVariants.{White, Black}
 use Rattle.balance_rule.specs.Balance.{men_on}
 use Rattle.capture_prices.specs.Prices.{PriceList}
-use Rattle.past_sketches.specs.Figures.{Sketch}
-use Rattle.past_account.specs.Account.{CostTooMuch, Counted, against, by_marks, figures_cost, is_figure_of}
-use Rattle.past_account.specs.Zones.{room_past}
+use Rattle.figures.specs.Figures.{Sketch}
+use Rattle.sketch_grounds.specs.Account.{CostTooMuch, Counted, against, by_marks, figures_cost, is_figure_of}
+use Rattle.sketch_grounds.specs.Zones.{room_past}
 use Rattle.sketch_grounds.specs.FrozenSets.{greatest_frozen}
 use Rattle.sketch_grounds.specs.LeastZones.{pair_zones}
 

@@ -8,8 +8,8 @@ use Rattle.board_base.specs.declared.men.Colour.{Colour}
 use Rattle.board_base.specs.declared.men.Kind.{Kind}
 use Rattle.board_base.specs.declared.men.Kind.TheVariants.{Pawn}
 use Rattle.men_fates.specs.Ways.{is_straight, way_end}
-use Rattle.past_sketches.specs.Figures.{Figure, may_be}
-use Rattle.past_account.specs.Zones.{Room}
+use Rattle.figures.specs.Figures.{Figure, may_be}
+use Rattle.sketch_grounds.specs.Zones.{Room}
 
 -- he comes straight to a rank short of the last where that is allowed, and in other ways where these are
 abbrev pub comes_by : Colour → Bool → Bool → ℕ → List ℕ → Bool

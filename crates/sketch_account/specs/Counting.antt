@@ -1,8 +1,8 @@
 -- The figures of a sketch with what is known of how their men came.
 use Rattle.std.specs.Prelude.{ℕ, ◌==◌, cond, List, Option, Some, None}
-use Rattle.past_sketches.specs.Figures.{Figure, Sketch}
-use Rattle.past_account.specs.Account.{Counted, counted_by, mark_limit}
-use Rattle.past_account.specs.Limits.{Limit, other}
+use Rattle.figures.specs.Figures.{Figure, Sketch}
+use Rattle.sketch_grounds.specs.Account.{Counted, counted_by, mark_limit}
+use Rattle.sketch_grounds.specs.Limits.{Limit, other}
 
 -- what their marks say; but where a number is given, what that figure's would say is false
 abbrev pub limit_by : Option ℕ → ℕ → Figure → Limit

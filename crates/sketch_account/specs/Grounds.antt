@@ -11,7 +11,7 @@ use Rattle.capture_prices.specs.Prices.{PriceList}
 use Rattle.balance_rule.specs.Costs.{most_earned}
 use Rattle.balance_rule.specs.LeastWays.{seen_by}
 use Rattle.balance_rule.specs.Grounds.{IsGround as IsOpenGround}
-use Rattle.past_account.specs.Zones.{Room, room_past}
+use Rattle.sketch_grounds.specs.Zones.{Room, room_past}
 use Rattle.sketch_account.specs.declared.grounds.Ground.{Ground}
 
 -- these are the rooms of an officer of this kind from the squares of the last rank

@@ -4,3 +4,6 @@ pub mod Coming
 pub mod Grounds
 pub mod Over
 pub mod Rows
+pub use Rattle.balance_rule.specs.Balance
+pub use Rattle.balance_rule.specs.Costs
+pub use Rattle.men_fates.specs.Ways

@@ -4,7 +4,7 @@ use Rattle.std.specs.Prelude.{ℕ, ◌≡◌, ◌<◌, ◌≤◌, IsTrue}
 use Rattle.board_base.specs.Board.{is_in}
 use Rattle.board_base.specs.declared.men.Kind.{Kind}
 use Rattle.balance_rule.specs.Costs.{never}
-use Rattle.past_sketches.specs.Figures.{Figure, may_be}
+use Rattle.figures.specs.Figures.{Figure, may_be}
 
 -- the kind and the square of the figure for which this is told
 pub record Taken (f : Figure) (g : Kind → ℕ → ℕ) (n : ℕ) : Type 0 where

@@ -3,10 +3,10 @@
 use Rattle.std.specs.Prelude.{ℕ, ◌≡◌, ◌<◌, Bool, true, false, List}
 use Rattle.board_base.specs.Board.{is_in}
 use Rattle.board_base.specs.declared.men.Colour.{Colour}
-use Rattle.past_sketches.specs.Figures.{Figure}
-use Rattle.past_account.specs.Account.{Counted}
-use Rattle.past_account.specs.Limits.{Limit, allows}
-use Rattle.past_account.specs.Zones.{Room}
+use Rattle.figures.specs.Figures.{Figure}
+use Rattle.sketch_grounds.specs.Account.{Counted}
+use Rattle.sketch_grounds.specs.Limits.{Limit, allows}
+use Rattle.sketch_grounds.specs.Zones.{Room}
 use Rattle.sketch_account.specs.Coming.{is_free, is_goal}
 use Rattle.sketch_account.specs.declared.rows.Comer.{Comer}
 use Rattle.sketch_account.specs.declared.rows.Manner.{Manner}

@@ -1,10 +1,10 @@
 ghost use Rattle.std.specs.Prelude.{◌≡◌, ◌↔◌, ◌≤◌, IfSome, IsTrue, MatchOption};
 ghost use Rattle.capture_prices.specs.Prices.{are_prices};
 ghost use Rattle.play_rules.specs.Reach.{IsWithin};
-ghost use Rattle.past_sketches.specs.Figures.{fixed_squares};
-ghost use Rattle.past_account.specs.Frozen.{IsFrozenIn};
-ghost use Rattle.past_account.specs.Zones.{AreZones};
-ghost use Rattle.past_account.specs.Closes.{Closes, Forces};
+ghost use Rattle.figures.specs.Figures.{fixed_squares};
+ghost use Rattle.sketch_grounds.specs.Frozen.{IsFrozenIn};
+ghost use Rattle.sketch_grounds.specs.Zones.{AreZones};
+ghost use Rattle.sketch_grounds.specs.Closes.{Closes, Forces};
 ghost use Rattle.sketch_account.specs.Basis.{AreFew, IsAbove, IsClosedAt, IsForcedAt, basis_of, cost_on};
 ghost use Rattle.sketch_account.specs.Counting.{counted_as};
 

@@ -5,8 +5,8 @@ ghost use Rattle.board_base.specs.Legal.{last_rank};
 ghost use Rattle.board_base.specs.declared.men.Kind.TheVariants.{Pawn};
 ghost use Rattle.capture_prices.specs.Prices.{PriceList};
 ghost use Rattle.balance_rule.specs.LeastWays.{seen_by};
-ghost use Rattle.past_account.specs.Zones.{Room};
-ghost use Rattle.past_sketches.specs.Figures.{may_be};
+ghost use Rattle.sketch_grounds.specs.Zones.{Room};
+ghost use Rattle.figures.specs.Figures.{may_be};
 ghost use Rattle.sketch_account.specs.Coming.{is_free, is_goal, is_promoted};
 ghost use Rattle.sketch_account.specs.Grounds.{IsGround};
 

@@ -5,7 +5,7 @@ ghost use Rattle.board_base.specs.declared.men.Man.{Man as AMan};
 ghost use Rattle.capture_prices.specs.Prices.{PriceList};
 ghost use Rattle.balance_rule.specs.Grounds.{IsGround as IsOpenGround};
 ghost use Rattle.balance_rule.specs.LeastWays.{seen_by};
-ghost use Rattle.past_account.specs.Zones.{Room, reached_from, roams_past, room_past};
+ghost use Rattle.sketch_grounds.specs.Zones.{Room, reached_from, roams_past, room_past};
 ghost use Rattle.sketch_account.specs.Grounds.{IsGround};
 
 use crate::earnings::earned_in_each;

@@ -3,9 +3,9 @@ ghost use Rattle.board_base.specs.Board.{Places};
 ghost use Rattle.board_base.specs.declared.men.Colour.{Colour as AColour};
 ghost use Rattle.capture_prices.specs.Prices.{PriceList};
 ghost use Rattle.balance_rule.specs.Balance.{side_cost};
-ghost use Rattle.past_sketches.specs.Figures.{sketch_of};
-ghost use Rattle.past_account.specs.Account.{by_marks, figures_cost};
-ghost use Rattle.past_account.specs.Zones.{room_past};
+ghost use Rattle.figures.specs.Figures.{sketch_of};
+ghost use Rattle.sketch_grounds.specs.Account.{by_marks, figures_cost};
+ghost use Rattle.sketch_grounds.specs.Zones.{room_past};
 
 /// The law that the account of a board's own sketch, in which each figure has one kind, one square and no mark, is where no zone is known the
 /// balance of captures of that board, for each side, at any odds and prices and beside any set.

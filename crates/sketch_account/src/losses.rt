@@ -6,9 +6,9 @@ ghost use Rattle.board_base.specs.declared.men.Man.{Man as AMan};
 ghost use Rattle.capture_prices.specs.Prices.{PriceList};
 ghost use Rattle.balance_rule.specs.Costs.{never};
 ghost use Rattle.balance_rule.specs.LeastWays.{IsLeast, ends_on, seen_by};
-ghost use Rattle.past_account.specs.Account.{lost_row};
-ghost use Rattle.past_account.specs.Limits.{loss_in, lost, lost_as, pawn_lost, piece_lost};
-ghost use Rattle.past_account.specs.Zones.{Room};
+ghost use Rattle.sketch_grounds.specs.Account.{lost_row};
+ghost use Rattle.sketch_grounds.specs.Limits.{loss_in, lost, lost_as, pawn_lost, piece_lost};
+ghost use Rattle.sketch_grounds.specs.Zones.{Room};
 ghost use Rattle.sketch_account.specs.Grounds.{IsGround};
 
 use crate::grounds::Ground;

@@ -5,8 +5,8 @@ use Rattle.std.specs.Prelude.{Some, None, nat_lt, slice_get}
 use Rattle.std.specs.List.{Contains}
 use Rattle.general_lemmas.proofs.Lists.{contains-first, contains-later}
 use Rattle.capture_prices.specs.Prices.{PriceList}
-use Rattle.past_sketches.specs.Figures.{Sketch}
-use Rattle.past_sketches.specs.Homes.{may_be_array}
+use Rattle.figures.specs.Figures.{Sketch}
+use Rattle.figures.specs.Homes.{may_be_array}
 use Rattle.sketch_account.specs.Basis.{IsClosedAt}
 use Rattle.sketch_list.specs.Listed.{Earlier, earlier}
 use Rattle.sketch_proof.specs.Nodes.{IsFirstUnknown, IsLeastAbove, IsUnknownOn, IsVoid}

@@ -1,7 +1,7 @@
 -- What the line of a node, and a line of marks, do to the lines that complete a walk.
 use Rattle.std.proofs.Common.{◌≡◌, ℕ, suc, ◌+◌, ◌≤◌, ◌↔◌, List, [], ◌∷◌, ◌++◌, append_assoc, length, map, max, refl, ap, sym, ◌∙◌, subst, arith}
 use Rattle.general_lemmas.proofs.Lists.{same_first, same_rest}
-use Rattle.past_sketches.specs.Figures.{Sketch}
+use Rattle.figures.specs.Figures.{Sketch}
 use Rattle.sketch_proof.specs.Nodes.{marked_with}
 use Rattle.sketch_text.specs.Marks.{Marks}
 use Rattle.sketch_text.specs.declared.nodes.End.{End}

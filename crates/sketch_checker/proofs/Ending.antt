@@ -1,7 +1,7 @@
 -- What the end of a node does to the lines that complete a walk.
 use Rattle.std.proofs.Common.{◌≡◌, ℕ, ◌+◌, ◌≤◌, false, List, [], ◌∷◌, ◌++◌, append-nil, length, map, refl, ap, sym, ◌∙◌, subst, arith}
-use Rattle.past_sketches.specs.Figures.{Sketch}
-use Rattle.past_sketches.specs.Homes.{may_be_array}
+use Rattle.figures.specs.Figures.{Sketch}
+use Rattle.figures.specs.Homes.{may_be_array}
 use Rattle.sketch_list.specs.Listed.{Earlier, earlier}
 use Rattle.sketch_proof.specs.Nodes.{IsFirstUnknown, IsLeastAbove, IsVoid}
 use Rattle.sketch_account.specs.Basis.{IsClosedAt}

@@ -13,12 +13,12 @@ use Rattle.board_base.specs.declared.men.Kind.{Kind}
 use Rattle.board_base.specs.declared.men.Kind.TheVariants.{Pawn, Knight, Bishop, Rook, Queen}
 use Rattle.board_base.specs.Play.{ahead}
 use Rattle.board_base.proofs.KindsOfMen.{colour_is}
-use Rattle.past_sketches.specs.Clashes.{is_clash, is_nowhere}
-use Rattle.past_sketches.specs.Figures.{Figure, Sketch, each_changed, figure_at}
-use Rattle.past_sketches.specs.Known.{known_at}
-use Rattle.past_sketches.specs.Steps.{Step, bystander, changed_by, is_step, pawn_before, victim_on}
-use Rattle.past_sketches.specs.Touching.{side_checks}
-use Rattle.past_sketches.specs.Trimmed.{trimmed, trimmed_figure, trims}
+use Rattle.figures.specs.Clashes.{is_clash, is_nowhere}
+use Rattle.figures.specs.Figures.{Figure, Sketch, each_changed, figure_at}
+use Rattle.figures.specs.Known.{known_at}
+use Rattle.figures.specs.Steps.{Step, bystander, changed_by, is_step, pawn_before, victim_on}
+use Rattle.figures.specs.Touching.{side_checks}
+use Rattle.figures.specs.Trimmed.{trimmed, trimmed_figure, trims}
 use Rattle.sketch_sets.specs.Leasts.{AreLike, IsClosedAbove}
 use Rattle.sketch_sets.specs.TrimmedOut.{trimmed_out}
 use Rattle.sketch_steps.specs.Places.{has_low_place, is_lower, placed_in, recounted}

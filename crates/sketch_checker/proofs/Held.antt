@@ -3,8 +3,8 @@ use Rattle.std.proofs.Common.{◌≡◌, ℕ, ◌+◌, inl, inr, false, List, []
 use Rattle.std.specs.List.{Contains, list_any}
 use Rattle.general_lemmas.proofs.Lists.{contains-first, contains-later}
 use Rattle.board_base.specs.declared.men.Kind.TheVariants as kind
-use Rattle.past_sketches.specs.Clashes.{is_nowhere}
-use Rattle.past_sketches.specs.Figures.{Sketch}
+use Rattle.figures.specs.Clashes.{is_nowhere}
+use Rattle.figures.specs.Figures.{Sketch}
 use Rattle.sketch_account.specs.Basis.{IsClosedAt}
 use Rattle.sketch_list.specs.Listed.{Earlier, earlier}
 use Rattle.sketch_proof.specs.Nodes.{IsVoid, marked_with}

@@ -10,11 +10,11 @@ use Rattle.general_lemmas.proofs.Rounds.{rounds-keep, settles}
 use Rattle.general_lemmas.proofs.Settling.{Settled}
 use Rattle.board_base.specs.Board.{is_in}
 use Rattle.board_base.specs.Rights.{Rights}
-use Rattle.past_sketches.specs.Clashes.{is_nowhere}
+use Rattle.figures.specs.Clashes.{is_nowhere}
 use Rattle.cage_rules.specs.Sets.{squares_that}
 use Rattle.cage_rules.proofs.Filling.{in-that, is_in-that, length-that}
 use Rattle.cage_rules.proofs.Tested.{all_board, at_board, member-inside}
-use Rattle.past_sketches.specs.Figures.{AreWider, Figure, IsWider, KeepsPlaces, Sketch, figure_at}
+use Rattle.figures.specs.Figures.{AreWider, Figure, IsWider, KeepsPlaces, Sketch, figure_at}
 use Rattle.sketch_sets.specs.Leasts.{AreLike, IsClosedAbove}
 use Rattle.sketch_sets.specs.Origins.{widened}
 use Rattle.sketch_sets.specs.Remade.{AreWhole}

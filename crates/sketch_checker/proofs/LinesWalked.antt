@@ -1,7 +1,7 @@
 -- The walk over the lines of a tree is the walk over the tree.
 use Rattle.std.proofs.Common.{◌≡◌, ℕ, zero, suc, ◌+◌, ◌-◌, inl, inr, List, [], ◌∷◌, ◌++◌, append_assoc, append-nil, length, map, refl, ap, sym, ◌∙◌, subst, arith}
 use Rattle.std.specs.Prelude.{Some, None}
-use Rattle.past_sketches.specs.Figures.{Sketch}
+use Rattle.figures.specs.Figures.{Sketch}
 use Rattle.sketch_list.specs.Listed.{earlier}
 use Rattle.sketch_proof.specs.Nodes.{marked_with}
 use Rattle.sketch_text.specs.Marks.{Marks}

@@ -11,8 +11,8 @@ use Rattle.board_base.specs.declared.men.Man.{Man}
 use Rattle.men_account.specs.Account.{is_any}
 use Rattle.men_account.specs.Homes.{men_of}
 use Rattle.cage_rules.proofs.Tested.{any-told, at_board}
-use Rattle.past_sketches.specs.Clashes.{do_two, is_clash, is_nowhere}
-use Rattle.past_sketches.specs.Figures.{Figure, Sketch, figure_of, is_fixed_on, only_on, sketch_of}
+use Rattle.figures.specs.Clashes.{do_two, is_clash, is_nowhere}
+use Rattle.figures.specs.Figures.{Figure, Sketch, figure_of, is_fixed_on, only_on, sketch_of}
 use Rattle.figures.proofs.Singles.{in-only, only-in}
 use Rattle.sketch_steps.specs.Places.{has_low_place}
 use Rattle.sketch_checker.specs.Beginning.{CanBegin}

@@ -4,8 +4,8 @@ use Rattle.std.proofs.lemmas.Bool.{both_ways, eqb-true}
 use Rattle.std.specs.Prelude.{Err, Ok, Option, Result, Some, None}
 use Rattle.std.specs.List.{All}
 use Rattle.capture_prices.specs.Prices.{PriceList}
-use Rattle.past_sketches.specs.Figures.{Sketch}
-use Rattle.past_sketches.specs.Homes.{may_be_array}
+use Rattle.figures.specs.Figures.{Sketch}
+use Rattle.figures.specs.Homes.{may_be_array}
 use Rattle.sketch_proof.specs.Nodes.{IsLeastAbove, IsMarkable, marked_with}
 use Rattle.sketch_proof.proofs.Least.{least-one}
 use Rattle.sketch_text.specs.Marks.{Marks}

@@ -7,9 +7,9 @@ use Rattle.std.specs.List.{list_all, range_with_len}
 use Rattle.board_base.specs.Board.{array_of, at, is_of, men_squares, same_colour}
 use Rattle.board_base.specs.declared.men.Colour.{Colour}
 use Rattle.board_base.specs.declared.men.Colour.TheVariants.{White, Black}
-use Rattle.balance_rule.proofs.Rowed.{begun-few}
-use Rattle.past_sketches.specs.Clashes.{is_crowded}
-use Rattle.past_sketches.specs.Figures.{Figure, Sketch, each_changed}
+use Rattle.sketch_account.proofs.Rowed.{begun-few}
+use Rattle.figures.specs.Clashes.{is_crowded}
+use Rattle.figures.specs.Figures.{Figure, Sketch, each_changed}
 use Rattle.sketch_steps.specs.Places.{has_low_place}
 
 -- the figures of this colour

@@ -15,12 +15,12 @@ use Rattle.board_base.specs.declared.men.Man.{Man}
 use Rattle.board_base.proofs.KindsOfMen.{colour_is, same_colour-self}
 use Rattle.capture_prices.specs.Prices.{PriceList}
 use Rattle.cage_rules.proofs.Tested.{all_board, at_board, member-inside}
-use Rattle.past_sketches.specs.Clashes.{is_nowhere}
-use Rattle.past_sketches.specs.Figures.{Figure, Sketch, figure_at, is_fixed_on, may_be}
-use Rattle.past_sketches.specs.Homes.{may_be_array}
-use Rattle.past_account.specs.Account.{CostTooMuch, Counted, against, by_marks}
-use Rattle.past_account.specs.Frozen.{AreBegun, IsBegun}
-use Rattle.past_account.specs.Zones.{room_past}
+use Rattle.figures.specs.Clashes.{is_nowhere}
+use Rattle.figures.specs.Figures.{Figure, Sketch, figure_at, is_fixed_on, may_be}
+use Rattle.figures.specs.Homes.{may_be_array}
+use Rattle.sketch_list.specs.Account.{CostTooMuch, Counted, against, by_marks}
+use Rattle.sketch_list.specs.Frozen.{AreBegun, IsBegun}
+use Rattle.sketch_list.specs.Zones.{room_past}
 use Rattle.sketch_account.specs.Basis.{AreFew, Basis, IsAbove, IsClosedAt, basis_of}
 use Rattle.sketch_proof.specs.Begun.{begins_on, is_begun}
 use Rattle.sketch_proof.specs.FrozenSets.{greatest_frozen}

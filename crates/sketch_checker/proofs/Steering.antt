@@ -7,7 +7,7 @@ use Rattle.capture_prices.specs.Prices.{PriceList}
 use Rattle.sketch_text.specs.Marks.{Marks}
 use Rattle.sketch_text.specs.declared.nodes.End.{End}
 use Rattle.sketch_text.specs.declared.nodes.SketchNode.{SketchNode}
-use Rattle.past_sketches.specs.Figures.{Sketch}
+use Rattle.figures.specs.Figures.{Sketch}
 use Rattle.sketch_text.specs.declared.labels.Label.TheVariants.{Now}
 use Rattle.sketch_text.specs.Trees.{Line, lines_below, lines_of, more, none, of_marks, of_node}
 use Rattle.sketch_proof.specs.Proofs.{AreForced, Proves, Setting}

@@ -1,6 +1,6 @@
 -- The walk over lines that come one after another, with a frame for each node below which some may be due.
 use Rattle.std.specs.Prelude.{ℕ, zero, suc, ◌≡◌, ◌+◌, ◌-◌, ◌⊎◌, Bool, true, List, [], ◌∷◌, map, Option, Some, None, Result, Ok, Err}
-use Rattle.past_sketches.specs.Figures.{Sketch}
+use Rattle.figures.specs.Figures.{Sketch}
 use Rattle.sketch_account.specs.Basis.{IsClosedAt}
 use Rattle.sketch_list.specs.Listed.{earlier}
 use Rattle.sketch_proof.specs.Nodes.{IsFirstUnknown, IsUnknownOn, IsVoid, marked_with}

@@ -2,7 +2,7 @@
 -- How a walk goes on.
 use Rattle.std.specs.Prelude.{ℕ, ◌≡◌, ◌==◌, ◌+◌, ◌<◌, ◌≤◌, ◌↔◌, Bool, false, true, List, [], ◌∷◌, length, slice_get, Option, Some, None, Result, Ok, Err}
 use Rattle.capture_prices.specs.Prices.{PriceList}
-use Rattle.past_sketches.specs.Figures.{Sketch}
+use Rattle.figures.specs.Figures.{Sketch}
 use Rattle.sketch_text.specs.declared.nodes.End.{End}
 use Rattle.sketch_text.specs.Trees.{Line}
 use Rattle.sketch_proof.specs.Proofs.{Setting}

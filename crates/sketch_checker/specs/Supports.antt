@@ -3,7 +3,7 @@ use Rattle.std.specs.Prelude.{ℕ, ◌≡◌, Bool, IsTrue, List}
 use Rattle.std.specs.List.{Contains}
 use Rattle.capture_prices.specs.Prices.{PriceList, are_prices}
 use Rattle.query_base.specs.Asked.{Asked}
-use Rattle.past_sketches.specs.Figures.{sketch_of}
+use Rattle.figures.specs.Figures.{sketch_of}
 use Rattle.sketch_text.specs.Trees.{Line, Node, lines_of}
 use Rattle.sketch_text.specs.declared.labels.Label.TheVariants.{Now}
 use Rattle.sketch_proof.specs.Proofs.{Holds, Setting}

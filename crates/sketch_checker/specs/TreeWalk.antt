@@ -1,9 +1,9 @@
 -- The walk over a tree of nodes in preorder, up to its first fault.
 use Rattle.std.specs.Prelude.{ℕ, ◌≡◌, ◌+◌, ◌⊎◌, false, List, [], ◌∷◌, map}
 use Rattle.std.specs.List.{list_any}
-use Rattle.past_sketches.specs.Clashes.{is_nowhere}
-use Rattle.past_sketches.specs.Figures.{Sketch}
-use Rattle.past_sketches.specs.Homes.{may_be_array}
+use Rattle.figures.specs.Clashes.{is_nowhere}
+use Rattle.figures.specs.Figures.{Sketch}
+use Rattle.figures.specs.Homes.{may_be_array}
 use Rattle.sketch_account.specs.Basis.{IsClosedAt}
 use Rattle.sketch_list.specs.Listed.{earlier}
 use Rattle.sketch_proof.specs.Nodes.{IsFirstUnknown, IsLeastAbove, IsUnknownOn, IsVoid, marked_with}

@@ -1,6 +1,6 @@
 -- How far a walk over the lines of a proof has come, and which lines complete it.
 use Rattle.std.specs.Prelude.{ℕ, ◌≡◌, ◌+◌, ◌≤◌, List, [], ◌∷◌, ◌++◌, length, map, Option, Some, None}
-use Rattle.past_sketches.specs.Figures.{Sketch}
+use Rattle.figures.specs.Figures.{Sketch}
 use Rattle.sketch_text.specs.Marks.{Marks}
 use Rattle.sketch_text.specs.declared.nodes.End.{End}
 use Rattle.sketch_text.specs.Trees.{Line, Nodes, Reason, count, end_of, height_below, height_each, lines_below, lines_each, more, none, of_marks}

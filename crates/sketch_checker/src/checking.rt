@@ -2,7 +2,7 @@ ghost use Rattle.std.specs.Prelude.{◌≡◌, ◌↔◌, ◌<◌, ◌+◌, ◌^
 ghost use Rattle.board_base.specs.declared.moves.Move.{Move};
 ghost use Rattle.query_base.specs.Asked.{Asked};
 ghost use Rattle.cage_rules.specs.Reach.{LeadsTo};
-ghost use Rattle.past_sketches.specs.Figures.{sketch_of};
+ghost use Rattle.figures.specs.Figures.{sketch_of};
 ghost use Rattle.sketch_proof.specs.Proofs.{Proves};
 ghost use Rattle.sketch_text.specs.Trees.{Node, lines_of};
 ghost use Rattle.sketch_checker.specs.Beginning.{CanBegin};

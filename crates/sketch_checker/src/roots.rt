@@ -2,7 +2,7 @@ ghost use Rattle.std.specs.Prelude.{◌↔◌, ◌≤◌, IsTrue};
 ghost use Rattle.board_base.specs.Board.{array_of};
 ghost use Rattle.men_account.specs.Account.{is_any};
 ghost use Rattle.men_account.specs.Homes.{men_of};
-ghost use Rattle.past_sketches.specs.Figures.{sketch_of};
+ghost use Rattle.figures.specs.Figures.{sketch_of};
 ghost use Rattle.sketch_checker.specs.Beginning.{CanBegin};
 ghost use Rattle.sketch_checker.specs.Roots.{IsRoot};
 

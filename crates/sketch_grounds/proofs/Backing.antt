@@ -20,8 +20,8 @@ use Rattle.cage_rules.specs.Steps.{both, is_ahead, is_near, near, outside}
 use Rattle.cage_rules.proofs.Filling.{in-that, is_in-that, length-that}
 use Rattle.cage_rules.proofs.SetAlgebra.{is_in-both, is_in-outside, is_in-union, length-union, that-is}
 use Rattle.cage_rules.proofs.Tested.{member-inside}
-use Rattle.men_fates.specs.Ways.{is_pawn_step}
-use Rattle.past_sketches.specs.Figures.{Figure}
+use Rattle.past_account.specs.Ways.{is_pawn_step}
+use Rattle.figures.specs.Figures.{Figure}
 use Rattle.sketch_grounds.specs.Backed.{is_backed, is_from}
 use Rattle.past_account.specs.Zones.{IsZone, goes_on, may_hold}
 use Rattle.sketch_grounds.proofs.Near.{near-tells, near-told}

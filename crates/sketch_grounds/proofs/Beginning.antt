@@ -8,7 +8,7 @@ use Rattle.board_base.specs.Board.{Places, array_of, at, is_in, same_colour}
 use Rattle.board_base.specs.declared.men.Man.{Man}
 use Rattle.board_base.proofs.KindsOfMen.{colour_is, same_colour-self}
 use Rattle.cage_rules.proofs.Tested.{all_board, at_board, member-inside}
-use Rattle.past_sketches.specs.Figures.{Figure, is_fixed_on, may_be}
+use Rattle.figures.specs.Figures.{Figure, is_fixed_on, may_be}
 use Rattle.sketch_grounds.specs.Begun.{begins_on, is_begun}
 use Rattle.past_account.specs.Frozen.{IsBegun}
 use Rattle.sketch_grounds.proofs.Freezing.{fixed-once}

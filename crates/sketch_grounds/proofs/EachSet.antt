@@ -13,8 +13,8 @@ use Rattle.cage_rules.specs.Sets.{all_lists, each_set, squares_that}
 use Rattle.cage_rules.proofs.Filling.{in-that, is_in-that, length-that}
 use Rattle.cage_rules.proofs.SetAlgebra.{lists-tell, lists-told, same-set}
 use Rattle.cage_rules.proofs.Tested.{all_board, any-told, at_board, member-inside}
-use Rattle.past_sketches.specs.Figures.{Figure, Sketch, is_fixed_on}
-use Rattle.past_sketches.proofs.Sketches.{any-figure, figure-any}
+use Rattle.figures.specs.Figures.{Figure, Sketch, is_fixed_on}
+use Rattle.figures.proofs.Sketches.{any-figure, figure-any}
 use Rattle.past_account.specs.Frozen.{IsBarred, IsFrozenIn, figure_enters}
 use Rattle.past_account.specs.Zones.{IsZone, goes_on, is_closed_by}
 use Rattle.sketch_grounds.specs.FrozenSets.{greatest_frozen, is_frozen_in, is_shut_in}

@@ -21,7 +21,7 @@ use Rattle.cage_rules.specs.Steps.{both, outside}
 use Rattle.cage_rules.proofs.Filling.{all-in, in-that, is_in-that, length-that}
 use Rattle.cage_rules.proofs.SetAlgebra.{is_in-both, is_in-outside, same-that, that-is, union-that}
 use Rattle.cage_rules.proofs.Tested.{all_board, at_board, member-inside}
-use Rattle.past_sketches.specs.Figures.{Figure, Sketch, figure_at, is_fixed_on, may_be}
+use Rattle.figures.specs.Figures.{Figure, Sketch, figure_at, is_fixed_on, may_be}
 use Rattle.past_account.specs.Frozen.{IsBarred, IsFrozenIn, enters_as, figure_enters}
 use Rattle.sketch_grounds.specs.Pins.{ArePins, HasPin, IsPin, PinOf, covers, kept, stays}
 use Rattle.sketch_grounds.specs.declared.frozen.Pin.{Pin}

@@ -11,8 +11,8 @@ use Rattle.cage_rules.specs.Sets.{union}
 use Rattle.cage_rules.proofs.Filling.{is_in-that}
 use Rattle.cage_rules.proofs.SetAlgebra.{is_in-union}
 use Rattle.cage_rules.proofs.Tested.{member-inside}
-use Rattle.past_sketches.specs.Figures.{Figure, Sketch, fixed_squares, is_fixed_on}
-use Rattle.past_sketches.proofs.Sketches.{figure-any}
+use Rattle.figures.specs.Figures.{Figure, Sketch, fixed_squares, is_fixed_on}
+use Rattle.figures.proofs.Sketches.{figure-any}
 use Rattle.past_account.specs.Frozen.{IsFrozenIn}
 use Rattle.past_account.specs.Zones.{AreZones, IsZone}
 use Rattle.sketch_grounds.specs.LeastZones.{has_pair, least_zone, pair_zones}

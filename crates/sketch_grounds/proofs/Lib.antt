@@ -12,3 +12,6 @@ mod EachSet
 mod Pairs
 pub mod Filtered
 pub mod Joining
+pub use Rattle.past_account.proofs.NoZones
+pub use Rattle.past_account.proofs.Refutes
+pub use Rattle.cage_rules.proofs.SetAlgebra

@@ -4,7 +4,7 @@ use Rattle.std.specs.Prelude.{ℕ, Bool, cond, ◌||◌, List}
 use Rattle.board_base.specs.Board.{is_in, opponent}
 use Rattle.cage_rules.specs.Frozen.{is_behind}
 use Rattle.cage_rules.specs.Steps.{is_ahead, is_near}
-use Rattle.past_sketches.specs.Figures.{Figure}
+use Rattle.figures.specs.Figures.{Figure}
 use Rattle.past_account.specs.Zones.{goes_on}
 
 -- z is behind one of these squares, as the figure's pawn goes

@@ -4,7 +4,7 @@ use Rattle.std.specs.Prelude.{Bool, false, ◌&&◌, ◌||◌, not, List, Option
 use Rattle.std.specs.List.{list_all, range_with_len}
 use Rattle.board_base.specs.Board.{Places, at, is_in, same_colour}
 use Rattle.board_base.specs.declared.men.Man.{Man}
-use Rattle.past_sketches.specs.Figures.{Figure, is_fixed_on, may_be}
+use Rattle.figures.specs.Figures.{Figure, is_fixed_on, may_be}
 
 -- the figure may stand for the man there
 abbrev pub begins_on : Option Man → Figure → Bool

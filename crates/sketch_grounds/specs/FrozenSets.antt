@@ -5,7 +5,7 @@ use Rattle.board_base.specs.Board.{is_in}
 use Rattle.board_base.specs.Rights.{Rights}
 use Rattle.cage_rules.specs.Frozen.{is_held_home}
 use Rattle.cage_rules.specs.Sets.{each_set, squares_that}
-use Rattle.past_sketches.specs.Figures.{Figure, Sketch, is_fixed_on}
+use Rattle.figures.specs.Figures.{Figure, Sketch, is_fixed_on}
 use Rattle.past_account.specs.Frozen.{figure_enters}
 
 -- the figure is fixed on s, and s is a home of a right that is held, or each square by which his man may have come is in the set

@@ -4,7 +4,7 @@ use Rattle.std.specs.List.{filter, list_all, list_any, range_with_len}
 use Rattle.board_base.specs.Board.{is_in, same_kind}
 use Rattle.board_base.specs.declared.men.Kind.TheVariants.{Pawn}
 use Rattle.cage_rules.specs.Sets.{each_set, squares_that}
-use Rattle.past_sketches.specs.Figures.{Figure, Sketch}
+use Rattle.figures.specs.Figures.{Figure, Sketch}
 use Rattle.past_account.specs.Zones.{goes_on, is_closed_by}
 
 -- these squares are all in the zone

@@ -6,7 +6,7 @@ use Rattle.board_base.specs.Board.{is_in}
 use Rattle.board_base.specs.Rights.{Rights}
 use Rattle.cage_rules.specs.Frozen.{is_held_home}
 use Rattle.cage_rules.specs.Sets.{squares_that}
-use Rattle.past_sketches.specs.Figures.{Figure, Sketch, is_fixed_on}
+use Rattle.figures.specs.Figures.{Figure, Sketch, is_fixed_on}
 use Rattle.past_account.specs.Frozen.{figure_enters}
 use Rattle.sketch_grounds.specs.declared.frozen.Pin.{Pin}
 

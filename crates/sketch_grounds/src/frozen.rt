@@ -5,7 +5,7 @@ ghost use Rattle.board_base.specs.Rights.{holds};
 ghost use Rattle.play_rules.specs.Reach.{IsWithin};
 ghost use Rattle.cage_rules.specs.Frozen.{is_held_home};
 ghost use Rattle.cage_rules.specs.Sets.{squares_that};
-ghost use Rattle.past_sketches.specs.Figures.{is_fixed_on, may_be};
+ghost use Rattle.figures.specs.Figures.{is_fixed_on, may_be};
 ghost use Rattle.past_account.specs.Frozen.{IsFrozenIn, enters_as, figure_enters};
 ghost use Rattle.sketch_grounds.specs.FrozenSets.{greatest_frozen};
 ghost use Rattle.sketch_grounds.specs.Pins.{ArePins, IsPin, covers, kept};

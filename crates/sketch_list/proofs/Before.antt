@@ -12,9 +12,9 @@ use Rattle.board_base.specs.declared.men.Colour.TheVariants.{White, Black}
 use Rattle.board_base.specs.declared.men.Kind.{Kind}
 use Rattle.board_base.specs.declared.men.Kind.TheVariants.{Pawn, Knight, Bishop, Rook, Queen, King}
 use Rattle.board_base.proofs.KindsOfMen.{kind_is}
-use Rattle.cage_rules.proofs.Filling.{in-that}
-use Rattle.past_sketches.specs.Figures.{Figure, IsWider, Sketch, each_changed, figure_at, may_be, only_on}
-use Rattle.past_sketches.specs.Steps.{Step, back_by, changed_by, onto, passes, taken_back, takes, victim_on, victims}
+use Rattle.past_account.proofs.Filling.{in-that}
+use Rattle.past_account.specs.Figures.{Figure, IsWider, Sketch, each_changed, figure_at, may_be, only_on}
+use Rattle.past_account.specs.Steps.{Step, back_by, changed_by, onto, passes, taken_back, takes, victim_on, victims}
 use Rattle.sketch_steps.specs.Places.{recounted}
 use Rattle.sketch_steps.proofs.Rearranging.{moved-behind}
 use Rattle.sketch_list.specs.Listed.{figures_before, is_on_file, place_before, step_for, victims_as}

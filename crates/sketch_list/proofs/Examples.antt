@@ -5,8 +5,8 @@ use Rattle.board_base.specs.declared.men.Colour.{Colour}
 use Rattle.board_base.specs.declared.men.Colour.TheVariants.{White, Black}
 use Rattle.board_base.specs.declared.men.Kind.{Kind}
 use Rattle.board_base.specs.declared.men.Kind.TheVariants.{Pawn, Knight, Rook, Queen, King}
-use Rattle.cage_rules.specs.Sets.{squares_that}
-use Rattle.past_sketches.specs.Figures.{Figure, Sketch, only_on}
+use Rattle.past_account.specs.Sets.{squares_that}
+use Rattle.past_account.specs.Figures.{Figure, Sketch, only_on}
 use Rattle.sketch_list.specs.Listed.{Listed, count_from, figures_before, is_advance, is_from, is_on_file, is_short, is_under, may_be_above, next_above, origins, place_before, step_for, victims_as}
 use Rattle.sketch_list.specs.declared.steps.Victim.TheVariants.{Nobody, TakenOther, PassedPawn}
 

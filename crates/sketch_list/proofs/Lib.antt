@@ -7,3 +7,4 @@ pub mod Before
 pub mod Refuting
 mod Examples
 pub use Rattle.past_account.proofs.Refutes
+pub use Rattle.past_account.proofs.Queries

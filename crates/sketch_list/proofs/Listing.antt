@@ -14,14 +14,14 @@ use Rattle.board_base.specs.declared.men.Colour.{Colour}
 use Rattle.board_base.specs.declared.men.Colour.TheVariants.{White, Black}
 use Rattle.board_base.specs.declared.men.Kind.{Kind}
 use Rattle.board_base.specs.declared.men.Kind.TheVariants.{Pawn, Knight, Bishop, Rook, Queen, King}
-use Rattle.cage_rules.proofs.Tested.{any-told}
-use Rattle.past_sketches.specs.Closed.{goes_straight}
-use Rattle.past_sketches.specs.Figures.{Figure, Sketch, figure_at, may_be}
-use Rattle.past_sketches.specs.FileOrder.{is_pawn_on, stands_above, stands_below}
-use Rattle.past_sketches.specs.Steps.{Step, arrives, has_place, has_squares, is_next_place, is_step, leaves_place, made_by, may_have_gone, may_have_made, passes, takes}
-use Rattle.past_sketches.proofs.Order.{pawn-file}
-use Rattle.past_sketches.proofs.Sketches.{each-figure}
-use Rattle.sketch_sets.proofs.Under.{all-figure}
+use Rattle.past_account.proofs.Tested.{any-told}
+use Rattle.past_account.specs.Closed.{goes_straight}
+use Rattle.past_account.specs.Figures.{Figure, Sketch, figure_at, may_be}
+use Rattle.past_account.specs.FileOrder.{is_pawn_on, stands_above, stands_below}
+use Rattle.past_account.specs.Steps.{Step, arrives, has_place, has_squares, is_next_place, is_step, leaves_place, made_by, may_have_gone, may_have_made, passes, takes}
+use Rattle.past_account.proofs.Order.{pawn-file}
+use Rattle.past_account.proofs.Sketches.{each-figure}
+use Rattle.sketch_steps.proofs.Under.{all-figure}
 use Rattle.sketch_list.specs.Listed.{Listed, all_victims, count_from, is_advance, is_from, is_on_file, is_passed, is_under, kind_taken, may_be_above, next_above, origins, place_before, step_for, ways_to}
 use Rattle.sketch_list.specs.declared.steps.Victim.{Victim}
 use Rattle.sketch_list.specs.declared.steps.Victim.TheVariants.{Nobody, TakenPawn, TakenBishop, TakenOther, PassedPawn}

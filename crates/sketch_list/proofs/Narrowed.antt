@@ -11,18 +11,18 @@ use Rattle.board_base.specs.declared.men.Colour.{Colour}
 use Rattle.board_base.specs.declared.men.Kind.{Kind}
 use Rattle.board_base.specs.declared.men.Kind.TheVariants.{Pawn, King}
 use Rattle.board_base.proofs.KindsOfMen.{kind_is, same_kind-self}
-use Rattle.cage_rules.proofs.Filling.{in-that, is_in-that}
-use Rattle.cage_rules.proofs.Tested.{all_board, any-told, at_board}
-use Rattle.past_sketches.specs.Clashes.{do_two, is_clash, is_nowhere}
-use Rattle.past_sketches.specs.Figures.{Figure, IsWider, Sketch, each_changed, figure_at, fixed_squares, is_fixed_on, may_be}
-use Rattle.past_sketches.specs.FileOrder.{is_pawn_on, leaves_room, stands_above, stands_below}
-use Rattle.past_sketches.specs.Touching.{gives_check, is_king_on, kings_of, touched_squares, touches, touches_from}
-use Rattle.past_sketches.specs.Trimmed.{is_in_order, is_left_to, trimmed, trimmed_figure, trims}
-use Rattle.past_sketches.proofs.Changed.{changed-at}
-use Rattle.past_sketches.proofs.Order.{pawn-file}
-use Rattle.past_sketches.proofs.Sketches.{any-figure, each-figure, each-kind, figure-any, fixed-by, fixed-there}
-use Rattle.sketch_sets.proofs.Closing.{somewhere-from}
-use Rattle.sketch_sets.proofs.Under.{AreSomewhere, all-figure}
+use Rattle.past_account.proofs.Filling.{in-that, is_in-that}
+use Rattle.past_account.proofs.Tested.{all_board, any-told, at_board}
+use Rattle.past_account.specs.Clashes.{do_two, is_clash, is_nowhere}
+use Rattle.past_account.specs.Figures.{Figure, IsWider, Sketch, each_changed, figure_at, fixed_squares, is_fixed_on, may_be}
+use Rattle.past_account.specs.FileOrder.{is_pawn_on, leaves_room, stands_above, stands_below}
+use Rattle.past_account.specs.Touching.{gives_check, is_king_on, kings_of, touched_squares, touches, touches_from}
+use Rattle.past_account.specs.Trimmed.{is_in_order, is_left_to, trimmed, trimmed_figure, trims}
+use Rattle.past_account.proofs.Changed.{changed-at}
+use Rattle.past_account.proofs.Order.{pawn-file}
+use Rattle.past_account.proofs.Sketches.{any-figure, each-figure, each-kind, figure-any, fixed-by, fixed-there}
+use Rattle.sketch_steps.proofs.Closing.{somewhere-from}
+use Rattle.sketch_steps.proofs.Under.{AreSomewhere, all-figure}
 use Rattle.sketch_list.proofs.Respelled.{IsRespelled}
 
 -- each figure has a kind

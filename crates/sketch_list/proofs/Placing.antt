@@ -4,8 +4,8 @@ use Rattle.std.proofs.lemmas.Bool.{and_from, and_parts, and_right, cases_Bool, c
 use Rattle.std.proofs.lemmas.Option.{same_Some}
 use Rattle.std.specs.Prelude.{Some, nat_lt}
 use Rattle.std.specs.List.{list_any}
-use Rattle.past_sketches.specs.Figures.{Figure, Sketch, figure_at}
-use Rattle.past_sketches.specs.Steps.{is_next_place}
+use Rattle.past_account.specs.Figures.{Figure, Sketch, figure_at}
+use Rattle.past_account.specs.Steps.{is_next_place}
 use Rattle.sketch_steps.proofs.Rearranging.{count-above, count-more}
 use Rattle.sketch_list.specs.Listed.{count_from, is_from, is_on_file, is_under, next_above}
 

@@ -14,18 +14,18 @@ use Rattle.board_base.specs.declared.men.Colour.{Colour}
 use Rattle.board_base.specs.declared.men.Kind.{Kind}
 use Rattle.board_base.specs.declared.men.Kind.TheVariants.{Pawn, Knight, Bishop, Rook, Queen, King}
 use Rattle.board_base.proofs.KindsOfMen.{same_colour-self, same_kind-self}
-use Rattle.past_sketches.specs.Clashes.{is_clash, is_crowded}
-use Rattle.past_sketches.specs.Closed.{IsClosed}
-use Rattle.past_sketches.specs.Figures.{Figure, Sketch, each_changed, figure_at, may_be}
-use Rattle.past_sketches.specs.Homes.{may_be_array}
-use Rattle.past_sketches.specs.Steps.{Step, back_by, bystander, changed_by, is_step, made_by, onto, pawn_before, taken_back, victim_on, victims}
-use Rattle.past_sketches.specs.Touching.{gives_check, side_checks}
-use Rattle.past_sketches.specs.Trimmed.{trimmed, trims}
-use Rattle.past_sketches.proofs.Changed.{changed-at}
-use Rattle.past_sketches.proofs.Sketches.{any-figure, figure-any}
+use Rattle.past_account.specs.Clashes.{is_clash, is_crowded}
+use Rattle.past_account.specs.Closed.{IsClosed}
+use Rattle.past_account.specs.Figures.{Figure, Sketch, each_changed, figure_at, may_be}
+use Rattle.past_account.specs.Homes.{may_be_array}
+use Rattle.past_account.specs.Steps.{Step, back_by, bystander, changed_by, is_step, made_by, onto, pawn_before, taken_back, victim_on, victims}
+use Rattle.past_account.specs.Touching.{gives_check, side_checks}
+use Rattle.past_account.specs.Trimmed.{trimmed, trims}
+use Rattle.past_account.proofs.Changed.{changed-at}
+use Rattle.past_account.proofs.Sketches.{any-figure, figure-any}
 use Rattle.past_account.specs.Refuted.{Refuted, clash, crowd, kinds, rearranged, steps, trim}
 use Rattle.sketch_steps.specs.Places.{recounted}
-use Rattle.sketch_sets.specs.TrimmedOut.{trimmed_out}
+use Rattle.sketch_steps.specs.TrimmedOut.{trimmed_out}
 use Rattle.sketch_list.specs.Listed.{Earlier, earlier, figures_before, is_open, is_short, is_sound, may_take, sketch_before, steps_by, ways_to}
 use Rattle.sketch_list.proofs.Before.{before-respelled}
 use Rattle.sketch_list.proofs.Listing.{Gone, Made, above-due, by-told, inside-told, listed, step-listed, victim_for, way-in}

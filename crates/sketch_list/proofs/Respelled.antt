@@ -5,9 +5,9 @@ use Rattle.std.proofs.lemmas.Option.{same_Some}
 use Rattle.std.specs.Prelude.{Some, count_by, nat_lt}
 use Rattle.board_base.specs.Board.{file, is_in}
 use Rattle.board_base.specs.declared.men.Kind.TheVariants.{Pawn}
-use Rattle.past_sketches.specs.Figures.{Figure, IsRearranged, IsWider, Sketch, figure_at, may_be}
+use Rattle.past_account.specs.Figures.{Figure, IsRearranged, IsWider, Sketch, figure_at, may_be}
 use Rattle.sketch_steps.specs.Places.{is_lower, placed_in, recounted}
-use Rattle.sketch_sets.proofs.Closing.{map-at}
+use Rattle.sketch_steps.proofs.Closing.{map-at}
 use Rattle.sketch_steps.proofs.Rearranging.{IsMoved, count-more, placed-wider, places-kept, unmapped}
 
 pub record IsRespelled (S T : Sketch) : Type 0 where

@@ -6,10 +6,10 @@ use Rattle.std.specs.Prelude.{Some}
 use Rattle.board_base.specs.Board.{file, is_in}
 use Rattle.board_base.specs.declared.men.Colour.{Colour}
 use Rattle.board_base.specs.declared.men.Kind.TheVariants.{Pawn}
-use Rattle.cage_rules.proofs.Filling.{in-that}
-use Rattle.past_sketches.specs.Figures.{Figure, IsWider, Sketch, each_changed, figure_at, may_be, only_on}
-use Rattle.past_sketches.specs.Steps.{Step, bystander, changed_by, is_cleared, pawn_before}
-use Rattle.past_sketches.proofs.Changed.{changed-at}
+use Rattle.past_account.proofs.Filling.{in-that}
+use Rattle.past_account.specs.Figures.{Figure, IsWider, Sketch, each_changed, figure_at, may_be, only_on}
+use Rattle.past_account.specs.Steps.{Step, bystander, changed_by, is_cleared, pawn_before}
+use Rattle.past_account.proofs.Changed.{changed-at}
 use Rattle.sketch_list.proofs.Narrowed.{changed-there}
 use Rattle.sketch_list.proofs.Respelled.{IsRespelled}
 

@@ -1,3 +1,12 @@
 pub mod Listed
 pub use Rattle.past_account.specs.Refuted
 pub use Rattle.past_account.specs.Closes
+pub use Rattle.sketch_steps.specs.Leasts
+pub use Rattle.past_account.specs.Figures
+pub use Rattle.past_account.specs.Homes
+pub use Rattle.past_account.specs.Known
+pub use Rattle.past_account.specs.Reach
+pub use Rattle.sketch_steps.specs.Places
+pub use Rattle.past_account.specs.Account
+pub use Rattle.past_account.specs.Frozen
+pub use Rattle.past_account.specs.Zones

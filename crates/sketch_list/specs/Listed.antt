@@ -7,11 +7,11 @@ use Rattle.board_base.specs.Legal.{last_rank}
 use Rattle.board_base.specs.declared.men.Colour.{Colour}
 use Rattle.board_base.specs.declared.men.Kind.{Kind}
 use Rattle.board_base.specs.declared.men.Kind.TheVariants.{Pawn, Knight, Bishop, Rook, Queen}
-use Rattle.past_sketches.specs.Clashes.{is_clash}
-use Rattle.past_sketches.specs.Figures.{Figure, Sketch, each_changed, figure_at, may_be}
-use Rattle.past_sketches.specs.Steps.{Step, changed_by, is_step, victim_on}
-use Rattle.past_sketches.specs.Touching.{side_checks}
-use Rattle.sketch_sets.specs.TrimmedOut.{trimmed_out}
+use Rattle.past_account.specs.Clashes.{is_clash}
+use Rattle.past_account.specs.Figures.{Figure, Sketch, each_changed, figure_at, may_be}
+use Rattle.past_account.specs.Steps.{Step, changed_by, is_step, victim_on}
+use Rattle.past_account.specs.Touching.{side_checks}
+use Rattle.sketch_steps.specs.TrimmedOut.{trimmed_out}
 use Rattle.sketch_steps.specs.Places.{recounted}
 use Rattle.sketch_list.specs.declared.steps.Victim.{Victim}
 use Rattle.sketch_list.specs.declared.steps.Victim.TheVariants.{Nobody, TakenPawn, TakenBishop, TakenOther, PassedPawn}

@@ -1,9 +1,9 @@
 ghost use Rattle.std.specs.Prelude.{◌≡◌, Bool, List, false};
 ghost use Rattle.std.specs.List.{Contains};
 ghost use Rattle.board_base.specs.Rights.{Rights};
-ghost use Rattle.past_sketches.specs.Closed.{IsClosed};
-ghost use Rattle.past_sketches.specs.Figures.{Sketch};
-ghost use Rattle.past_sketches.specs.Homes.{may_be_array};
+ghost use Rattle.past_account.specs.Closed.{IsClosed};
+ghost use Rattle.past_account.specs.Figures.{Sketch};
+ghost use Rattle.past_account.specs.Homes.{may_be_array};
 ghost use Rattle.past_account.specs.Refuted.{Refuted};
 ghost use Rattle.sketch_list.specs.Listed.{Earlier, earlier};
 

@@ -1,7 +1,7 @@
 -- Sketches whose figures are changed by their numbers.
 use Rattle.std.proofs.Common.{◌≡◌, ℕ, suc, ◌+◌, ◌<◌, ◌≤◌, List, [], ◌∷◌, ◌++◌, length, length-take-le, get_or, take, refl, ap, sym, ◌∙◌, arith}
 use Rattle.std.proofs.lemmas.List.{take_all, take_more}
-use Rattle.past_sketches.specs.Figures.{Figure, Sketch, each_changed}
+use Rattle.figures.specs.Figures.{Figure, Sketch, each_changed}
 
 each-push : (h : ℕ → Figure → Figure) (k : ℕ) (S : Sketch) (f : Figure) → each_changed h k (S ++ f ∷ []) ≡ each_changed h k S ++ h (k + length S) f ∷ []
 each-push h k [] f = ap (λ (n : ℕ). h n f ∷ []) (let e : k ≡ k + 0 = omega arith in e)

@@ -8,4 +8,6 @@ pub mod Unknown
 pub use Rattle.sketch_rule.proofs.Refuting
 pub use Rattle.sketch_grounds.proofs.Freezing
 pub use Rattle.sketch_grounds.proofs.Joining
-pub use Rattle.past_account.proofs.Refutes
+pub use Rattle.sketch_grounds.proofs.Refutes
+pub use Rattle.figures.proofs.Queries
+pub use Rattle.figures.proofs.Sketches

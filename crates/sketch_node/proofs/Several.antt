@@ -5,9 +5,9 @@ use Rattle.std.proofs.lemmas.List.Elements.{All-head, All-tail, All-weaker}
 use Rattle.std.specs.List.{All, list_any}
 use Rattle.general_lemmas.proofs.Truth.{same_truth}
 use Rattle.board_base.specs.Rights.{Rights}
-use Rattle.past_sketches.specs.Figures.{Figure, Sketch, each_changed}
-use Rattle.past_sketches.specs.Known.{marked_at}
-use Rattle.past_account.specs.Closes.{Forces}
+use Rattle.figures.specs.Figures.{Figure, Sketch, each_changed}
+use Rattle.figures.specs.Known.{marked_at}
+use Rattle.sketch_grounds.specs.Closes.{Forces}
 use Rattle.sketch_rule.specs.Trees.{marked}
 use Rattle.sketch_node.specs.Nodes.{HasTree, marked_with}
 use Rattle.sketch_node.proofs.Changing.{each-alike, each-same, each-twice}

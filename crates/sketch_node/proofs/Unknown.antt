@@ -4,7 +4,7 @@ use Rattle.std.proofs.lemmas.Bool.{both_ways}
 use Rattle.std.proofs.lemmas.Option.{none-some, same_Some}
 use Rattle.std.specs.Prelude.{Some}
 use Rattle.board_base.specs.declared.men.Kind.{Kind}
-use Rattle.past_sketches.specs.Figures.{Figure, Sketch, figure_at, is_fixed_on, may_be}
+use Rattle.figures.specs.Figures.{Figure, Sketch, figure_at, is_fixed_on, may_be}
 use Rattle.figures.proofs.Numbered.{at-none, at-some}
 use Rattle.sketch_rule.specs.Trees.{is_heavy}
 use Rattle.sketch_node.specs.Nodes.{IsUnknownOn}

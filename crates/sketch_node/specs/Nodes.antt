@@ -5,10 +5,10 @@ use Rattle.std.specs.List.{Contains, list_any}
 use Rattle.board_base.specs.Rights.{Rights}
 use Rattle.board_base.specs.declared.men.Kind.TheVariants.{King}
 use Rattle.capture_prices.specs.Prices.{PriceList}
-use Rattle.past_sketches.specs.Clashes.{is_nowhere}
-use Rattle.past_sketches.specs.Figures.{Figure, IsAbove, Sketch, each_changed, figure_at, is_fixed_on, may_be}
-use Rattle.past_account.specs.Account.{against}
-use Rattle.past_account.specs.Frozen.{AreBegun}
+use Rattle.figures.specs.Clashes.{is_nowhere}
+use Rattle.figures.specs.Figures.{Figure, IsAbove, Sketch, each_changed, figure_at, is_fixed_on, may_be}
+use Rattle.sketch_grounds.specs.Account.{against}
+use Rattle.sketch_grounds.specs.Frozen.{AreBegun}
 use Rattle.sketch_sets.specs.Leasts.{IsClosedAbove}
 use Rattle.sketch_grounds.specs.FrozenSets.{greatest_frozen}
 use Rattle.sketch_account.specs.Basis.{Basis, IsAbove as CostsTooMuch, basis_of}

@@ -1,7 +1,7 @@
 ghost use Rattle.std.specs.Prelude.{◌≡◌, ◌↔◌, ◌==◌, ◌<◌, ℕ, IsTrue, MatchOption, [], ◌∷◌, cond};
 ghost use Rattle.board_base.specs.declared.men.Kind.{Kind as AKind};
-ghost use Rattle.past_sketches.specs.Figures.{is_fixed_on, may_be};
-ghost use Rattle.past_sketches.specs.Known.{known_at};
+ghost use Rattle.figures.specs.Figures.{is_fixed_on, may_be};
+ghost use Rattle.figures.specs.Known.{known_at};
 ghost use Rattle.sketch_rule.specs.Trees.{is_heavy};
 ghost use Rattle.sketch_node.specs.Nodes.{IsFirstUnknown, IsUnknownOn};
 

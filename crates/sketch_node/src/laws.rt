@@ -2,11 +2,11 @@ ghost use Rattle.std.specs.Prelude.{◌≡◌, ◌+◌, ℕ, Bool, List, false};
 ghost use Rattle.std.specs.List.{All, Contains, list_any};
 ghost use Rattle.board_base.specs.Rights.{Rights};
 ghost use Rattle.board_base.specs.declared.men.Kind.TheVariants.{Knight, Queen, Rook};
-ghost use Rattle.past_sketches.specs.Clashes.{is_nowhere};
-ghost use Rattle.past_sketches.specs.Figures.{Sketch};
-ghost use Rattle.past_sketches.specs.Homes.{may_be_array};
-ghost use Rattle.past_sketches.specs.Known.{known_at, marked_at};
-ghost use Rattle.past_account.specs.Closes.{Closes, Forces};
+ghost use Rattle.figures.specs.Clashes.{is_nowhere};
+ghost use Rattle.figures.specs.Figures.{Sketch};
+ghost use Rattle.figures.specs.Homes.{may_be_array};
+ghost use Rattle.figures.specs.Known.{known_at, marked_at};
+ghost use Rattle.sketch_grounds.specs.Closes.{Closes, Forces};
 ghost use Rattle.sketch_rule.specs.Listed.{Earlier, earlier};
 ghost use Rattle.sketch_node.specs.Nodes.{HasTree, IsFirstUnknown, IsLeastAbove, marked_with};
 

@@ -1,7 +1,7 @@
 ghost use Rattle.std.specs.Prelude.{◌≡◌, IsTrue, MatchOption, false, length};
 ghost use Rattle.std.specs.List.{Contains};
-ghost use Rattle.past_sketches.specs.Figures.{Figure as AFigure, Sketch as ASketch};
-ghost use Rattle.past_sketches.specs.Homes.{may_be_array};
+ghost use Rattle.figures.specs.Figures.{Figure as AFigure, Sketch as ASketch};
+ghost use Rattle.figures.specs.Homes.{may_be_array};
 ghost use Rattle.sketch_node.specs.Nodes.{IsLeastAbove};
 
 use board_base::{CastleSet, Odds};

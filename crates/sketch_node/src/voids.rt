@@ -1,5 +1,5 @@
 ghost use Rattle.std.specs.Prelude.{◌↔◌, IsTrue};
-ghost use Rattle.past_account.specs.Closes.{Closes};
+ghost use Rattle.sketch_grounds.specs.Closes.{Closes};
 ghost use Rattle.sketch_node.specs.Nodes.{IsVoid};
 
 use board_base::{CastleSet, Odds};

@@ -15,9 +15,9 @@ use Rattle.cage_rules.specs.Sets.{all_lists, each_set}
 use Rattle.cage_rules.proofs.Filling.{in-that, is_in-that, length-that}
 use Rattle.cage_rules.proofs.SetAlgebra.{lists-tell, lists-told}
 use Rattle.cage_rules.proofs.Tested.{at_board, member-inside}
-use Rattle.men_fates.specs.Ways.{is_pawn_step}
-use Rattle.past_sketches.specs.Figures.{Figure, Sketch, is_fixed_on}
-use Rattle.past_sketches.proofs.Sketches.{any-figure}
+use Rattle.sketch_node.specs.Ways.{is_pawn_step}
+use Rattle.sketch_node.specs.Figures.{Figure, Sketch, is_fixed_on}
+use Rattle.sketch_node.proofs.Sketches.{any-figure}
 use Rattle.sketch_node.specs.Frozen.{IsBarred, IsFrozenIn, figure_enters}
 use Rattle.sketch_node.specs.Zones.{AreZones, IsZone, goes_on, is_closed_by, may_hold}
 use Rattle.sketch_node.specs.FrozenSets.{greatest_frozen, is_frozen_in, is_shut_in}

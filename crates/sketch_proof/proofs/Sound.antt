@@ -7,8 +7,8 @@ use Rattle.std.specs.List.{Contains}
 use Rattle.general_lemmas.proofs.Lists.{contains-cases, contains-first, contains-later, contains-none}
 use Rattle.board_base.specs.declared.men.Kind.TheVariants.{Knight, Rook, Queen}
 use Rattle.capture_prices.specs.Prices.{PriceList, are_prices}
-use Rattle.past_sketches.specs.Figures.{Sketch}
-use Rattle.past_sketches.specs.Known.{known_at}
+use Rattle.sketch_node.specs.Figures.{Sketch}
+use Rattle.sketch_node.specs.Known.{known_at}
 use Rattle.sketch_node.specs.Listed.{Earlier, earlier}
 use Rattle.sketch_node.specs.Nodes.{HasTree, IsMarkable, marked_with}
 use Rattle.sketch_node.proofs.Several.{IsForcedFor, marks-refute}

@@ -2,7 +2,7 @@
 use Rattle.std.proofs.Common.{◌≡◌, Bool, true, ℕ, List}
 use Rattle.board_base.specs.Rights.{Rights}
 use Rattle.capture_prices.specs.Prices.{PriceList, are_prices}
-use Rattle.past_sketches.specs.Figures.{Sketch}
+use Rattle.sketch_node.specs.Figures.{Sketch}
 use Rattle.sketch_node.specs.Account.{AreTooDear, Counted, against, by_marks}
 use Rattle.sketch_node.specs.Closes.{Closes, Forces, costs, foreign}
 use Rattle.sketch_node.specs.FrozenSets.{greatest_frozen}

@@ -11,13 +11,13 @@ use Rattle.board_base.specs.declared.men.Kind.{Kind}
 use Rattle.board_base.specs.declared.men.Kind.TheVariants.{Pawn, Knight, Bishop, Rook, Queen}
 use Rattle.board_base.specs.declared.men.Man.{Man}
 use Rattle.cage_rules.proofs.Filling.{length-that}
-use Rattle.past_sketches.specs.Figures.{Figure, Sketch, each_changed, figure_at, figure_of, only_on, sketch_of}
-use Rattle.past_sketches.specs.Known.{known_at}
-use Rattle.past_sketches.specs.Steps.{Step, bystander, changed_by, pawn_before, victim_on}
-use Rattle.past_sketches.specs.Trimmed.{trimmed, trimmed_figure, trims}
-use Rattle.sketch_steps.specs.Places.{placed_in, recounted}
+use Rattle.sketch_node.specs.Figures.{Figure, Sketch, each_changed, figure_at, figure_of, only_on, sketch_of}
+use Rattle.sketch_node.specs.Known.{known_at}
+use Rattle.sketch_node.specs.Steps.{Step, bystander, changed_by, pawn_before, victim_on}
+use Rattle.sketch_node.specs.Trimmed.{trimmed, trimmed_figure, trims}
+use Rattle.sketch_node.specs.Places.{placed_in, recounted}
 use Rattle.sketch_node.specs.Listed.{Earlier, Listed, earlier, figures_before, is_open, sketch_before, step_for, steps_by, victims_as, ways_to}
-use Rattle.sketch_sets.specs.TrimmedOut.{trimmed_out}
+use Rattle.sketch_node.specs.TrimmedOut.{trimmed_out}
 use Rattle.sketch_node.specs.Victim.{Victim}
 use Rattle.sketch_node.specs.Victim.TheVariants.{Nobody, TakenPawn, TakenBishop, TakenOther, PassedPawn}
 use Rattle.sketch_text.specs.Marks.{Marks}

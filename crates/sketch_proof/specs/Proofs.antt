@@ -4,9 +4,9 @@ use Rattle.std.specs.List.{All}
 use Rattle.board_base.specs.Rights.{Rights}
 use Rattle.board_base.specs.declared.men.Kind.TheVariants.{Knight, Rook, Queen}
 use Rattle.capture_prices.specs.Prices.{PriceList}
-use Rattle.past_sketches.specs.Figures.{Sketch}
-use Rattle.past_sketches.specs.Homes.{may_be_array}
-use Rattle.past_sketches.specs.Known.{known_at}
+use Rattle.sketch_node.specs.Figures.{Sketch}
+use Rattle.sketch_node.specs.Homes.{may_be_array}
+use Rattle.sketch_node.specs.Known.{known_at}
 use Rattle.sketch_node.specs.Basis.{IsClosedAt}
 use Rattle.sketch_node.specs.Listed.{Earlier, earlier}
 use Rattle.sketch_node.specs.Nodes.{IsFirstUnknown, IsLeastAbove, IsMarkable, IsVoid, marked_with}

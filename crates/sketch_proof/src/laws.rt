@@ -4,7 +4,7 @@ ghost use Rattle.board_base.specs.declared.moves.Move.{Move};
 ghost use Rattle.capture_prices.specs.Prices.{PriceList, are_prices};
 ghost use Rattle.query_base.specs.Asked.{Asked};
 ghost use Rattle.cage_rules.specs.Reach.{LeadsTo};
-ghost use Rattle.past_sketches.specs.Figures.{sketch_of};
+ghost use Rattle.sketch_node.specs.Figures.{sketch_of};
 ghost use Rattle.sketch_node.specs.Nodes.{HasTree};
 ghost use Rattle.sketch_text.specs.Trees.{Line};
 ghost use Rattle.sketch_proof.specs.Proofs.{Proves, Setting};

@@ -6,8 +6,8 @@ use Rattle.general_lemmas.proofs.Lists.{contains-cases, contains-none}
 use Rattle.board_base.specs.Rights.{Rights}
 use Rattle.board_base.specs.declared.men.Kind.{Kind}
 use Rattle.board_base.specs.declared.men.Kind.TheVariants.{Pawn, Knight, Bishop, Rook, Queen, King}
-use Rattle.past_sketches.specs.Figures.{Sketch}
-use Rattle.past_sketches.specs.Known.{known_at, marked_at}
+use Rattle.sketch_list.specs.Figures.{Sketch}
+use Rattle.sketch_list.specs.Known.{known_at, marked_at}
 use Rattle.sketch_list.specs.Refuted.{Refuted, account, kinds, mark, wider}
 use Rattle.sketch_list.specs.Listed.{Earlier, earlier}
 use Rattle.sketch_list.proofs.Refuting.{listed-enough}

@@ -3,11 +3,11 @@ use Rattle.std.specs.Prelude.{ℕ, ◌≡◌, Bool, true, false, List, [], ◌�
 use Rattle.board_base.specs.Rights.{Rights}
 use Rattle.board_base.specs.declared.men.Kind.{Kind}
 use Rattle.board_base.specs.declared.men.Kind.TheVariants.{Pawn, Knight, Bishop, Rook, Queen, King}
-use Rattle.past_sketches.specs.Figures.{Figure, Sketch, figure_at, may_be}
-use Rattle.past_sketches.specs.Homes.{may_be_array}
-use Rattle.past_sketches.specs.Known.{known_at, marked_at}
+use Rattle.sketch_list.specs.Figures.{Figure, Sketch, figure_at, may_be}
+use Rattle.sketch_list.specs.Homes.{may_be_array}
+use Rattle.sketch_list.specs.Known.{known_at, marked_at}
 use Rattle.sketch_list.specs.Closes.{Closes, Forces}
-use Rattle.sketch_sets.specs.Leasts.{IsClosedAbove}
+use Rattle.sketch_list.specs.Leasts.{IsClosedAbove}
 use Rattle.sketch_list.specs.Listed.{Earlier, earlier}
 
 mutual

@@ -2,9 +2,9 @@ ghost use Rattle.std.specs.Prelude.{Bool, List};
 ghost use Rattle.board_base.specs.Rights.{Rights};
 ghost use Rattle.board_base.specs.declared.moves.Move.{Move};
 ghost use Rattle.query_base.specs.Asked.{Asked};
-ghost use Rattle.cage_rules.specs.Reach.{LeadsTo};
+ghost use Rattle.sketch_list.specs.Reach.{LeadsTo};
 ghost use Rattle.sketch_list.specs.Refuted.{Refuted};
-ghost use Rattle.past_sketches.specs.Figures.{Sketch, sketch_of};
+ghost use Rattle.sketch_list.specs.Figures.{Sketch, sketch_of};
 ghost use Rattle.sketch_rule.specs.Trees.{Refutes, Tree};
 
 /// The laws of trees. A sketch that a tree refutes is refuted (`sketches`), so no game comes to a moment that it fits. And no game, of any

@@ -15,11 +15,11 @@ use Rattle.board_base.specs.declared.men.Colour.TheVariants.{White, Black}
 use Rattle.board_base.specs.declared.men.Kind.{Kind}
 use Rattle.board_base.specs.declared.men.Kind.TheVariants.{Pawn, Knight, Bishop, Rook, Queen, King}
 use Rattle.board_base.proofs.Ways.{distance-high, distance-low, heading, near-open}
-use Rattle.cage_rules.specs.Frozen.{is_next, is_past_home}
-use Rattle.cage_rules.specs.Regions.{wall, walls}
-use Rattle.cage_rules.proofs.Tested.{member-inside}
-use Rattle.cage_rules.proofs.Walls.{at-walls, no-wall}
-use Rattle.past_sketches.specs.Touching.{touches}
+use Rattle.figures.specs.Frozen.{is_next, is_past_home}
+use Rattle.figures.specs.Regions.{wall, walls}
+use Rattle.figures.proofs.Tested.{member-inside}
+use Rattle.figures.proofs.Walls.{at-walls, no-wall}
+use Rattle.figures.specs.Touching.{touches}
 use Rattle.sketch_sets.specs.Files.{straight}
 use Rattle.sketch_sets.specs.Quiet.{pawn_past}
 use Rattle.sketch_sets.specs.Shifts.{attacks_past, comes, forward, goes_diagonally, goes_straight_on, hops, is_short, lands, stays_on, strikes, turns}

@@ -7,11 +7,11 @@ use Rattle.general_lemmas.proofs.Ranges.{any-found}
 use Rattle.board_base.specs.Board.{is_in}
 use Rattle.board_base.specs.Squares.{number_of, squares_of}
 use Rattle.board_base.specs.SquareNumbers.{length-squares_of}
-use Rattle.cage_rules.proofs.Filling.{none-in-zero}
-use Rattle.cage_rules.proofs.SetAlgebra.{none-bits}
-use Rattle.cage_rules.proofs.Tested.{any-told}
-use Rattle.past_sketches.specs.Clashes.{do_two, is_clash}
-use Rattle.past_sketches.specs.Figures.{Figure, Sketch, is_fixed_on}
+use Rattle.figures.proofs.Filling.{none-in-zero}
+use Rattle.figures.proofs.SetAlgebra.{none-bits}
+use Rattle.figures.proofs.Tested.{any-told}
+use Rattle.figures.specs.Clashes.{do_two, is_clash}
+use Rattle.figures.specs.Figures.{Figure, Sketch, is_fixed_on}
 use Rattle.figures.proofs.Singles.{fixed-only, fixed-same}
 use Rattle.sketch_sets.specs.Clashes.{has_no_square, has_two, is_twice}
 

@@ -10,12 +10,12 @@ use Rattle.board_base.specs.Board.{is_in, same_kind}
 use Rattle.board_base.specs.Rights.{Rights}
 use Rattle.board_base.specs.declared.men.Colour.{Colour}
 use Rattle.board_base.specs.declared.men.Kind.{Kind}
-use Rattle.cage_rules.proofs.Filling.{in-that, is_in-that, length-that}
-use Rattle.cage_rules.proofs.Tested.{any-told, member-inside}
-use Rattle.past_sketches.specs.Clashes.{is_nowhere}
-use Rattle.past_sketches.specs.Closed.{IsClosed, goes_past, has_room, is_loose, is_quiet_way, is_unguarded}
-use Rattle.past_sketches.specs.Figures.{AreWider, Figure, IsAbove, KeepsPlaces, Sketch, figure_at, may_be}
-use Rattle.past_sketches.proofs.Sketches.{figure-any, kind-any}
+use Rattle.figures.proofs.Filling.{in-that, is_in-that, length-that}
+use Rattle.figures.proofs.Tested.{any-told, member-inside}
+use Rattle.figures.specs.Clashes.{is_nowhere}
+use Rattle.figures.specs.Closed.{IsClosed, goes_past, has_room, is_loose, is_quiet_way, is_unguarded}
+use Rattle.figures.specs.Figures.{AreWider, Figure, IsAbove, KeepsPlaces, Sketch, figure_at, may_be}
+use Rattle.figures.proofs.Sketches.{figure-any, kind-any}
 use Rattle.sketch_sets.specs.Leasts.{AreLike, IsClosedAbove}
 use Rattle.sketch_sets.specs.Origins.{comes_from, is_origin, widened, widened_set}
 use Rattle.sketch_sets.specs.Remade.{AreWhole, set_of, with_set}

@@ -4,7 +4,7 @@ use Rattle.board_base.specs.Board.{is_in}
 use Rattle.board_base.specs.declared.lines.Change.TheVariants.{Falls, Stays, Rises}
 use Rattle.board_base.specs.declared.lines.Direction.{Direction}
 use Rattle.board_base.proofs.Ways.{heading}
-use Rattle.cage_rules.specs.Sets.{union}
+use Rattle.figures.specs.Sets.{union}
 use Rattle.sketch_sets.specs.Shifts.{comes_by, goes_diagonally, goes_straight_on, reaches}
 use Rattle.sketch_sets.specs.Tests.{some_that}
 use Rattle.sketch_sets.proofs.Rays.{diagonal-reached, line-reached}

@@ -2,8 +2,8 @@
 use Rattle.std.proofs.Common.{◌≡◌, ℕ, zero, suc, ◌*◌, ◌<◌, ◌⊎◌, inl, inr, length, refl, ap, sym, ◌∙◌, arith}
 use Rattle.general_lemmas.specs.Rounds.{after_rounds}
 use Rattle.general_lemmas.proofs.Rounds.{rounds-fixed, settles}
-use Rattle.past_sketches.specs.Figures.{Sketch}
-use Rattle.past_sketches.specs.Trimmed.{trimmed, trims}
+use Rattle.figures.specs.Figures.{Sketch}
+use Rattle.figures.specs.Trimmed.{trimmed, trims}
 use Rattle.sketch_sets.specs.Remade.{AreWhole}
 use Rattle.sketch_sets.specs.TrimmedOut.{trimmed_out}
 use Rattle.sketch_sets.proofs.Sizes.{same-sets, smaller, total, total-most, trimmed-inside, trimmed-whole, trims-last}

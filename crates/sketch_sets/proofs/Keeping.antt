@@ -4,10 +4,10 @@ use Rattle.std.proofs.lemmas.Bool.{and_from, and_left, cases_Bool, or_right}
 use Rattle.std.specs.List.{list_all}
 use Rattle.board_base.specs.Board.{is_in, same_kind}
 use Rattle.board_base.specs.declared.men.Kind.TheVariants.{Pawn}
-use Rattle.cage_rules.specs.Sets.{squares_that}
-use Rattle.cage_rules.proofs.Filling.{is_in-that}
-use Rattle.cage_rules.proofs.SetAlgebra.{same-that, that-is}
-use Rattle.past_sketches.specs.Figures.{Figure, Sketch, is_fixed_on}
+use Rattle.figures.specs.Sets.{squares_that}
+use Rattle.figures.proofs.Filling.{is_in-that}
+use Rattle.figures.proofs.SetAlgebra.{same-that, that-is}
+use Rattle.figures.specs.Figures.{Figure, Sketch, is_fixed_on}
 use Rattle.figures.proofs.Singles.{fixed-only, only-in}
 use Rattle.sketch_sets.specs.Files.{has_all_room}
 use Rattle.sketch_sets.specs.Tests.{free_squares, is_kept, kept_squares}

@@ -5,11 +5,11 @@ use Rattle.std.proofs.lemmas.List.Sums.{sum_by-cons}
 use Rattle.std.specs.List.{list_all, range_with_len}
 use Rattle.board_base.specs.Board.{array_of, at, is_in, is_of, Places, same_colour}
 use Rattle.board_base.specs.declared.men.Colour.{Colour}
-use Rattle.cage_rules.specs.Sets.{squares_that}
-use Rattle.cage_rules.proofs.Filling.{is_in-that}
-use Rattle.past_sketches.specs.Clashes.{is_crowded}
-use Rattle.past_sketches.specs.Figures.{Figure, Sketch}
-use Rattle.past_sketches.specs.Homes.{has_homes, is_home, lives_within, may_be_array}
+use Rattle.figures.specs.Sets.{squares_that}
+use Rattle.figures.proofs.Filling.{is_in-that}
+use Rattle.figures.specs.Clashes.{is_crowded}
+use Rattle.figures.specs.Figures.{Figure, Sketch}
+use Rattle.figures.specs.Homes.{has_homes, is_home, lives_within, may_be_array}
 use Rattle.sketch_sets.specs.Homes.{has_like, home_count, homes_on, lives_in, suffices}
 use Rattle.sketch_sets.specs.Remade.{with_set}
 use Rattle.sketch_sets.proofs.Sets.{all-same, inside-told}

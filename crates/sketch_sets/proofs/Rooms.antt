@@ -1,7 +1,7 @@
 -- Room on a file, test by test.
 use Rattle.std.proofs.Common.{◌≡◌, ℕ, Bool, true, false, ◌&&◌, ◌||◌, not, refl, ap, ◌∙◌}
 use Rattle.std.specs.Prelude.{nat_lt}
-use Rattle.past_sketches.specs.Figures.{Figure}
+use Rattle.figures.specs.Figures.{Figure}
 use Rattle.sketch_sets.specs.Files.{gives_room, is_above, is_below, is_beside}
 
 pub room-told : (f : Figure) (e : ℕ) (g : Figure) → gives_room f e g ≡ (not (is_beside e g) || ((not (nat_lt g.place f.place) || is_below e g) && (not (nat_lt f.place g.place) || is_above e g)))

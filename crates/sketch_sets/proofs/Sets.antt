@@ -5,10 +5,10 @@ use Rattle.std.specs.Prelude.{nat_lt}
 use Rattle.std.specs.List.{list_all, list_any, range_with_len}
 use Rattle.board_base.specs.Board.{is_in}
 use Rattle.board_base.specs.Squares.{number_of, squares_of}
-use Rattle.cage_rules.specs.Sets.{squares_that, union}
-use Rattle.cage_rules.specs.Steps.{both, outside}
-use Rattle.cage_rules.proofs.Filling.{Filled, empty-start, filled-in, filled-out, filled-that, is_in-that}
-use Rattle.cage_rules.proofs.SetAlgebra.{is_in-both, is_in-outside, is_in-union, none-bits}
+use Rattle.figures.specs.Sets.{squares_that, union}
+use Rattle.figures.specs.CageRulesSteps.{both, outside}
+use Rattle.figures.proofs.Filling.{Filled, empty-start, filled-in, filled-out, filled-that, is_in-that}
+use Rattle.figures.proofs.SetAlgebra.{is_in-both, is_in-outside, is_in-union, none-bits}
 use Rattle.sketch_sets.specs.Tests.{is_inside, meets}
 
 -- tests that agree on the board

@@ -15,9 +15,9 @@ use Rattle.board_base.specs.SquareNumbers.{is_in-squares_of}
 use Rattle.board_base.specs.Ways.{along, changed}
 use Rattle.board_base.specs.declared.lines.Change.TheVariants.{Falls, Stays, Rises}
 use Rattle.board_base.specs.declared.lines.Direction.{Direction}
-use Rattle.cage_rules.proofs.Filling.{none-in-zero}
-use Rattle.cage_rules.proofs.SetAlgebra.{bit-and}
-use Rattle.cage_rules.proofs.Tested.{any-told}
+use Rattle.figures.proofs.Filling.{none-in-zero}
+use Rattle.figures.proofs.SetAlgebra.{bit-and}
+use Rattle.figures.proofs.Tested.{any-told}
 use Rattle.sketch_sets.specs.Shifts.{comes, comes_by, file_comes, has_step, lands, rank_comes, reaches, stays_on}
 use Rattle.sketch_sets.specs.Tests.{some_that}
 use Rattle.sketch_sets.proofs.Rays.{changed-low, next-square}

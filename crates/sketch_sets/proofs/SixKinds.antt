@@ -7,8 +7,8 @@ use Rattle.board_base.specs.Board.{is_in, same_kind}
 use Rattle.board_base.specs.declared.men.Kind.{Kind}
 use Rattle.board_base.specs.declared.men.Kind.TheVariants.{Pawn, Knight, Bishop, Rook, Queen, King}
 use Rattle.board_base.proofs.KindsOfMen.{same_kind-self}
-use Rattle.cage_rules.specs.Sets.{union}
-use Rattle.past_sketches.proofs.Sketches.{kind-any}
+use Rattle.figures.specs.Sets.{union}
+use Rattle.figures.proofs.Sketches.{kind-any}
 use Rattle.sketch_sets.proofs.Sets.{told-either}
 
 -- a kind that passes a test

@@ -3,9 +3,9 @@ use Rattle.std.proofs.Common.{◌≡◌, ℕ, zero, suc, ◌+◌, ◌*◌, ◌<�
 use Rattle.general_lemmas.proofs.Rounds.{count, count-le, fewer}
 use Rattle.general_lemmas.proofs.Lists.{same_first, same_rest}
 use Rattle.board_base.specs.Board.{is_in}
-use Rattle.cage_rules.proofs.Filling.{in-that, length-that}
-use Rattle.past_sketches.specs.Figures.{Figure, Sketch, each_changed}
-use Rattle.past_sketches.specs.Trimmed.{trimmed, trimmed_figure, trims}
+use Rattle.figures.proofs.Filling.{in-that, length-that}
+use Rattle.figures.specs.Figures.{Figure, Sketch, each_changed}
+use Rattle.figures.specs.Trimmed.{trimmed, trimmed_figure, trims}
 use Rattle.sketch_sets.specs.Remade.{AreWhole, set_of}
 use Rattle.std.proofs.lemmas.Bool.{and_parts}
 

@@ -11,12 +11,12 @@ use Rattle.board_base.specs.declared.men.Colour.TheVariants.{White, Black}
 use Rattle.board_base.specs.declared.men.Kind.{Kind}
 use Rattle.board_base.specs.declared.men.Kind.TheVariants.{Pawn, Knight, Bishop, Rook, Queen, King}
 use Rattle.board_base.proofs.Ways.{distance-sym, king_distance-sym}
-use Rattle.cage_rules.specs.Frozen.{is_next}
-use Rattle.cage_rules.proofs.SetAlgebra.{that-is}
-use Rattle.cage_rules.proofs.Tested.{any-told, member-inside}
-use Rattle.past_sketches.specs.Figures.{Figure, Sketch, is_fixed_on, only_on}
-use Rattle.past_sketches.specs.Touching.{gives_check, kings_of, touched_squares, touches, touches_from}
-use Rattle.past_sketches.proofs.Sketches.{fixed-there}
+use Rattle.figures.specs.Frozen.{is_next}
+use Rattle.figures.proofs.SetAlgebra.{that-is}
+use Rattle.figures.proofs.Tested.{any-told, member-inside}
+use Rattle.figures.specs.Figures.{Figure, Sketch, is_fixed_on, only_on}
+use Rattle.figures.specs.Touching.{gives_check, kings_of, touched_squares, touches, touches_from}
+use Rattle.figures.proofs.Sketches.{fixed-there}
 use Rattle.figures.proofs.Singles.{in-only, only-in}
 use Rattle.sketch_sets.specs.Grounds.{is_king_there, surely_touches, touched_by}
 use Rattle.sketch_sets.specs.Shifts.{attacks_past}

@@ -4,9 +4,9 @@ use Rattle.std.specs.List.{list_all}
 use Rattle.general_lemmas.proofs.Truth.{and-joined}
 use Rattle.board_base.specs.Board.{is_in, same_kind}
 use Rattle.board_base.specs.declared.men.Kind.TheVariants.{Pawn}
-use Rattle.cage_rules.proofs.SetAlgebra.{same-that}
-use Rattle.past_sketches.specs.Figures.{Figure, Sketch, each_changed, fixed_squares, is_fixed_on}
-use Rattle.past_sketches.specs.Trimmed.{is_in_order, is_left_to, trimmed, trimmed_figure}
+use Rattle.figures.proofs.SetAlgebra.{same-that}
+use Rattle.figures.specs.Figures.{Figure, Sketch, each_changed, fixed_squares, is_fixed_on}
+use Rattle.figures.specs.Trimmed.{is_in_order, is_left_to, trimmed, trimmed_figure}
 use Rattle.sketch_sets.specs.Files.{gives_room, has_all_room}
 use Rattle.sketch_sets.specs.Tests.{is_kept, kept_squares}
 use Rattle.sketch_sets.specs.Remade.{with_set}

@@ -11,16 +11,16 @@ use Rattle.board_base.specs.Rights.{Rights}
 use Rattle.board_base.specs.declared.men.Colour.{Colour}
 use Rattle.board_base.specs.declared.men.Kind.{Kind}
 use Rattle.board_base.specs.declared.men.Kind.TheVariants.{Pawn, Knight, Bishop, Rook, Queen, King}
-use Rattle.cage_rules.specs.Frozen.{is_past_home}
-use Rattle.cage_rules.specs.Regions.{wall, walls}
-use Rattle.cage_rules.proofs.Filling.{in-that, is_in-that}
-use Rattle.cage_rules.proofs.Tested.{all_board, any-told, at_board}
-use Rattle.cage_rules.proofs.Walls.{at-walls, goes-between}
-use Rattle.past_sketches.specs.Closed.{goes_past, goes_straight, has_room, is_loose, is_quiet_way, is_unguarded, pawn_goes}
-use Rattle.past_sketches.specs.Figures.{Figure, Sketch, figure_at, fixed_squares, is_fixed_on}
-use Rattle.past_sketches.specs.FileOrder.{is_pawn_on, leaves_room, stands_above, stands_below, stands_beside}
-use Rattle.past_sketches.specs.Touching.{guarded_squares, is_king_on, kings_of, touched_squares, touches, touches_from}
-use Rattle.past_sketches.proofs.Sketches.{any-figure, each-figure, figure-any, fixed-there}
+use Rattle.figures.specs.Frozen.{is_past_home}
+use Rattle.figures.specs.Regions.{wall, walls}
+use Rattle.figures.proofs.Filling.{in-that, is_in-that}
+use Rattle.figures.proofs.Tested.{all_board, any-told, at_board}
+use Rattle.figures.proofs.Walls.{at-walls, goes-between}
+use Rattle.figures.specs.Closed.{goes_past, goes_straight, has_room, is_loose, is_quiet_way, is_unguarded, pawn_goes}
+use Rattle.figures.specs.Figures.{Figure, Sketch, figure_at, fixed_squares, is_fixed_on}
+use Rattle.figures.specs.FileOrder.{is_pawn_on, leaves_room, stands_above, stands_below, stands_beside}
+use Rattle.figures.specs.Touching.{guarded_squares, is_king_on, kings_of, touched_squares, touches, touches_from}
+use Rattle.figures.proofs.Sketches.{any-figure, each-figure, figure-any, fixed-there}
 
 pub record IsUnder (f g : Figure) : Type 0 where
   pub colour : f.colour ≡ g.colour

@@ -10,13 +10,13 @@ use Rattle.board_base.specs.declared.men.Colour.{Colour}
 use Rattle.board_base.specs.declared.men.Colour.TheVariants.{White, Black}
 use Rattle.board_base.specs.declared.men.Kind.{Kind}
 use Rattle.board_base.specs.declared.men.Kind.TheVariants.{Pawn, Knight, Bishop, Rook, Queen, King}
-use Rattle.cage_rules.specs.Frozen.{is_held_home}
-use Rattle.cage_rules.specs.Regions.{walls}
-use Rattle.cage_rules.proofs.Filling.{is_in-that}
-use Rattle.cage_rules.proofs.SetAlgebra.{same-that}
-use Rattle.past_sketches.specs.Closed.{goes_past, has_room, is_quiet_way, is_unguarded}
-use Rattle.past_sketches.specs.Figures.{Figure, Sketch, fixed_squares}
-use Rattle.past_sketches.specs.Touching.{guarded_squares, kings_of, touched_squares, touches}
+use Rattle.figures.specs.Frozen.{is_held_home}
+use Rattle.figures.specs.Regions.{walls}
+use Rattle.figures.proofs.Filling.{is_in-that}
+use Rattle.figures.proofs.SetAlgebra.{same-that}
+use Rattle.figures.specs.Closed.{goes_past, has_room, is_quiet_way, is_unguarded}
+use Rattle.figures.specs.Figures.{Figure, Sketch, fixed_squares}
+use Rattle.figures.specs.Touching.{guarded_squares, kings_of, touched_squares, touches}
 use Rattle.sketch_sets.specs.declared.ground.Ground.{Ground}
 use Rattle.sketch_sets.specs.Grounds.{ground_of, kings, touched}
 use Rattle.sketch_sets.specs.Files.{gives_room, has_all_room, straight}

@@ -6,11 +6,11 @@ use Rattle.board_base.specs.Board.{is_in, opponent, same_kind}
 use Rattle.board_base.specs.declared.men.Colour.{Colour}
 use Rattle.board_base.specs.declared.men.Kind.{Kind}
 use Rattle.board_base.specs.declared.men.Kind.TheVariants.{Pawn, Knight, Bishop, Rook, Queen, King}
-use Rattle.cage_rules.specs.Frozen.{is_past_home}
-use Rattle.cage_rules.specs.Sets.{union}
-use Rattle.cage_rules.proofs.SetAlgebra.{length-union, that-is}
-use Rattle.past_sketches.specs.Figures.{Figure, Sketch}
-use Rattle.past_sketches.specs.Touching.{touches}
+use Rattle.figures.specs.Frozen.{is_past_home}
+use Rattle.figures.specs.Sets.{union}
+use Rattle.figures.proofs.SetAlgebra.{length-union, that-is}
+use Rattle.figures.specs.Figures.{Figure, Sketch}
+use Rattle.figures.specs.Touching.{touches}
 use Rattle.sketch_sets.specs.declared.ground.Ground.{Ground}
 use Rattle.sketch_sets.specs.Grounds.{kings, touched}
 use Rattle.sketch_sets.specs.Quiet.{goes_on, guards_on, pawn_past, quiet_on}

@@ -2,8 +2,8 @@
 -- Names for tests of clashes, which computation would write out.
 use Rattle.std.specs.Prelude.{ℕ, Bool}
 use Rattle.std.specs.List.{list_any, range_with_len}
-use Rattle.past_sketches.specs.Clashes.{do_two, is_nowhere}
-use Rattle.past_sketches.specs.Figures.{Figure, Sketch, is_fixed_on}
+use Rattle.figures.specs.Clashes.{do_two, is_nowhere}
+use Rattle.figures.specs.Figures.{Figure, Sketch, is_fixed_on}
 
 unfoldable pub has_no_square : Figure → Bool
 has_no_square f = is_nowhere f

@@ -3,7 +3,7 @@
 use Rattle.std.specs.Prelude.{Bool}
 use Rattle.board_base.specs.Board.{same_colour}
 use Rattle.board_base.specs.declared.men.Colour.{Colour}
-use Rattle.past_sketches.specs.Figures.{Figure}
+use Rattle.figures.specs.Figures.{Figure}
 
 abbrev pub is_on_side : Colour → Figure → Bool
 is_on_side c f = same_colour c f.colour

@@ -3,9 +3,9 @@ use Rattle.std.specs.Prelude.{ℕ, Bool}
 use Rattle.std.specs.List.{list_all}
 use Rattle.board_base.specs.Board.{file}
 use Rattle.board_base.specs.declared.men.Colour.{Colour}
-use Rattle.past_sketches.specs.Closed.{goes_straight}
-use Rattle.past_sketches.specs.Figures.{Figure, Sketch}
-use Rattle.past_sketches.specs.FileOrder.{is_pawn_on, leaves_room, stands_above, stands_below}
+use Rattle.figures.specs.Closed.{goes_straight}
+use Rattle.figures.specs.Figures.{Figure, Sketch}
+use Rattle.figures.specs.FileOrder.{is_pawn_on, leaves_room, stands_above, stands_below}
 
 -- the figure is a pawn on the file of e; it may stand on a lower rank, on a higher one
 unfoldable pub is_beside : ℕ → Figure → Bool

@@ -6,10 +6,10 @@ use Rattle.board_base.specs.Board.{same_colour}
 use Rattle.board_base.specs.Rights.{Rights}
 use Rattle.board_base.specs.declared.men.Colour.{Colour}
 use Rattle.board_base.specs.declared.men.Colour.TheVariants.{White, Black}
-use Rattle.cage_rules.specs.Frozen.{is_held_home}
-use Rattle.cage_rules.specs.Sets.{squares_that}
-use Rattle.past_sketches.specs.Figures.{Figure, Sketch, fixed_squares}
-use Rattle.past_sketches.specs.Touching.{is_king_on, kings_of, touched_squares, touches_from}
+use Rattle.figures.specs.Frozen.{is_held_home}
+use Rattle.figures.specs.Sets.{squares_that}
+use Rattle.figures.specs.Figures.{Figure, Sketch, fixed_squares}
+use Rattle.figures.specs.Touching.{is_king_on, kings_of, touched_squares, touches_from}
 use Rattle.sketch_sets.specs.declared.ground.Ground.{Ground}
 
 -- the figure is fixed on some square from which he touches s

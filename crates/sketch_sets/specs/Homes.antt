@@ -3,8 +3,8 @@
 use Rattle.std.specs.Prelude.{ℕ, Bool, ◌&&◌, not, nat_lt, List, count_by}
 use Rattle.std.specs.List.{list_any, range_with_len}
 use Rattle.board_base.specs.Board.{Places, at, is_in, is_the}
-use Rattle.cage_rules.specs.Sets.{squares_that}
-use Rattle.past_sketches.specs.Figures.{Figure, Sketch}
+use Rattle.figures.specs.Sets.{squares_that}
+use Rattle.figures.specs.Figures.{Figure, Sketch}
 use Rattle.sketch_sets.specs.Tests.{is_inside}
 
 unfoldable pub has_like : Places → Figure → ℕ → Bool

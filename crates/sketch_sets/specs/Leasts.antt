@@ -1,8 +1,8 @@
 -- The least closed sketch above a sketch, with the same figures.
 use Rattle.std.specs.Prelude.{◌≡◌, Bool, List, [], ◌∷◌}
 use Rattle.board_base.specs.Rights.{Rights}
-use Rattle.past_sketches.specs.Closed.{IsClosed}
-use Rattle.past_sketches.specs.Figures.{Figure, IsAbove, Sketch}
+use Rattle.figures.specs.Closed.{IsClosed}
+use Rattle.figures.specs.Figures.{Figure, IsAbove, Sketch}
 
 -- the figures are the same but for their squares
 pub record IsLike (f g : Figure) : Type 0 where

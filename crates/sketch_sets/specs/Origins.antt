@@ -5,9 +5,9 @@ use Rattle.std.specs.List.{list_any, range_with_len}
 use Rattle.board_base.specs.Board.{is_in}
 use Rattle.board_base.specs.Rights.{Rights}
 use Rattle.board_base.specs.declared.men.Kind.{Kind}
-use Rattle.cage_rules.specs.Sets.{squares_that}
-use Rattle.past_sketches.specs.Closed.{has_room, is_quiet_way}
-use Rattle.past_sketches.specs.Figures.{Figure, Sketch}
+use Rattle.figures.specs.Sets.{squares_that}
+use Rattle.figures.specs.Closed.{has_room, is_quiet_way}
+use Rattle.figures.specs.Figures.{Figure, Sketch}
 use Rattle.sketch_sets.specs.Remade.{with_set}
 
 -- he comes from e to some square of his as this kind; as some kind of his

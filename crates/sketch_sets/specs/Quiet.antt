@@ -7,9 +7,9 @@ use Rattle.board_base.specs.Attacks.{kind_attacks, on_the_way, one_ahead}
 use Rattle.board_base.specs.declared.men.Colour.{Colour}
 use Rattle.board_base.specs.declared.men.Kind.{Kind}
 use Rattle.board_base.specs.declared.men.Kind.TheVariants.{Pawn, Knight, Bishop, Rook, Queen, King}
-use Rattle.cage_rules.specs.Frozen.{is_past_home}
-use Rattle.cage_rules.specs.Regions.{walls}
-use Rattle.past_sketches.specs.Touching.{touches}
+use Rattle.figures.specs.Frozen.{is_past_home}
+use Rattle.figures.specs.Regions.{walls}
+use Rattle.figures.specs.Touching.{touches}
 use Rattle.sketch_sets.specs.declared.ground.Ground.{Ground}
 use Rattle.sketch_sets.specs.Files.{straight}
 use Rattle.sketch_sets.specs.Grounds.{kings, touched}

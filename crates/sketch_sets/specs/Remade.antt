@@ -1,7 +1,7 @@
 -- Inner: no public clause cites this file.
 -- Sketches with other sets of squares.
 use Rattle.std.specs.Prelude.{◌≡◌, Bool, List, [], ◌∷◌, length}
-use Rattle.past_sketches.specs.Figures.{Figure, Sketch}
+use Rattle.figures.specs.Figures.{Figure, Sketch}
 
 abbrev pub set_of : Figure → List Bool
 set_of f = f.squares

@@ -4,8 +4,8 @@ use Rattle.std.specs.Prelude.{ℕ, Bool, ◌&&◌, ◌||◌, not, List}
 use Rattle.std.specs.List.{list_all, list_any, range_with_len}
 use Rattle.board_base.specs.Board.{is_in, same_kind}
 use Rattle.board_base.specs.declared.men.Kind.TheVariants.{Pawn}
-use Rattle.cage_rules.specs.Sets.{squares_that}
-use Rattle.past_sketches.specs.Figures.{Figure, Sketch, is_fixed_on}
+use Rattle.figures.specs.Sets.{squares_that}
+use Rattle.figures.specs.Figures.{Figure, Sketch, is_fixed_on}
 use Rattle.sketch_sets.specs.Files.{has_all_room}
 
 -- each square of the first set is in the second

@@ -1,7 +1,7 @@
 -- Sketches trimmed to the end.
 use Rattle.std.specs.Prelude.{◌*◌, length}
-use Rattle.past_sketches.specs.Figures.{Sketch}
-use Rattle.past_sketches.specs.Trimmed.{trims}
+use Rattle.figures.specs.Figures.{Sketch}
+use Rattle.figures.specs.Trimmed.{trims}
 
 -- trimmed until nothing changes: each round but the last leaves somebody fewer squares
 unfoldable pub trimmed_out : Sketch → Sketch

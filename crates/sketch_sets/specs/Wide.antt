@@ -5,8 +5,8 @@ use Rattle.std.specs.List.{list_any}
 use Rattle.board_base.specs.Board.{file, is_in, same_kind}
 use Rattle.board_base.specs.declared.men.Kind.{Kind}
 use Rattle.board_base.specs.declared.men.Kind.TheVariants.{Pawn}
-use Rattle.cage_rules.specs.Sets.{squares_that}
-use Rattle.past_sketches.specs.Figures.{Figure, Sketch}
+use Rattle.figures.specs.Sets.{squares_that}
+use Rattle.figures.specs.Figures.{Figure, Sketch}
 use Rattle.sketch_sets.specs.declared.ground.Ground.{Ground}
 use Rattle.sketch_sets.specs.Files.{has_all_room}
 use Rattle.sketch_sets.specs.Tests.{some_that}

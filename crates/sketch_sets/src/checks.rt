@@ -1,8 +1,8 @@
 ghost use Rattle.std.specs.Prelude.{◌≡◌, ◌||◌, ℕ, Some};
 ghost use Rattle.std.specs.List.{list_any, range_with_len};
-ghost use Rattle.past_sketches.specs.Clashes.{is_clash};
-ghost use Rattle.past_sketches.specs.Figures.{is_fixed_on};
-ghost use Rattle.past_sketches.specs.Touching.{gives_check, side_checks};
+ghost use Rattle.figures.specs.Clashes.{is_clash};
+ghost use Rattle.figures.specs.Figures.{is_fixed_on};
+ghost use Rattle.figures.specs.Touching.{gives_check, side_checks};
 ghost use Rattle.sketch_sets.specs.Clashes.{has_no_square, has_two};
 
 use crate::masks::meets;

@@ -1,7 +1,7 @@
 ghost use Rattle.std.specs.Prelude.{◌≡◌, false};
 ghost use Rattle.std.specs.List.{list_any};
-ghost use Rattle.past_sketches.specs.Clashes.{is_nowhere};
-ghost use Rattle.past_sketches.specs.Figures.{IsAbove, Sketch as ASketch};
+ghost use Rattle.figures.specs.Clashes.{is_nowhere};
+ghost use Rattle.figures.specs.Figures.{IsAbove, Sketch as ASketch};
 ghost use Rattle.sketch_sets.specs.Leasts.{IsClosedAbove};
 
 use crate::origins::widened;

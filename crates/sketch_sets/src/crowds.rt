@@ -1,8 +1,8 @@
 ghost use Rattle.std.specs.Prelude.{◌≡◌, count_by};
 ghost use Rattle.std.specs.List.{range_with_len};
 ghost use Rattle.board_base.specs.Board.{array_of, at, is_of, same_colour};
-ghost use Rattle.cage_rules.specs.Sets.{squares_that};
-ghost use Rattle.past_sketches.specs.Clashes.{is_crowded};
+ghost use Rattle.figures.specs.Sets.{squares_that};
+ghost use Rattle.figures.specs.Clashes.{is_crowded};
 ghost use Rattle.sketch_sets.specs.Crowds.{is_on_side};
 
 use crate::homes::count;

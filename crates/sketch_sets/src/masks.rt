@@ -1,7 +1,7 @@
 ghost use Rattle.std.specs.Prelude.{◌≡◌, ◌<◌, ◌==◌, ◌&&◌, ℕ, Bool, nat_lt, true};
 ghost use Rattle.std.specs.List.{list_any, range_with_len};
 ghost use Rattle.board_base.specs.Board.{file, is_in, rank};
-ghost use Rattle.cage_rules.specs.Sets.{squares_that};
+ghost use Rattle.figures.specs.Sets.{squares_that};
 ghost use Rattle.sketch_sets.specs.Tests.{is_inside, meets};
 
 use board_base::{Square, SquareSet};

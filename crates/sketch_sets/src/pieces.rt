@@ -1,7 +1,7 @@
 ghost use Rattle.std.specs.Prelude.{◌≡◌, ◌<◌, ◌&&◌, ◌==◌, ℕ};
 ghost use Rattle.board_base.specs.Board.{is_in, rank};
 ghost use Rattle.board_base.specs.Legal.{pawn_rank};
-ghost use Rattle.cage_rules.specs.Frozen.{is_past_home};
+ghost use Rattle.figures.specs.Frozen.{is_past_home};
 ghost use Rattle.sketch_sets.specs.Shifts.{attacks_past, forward, hops, strikes, turns};
 ghost use Rattle.sketch_sets.specs.Quiet.{pawn_past};
 ghost use Rattle.sketch_sets.specs.Tests.{some_that};

@@ -1,5 +1,5 @@
 ghost use Rattle.std.specs.Prelude.{◌≡◌, ◌↔◌, Bool, IsTrue, List, length, map};
-ghost use Rattle.past_sketches.specs.Figures.{Figure as AFigure};
+ghost use Rattle.figures.specs.Figures.{Figure as AFigure};
 ghost use Rattle.sketch_sets.specs.Remade.{AreWhole, set_of, with_set};
 
 use board_base::SquareSet;

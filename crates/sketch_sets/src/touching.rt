@@ -3,8 +3,8 @@ ghost use Rattle.std.specs.List.{list_all};
 ghost use Rattle.board_base.specs.Board.{is_in, same_colour};
 ghost use Rattle.board_base.specs.Play.{king_home, rook_home};
 ghost use Rattle.board_base.specs.Rights.{holds};
-ghost use Rattle.cage_rules.specs.Frozen.{is_held_home};
-ghost use Rattle.past_sketches.specs.Touching.{kings_of, touched_squares, touches};
+ghost use Rattle.figures.specs.Frozen.{is_held_home};
+ghost use Rattle.figures.specs.Touching.{kings_of, touched_squares, touches};
 ghost use Rattle.sketch_sets.specs.Grounds.{is_king_there, touched_by};
 
 use crate::pieces::attackers;

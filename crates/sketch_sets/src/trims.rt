@@ -1,5 +1,5 @@
 ghost use Rattle.std.specs.Prelude.{◌≡◌};
-ghost use Rattle.past_sketches.specs.Trimmed.{trimmed};
+ghost use Rattle.figures.specs.Trimmed.{trimmed};
 ghost use Rattle.sketch_sets.specs.Files.{gives_room, has_all_room, is_above, is_below, is_beside};
 ghost use Rattle.sketch_sets.specs.Tests.{free_squares, is_kept, kept_squares};
 ghost use Rattle.sketch_sets.specs.TrimmedOut.{trimmed_out};

@@ -2,7 +2,7 @@ ghost use Rattle.std.specs.Prelude.{◌≡◌, ◌<◌, ◌&&◌, ℕ, Bool};
 ghost use Rattle.std.specs.List.{list_any};
 ghost use Rattle.board_base.specs.Board.{is_in, same_kind};
 ghost use Rattle.board_base.specs.declared.men.Kind.{Kind as AnyKind};
-ghost use Rattle.past_sketches.specs.Figures.{Figure as AFigure};
+ghost use Rattle.figures.specs.Figures.{Figure as AFigure};
 
 use board_base::{Kind, SquareSet};
 use figures::{Figure, KindSet, Sketch, either};

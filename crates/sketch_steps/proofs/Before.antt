@@ -8,11 +8,11 @@ use Rattle.board_base.specs.Play.{ahead, behind}
 use Rattle.board_base.specs.declared.men.Colour.{Colour}
 use Rattle.board_base.specs.declared.men.Kind.{Kind}
 use Rattle.board_base.specs.declared.men.Kind.TheVariants.{Pawn}
-use Rattle.cage_rules.specs.Sets.{squares_that}
-use Rattle.cage_rules.proofs.Filling.{is_in-that}
-use Rattle.cage_rules.proofs.SetAlgebra.{same-that}
-use Rattle.past_sketches.specs.Figures.{Figure, IsRearranged, Sketch, each_changed, figure_at, only_on}
-use Rattle.past_sketches.specs.Steps.{Step, back_by, changed_by, taken_back, victim_on, victims}
+use Rattle.figures.specs.Sets.{squares_that}
+use Rattle.figures.proofs.Filling.{is_in-that}
+use Rattle.figures.proofs.SetAlgebra.{same-that}
+use Rattle.figures.specs.Figures.{Figure, IsRearranged, Sketch, each_changed, figure_at, only_on}
+use Rattle.figures.specs.Steps.{Step, back_by, changed_by, taken_back, victim_on, victims}
 use Rattle.sketch_steps.specs.Cleared.{bystander_of, bystander_with, changed_of, changed_with, clears, pawn_of}
 use Rattle.sketch_steps.specs.Places.{before_by, before_step, can_go_back, fits_before, fits_by, has_home, has_low_place, others_first, recounted}
 use Rattle.sketch_steps.proofs.Rearranging.{moved-behind, moved-recounted}

@@ -6,8 +6,8 @@ use Rattle.std.proofs.lemmas.List.{take_all}
 use Rattle.std.proofs.lemmas.Option.{same_Some}
 use Rattle.std.specs.Prelude.{Some, count_by, nat_lt}
 use Rattle.board_base.specs.declared.men.Kind.TheVariants.{Pawn}
-use Rattle.past_sketches.specs.Figures.{Figure, IsRearranged, IsWider, Sketch, figure_at, may_be}
-use Rattle.past_sketches.specs.Steps.{onto}
+use Rattle.figures.specs.Figures.{Figure, IsRearranged, IsWider, Sketch, figure_at, may_be}
+use Rattle.figures.specs.Steps.{onto}
 use Rattle.sketch_steps.specs.Places.{is_lower, placed_in, recounted}
 use Rattle.sketch_sets.proofs.Closing.{map-at}
 

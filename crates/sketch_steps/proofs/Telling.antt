@@ -11,8 +11,8 @@ use Rattle.board_base.specs.declared.men.Colour.{Colour}
 use Rattle.board_base.specs.declared.men.Kind.{Kind}
 use Rattle.board_base.specs.declared.men.Kind.TheVariants.{Pawn, King}
 use Rattle.play_rules.specs.Laws.{is_end}
-use Rattle.past_sketches.specs.Figures.{Figure, Sketch, figure_at, fixed_squares, may_be}
-use Rattle.past_sketches.specs.Steps.{Step, is_step, made_by, takes}
+use Rattle.figures.specs.Figures.{Figure, Sketch, figure_at, fixed_squares, may_be}
+use Rattle.figures.specs.Steps.{Step, is_step, made_by, takes}
 use Rattle.sketch_sets.specs.Files.{gives_room, has_all_room, is_above, is_below, is_beside, straight}
 use Rattle.sketch_steps.specs.Arrivals.{arrives_on}
 use Rattle.sketch_steps.specs.Stepping.{captures_by, ends_are_free, has_next, is_gone, is_made, is_next_to, is_way, keeps, passes_by, place_is_free, squares_are_free, takes_by, yields}

@@ -3,9 +3,9 @@
 use Rattle.std.specs.Prelude.{ℕ, ◌+◌, ◌*◌, ◌==◌, ◌&&◌, cond, Bool, List, [], ◌∷◌, Option, Some, None}
 use Rattle.board_base.specs.Board.{is_in}
 use Rattle.board_base.specs.declared.men.Colour.{Colour}
-use Rattle.cage_rules.specs.Sets.{squares_that}
-use Rattle.past_sketches.specs.Figures.{Figure}
-use Rattle.past_sketches.specs.Steps.{Step, bystander, changed_by, is_cleared, pawn_before}
+use Rattle.figures.specs.Sets.{squares_that}
+use Rattle.figures.specs.Figures.{Figure}
+use Rattle.figures.specs.Steps.{Step, bystander, changed_by, is_cleared, pawn_before}
 
 unfoldable pub clears : Colour → Step → ℕ → Bool
 clears c x s = is_cleared c x s

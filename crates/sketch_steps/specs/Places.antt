@@ -3,8 +3,8 @@ use Rattle.std.specs.Prelude.{◌+◌, Bool, false, ◌&&◌, ◌||◌, not, nat
 use Rattle.std.specs.List.{list_all}
 use Rattle.board_base.specs.Play.{ahead}
 use Rattle.board_base.specs.declared.men.Kind.TheVariants.{Pawn}
-use Rattle.past_sketches.specs.Figures.{Figure, Sketch, each_changed, figure_at, may_be}
-use Rattle.past_sketches.specs.Steps.{Step, changed_by, victims}
+use Rattle.figures.specs.Figures.{Figure, Sketch, each_changed, figure_at, may_be}
+use Rattle.figures.specs.Steps.{Step, changed_by, victims}
 
 -- the second figure may be a pawn, and has a lower place
 unfoldable pub is_lower : Figure → Figure → Bool

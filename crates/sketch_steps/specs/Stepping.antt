@@ -5,8 +5,8 @@ use Rattle.board_base.specs.Attacks.{one_ahead}
 use Rattle.board_base.specs.Board.{is_in}
 use Rattle.board_base.specs.declared.men.Colour.{Colour}
 use Rattle.play_rules.specs.Laws.{is_end}
-use Rattle.past_sketches.specs.Figures.{Figure, Sketch, fixed_squares}
-use Rattle.past_sketches.specs.Steps.{Step, has_place, has_squares, is_next_place, keeps_place, leaves_place, may_have_gone, may_have_made, passes, takes}
+use Rattle.figures.specs.Figures.{Figure, Sketch, fixed_squares}
+use Rattle.figures.specs.Steps.{Step, has_place, has_squares, is_next_place, keeps_place, leaves_place, may_have_gone, may_have_made, passes, takes}
 use Rattle.sketch_steps.specs.Arrivals.{arrives_on}
 
 -- he takes whom the step says, on its target or en passant

@@ -1,5 +1,5 @@
 ghost use Rattle.std.specs.Prelude.{◌≡◌, ◌≤◌, count_by};
-ghost use Rattle.past_sketches.specs.Figures.{IsRearranged};
+ghost use Rattle.figures.specs.Figures.{IsRearranged};
 ghost use Rattle.sketch_steps.specs.Places.{is_lower, placed_in, recounted};
 
 use board_base::Kind;

@@ -4,7 +4,7 @@ ghost use Rattle.board_base.specs.Board.{same_kind};
 ghost use Rattle.board_base.specs.Legal.{is_officer};
 ghost use Rattle.board_base.specs.Play.{en_passant_rank};
 ghost use Rattle.board_base.specs.declared.men.Kind.TheVariants.{King as AKing};
-ghost use Rattle.past_sketches.specs.Steps.{is_step};
+ghost use Rattle.figures.specs.Steps.{is_step};
 ghost use Rattle.sketch_steps.specs.Arrivals.{arrives_on};
 ghost use Rattle.sketch_steps.specs.Stepping.{captures_by, ends_are_free, has_next, is_gone, is_made, is_next_to, is_way, keeps, passes_by, place_is_free, squares_are_free, takes_by, yields};
 

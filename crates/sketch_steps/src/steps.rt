@@ -20,7 +20,7 @@ pub struct Step {
 }
 
 impl Model for Step {
-    ghost use Rattle.past_sketches.specs.Steps.{Step as AStep};
+    ghost use Rattle.figures.specs.Steps.{Step as AStep};
 
     ghost Value = { AStep };
 

@@ -1,8 +1,8 @@
 ghost use Rattle.std.specs.Prelude.{◌≡◌, ◌<◌, ◌≤◌, IfSome, IsTrue, SomeIff, length};
 ghost use Rattle.std.specs.List.{list_all};
 ghost use Rattle.board_base.specs.Play.{ahead, behind};
-ghost use Rattle.past_sketches.specs.Figures.{Figure as AFigure, IsRearranged, each_changed};
-ghost use Rattle.past_sketches.specs.Steps.{changed_by, taken_back, victim_on, victims};
+ghost use Rattle.figures.specs.Figures.{Figure as AFigure, IsRearranged, each_changed};
+ghost use Rattle.figures.specs.Steps.{changed_by, taken_back, victim_on, victims};
 ghost use Rattle.sketch_steps.specs.Cleared.{bystander_with, changed_with, clears, listed, pawn_of};
 ghost use Rattle.sketch_steps.specs.Places.{before_step, can_go_back, fits_before, has_home, has_low_place, others_first};
 

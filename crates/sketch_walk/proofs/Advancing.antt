@@ -1,8 +1,8 @@
 -- What is left after a look at a place.
 use Rattle.std.proofs.Common.{◌≡◌, ◌<◌, ◌≤◌, Bool, true, false, ◌&&◌, List, [], ◌∷◌, ◌++◌, length, ap, sym, ◌∙◌}
 use Rattle.std.specs.Prelude.{MatchOption, None, Option, Some}
-use Rattle.past_sketches.specs.Figures.{Figure, Sketch, figure_at}
-use Rattle.past_sketches.specs.Steps.{is_step}
+use Rattle.figures.specs.Figures.{Figure, Sketch, figure_at}
+use Rattle.figures.specs.Steps.{is_step}
 use Rattle.sketch_list.specs.Listed.{Earlier, Listed, is_sound, may_be_above, may_take, sketch_before, step_for}
 use Rattle.sketch_walk.specs.Goings.{may_go}
 use Rattle.sketch_walk.specs.Nests.{after_place, after_square, after_victim, after_way, left}

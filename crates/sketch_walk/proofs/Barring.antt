@@ -6,8 +6,8 @@ use Rattle.std.specs.List.{list_any}
 use Rattle.board_base.specs.Board.{file, is_in}
 use Rattle.board_base.specs.Legal.{is_officer}
 use Rattle.board_base.specs.declared.men.Kind.TheVariants.{Pawn}
-use Rattle.past_sketches.specs.Figures.{Figure, Sketch, figure_at, may_be}
-use Rattle.past_sketches.specs.Steps.{Step, arrives, has_squares, is_step, made_by, may_have_gone, may_have_made}
+use Rattle.figures.specs.Figures.{Figure, Sketch, figure_at, may_be}
+use Rattle.figures.specs.Steps.{Step, arrives, has_squares, is_step, made_by, may_have_gone, may_have_made}
 use Rattle.sketch_steps.specs.Arrivals.{arrives_on}
 use Rattle.sketch_list.specs.Listed.{Listed, count_from, is_advance, is_open, is_sound, may_be_above, may_take, sketch_before, step_for}
 use Rattle.sketch_list.proofs.Listing.{by-told, inside-told}

@@ -9,8 +9,8 @@ use Rattle.board_base.specs.Play.{ahead, en_passant_rank}
 use Rattle.board_base.specs.declared.men.Colour.{Colour}
 use Rattle.board_base.specs.declared.men.Colour.TheVariants.{White, Black}
 use Rattle.board_base.specs.declared.men.Kind.{Kind}
-use Rattle.past_sketches.specs.Figures.{Figure, Sketch, figure_at}
-use Rattle.past_sketches.specs.Steps.{Step, is_step, passes, takes}
+use Rattle.figures.specs.Figures.{Figure, Sketch, figure_at}
+use Rattle.figures.specs.Steps.{Step, is_step, passes, takes}
 use Rattle.sketch_steps.specs.Places.{has_low_place}
 use Rattle.sketch_list.specs.Listed.{is_short, may_take, victims_as}
 use Rattle.sketch_list.specs.declared.steps.Victim.{Victim}

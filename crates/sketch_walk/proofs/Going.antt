@@ -7,8 +7,8 @@ use Rattle.board_base.specs.Board.{file, is_in, rank}
 use Rattle.board_base.specs.Play.{en_passant_rank}
 use Rattle.board_base.specs.declared.men.Colour.{Colour}
 use Rattle.board_base.specs.declared.men.Colour.TheVariants.{White, Black}
-use Rattle.past_sketches.specs.Figures.{Figure, Sketch, figure_at}
-use Rattle.past_sketches.specs.Steps.{Step, is_step, made_by, may_have_gone, may_have_made, passes, takes}
+use Rattle.figures.specs.Figures.{Figure, Sketch, figure_at}
+use Rattle.figures.specs.Steps.{Step, is_step, made_by, may_have_gone, may_have_made, passes, takes}
 use Rattle.sketch_list.specs.Listed.{Listed, is_passed, kind_taken, step_for}
 use Rattle.sketch_list.specs.declared.steps.Victim.{Victim}
 use Rattle.sketch_list.specs.declared.steps.Victim.TheVariants.{Nobody, TakenPawn, TakenBishop, TakenOther, PassedPawn}

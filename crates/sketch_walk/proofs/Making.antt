@@ -4,8 +4,8 @@ use Rattle.std.proofs.lemmas.Bool.{and_parts, both_ways}
 use Rattle.std.specs.Prelude.{Option}
 use Rattle.board_base.specs.declared.men.Colour.{Colour}
 use Rattle.board_base.specs.declared.men.Kind.{Kind}
-use Rattle.past_sketches.specs.Figures.{Figure, Sketch, each_changed}
-use Rattle.past_sketches.specs.Steps.{Step, changed_by}
+use Rattle.figures.specs.Figures.{Figure, Sketch, each_changed}
+use Rattle.figures.specs.Steps.{Step, changed_by}
 use Rattle.sketch_steps.specs.Places.{recounted}
 use Rattle.sketch_sets.specs.TrimmedOut.{trimmed_out}
 use Rattle.sketch_list.specs.Listed.{Listed, figures_before, is_passed, kind_taken, place_before, sketch_before, step_for, victims_as}

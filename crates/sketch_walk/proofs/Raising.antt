@@ -1,7 +1,7 @@
 -- The lowest place above some figures, figure by figure.
 use Rattle.std.proofs.Common.{◌≡◌, ℕ, zero, suc, ◌+◌, ◌<◌, ◌≤◌, max, Bool, true, false, cond, List, [], ◌∷◌, length, get_or, drop, refl, ap, sym, ◌∙◌, arith}
 use Rattle.std.proofs.lemmas.List.{drop_more}
-use Rattle.past_sketches.specs.Figures.{Figure, Sketch}
+use Rattle.figures.specs.Figures.{Figure, Sketch}
 use Rattle.sketch_list.specs.Listed.{next_above}
 
 next-cons : (p : Figure → Bool) (f : Figure) (T : Sketch) → next_above p (f ∷ T) ≡ max (cond (p f) (f.place + 1) 0) (next_above p T)

@@ -5,7 +5,7 @@ use Rattle.std.proofs.lemmas.List.Elements.{filter-append}
 use Rattle.std.specs.Prelude.{None, Option, Some}
 use Rattle.std.specs.List.{filter, flat_map, range_with_len}
 use Rattle.board_base.specs.declared.men.Colour.{Colour}
-use Rattle.past_sketches.specs.Figures.{Figure, Sketch, figure_at}
+use Rattle.figures.specs.Figures.{Figure, Sketch, figure_at}
 use Rattle.sketch_list.specs.Listed.{Earlier, Listed, all_victims, earlier, is_open, origins, sketch_before, steps_by, ways_to}
 use Rattle.sketch_list.specs.declared.steps.Victim.{Victim}
 use Rattle.sketch_walk.specs.Nests.{Finds, of_figure, of_square, of_victim, of_way}

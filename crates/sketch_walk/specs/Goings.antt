@@ -5,7 +5,7 @@ use Rattle.board_base.specs.Attacks.{distance, files_apart}
 use Rattle.board_base.specs.Board.{file, is_in, rank}
 use Rattle.board_base.specs.Legal.{last_rank}
 use Rattle.board_base.specs.declared.men.Colour.{Colour}
-use Rattle.past_sketches.specs.Figures.{Figure}
+use Rattle.figures.specs.Figures.{Figure}
 use Rattle.sketch_list.specs.Listed.{Listed}
 use Rattle.sketch_list.specs.declared.steps.Victim.{Victim}
 use Rattle.sketch_list.specs.declared.steps.Victim.TheVariants.{Nobody, TakenPawn, TakenBishop, TakenOther, PassedPawn}

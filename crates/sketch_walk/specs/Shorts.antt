@@ -4,7 +4,7 @@ use Rattle.std.specs.Prelude.{◌≡◌, Bool, true, ◌||◌, not, nat_lt, leng
 use Rattle.board_base.specs.Board.{opponent}
 use Rattle.board_base.specs.declared.men.Colour.{Colour}
 use Rattle.board_base.specs.declared.men.Colour.TheVariants.{White, Black}
-use Rattle.past_sketches.specs.Figures.{Figure, Sketch}
+use Rattle.figures.specs.Figures.{Figure, Sketch}
 use Rattle.sketch_list.specs.Listed.{is_short}
 use Rattle.sketch_list.specs.declared.steps.Victim.{Victim}
 use Rattle.sketch_list.specs.declared.steps.Victim.TheVariants.{Nobody, TakenPawn, TakenBishop, TakenOther, PassedPawn}

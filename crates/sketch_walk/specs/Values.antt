@@ -2,7 +2,7 @@
 use Rattle.std.specs.Prelude.{Bool, ◌&&◌, ◌||◌, not, nat_lt, length, List}
 use Rattle.std.specs.List.{list_all}
 use Rattle.board_base.specs.declared.men.Colour.TheVariants.{White, Black}
-use Rattle.past_sketches.specs.Figures.{Sketch}
+use Rattle.figures.specs.Figures.{Sketch}
 use Rattle.sketch_steps.specs.Places.{has_low_place}
 use Rattle.sketch_list.specs.Listed.{is_short}
 

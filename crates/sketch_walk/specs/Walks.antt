@@ -5,7 +5,7 @@ use Rattle.std.specs.List.{list_all}
 use Rattle.board_base.specs.Board.{is_in}
 use Rattle.board_base.specs.Play.{behind}
 use Rattle.board_base.specs.declared.men.Colour.{Colour}
-use Rattle.past_sketches.specs.Figures.{Figure, Sketch, figure_at}
+use Rattle.figures.specs.Figures.{Figure, Sketch, figure_at}
 use Rattle.sketch_steps.specs.Arrivals.{arrives_on}
 use Rattle.sketch_steps.specs.Places.{has_low_place}
 use Rattle.sketch_list.specs.Listed.{Earlier, Listed, is_open, sketch_before}

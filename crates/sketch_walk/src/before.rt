@@ -1,8 +1,8 @@
 ghost use Rattle.std.specs.Prelude.{◌≡◌, ◌+◌, ◌<◌, ◌&&◌, ◌∷◌, [], IsTrue, Some, SomeIff, length};
 ghost use Rattle.std.specs.List.{list_all};
 ghost use Rattle.board_base.specs.Play.{ahead};
-ghost use Rattle.past_sketches.specs.Figures.{figure_at};
-ghost use Rattle.past_sketches.specs.Steps.{is_step};
+ghost use Rattle.figures.specs.Figures.{figure_at};
+ghost use Rattle.figures.specs.Steps.{is_step};
 ghost use Rattle.sketch_steps.specs.Cleared.{listed};
 ghost use Rattle.sketch_steps.specs.Places.{has_low_place};
 ghost use Rattle.sketch_list.specs.Listed.{figures_before, is_passed, is_sound, sketch_before, step_for, victims_as};

@@ -1,5 +1,5 @@
 ghost use Rattle.std.specs.Prelude.{◌≡◌, Bool, List};
-ghost use Rattle.past_sketches.specs.Figures.{Sketch as ASketch};
+ghost use Rattle.figures.specs.Figures.{Sketch as ASketch};
 ghost use Rattle.sketch_list.specs.Listed.{is_short, may_take};
 ghost use Rattle.sketch_walk.specs.Shorts.{AreShort, has_room, of_side, takes_so};
 

@@ -1,6 +1,6 @@
 ghost use Rattle.std.specs.Prelude.{◌≡◌, ◌<◌, Bool, IsTrue, List, Some, length};
 ghost use Rattle.std.specs.List.{list_all};
-ghost use Rattle.past_sketches.specs.Figures.{figure_at};
+ghost use Rattle.figures.specs.Figures.{figure_at};
 ghost use Rattle.sketch_steps.specs.Places.{has_low_place};
 ghost use Rattle.sketch_walk.specs.Cursors.{IsInside, number_of};
 ghost use Rattle.sketch_walk.specs.Shorts.{AreShort, has_room};

@@ -1,7 +1,7 @@
 use Rattle.std.proofs.Common.{List, Bool, ap, ◌∙◌}
-use Rattle.cage_rules.specs.Steps.{both}
+use Rattle.past_sketches.specs.CageRulesSteps.{both}
 use Rattle.board_base.specs.Squares.{squares_of}
-use Rattle.cage_rules.proofs.SetAlgebra.{both-bits}
+use Rattle.past_sketches.proofs.SetAlgebra.{both-bits}
 use Rattle.figures.proofs.sets.both.Goals as goal
 
 pub returns : goal.returns

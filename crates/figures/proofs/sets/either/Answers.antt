@@ -1,7 +1,7 @@
 use Rattle.std.proofs.Common.{List, Bool, ap, ◌∙◌}
-use Rattle.cage_rules.specs.Sets.{union}
+use Rattle.past_sketches.specs.Sets.{union}
 use Rattle.board_base.specs.Squares.{squares_of}
-use Rattle.cage_rules.proofs.SetAlgebra.{union-bits}
+use Rattle.past_sketches.proofs.SetAlgebra.{union-bits}
 use Rattle.figures.proofs.sets.either.Goals as goal
 
 pub returns : goal.returns

@@ -1,6 +1,6 @@
 use Rattle.std.proofs.Common.{ap, ◌∙◌, arith}
-use Rattle.cage_rules.specs.Steps.{outside}
-use Rattle.cage_rules.proofs.SetAlgebra.{outside-bits}
+use Rattle.past_sketches.specs.CageRulesSteps.{outside}
+use Rattle.past_sketches.proofs.SetAlgebra.{outside-bits}
 use Rattle.figures.proofs.sets.outside.Goals as goal
 
 pub returns : goal.returns

@@ -1,5 +1,5 @@
 use Rattle.std.proofs.Common.{◌≡◌, ◌+◌, ℕ, List, Bool, true, false, cond, set, ap, sym, ◌∙◌, subst, arith}
-use Rattle.cage_rules.proofs.Filling.{Filled, empty-start, filled-that}
+use Rattle.past_sketches.proofs.Filling.{Filled, empty-start, filled-that}
 use Rattle.figures.proofs.Singles.{filled-if}
 use Rattle.figures.proofs.sets.squares_that.Goals as goal
 

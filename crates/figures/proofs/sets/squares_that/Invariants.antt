@@ -1,5 +1,5 @@
 use Rattle.std.proofs.Common.{◌≡◌, ◌<◌, ℕ, Bool, false}
-use Rattle.cage_rules.proofs.Filling.{Filled}
+use Rattle.past_sketches.proofs.Filling.{Filled}
 use Rattle.figures.proofs.sets.squares_that.Given as goal
 
 abbrev pub invariant-loop-i : goal.invariant-loop-i

@@ -1,7 +1,7 @@
 use Rattle.std.proofs.Common.{◌≡◌, Bool, List, ap, subst, sym}
-use Rattle.past_account.specs.Account.{CostTooMuch, by_marks}
-use Rattle.past_account.specs.Closes.{costs}
-use Rattle.past_account.specs.Zones.{room_past}
+use Rattle.sketch_grounds.specs.Account.{CostTooMuch, by_marks}
+use Rattle.sketch_grounds.specs.Closes.{costs}
+use Rattle.sketch_grounds.specs.Zones.{room_past}
 use Rattle.sketch_account.specs.Basis.{Basis, IsAbove}
 use Rattle.sketch_account.proofs.accounts.closes.Goals as goal
 

@@ -1,6 +1,6 @@
 use Rattle.std.proofs.Common.{◌≡◌, Bool, List, ap, subst, sym}
-use Rattle.past_account.specs.Account.{CostTooMuch, against}
-use Rattle.past_account.specs.Zones.{room_past}
+use Rattle.sketch_grounds.specs.Account.{CostTooMuch, against}
+use Rattle.sketch_grounds.specs.Zones.{room_past}
 use Rattle.sketch_account.specs.Basis.{Basis, IsAbove}
 use Rattle.sketch_account.proofs.accounts.forces.Goals as goal
 

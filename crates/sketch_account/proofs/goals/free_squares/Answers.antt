@@ -1,6 +1,6 @@
 use Rattle.std.proofs.Common.{◌≡◌, ◌∙◌, ◌&&◌, Bool, List, ap}
 use Rattle.board_base.specs.Board.{is_in}
-use Rattle.past_sketches.specs.Figures.{Figure}
+use Rattle.figures.specs.Figures.{Figure}
 use Rattle.sketch_account.proofs.Algebra.{in-both, in-outside}
 use Rattle.sketch_account.proofs.goals.free_squares.Goals as goal
 

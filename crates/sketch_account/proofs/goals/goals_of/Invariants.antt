@@ -1,6 +1,6 @@
 use Rattle.std.proofs.Common.{Bool, List}
 use Rattle.capture_prices.specs.Prices.{PriceList}
-use Rattle.past_account.specs.Zones.{Room}
+use Rattle.sketch_grounds.specs.Zones.{Room}
 use Rattle.sketch_account.specs.Grounds.{IsGround}
 use Rattle.sketch_account.proofs.Aiming.{Aimed}
 use Rattle.sketch_account.proofs.goals.goals_of.Given as goal

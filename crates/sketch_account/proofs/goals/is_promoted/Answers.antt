@@ -4,8 +4,8 @@ use Rattle.board_base.specs.Board.{is_in, man}
 use Rattle.board_base.specs.declared.men.Kind.{Kind}
 use Rattle.board_base.specs.declared.men.Kind.TheVariants.{Knight, Bishop, Rook, Queen}
 use Rattle.balance_rule.specs.LeastWays.{seen_by}
-use Rattle.past_sketches.specs.Figures.{Figure, may_be}
-use Rattle.past_account.specs.Zones.{Room}
+use Rattle.figures.specs.Figures.{Figure, may_be}
+use Rattle.sketch_grounds.specs.Zones.{Room}
 use Rattle.board_base.specs.declared.men.Colour.{Colour}
 use Rattle.sketch_account.specs.Coming.{has_room, is_free}
 use Rattle.sketch_account.specs.Grounds.{AreRooms}

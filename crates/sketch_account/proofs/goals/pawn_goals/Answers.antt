@@ -3,7 +3,7 @@ use Rattle.board_base.specs.Board.{is_in, rank}
 use Rattle.board_base.specs.Legal.{last_rank}
 use Rattle.board_base.specs.declared.men.Kind.TheVariants.{Pawn}
 use Rattle.cage_rules.proofs.Filling.{none-in-zero}
-use Rattle.past_sketches.specs.Figures.{may_be}
+use Rattle.figures.specs.Figures.{may_be}
 use Rattle.sketch_account.proofs.Algebra.{in-both, in-outside}
 use Rattle.sketch_account.proofs.goals.pawn_goals.Goals as goal
 

@@ -2,7 +2,7 @@ use Rattle.std.proofs.Common.{◌≡◌, Bool, List, [], ap, sym, subst, ◌∙�
 use Rattle.capture_prices.specs.Prices.{PriceList}
 use Rattle.balance_rule.specs.Grounds.{IsGround as IsOpenGround}
 use Rattle.balance_rule.specs.declared.grounds.Ground.{Ground as OpenGround}
-use Rattle.past_account.specs.Zones.{room_past}
+use Rattle.sketch_grounds.specs.Zones.{room_past}
 use Rattle.sketch_account.specs.Grounds.{IsGround}
 use Rattle.sketch_account.proofs.grounds.ground_of.Goals as goal
 

@@ -1,7 +1,7 @@
 use Rattle.std.proofs.Common.{◌≡◌, ◌+◌, ◌<◌, ℕ, [], length, slice_index_or}
 use Rattle.board_base.specs.Board.{man}
 use Rattle.balance_rule.specs.LeastWays.{seen_by}
-use Rattle.past_account.specs.Zones.{reached_from, roams_past}
+use Rattle.sketch_grounds.specs.Zones.{reached_from, roams_past}
 use Rattle.sketch_account.proofs.grounds.promoted_of.Given as goal
 
 abbrev pub invariant-loop-f : goal.invariant-loop-f

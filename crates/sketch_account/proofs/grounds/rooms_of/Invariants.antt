@@ -4,7 +4,7 @@ use Rattle.board_base.specs.Board.{at}
 use Rattle.board_base.specs.Legal.{is_officer}
 use Rattle.board_base.specs.declared.men.Man.{Man}
 use Rattle.balance_rule.specs.LeastWays.{seen_by}
-use Rattle.past_account.specs.Zones.{reached_from, roams_past}
+use Rattle.sketch_grounds.specs.Zones.{reached_from, roams_past}
 use Rattle.sketch_account.proofs.grounds.rooms_of.Given as goal
 
 abbrev pub invariant-loop-f : goal.invariant-loop-f

@@ -5,7 +5,7 @@ use Rattle.balance_rule.specs.Costs.{most_earned}
 use Rattle.balance_rule.specs.LeastWays.{seen_by}
 use Rattle.balance_rule.proofs.Earned.{greatest-same}
 use Rattle.balance_rule.proofs.Filled.{any-default}
-use Rattle.past_account.specs.Zones.{Room, room_past}
+use Rattle.sketch_grounds.specs.Zones.{Room, room_past}
 use Rattle.sketch_account.specs.Grounds.{comes_promoted}
 use Rattle.sketch_account.proofs.grounds.zoned_ground.Goals as goal
 

@@ -1,6 +1,6 @@
 use Rattle.std.proofs.Common.{◌≡◌, ◌+◌, ◌-◌, ◌<◌, ℕ, min, slice_index, arith, ap, sym, subst, ◌∙◌}
 use Rattle.balance_rule.specs.Costs.{most_earned, never}
-use Rattle.past_account.specs.Limits.{loss_in}
+use Rattle.sketch_grounds.specs.Limits.{loss_in}
 use Rattle.sketch_account.specs.Grounds.{comes_promoted}
 use Rattle.balance_rule.specs.LeastWays.{IsLeast, ends_on, seen_by}
 use Rattle.sketch_account.proofs.Losing.{loss-last, loss-short}

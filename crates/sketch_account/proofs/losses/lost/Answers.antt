@@ -6,7 +6,7 @@ use Rattle.board_base.specs.declared.men.Man.{Man}
 use Rattle.board_base.proofs.KindsOfMen.{colour_is}
 use Rattle.balance_rule.specs.Costs.{never}
 use Rattle.balance_rule.specs.LeastWays.{seen_by}
-use Rattle.past_account.specs.Limits.{lost}
+use Rattle.sketch_grounds.specs.Limits.{lost}
 use Rattle.sketch_account.proofs.losses.lost.Goals as goal
 
 pub returns-in-Some-clause-value : goal.returns-in-Some-clause-value

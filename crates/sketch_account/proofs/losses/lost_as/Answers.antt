@@ -7,7 +7,7 @@ use Rattle.board_base.specs.declared.men.Kind.TheVariants.{Pawn}
 use Rattle.balance_rule.specs.Costs.{never}
 use Rattle.balance_rule.specs.LeastWays.{seen_by}
 use Rattle.balance_rule.proofs.Begun.{begins-on}
-use Rattle.past_account.specs.Limits.{pawn_lost}
+use Rattle.sketch_grounds.specs.Limits.{pawn_lost}
 use Rattle.sketch_account.proofs.losses.lost_as.Goals as goal
 
 pub returns-then-has-clause-value : goal.returns-then-has-clause-value

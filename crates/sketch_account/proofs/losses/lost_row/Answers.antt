@@ -1,8 +1,8 @@
 use Rattle.std.proofs.Common.{ℕ, arith}
 use Rattle.std.proofs.lemmas.List.FromFn.{fill_by_all}
 use Rattle.board_base.specs.Board.{array_of, at, home_of}
-use Rattle.past_account.specs.Account.{lost_row}
-use Rattle.past_account.specs.Limits.{lost}
+use Rattle.sketch_grounds.specs.Account.{lost_row}
+use Rattle.sketch_grounds.specs.Limits.{lost}
 use Rattle.sketch_account.proofs.losses.lost_row.Goals as goal
 
 pub returns-clause-value : goal.returns-clause-value

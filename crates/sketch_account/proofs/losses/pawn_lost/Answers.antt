@@ -1,6 +1,6 @@
 use Rattle.std.proofs.Common.{◌≡◌, ◌+◌, ◌<◌, ◌≤◌, ℕ, arith, ap, sym, subst}
 use Rattle.board_base.specs.Board.{rank}
-use Rattle.past_account.specs.Limits.{loss_in}
+use Rattle.sketch_grounds.specs.Limits.{loss_in}
 use Rattle.balance_rule.specs.LeastWays.{IsLeast, seen_by}
 use Rattle.sketch_account.specs.declared.grounds.Ground.{Ground}
 use Rattle.sketch_account.proofs.Losing.{ends_before, lost-all, lost-more, lost-none}

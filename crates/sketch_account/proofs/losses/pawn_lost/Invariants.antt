@@ -2,8 +2,8 @@ use Rattle.std.proofs.Common.{◌≡◌, ◌+◌, ◌≤◌, Bool, false, List}
 use Rattle.board_base.specs.Board.{is_in}
 use Rattle.capture_prices.specs.Prices.{PriceList}
 use Rattle.balance_rule.specs.Costs.{never}
-use Rattle.past_account.specs.Limits.{loss_in}
-use Rattle.past_account.specs.Zones.{Room}
+use Rattle.sketch_grounds.specs.Limits.{loss_in}
+use Rattle.sketch_grounds.specs.Zones.{Room}
 use Rattle.sketch_account.specs.Grounds.{IsGround}
 use Rattle.balance_rule.specs.LeastWays.{IsLeast, seen_by}
 use Rattle.std.specs.Prelude.{nat_lt}

@@ -7,7 +7,7 @@ use Rattle.board_base.specs.declared.men.Kind.TheVariants.{Pawn}
 use Rattle.board_base.proofs.KindsOfMen.{kind_is}
 use Rattle.balance_rule.specs.LeastWays.{seen_by}
 use Rattle.balance_rule.proofs.Begun.{begins-on}
-use Rattle.past_account.specs.Limits.{comes_as}
+use Rattle.sketch_grounds.specs.Limits.{comes_as}
 use Rattle.sketch_account.specs.Over.{IsLeastOver}
 use Rattle.sketch_account.proofs.rows.cost_as.Goals as goal
 

@@ -1,7 +1,7 @@
 use Rattle.std.proofs.Common.{ℕ, arith}
 use Rattle.std.proofs.lemmas.List.FromFn.{fill_by_all}
 use Rattle.board_base.specs.Board.{array_of, at, home_of}
-use Rattle.past_account.specs.Account.{figure_comes, figure_row}
+use Rattle.sketch_grounds.specs.Account.{figure_comes, figure_row}
 use Rattle.sketch_account.specs.Rows.{counted}
 use Rattle.sketch_account.proofs.rows.figure_row.Goals as goal
 

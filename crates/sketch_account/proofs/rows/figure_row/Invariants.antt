@@ -2,9 +2,9 @@ use Rattle.std.proofs.Common.{◌≡◌, ◌<◌, ◌≤◌, ℕ, Bool, List, le
 use Rattle.board_base.specs.Board.{array_of, at, home_of}
 use Rattle.capture_prices.specs.Prices.{PriceList}
 use Rattle.balance_rule.specs.Costs.{never}
-use Rattle.past_account.specs.Account.{figure_comes}
-use Rattle.past_account.specs.Limits.{Limit}
-use Rattle.past_account.specs.Zones.{Room}
+use Rattle.sketch_grounds.specs.Account.{figure_comes}
+use Rattle.sketch_grounds.specs.Limits.{Limit}
+use Rattle.sketch_grounds.specs.Zones.{Room}
 use Rattle.sketch_account.specs.Grounds.{IsGround}
 use Rattle.sketch_account.specs.Rows.{IsComer, counted}
 use Rattle.sketch_account.proofs.rows.figure_row.Given as goal

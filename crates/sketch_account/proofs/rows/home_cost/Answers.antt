@@ -2,7 +2,7 @@ use Rattle.std.proofs.Common.{◌≡◌, ◌<◌, ◌∙◌, ◌&&◌, Bool, Lis
 use Rattle.std.proofs.lemmas.Bool.{cond-true, cond-false}
 use Rattle.board_base.specs.Board.{is_in}
 use Rattle.balance_rule.specs.Costs.{never}
-use Rattle.past_sketches.specs.Figures.{Figure}
+use Rattle.figures.specs.Figures.{Figure}
 use Rattle.sketch_account.proofs.Comers.{comes-home}
 use Rattle.sketch_account.proofs.rows.home_cost.Goals as goal
 

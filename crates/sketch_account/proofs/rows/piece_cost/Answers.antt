@@ -6,7 +6,7 @@ use Rattle.board_base.specs.declared.men.Kind.TheVariants.{King}
 use Rattle.board_base.specs.declared.men.Man.{Man}
 use Rattle.balance_rule.specs.Costs.{never}
 use Rattle.balance_rule.specs.LeastWays.{seen_by}
-use Rattle.past_sketches.specs.Figures.{may_be}
+use Rattle.figures.specs.Figures.{may_be}
 use Rattle.sketch_account.specs.Coming.{is_free}
 use Rattle.sketch_account.proofs.Aiming.{any-board}
 use Rattle.sketch_account.proofs.Comers.{comes-piece}

@@ -8,9 +8,9 @@ use Rattle.board_base.specs.Board.{array_of, same_colour}
 use Rattle.board_base.proofs.KindsOfMen.{colour_is}
 use Rattle.balance_rule.specs.Costs.{never}
 use Rattle.balance_rule.proofs.Rowed.{table-none}
-use Rattle.past_sketches.specs.Figures.{Figure, Sketch}
-use Rattle.past_account.specs.Account.{Counted, figure_row, is_figure_of}
-use Rattle.past_account.specs.Limits.{Limit}
+use Rattle.figures.specs.Figures.{Figure, Sketch}
+use Rattle.sketch_grounds.specs.Account.{Counted, figure_row, is_figure_of}
+use Rattle.sketch_grounds.specs.Limits.{Limit}
 use Rattle.sketch_account.specs.Counting.{counted_as, limit_by}
 use Rattle.sketch_account.specs.Rows.{counted}
 use Rattle.sketch_grounds.proofs.Filtered.{filter-most, mapped-more, skipped, taken}

@@ -4,8 +4,8 @@ use Rattle.assignment.specs.Tables.{IsTable}
 use Rattle.board_base.specs.Board.{array_of}
 use Rattle.capture_prices.specs.Prices.{PriceList}
 use Rattle.balance_rule.specs.Costs.{never}
-use Rattle.past_account.specs.Account.{figure_row, is_figure_of}
-use Rattle.past_account.specs.Zones.{Room}
+use Rattle.sketch_grounds.specs.Account.{figure_row, is_figure_of}
+use Rattle.sketch_grounds.specs.Zones.{Room}
 use Rattle.sketch_account.specs.Counting.{counted_as}
 use Rattle.sketch_account.specs.Grounds.{IsGround}
 use Rattle.sketch_account.proofs.tables.figure_rows.Given as goal

@@ -4,7 +4,7 @@ use Rattle.std.specs.Prelude.{replicate}
 use Rattle.std.specs.List.{filter}
 use Rattle.arrayvec.specs.ArrayVec.{ArrayVec}
 use Rattle.board_base.specs.Board.{array_of}
-use Rattle.past_account.specs.Account.{Counted, figure_row, is_figure_of, lost_row}
+use Rattle.sketch_grounds.specs.Account.{Counted, figure_row, is_figure_of, lost_row}
 use Rattle.sketch_account.specs.Counting.{counted_as}
 use Rattle.sketch_account.proofs.Tabled.{table-is}
 use Rattle.sketch_account.proofs.tables.figure_table.Goals as goal

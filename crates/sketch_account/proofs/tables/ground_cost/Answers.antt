@@ -1,7 +1,7 @@
 use Rattle.std.proofs.Common.{◌<◌, ◌≤◌, ◌∙◌, length, ap, arith}
 use Rattle.std.specs.List.{filter}
 use Rattle.assignment.specs.Assignments.{least_cost}
-use Rattle.past_account.specs.Account.{is_figure_of}
+use Rattle.sketch_grounds.specs.Account.{is_figure_of}
 use Rattle.sketch_account.specs.Counting.{counted_as}
 use Rattle.sketch_account.proofs.tables.ground_cost.Goals as goal
 

@@ -1,6 +1,6 @@
 use Rattle.std.proofs.Common.{ℕ, true, false, refl, sym, subst}
 use Rattle.std.specs.Prelude.{Option, Some}
-use Rattle.past_account.specs.Account.{mark_limit}
+use Rattle.sketch_grounds.specs.Account.{mark_limit}
 use Rattle.sketch_account.specs.Counting.{limit_by}
 use Rattle.sketch_account.specs.Rows.{IsManner}
 use Rattle.sketch_account.specs.declared.rows.Manner.{Manner}

@@ -6,7 +6,7 @@ use Rattle.sketch_proof.specs.Proofs.{Setting}
 use Rattle.sketch_checker.specs.Able.{IsAble}
 use Rattle.sketch_checker.specs.Walks.{CompletesOpened, Frame}
 use Rattle.sketch_checker.specs.Steering.{AreAble, IsBelow, read}
-use Rattle.past_sketches.specs.Figures.{Sketch}
+use Rattle.figures.specs.Figures.{Sketch}
 use Rattle.sketch_checker.specs.TreeWalk.{IsBefore}
 use Rattle.sketch_checker.proofs.Settling.{no-before}
 use Rattle.sketch_checker.proofs.Completing.{frame}

@@ -4,7 +4,7 @@ use Rattle.std.proofs.lemmas.List.{take_all, take_more}
 use Rattle.std.proofs.lemmas.List.Elements.{Contains-append_cases}
 use Rattle.std.specs.List.{Contains}
 use Rattle.board_base.specs.Board.{Places, array_of}
-use Rattle.past_sketches.specs.Figures.{Figure, Sketch}
+use Rattle.figures.specs.Figures.{Figure, Sketch}
 use Rattle.sketch_grounds.specs.Begun.{is_begun}
 use Rattle.sketch_grounds.proofs.Beginning.{begun-tells, begun-told}
 use Rattle.sketch_grounds.proofs.Freezing.{figure-in, last-is, number-of}

@@ -1,7 +1,7 @@
 use Rattle.std.proofs.Common.{◌≡◌, true, length, take}
 use Rattle.std.specs.List.{Contains}
 use Rattle.board_base.specs.Board.{array_of}
-use Rattle.past_sketches.specs.Figures.{Figure}
+use Rattle.figures.specs.Figures.{Figure}
 use Rattle.sketch_grounds.specs.Begun.{is_begun}
 use Rattle.sketch_grounds.proofs.begun.are_begun.Given as goal
 

@@ -1,5 +1,5 @@
 use Rattle.std.proofs.Common.{◌≡◌, false, sym, ◌∙◌}
-use Rattle.past_sketches.specs.Figures.{may_be}
+use Rattle.figures.specs.Figures.{may_be}
 use Rattle.sketch_grounds.proofs.Freezing.{entries-none}
 use Rattle.sketch_grounds.proofs.frozen.entries_if.Goals as goal
 

@@ -1,7 +1,7 @@
 use Rattle.std.proofs.Common.{◌≡◌, ◌<◌, ◌+◌, ◌∙◌, ◌++◌, ◌∷◌, [], ℕ, List, get_or, length, take, ap, sym, subst, arith}
 use Rattle.std.proofs.lemmas.List.{take_all, take_more}
 use Rattle.arrayvec.specs.ArrayVec.{ArrayVec}
-use Rattle.past_sketches.specs.Figures.{Figure, Sketch}
+use Rattle.figures.specs.Figures.{Figure, Sketch}
 use Rattle.sketch_grounds.specs.Pins.{ArePins}
 use Rattle.sketch_grounds.specs.declared.frozen.Pin.{Pin}
 use Rattle.sketch_grounds.proofs.Freezing.{pins-more, pins-none, pins-same}

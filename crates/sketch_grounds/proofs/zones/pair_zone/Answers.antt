@@ -3,7 +3,7 @@ use Rattle.std.proofs.lemmas.Bool.{and_from}
 use Rattle.std.specs.List.{list_all}
 use Rattle.board_base.specs.Board.{same_kind}
 use Rattle.board_base.specs.declared.men.Kind.TheVariants.{Pawn}
-use Rattle.past_sketches.specs.Figures.{Figure}
+use Rattle.figures.specs.Figures.{Figure}
 use Rattle.sketch_grounds.specs.LeastZones.{is_pair, least_zone}
 use Rattle.sketch_grounds.proofs.zones.pair_zone.Goals as goal
 

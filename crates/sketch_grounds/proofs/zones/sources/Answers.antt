@@ -2,7 +2,7 @@ use Rattle.std.proofs.Common.{◌≡◌, ◌∙◌, false, true, ap}
 use Rattle.board_base.specs.Board.{opponent}
 use Rattle.cage_rules.specs.Frozen.{is_behind}
 use Rattle.cage_rules.specs.Steps.{is_ahead, near}
-use Rattle.past_sketches.specs.Figures.{Figure}
+use Rattle.figures.specs.Figures.{Figure}
 use Rattle.sketch_grounds.proofs.Backing.{near-marked, near-unmarked}
 use Rattle.sketch_grounds.proofs.zones.sources.Goals as goal
 

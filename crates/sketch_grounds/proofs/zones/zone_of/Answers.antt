@@ -1,6 +1,6 @@
 use Rattle.std.proofs.Common.{◌≡◌, ◌∙◌, length, ap, sym}
 use Rattle.std.proofs.lemmas.Bool.{both_ways}
-use Rattle.past_sketches.specs.Figures.{Figure}
+use Rattle.figures.specs.Figures.{Figure}
 use Rattle.sketch_grounds.proofs.Backing.{growing-end, growing-less, growing-more}
 use Rattle.sketch_grounds.proofs.EachSet.{least-is}
 use Rattle.sketch_grounds.proofs.zones.zone_of.Goals as goal

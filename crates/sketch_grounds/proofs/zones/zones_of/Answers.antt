@@ -4,7 +4,7 @@ use Rattle.std.proofs.lemmas.List.{take_all}
 use Rattle.std.specs.List.{Contains}
 use Rattle.arrayvec.specs.ArrayVec.{ArrayVec}
 use Rattle.cage_rules.specs.Sets.{union}
-use Rattle.past_sketches.specs.Figures.{Figure, Sketch}
+use Rattle.figures.specs.Figures.{Figure, Sketch}
 use Rattle.past_account.specs.Zones.{AreZones}
 use Rattle.sketch_grounds.specs.LeastZones.{is_pair, pair_zones}
 use Rattle.sketch_grounds.specs.Wide.{AreWide}

@@ -1,7 +1,7 @@
 use Rattle.std.proofs.Common.{◌≡◌, ◌<◌, ◌≤◌, ℕ, inl, inr, length, ap, below_more, subst, sym, ◌∙◌, arith}
 use Rattle.std.proofs.lemmas.Bool.{both_ways, cases_lt}
 use Rattle.std.specs.Prelude.{Some}
-use Rattle.past_sketches.specs.Figures.{Sketch, figure_at}
+use Rattle.figures.specs.Figures.{Sketch, figure_at}
 use Rattle.sketch_node.proofs.Unknown.{known-there, none-there, read-there}
 use Rattle.sketch_node.proofs.cases.first_unknown.Goals as goal
 use Rattle.sketch_node.proofs.cases.first_unknown.Goals.{else-is_unknown-via-then-is_unknown+else-is_fixed_on, else-is_unknown-via-else-is_unknown}

@@ -1,6 +1,6 @@
 use Rattle.std.proofs.Common.{◌≡◌, ◌==◌, ℕ, [], ◌∷◌, cond, length, length-append, ap, ◌∙◌, arith}
-use Rattle.past_sketches.specs.Figures.{Figure, each_changed}
-use Rattle.past_sketches.specs.Known.{known_at}
+use Rattle.figures.specs.Figures.{Figure, each_changed}
+use Rattle.figures.specs.Known.{known_at}
 use Rattle.sketch_node.proofs.Changing.{each-end, each-next}
 use Rattle.sketch_node.proofs.cases.known_at.Goals as goal
 

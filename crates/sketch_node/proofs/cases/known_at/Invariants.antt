@@ -1,5 +1,5 @@
 use Rattle.std.proofs.Common.{◌≡◌, ◌≤◌, ◌==◌, [], ◌∷◌, cond, length, take}
-use Rattle.past_sketches.specs.Figures.{each_changed}
+use Rattle.figures.specs.Figures.{each_changed}
 use Rattle.sketch_node.proofs.cases.known_at.Given as goal
 
 abbrev pub invariant-loop-n : goal.invariant-loop-n

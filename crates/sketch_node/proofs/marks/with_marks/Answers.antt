@@ -1,6 +1,6 @@
 use Rattle.std.proofs.Common.{◌≡◌, ◌==◌, ◌+◌, ℕ, Bool, [], ◌∷◌, length, length-append, ap, ◌∙◌, arith}
 use Rattle.std.specs.List.{list_any}
-use Rattle.past_sketches.specs.Figures.{Figure, each_changed}
+use Rattle.figures.specs.Figures.{Figure, each_changed}
 use Rattle.sketch_node.specs.Nodes.{marked_with}
 use Rattle.sketch_node.proofs.Changing.{each-end, each-next}
 use Rattle.sketch_node.proofs.Helping.{marked_if}

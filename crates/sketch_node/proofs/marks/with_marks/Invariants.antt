@@ -1,6 +1,6 @@
 use Rattle.std.proofs.Common.{◌≡◌, ◌≤◌, ◌+◌, ◌==◌, length, take}
 use Rattle.std.specs.List.{list_any}
-use Rattle.past_sketches.specs.Figures.{each_changed}
+use Rattle.figures.specs.Figures.{each_changed}
 use Rattle.sketch_node.proofs.Helping.{marked_if}
 use Rattle.sketch_node.proofs.marks.with_marks.Given as goal
 

@@ -1,6 +1,6 @@
 use Rattle.std.proofs.Common.{◌≡◌, length, take}
 use Rattle.std.specs.List.{Contains}
-use Rattle.past_sketches.specs.Figures.{Figure}
+use Rattle.figures.specs.Figures.{Figure}
 use Rattle.sketch_node.proofs.steps.are_whole.Given as goal
 
 abbrev pub invariant-loop-figure : goal.invariant-loop-figure

@@ -1,7 +1,7 @@
 use Rattle.std.proofs.Common.{◌≡◌, true, subst}
 use Rattle.board_base.specs.Rights.{Rights, holds}
-use Rattle.past_sketches.specs.Figures.{sketch_of}
-use Rattle.past_sketches.proofs.Queries.{query-fits}
+use Rattle.sketch_node.specs.Figures.{sketch_of}
+use Rattle.sketch_node.proofs.Queries.{query-fits}
 use Rattle.sketch_node.proofs.Refutes.{no-game}
 use Rattle.sketch_node.proofs.Refuting.{tree-refutes}
 use Rattle.sketch_text.specs.declared.labels.Label.TheVariants.{Now}

@@ -1,5 +1,5 @@
-use Rattle.past_sketches.specs.Figures.{sketch_of}
-use Rattle.past_sketches.proofs.Queries.{query-fits}
+use Rattle.sketch_list.specs.Figures.{sketch_of}
+use Rattle.sketch_list.proofs.Queries.{query-fits}
 use Rattle.sketch_list.proofs.Refutes.{no-game}
 use Rattle.sketch_rule.proofs.Refuting.{tree-refutes}
 use Rattle.sketch_rule.proofs.laws.trees_refute.Goals as goal

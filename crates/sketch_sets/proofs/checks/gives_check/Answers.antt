@@ -1,7 +1,7 @@
 use Rattle.std.proofs.Common.{List, Bool, ap, ◌∙◌}
 use Rattle.board_base.specs.Board.{opponent}
 use Rattle.board_base.specs.declared.men.Colour.{Colour}
-use Rattle.past_sketches.specs.Touching.{kings_of}
+use Rattle.figures.specs.Touching.{kings_of}
 use Rattle.sketch_sets.specs.Tests.{meets}
 use Rattle.sketch_sets.proofs.Touched.{check-made}
 use Rattle.sketch_sets.proofs.checks.gives_check.Goals as goal

@@ -1,5 +1,5 @@
 use Rattle.std.proofs.Common.{◌≡◌, ◌==◌, subst}
-use Rattle.past_sketches.specs.Figures.{Figure}
+use Rattle.figures.specs.Figures.{Figure}
 use Rattle.sketch_sets.specs.Clashes.{has_no_square}
 use Rattle.sketch_sets.proofs.Clashing.{nowhere-bits}
 use Rattle.sketch_sets.proofs.checks.has_no_square.Goals as goal

@@ -1,5 +1,5 @@
 use Rattle.std.proofs.Common.{◌+◌, List, Bool, ap, sym, ◌∙◌, subst, arith}
-use Rattle.past_sketches.specs.Figures.{Sketch}
+use Rattle.figures.specs.Figures.{Sketch}
 use Rattle.sketch_sets.specs.Clashes.{has_two}
 use Rattle.sketch_sets.proofs.Clashing.{Seen, seen-end, seen-start, seen-twice, seen-with, seen-without}
 use Rattle.sketch_sets.proofs.checks.has_two.Goals as goal

@@ -1,6 +1,6 @@
 use Rattle.std.proofs.Common.{ap, ◌∙◌}
 use Rattle.board_base.specs.Board.{same_colour}
-use Rattle.past_sketches.specs.Figures.{Figure}
+use Rattle.figures.specs.Figures.{Figure}
 use Rattle.sketch_sets.proofs.crowds.is_on_side.Goals as goal
 
 pub returns : goal.returns

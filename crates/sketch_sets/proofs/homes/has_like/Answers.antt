@@ -1,7 +1,7 @@
 use Rattle.std.proofs.Common.{ap, ◌∙◌, rules}
 use Rattle.std.specs.List.{list_any}
 use Rattle.board_base.specs.Board.{at, is_the}
-use Rattle.past_sketches.specs.Figures.{Figure}
+use Rattle.figures.specs.Figures.{Figure}
 use Rattle.sketch_sets.specs.Homes.{has_like}
 use Rattle.sketch_sets.proofs.homes.has_like.Goals as goal
 

@@ -1,6 +1,6 @@
 use Rattle.std.proofs.Common.{◌&&◌, List, Bool, ap, ◌∙◌, rules}
 use Rattle.board_base.specs.Board.{is_in}
-use Rattle.cage_rules.specs.Sets.{squares_that}
+use Rattle.figures.specs.Sets.{squares_that}
 use Rattle.sketch_sets.specs.Homes.{has_like, homes_on}
 use Rattle.sketch_sets.specs.Remade.{set_of}
 use Rattle.sketch_sets.proofs.homes.homes.Goals as goal

@@ -1,6 +1,6 @@
 use Rattle.std.proofs.Common.{ℕ, not, ap, ◌∙◌}
 use Rattle.std.specs.Prelude.{nat_lt}
-use Rattle.past_sketches.specs.Figures.{Figure}
+use Rattle.figures.specs.Figures.{Figure}
 use Rattle.sketch_sets.specs.Homes.{home_count, suffices}
 use Rattle.sketch_sets.proofs.homes.suffices.Goals as goal
 

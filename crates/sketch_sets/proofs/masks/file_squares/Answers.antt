@@ -1,7 +1,7 @@
 use Rattle.std.proofs.Common.{◌≡◌, ◌==◌, ℕ, ap, refl, sym, ◌∙◌, arith}
 use Rattle.board_base.specs.Board.{file}
 use Rattle.board_base.specs.Squares.{squares_of}
-use Rattle.cage_rules.specs.Sets.{squares_that}
+use Rattle.figures.specs.Sets.{squares_that}
 use Rattle.sketch_sets.proofs.masks.file_squares.Goals as goal
 
 row-0 : squares_of 72340172838076673 ≡ squares_that (λ q. file q == 0)

@@ -2,7 +2,7 @@ use Rattle.std.proofs.Common.{◌≡◌, ℕ, ap, refl, sym, ◌∙◌, arith}
 use Rattle.std.specs.Prelude.{nat_lt}
 use Rattle.board_base.specs.Board.{rank}
 use Rattle.board_base.specs.Squares.{squares_of}
-use Rattle.cage_rules.specs.Sets.{squares_that}
+use Rattle.figures.specs.Sets.{squares_that}
 use Rattle.sketch_sets.proofs.masks.ranks_below.Goals as goal
 
 row-0 : squares_of 0 ≡ squares_that (λ q. nat_lt (rank q) 0)

@@ -1,7 +1,7 @@
 use Rattle.std.proofs.Common.{ℕ, Bool, ◌&&◌, List, ap, sym, ◌∙◌, rules}
 use Rattle.board_base.specs.Board.{is_in}
-use Rattle.cage_rules.proofs.Filling.{is_in-that}
-use Rattle.past_sketches.specs.Figures.{Figure}
+use Rattle.figures.proofs.Filling.{is_in-that}
+use Rattle.figures.specs.Figures.{Figure}
 use Rattle.sketch_sets.specs.Quiet.{quiet_on}
 use Rattle.sketch_sets.specs.Tests.{some_that}
 use Rattle.sketch_sets.specs.Wide.{room_on}

@@ -1,7 +1,7 @@
 use Rattle.std.proofs.Common.{List, Bool, ap, ◌∙◌, rules}
 use Rattle.std.specs.List.{list_any}
-use Rattle.cage_rules.specs.Sets.{union}
-use Rattle.past_sketches.specs.Figures.{Figure}
+use Rattle.figures.specs.Sets.{union}
+use Rattle.figures.specs.Figures.{Figure}
 use Rattle.sketch_sets.specs.Remade.{set_of}
 use Rattle.sketch_sets.specs.Wide.{from_on}
 use Rattle.sketch_sets.proofs.Widening.{wide-made}

@@ -4,9 +4,9 @@ use Rattle.board_base.specs.Legal.{pawn_rank}
 use Rattle.board_base.specs.Squares.{squares_of}
 use Rattle.board_base.specs.declared.men.Colour.{Colour}
 use Rattle.board_base.specs.declared.men.Colour.TheVariants.{White, Black}
-use Rattle.cage_rules.specs.Frozen.{is_past_home}
-use Rattle.cage_rules.specs.Sets.{squares_that}
-use Rattle.cage_rules.proofs.Filling.{is_in-that}
+use Rattle.figures.specs.Frozen.{is_past_home}
+use Rattle.figures.specs.Sets.{squares_that}
+use Rattle.figures.proofs.Filling.{is_in-that}
 use Rattle.sketch_sets.proofs.pieces.pawn_squares.Goals as goal
 
 white-past : squares_of 72057594037862400 ≡ squares_that (λ s. is_past_home White s)

@@ -1,6 +1,6 @@
 use Rattle.std.proofs.Common.{◌≡◌, List, Bool, [], length, get_or, refl, ap, sym, ◌∙◌, arith, map}
 use Rattle.std.proofs.lemmas.Bool.{both_ways}
-use Rattle.past_sketches.specs.Figures.{Sketch}
+use Rattle.figures.specs.Figures.{Sketch}
 use Rattle.sketch_sets.specs.Remade.{set_of}
 use Rattle.sketch_sets.proofs.Made.{map-at}
 use Rattle.sketch_sets.proofs.remade.has_same_sets.Goals as goal

@@ -1,5 +1,5 @@
 use Rattle.std.proofs.Common.{◌≡◌, ◌≤◌, List, Bool, length, map, take}
-use Rattle.past_sketches.specs.Figures.{Figure}
+use Rattle.figures.specs.Figures.{Figure}
 use Rattle.sketch_sets.specs.Remade.{with_set}
 use Rattle.sketch_sets.proofs.remade.with_sets.Given as goal
 

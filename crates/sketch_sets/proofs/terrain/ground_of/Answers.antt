@@ -1,6 +1,6 @@
 use Rattle.std.proofs.Common.{◌≡◌, rules}
-use Rattle.cage_rules.specs.Frozen.{is_held_home}
-use Rattle.cage_rules.specs.Sets.{squares_that}
+use Rattle.figures.specs.Frozen.{is_held_home}
+use Rattle.figures.specs.Sets.{squares_that}
 use Rattle.sketch_sets.proofs.terrain.ground_of.Goals as goal
 
 pub returns : goal.returns

@@ -2,8 +2,8 @@ use Rattle.std.proofs.Common.{◌≡◌, ◌==◌, true, false, Bool, ◌&&◌, 
 use Rattle.std.specs.List.{list_all}
 use Rattle.board_base.specs.Board.{is_in, same_colour, same_kind}
 use Rattle.board_base.specs.declared.men.Kind.TheVariants.{King}
-use Rattle.cage_rules.proofs.Filling.{is_in-that, none-in-zero}
-use Rattle.past_sketches.specs.Figures.{Figure, is_fixed_on}
+use Rattle.figures.proofs.Filling.{is_in-that, none-in-zero}
+use Rattle.figures.specs.Figures.{Figure, is_fixed_on}
 use Rattle.figures.proofs.Singles.{fixed-same}
 use Rattle.sketch_sets.specs.Grounds.{is_king_there}
 use Rattle.sketch_sets.proofs.touching.king_square.Goals as goal

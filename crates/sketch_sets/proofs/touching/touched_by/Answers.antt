@@ -1,8 +1,8 @@
 use Rattle.std.proofs.Common.{◌≡◌, true, Bool, ◌&&◌, List, ap, sym, ◌∙◌}
 use Rattle.std.proofs.lemmas.Bool.{and_left}
 use Rattle.board_base.specs.Board.{is_in, same_colour}
-use Rattle.cage_rules.proofs.Filling.{none-in-zero}
-use Rattle.past_sketches.specs.Figures.{Figure}
+use Rattle.figures.proofs.Filling.{none-in-zero}
+use Rattle.figures.specs.Figures.{Figure}
 use Rattle.sketch_sets.specs.Grounds.{surely_touches}
 use Rattle.sketch_sets.proofs.Touched.{surely-none, surely-there}
 use Rattle.sketch_sets.proofs.touching.touched_by.Goals as goal

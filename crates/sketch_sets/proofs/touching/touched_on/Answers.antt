@@ -1,7 +1,7 @@
 use Rattle.std.proofs.Common.{not, ap, ◌∙◌, rules}
 use Rattle.std.specs.List.{list_all}
-use Rattle.past_sketches.specs.Figures.{Figure}
-use Rattle.past_sketches.specs.Touching.{touches}
+use Rattle.figures.specs.Figures.{Figure}
+use Rattle.figures.specs.Touching.{touches}
 use Rattle.sketch_sets.proofs.Sets.{told-outside}
 use Rattle.sketch_sets.proofs.SixKinds.{all-none}
 use Rattle.sketch_sets.proofs.touching.touched_on.Goals as goal

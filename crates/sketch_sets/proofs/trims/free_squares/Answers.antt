@@ -1,6 +1,6 @@
 use Rattle.std.proofs.Common.{List, Bool, ◌&&◌, not, ap, ◌∙◌}
 use Rattle.board_base.specs.Board.{is_in}
-use Rattle.cage_rules.specs.Sets.{squares_that}
+use Rattle.figures.specs.Sets.{squares_that}
 use Rattle.sketch_sets.specs.Remade.{set_of}
 use Rattle.sketch_sets.proofs.Keeping.{free-fixed, free-loose}
 use Rattle.sketch_sets.proofs.trims.free_squares.Goals as goal

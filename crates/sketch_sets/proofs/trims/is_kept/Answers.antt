@@ -2,7 +2,7 @@ use Rattle.std.proofs.Common.{◌≡◌, ◌||◌, not, Bool, ap, sym, ◌∙◌
 use Rattle.std.specs.List.{list_all}
 use Rattle.board_base.specs.Board.{same_kind}
 use Rattle.board_base.specs.declared.men.Kind.TheVariants.{Pawn}
-use Rattle.past_sketches.specs.Figures.{Figure}
+use Rattle.figures.specs.Figures.{Figure}
 use Rattle.sketch_sets.proofs.Trimming.{kept-officer, kept-out, kept-pawn}
 use Rattle.sketch_sets.proofs.trims.is_kept.Goals as goal
 

@@ -2,8 +2,8 @@ use Rattle.std.proofs.Common.{◌&&◌, List, Bool, ap, sym, ◌∙◌, rules}
 use Rattle.std.specs.List.{list_all}
 use Rattle.board_base.specs.Board.{is_in, same_kind}
 use Rattle.board_base.specs.declared.men.Kind.TheVariants.{Pawn}
-use Rattle.cage_rules.specs.Sets.{squares_that}
-use Rattle.past_sketches.specs.Figures.{Figure}
+use Rattle.figures.specs.Sets.{squares_that}
+use Rattle.figures.specs.Figures.{Figure}
 use Rattle.sketch_sets.specs.Tests.{is_kept, kept_squares}
 use Rattle.sketch_sets.specs.Remade.{set_of}
 use Rattle.sketch_sets.proofs.Keeping.{kept-free}

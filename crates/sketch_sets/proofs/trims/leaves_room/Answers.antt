@@ -1,6 +1,6 @@
 use Rattle.std.proofs.Common.{◌≡◌, ℕ, Bool, ◌&&◌, ◌||◌, not, ap, sym, ◌∙◌}
 use Rattle.std.specs.Prelude.{nat_lt}
-use Rattle.past_sketches.specs.Figures.{Figure}
+use Rattle.figures.specs.Figures.{Figure}
 use Rattle.sketch_sets.specs.Files.{is_below}
 use Rattle.sketch_sets.proofs.Rooms.{room-off, room-on}
 use Rattle.sketch_sets.proofs.trims.leaves_room.Goals as goal

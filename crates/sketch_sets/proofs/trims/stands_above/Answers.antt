@@ -1,8 +1,8 @@
 use Rattle.std.proofs.Common.{◌≡◌, ℕ, ap, ◌∙◌, subst}
 use Rattle.std.specs.Prelude.{nat_lt}
 use Rattle.board_base.specs.Board.{rank}
-use Rattle.cage_rules.specs.Sets.{squares_that}
-use Rattle.past_sketches.specs.Figures.{Figure}
+use Rattle.figures.specs.Sets.{squares_that}
+use Rattle.figures.specs.Figures.{Figure}
 use Rattle.sketch_sets.specs.Files.{is_above}
 use Rattle.sketch_sets.specs.Tests.{meets}
 use Rattle.sketch_sets.proofs.Sets.{meets-told}

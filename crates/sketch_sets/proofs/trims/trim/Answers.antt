@@ -1,6 +1,6 @@
 use Rattle.std.proofs.Common.{length, ap, sym, ◌∙◌, subst}
 use Rattle.std.proofs.lemmas.Bool.{both_ways}
-use Rattle.past_sketches.specs.Trimmed.{trimmed}
+use Rattle.figures.specs.Trimmed.{trimmed}
 use Rattle.sketch_sets.specs.Remade.{AreWhole}
 use Rattle.sketch_sets.proofs.Ending.{out-reached}
 use Rattle.sketch_sets.proofs.Sizes.{inside-length, trimmed-end, trimmed-inside, trimmed-less, trimmed-whole, trims-more}

@@ -1,5 +1,5 @@
 use Rattle.std.proofs.Common.{◌≡◌, ℕ}
-use Rattle.past_sketches.specs.Trimmed.{trims}
+use Rattle.figures.specs.Trimmed.{trims}
 use Rattle.sketch_sets.specs.Remade.{AreWhole}
 use Rattle.sketch_sets.proofs.Sizes.{total}
 use Rattle.sketch_sets.proofs.trims.trim.Given as goal

@@ -3,8 +3,8 @@ use Rattle.std.specs.List.{list_any}
 use Rattle.std.proofs.lemmas.List.{take_all}
 use Rattle.std.proofs.lemmas.List.Folds.{list_any_more}
 use Rattle.board_base.specs.Board.{is_in}
-use Rattle.cage_rules.proofs.Filling.{none-in-zero}
-use Rattle.past_sketches.specs.Figures.{Figure, Sketch}
+use Rattle.figures.proofs.Filling.{none-in-zero}
+use Rattle.figures.specs.Figures.{Figure, Sketch}
 use Rattle.sketch_sets.proofs.Sets.{told-either}
 use Rattle.sketch_sets.proofs.unions.over_figures.Goals as goal
 

@@ -1,7 +1,7 @@
 use Rattle.std.proofs.Common.{◌≡◌, ◌<◌, ℕ, Bool, take}
 use Rattle.std.specs.List.{list_any}
 use Rattle.board_base.specs.Board.{is_in}
-use Rattle.past_sketches.specs.Figures.{Figure}
+use Rattle.figures.specs.Figures.{Figure}
 use Rattle.sketch_sets.proofs.unions.over_figures.Given as goal
 
 abbrev pub invariant-loop-figure : goal.invariant-loop-figure

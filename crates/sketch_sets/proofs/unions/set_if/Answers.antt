@@ -1,7 +1,7 @@
 use Rattle.std.proofs.Common.{Bool, ◌&&◌, List, ap, sym, ◌∙◌}
 use Rattle.std.proofs.lemmas.Bool.{and_left}
 use Rattle.board_base.specs.Board.{is_in}
-use Rattle.cage_rules.proofs.Filling.{none-in-zero}
+use Rattle.figures.proofs.Filling.{none-in-zero}
 use Rattle.sketch_sets.proofs.unions.set_if.Goals as goal
 
 pub returns-then-has : goal.returns-then-has

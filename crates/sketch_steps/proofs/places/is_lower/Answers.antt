@@ -1,5 +1,5 @@
 use Rattle.std.proofs.Common.{ap}
-use Rattle.past_sketches.specs.Figures.{Figure}
+use Rattle.figures.specs.Figures.{Figure}
 use Rattle.sketch_steps.proofs.Rearranging.{lower-made}
 use Rattle.sketch_steps.proofs.places.is_lower.Goals as goal
 

@@ -1,5 +1,5 @@
 use Rattle.std.proofs.Common.{◌≤◌, length, map, take, ap, sym, ◌∙◌, subst, arith}
-use Rattle.past_sketches.specs.Figures.{IsRearranged, Sketch}
+use Rattle.figures.specs.Figures.{IsRearranged, Sketch}
 use Rattle.sketch_steps.specs.Places.{placed_in}
 use Rattle.sketch_steps.proofs.Rearranging.{moved-recounted, recounted-made, stays}
 use Rattle.sketch_steps.proofs.places.recounted.Goals as goal

@@ -1,6 +1,6 @@
 use Rattle.std.proofs.Common.{◌≡◌, ap, sym, ◌∙◌}
 use Rattle.board_base.specs.Legal.{last_rank}
-use Rattle.past_sketches.specs.Figures.{Figure}
+use Rattle.figures.specs.Figures.{Figure}
 use Rattle.sketch_steps.proofs.Telling.{arrives-end, arrives-short}
 use Rattle.sketch_steps.proofs.stepping.arrives.Goals as goal
 

@@ -1,5 +1,5 @@
 use Rattle.std.proofs.Common.{ap, sym, ◌∙◌}
-use Rattle.past_sketches.specs.Steps.{Step}
+use Rattle.figures.specs.Steps.{Step}
 use Rattle.sketch_steps.proofs.Telling.{captures-past, captures-there}
 use Rattle.sketch_steps.proofs.stepping.captures.Goals as goal
 

@@ -1,6 +1,6 @@
 use Rattle.std.proofs.Common.{List, Bool, ap, ◌∙◌, arith}
 use Rattle.board_base.specs.Board.{is_in}
-use Rattle.past_sketches.specs.Figures.{Figure}
+use Rattle.figures.specs.Figures.{Figure}
 use Rattle.sketch_steps.proofs.Telling.{ends-made}
 use Rattle.sketch_steps.proofs.stepping.ends_are_free.Goals as goal
 

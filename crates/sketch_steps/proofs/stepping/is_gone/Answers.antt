@@ -1,8 +1,8 @@
 use Rattle.std.proofs.Common.{ℕ, Bool, ◌&&◌, not, ◌==◌, ap, sym, ◌∙◌}
 use Rattle.board_base.specs.Board.{file, is_in, rank}
 use Rattle.board_base.specs.Legal.{last_rank}
-use Rattle.past_sketches.specs.Figures.{Figure}
-use Rattle.past_sketches.specs.Steps.{Step}
+use Rattle.figures.specs.Figures.{Figure}
+use Rattle.figures.specs.Steps.{Step}
 use Rattle.sketch_sets.specs.Files.{straight}
 use Rattle.sketch_steps.proofs.Telling.{gone-made, gone-none}
 use Rattle.sketch_steps.proofs.stepping.is_gone.Goals as goal

@@ -1,6 +1,6 @@
 use Rattle.std.proofs.Common.{ap, sym, ◌∙◌}
-use Rattle.past_sketches.specs.Figures.{figure_at}
-use Rattle.past_sketches.specs.Steps.{Step}
+use Rattle.figures.specs.Figures.{figure_at}
+use Rattle.figures.specs.Steps.{Step}
 use Rattle.sketch_steps.proofs.Telling.{step-by, step-none}
 use Rattle.sketch_steps.proofs.stepping.is_step.Goals as goal
 

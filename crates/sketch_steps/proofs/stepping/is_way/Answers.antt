@@ -1,7 +1,7 @@
 use Rattle.std.proofs.Common.{ap, ◌∙◌}
 use Rattle.board_base.specs.Attacks.{one_ahead}
-use Rattle.past_sketches.specs.Figures.{Figure}
-use Rattle.past_sketches.specs.Steps.{Step}
+use Rattle.figures.specs.Figures.{Figure}
+use Rattle.figures.specs.Steps.{Step}
 use Rattle.sketch_steps.specs.Arrivals.{arrives_on}
 use Rattle.sketch_steps.specs.Stepping.{captures_by}
 use Rattle.sketch_steps.proofs.Telling.{way-none, way-squares}

@@ -1,6 +1,6 @@
 use Rattle.std.proofs.Common.{ap, ◌∙◌}
-use Rattle.past_sketches.specs.Figures.{Figure}
-use Rattle.past_sketches.specs.Steps.{Step}
+use Rattle.figures.specs.Figures.{Figure}
+use Rattle.figures.specs.Steps.{Step}
 use Rattle.sketch_sets.specs.Files.{has_all_room}
 use Rattle.sketch_steps.proofs.Telling.{keeps-made}
 use Rattle.sketch_steps.proofs.stepping.keeps.Goals as goal

@@ -1,7 +1,7 @@
 use Rattle.std.proofs.Common.{ap, ◌∙◌}
 use Rattle.board_base.specs.Attacks.{files_apart}
 use Rattle.board_base.specs.Board.{rank}
-use Rattle.past_sketches.specs.Steps.{Step}
+use Rattle.figures.specs.Steps.{Step}
 use Rattle.sketch_steps.proofs.Telling.{passes-made}
 use Rattle.sketch_steps.proofs.stepping.passes.Goals as goal
 

@@ -1,5 +1,5 @@
 use Rattle.std.proofs.Common.{ap, ◌∙◌}
-use Rattle.past_sketches.specs.Steps.{Step}
+use Rattle.figures.specs.Steps.{Step}
 use Rattle.sketch_steps.specs.Stepping.{has_next}
 use Rattle.sketch_steps.proofs.Telling.{place-made}
 use Rattle.sketch_steps.proofs.stepping.place_is_free.Goals as goal

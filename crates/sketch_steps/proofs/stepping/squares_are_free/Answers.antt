@@ -1,5 +1,5 @@
 use Rattle.std.proofs.Common.{ap, ◌∙◌}
-use Rattle.past_sketches.specs.Steps.{Step}
+use Rattle.figures.specs.Steps.{Step}
 use Rattle.sketch_steps.specs.Stepping.{ends_are_free}
 use Rattle.sketch_steps.proofs.Telling.{squares-made}
 use Rattle.sketch_steps.proofs.stepping.squares_are_free.Goals as goal

@@ -2,7 +2,7 @@ use Rattle.std.proofs.Common.{ap, sym, ◌∙◌}
 use Rattle.board_base.specs.Attacks.{files_apart}
 use Rattle.board_base.specs.Board.{file, rank}
 use Rattle.play_rules.specs.Laws.{is_end}
-use Rattle.past_sketches.specs.Steps.{Step}
+use Rattle.figures.specs.Steps.{Step}
 use Rattle.sketch_steps.proofs.Telling.{takes-man, takes-nobody}
 use Rattle.sketch_steps.proofs.stepping.takes.Goals as goal
 

@@ -1,7 +1,7 @@
 use Rattle.std.proofs.Common.{◌≡◌, ◌<◌, true, ap, sym, ◌∙◌, arith}
 use Rattle.std.proofs.lemmas.Bool.{false_from_ne_true, lt-ltb, ltb-true}
-use Rattle.past_sketches.specs.Figures.{Figure}
-use Rattle.past_sketches.specs.Steps.{Step}
+use Rattle.figures.specs.Figures.{Figure}
+use Rattle.figures.specs.Steps.{Step}
 use Rattle.sketch_sets.specs.Files.{is_above, is_below, is_beside}
 use Rattle.sketch_steps.proofs.Telling.{yields-above, yields-below, yields-off}
 use Rattle.sketch_steps.proofs.stepping.yields.Goals as goal

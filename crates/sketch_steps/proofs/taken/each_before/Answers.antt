@@ -1,6 +1,6 @@
 use Rattle.std.proofs.Common.{◌≤◌, [], ◌∷◌, length, length-append, take, ap, ◌∙◌, subst, arith, not, rules}
 use Rattle.std.specs.List.{list_all}
-use Rattle.past_sketches.specs.Figures.{Sketch, each_changed}
+use Rattle.figures.specs.Figures.{Sketch, each_changed}
 use Rattle.sketch_steps.specs.Cleared.{changed_of, clears}
 use Rattle.sketch_steps.specs.Places.{has_low_place}
 use Rattle.sketch_steps.proofs.Before.{changed-same, each-more, each-told, low-item}

@@ -1,5 +1,5 @@
 use Rattle.std.proofs.Common.{◌≡◌, length, take}
-use Rattle.past_sketches.specs.Figures.{each_changed}
+use Rattle.figures.specs.Figures.{each_changed}
 use Rattle.sketch_steps.specs.Cleared.{changed_of}
 use Rattle.sketch_steps.proofs.taken.each_before.Given as goal
 

@@ -1,5 +1,5 @@
 use Rattle.std.proofs.Common.{ap}
-use Rattle.past_sketches.specs.Steps.{Step}
+use Rattle.figures.specs.Steps.{Step}
 use Rattle.sketch_steps.proofs.Before.{fits-made}
 use Rattle.sketch_steps.proofs.taken.fits.Goals as goal
 

@@ -1,7 +1,7 @@
 use Rattle.std.proofs.Common.{ap, ◌∙◌}
 use Rattle.board_base.specs.Play.{ahead}
-use Rattle.past_sketches.specs.Figures.{Figure}
-use Rattle.past_sketches.specs.Steps.{Step}
+use Rattle.figures.specs.Figures.{Figure}
+use Rattle.figures.specs.Steps.{Step}
 use Rattle.sketch_steps.proofs.Before.{home-made}
 use Rattle.sketch_steps.proofs.taken.has_home.Goals as goal
 

@@ -1,6 +1,6 @@
 use Rattle.std.proofs.Common.{◌≡◌, ◌++◌, length, append-nil, ap, sym, ◌∙◌, arith}
-use Rattle.past_sketches.specs.Figures.{Figure, Sketch}
-use Rattle.past_sketches.specs.Steps.{changed_by, victims}
+use Rattle.figures.specs.Figures.{Figure, Sketch}
+use Rattle.figures.specs.Steps.{changed_by, victims}
 use Rattle.sketch_steps.proofs.Before.{each-length, fits-few, fits-home, fits-low, fits-place, others-made}
 use Rattle.sketch_steps.proofs.taken.others_first.Goals as goal
 

@@ -1,6 +1,6 @@
 use Rattle.std.proofs.Common.{◌*◌, ap, ◌∙◌}
-use Rattle.past_sketches.specs.Figures.{only_on}
-use Rattle.past_sketches.specs.Steps.{Step}
+use Rattle.figures.specs.Figures.{only_on}
+use Rattle.figures.specs.Steps.{Step}
 use Rattle.sketch_steps.specs.Cleared.{pawn_of}
 use Rattle.sketch_steps.proofs.Before.{pawn-made}
 use Rattle.sketch_steps.proofs.taken.pawn_before.Goals as goal

@@ -1,8 +1,8 @@
 use Rattle.std.proofs.Common.{◌≡◌, true, ap, sym, ◌∙◌, subst}
 use Rattle.std.proofs.lemmas.Bool.{both_ways}
 use Rattle.std.specs.Prelude.{IsTrue, None, Option, Some, SomeIff}
-use Rattle.past_sketches.specs.Figures.{IsRearranged, Sketch, figure_at}
-use Rattle.past_sketches.specs.Steps.{Step, taken_back}
+use Rattle.figures.specs.Figures.{IsRearranged, Sketch, figure_at}
+use Rattle.figures.specs.Steps.{Step, taken_back}
 use Rattle.sketch_steps.specs.Places.{before_step, can_go_back, fits_before, recounted}
 use Rattle.sketch_steps.proofs.Before.{back-by, back-none, before-by, before-rearranged, fits-low, low-at}
 use Rattle.sketch_steps.proofs.taken.taken_back.Goals as goal

@@ -1,6 +1,6 @@
 use Rattle.std.proofs.Common.{◌*◌, ◌+◌, refl, ap, ◌∙◌}
-use Rattle.past_sketches.specs.Figures.{Figure}
-use Rattle.past_sketches.specs.Steps.{victim_on}
+use Rattle.figures.specs.Figures.{Figure}
+use Rattle.figures.specs.Steps.{victim_on}
 use Rattle.sketch_steps.proofs.Before.{victim-made}
 use Rattle.sketch_steps.proofs.taken.victim_on.Goals as goal
 

@@ -1,6 +1,6 @@
 use Rattle.std.proofs.Common.{◌≡◌, ◌++◌, length, append-nil, ap, sym, ◌∙◌, arith}
-use Rattle.past_sketches.specs.Figures.{Figure, Sketch}
-use Rattle.past_sketches.specs.Steps.{changed_by}
+use Rattle.figures.specs.Figures.{Figure, Sketch}
+use Rattle.figures.specs.Steps.{changed_by}
 use Rattle.sketch_list.specs.Listed.{Listed, victims_as}
 use Rattle.sketch_steps.proofs.Before.{each-length}
 use Rattle.sketch_walk.proofs.Making.{before-made}

@@ -1,7 +1,7 @@
 use Rattle.std.proofs.Common.{◌≡◌, ◌<◌, true, ap, sym, ◌∙◌, subst}
 use Rattle.std.proofs.lemmas.Bool.{and_from}
-use Rattle.past_sketches.specs.Figures.{Figure, Sketch, figure_at}
-use Rattle.past_sketches.specs.Steps.{is_step}
+use Rattle.figures.specs.Figures.{Figure, Sketch, figure_at}
+use Rattle.figures.specs.Steps.{is_step}
 use Rattle.board_base.specs.Play.{ahead}
 use Rattle.sketch_steps.proofs.Before.{low-at}
 use Rattle.sketch_list.specs.Listed.{Listed, is_sound, sketch_before, step_for}

@@ -1,6 +1,6 @@
 use Rattle.std.proofs.Common.{ap, sym, ◌∙◌}
 use Rattle.board_base.specs.Board.{file, is_in}
-use Rattle.past_sketches.specs.Figures.{Figure}
+use Rattle.figures.specs.Figures.{Figure}
 use Rattle.sketch_list.specs.Listed.{Listed}
 use Rattle.sketch_walk.specs.Goings.{goes_as}
 use Rattle.sketch_walk.proofs.Going.{may-exact, may-marked, may-other}

@@ -1,7 +1,7 @@
 use Rattle.std.proofs.Common.{◌≡◌, ℕ, ◌&&◌, ◌==◌, not, ap, ◌∙◌}
 use Rattle.board_base.specs.Board.{file, rank}
 use Rattle.board_base.specs.Legal.{last_rank}
-use Rattle.past_sketches.specs.Figures.{Figure}
+use Rattle.figures.specs.Figures.{Figure}
 use Rattle.sketch_list.specs.Listed.{Listed, is_advance}
 use Rattle.sketch_walk.proofs.places.is_advance.Goals as goal
 

@@ -1,7 +1,7 @@
 use Rattle.std.proofs.Common.{Bool, ◌&&◌, not, ap, ◌∙◌}
 use Rattle.std.specs.Prelude.{nat_lt}
 use Rattle.board_base.specs.Board.{file}
-use Rattle.past_sketches.specs.Figures.{Figure}
+use Rattle.figures.specs.Figures.{Figure}
 use Rattle.sketch_list.specs.Listed.{is_from, is_on_file}
 use Rattle.sketch_walk.proofs.places.is_from.Goals as goal
 

@@ -2,7 +2,7 @@ use Rattle.std.proofs.Common.{ℕ, Bool, ◌&&◌, ◌==◌, ap, ◌∙◌}
 use Rattle.std.specs.List.{list_any, range_with_len}
 use Rattle.board_base.specs.Board.{file, is_in}
 use Rattle.board_base.specs.declared.men.Kind.TheVariants.{Pawn}
-use Rattle.past_sketches.specs.Figures.{Figure, may_be}
+use Rattle.figures.specs.Figures.{Figure, may_be}
 use Rattle.sketch_list.specs.Listed.{is_on_file}
 use Rattle.sketch_walk.proofs.places.is_on_file.Goals as goal
 

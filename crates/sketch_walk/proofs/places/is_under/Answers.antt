@@ -2,7 +2,7 @@ use Rattle.std.proofs.Common.{ℕ, Bool, ◌&&◌, ap, sym, ◌∙◌}
 use Rattle.std.proofs.lemmas.Bool.{and_left}
 use Rattle.std.specs.Prelude.{nat_lt}
 use Rattle.board_base.specs.Board.{file}
-use Rattle.past_sketches.specs.Figures.{Figure}
+use Rattle.figures.specs.Figures.{Figure}
 use Rattle.sketch_list.specs.Listed.{count_from, is_on_file, is_under}
 use Rattle.sketch_walk.proofs.places.is_under.Goals as goal
 

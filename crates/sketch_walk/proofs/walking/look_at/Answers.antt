@@ -1,6 +1,6 @@
 use Rattle.std.proofs.Common.{◌≡◌, ◌<◌, ◌∷◌, ◌&&◌, ℕ, true, false, length, ap, sym, ◌∙◌, subst}
-use Rattle.past_sketches.specs.Figures.{Figure, Sketch}
-use Rattle.past_sketches.specs.Steps.{is_step}
+use Rattle.figures.specs.Figures.{Figure, Sketch}
+use Rattle.figures.specs.Steps.{is_step}
 use Rattle.sketch_list.specs.Listed.{Listed, is_sound, may_be_above, sketch_before, step_for}
 use Rattle.sketch_walk.specs.Goings.{may_go}
 use Rattle.sketch_walk.specs.Nests.{Finds, after_place, left}

@@ -1,6 +1,6 @@
 use Rattle.std.proofs.Common.{◌≡◌, ◌<◌, ℕ, length, ap, sym, ◌∙◌, subst}
 use Rattle.std.specs.Prelude.{Some}
-use Rattle.past_sketches.specs.Figures.{Figure, Sketch, figure_at}
+use Rattle.figures.specs.Figures.{Figure, Sketch, figure_at}
 use Rattle.figures.proofs.Numbered.{at-some}
 use Rattle.sketch_walk.specs.Walks.{found_at, may_come, origin_at}
 use Rattle.sketch_walk.proofs.Advancing.{past-square, past-way}

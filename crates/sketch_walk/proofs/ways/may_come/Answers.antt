@@ -1,7 +1,7 @@
 use Rattle.std.proofs.Common.{Bool, ◌&&◌, ap, sym, ◌∙◌}
 use Rattle.std.proofs.lemmas.Bool.{and_left}
 use Rattle.board_base.specs.Board.{is_in}
-use Rattle.past_sketches.specs.Figures.{Figure}
+use Rattle.figures.specs.Figures.{Figure}
 use Rattle.sketch_steps.specs.Arrivals.{arrives_on}
 use Rattle.sketch_walk.specs.Walks.{may_come}
 use Rattle.sketch_walk.proofs.ways.may_come.Goals as goal

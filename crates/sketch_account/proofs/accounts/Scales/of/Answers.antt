@@ -1,8 +1,8 @@
 use Rattle.std.proofs.Common.{Bool, List, ap, subst, sym, ◌∙◌}
 use Rattle.play_rules.specs.Reach.{IsWithin}
-use Rattle.past_sketches.specs.Figures.{fixed_squares}
-use Rattle.past_account.specs.Frozen.{IsFrozenIn}
-use Rattle.past_account.specs.Zones.{AreZones}
+use Rattle.figures.specs.Figures.{fixed_squares}
+use Rattle.sketch_grounds.specs.Frozen.{IsFrozenIn}
+use Rattle.sketch_grounds.specs.Zones.{AreZones}
 use Rattle.sketch_grounds.specs.LeastZones.{pair_zones}
 use Rattle.sketch_grounds.proofs.Joining.{frozen-fixed}
 use Rattle.sketch_account.specs.Basis.{Basis}

@@ -1,5 +1,5 @@
 use Rattle.std.proofs.Common.{◌∙◌}
-use Rattle.past_account.specs.Zones.{Room, room_past}
+use Rattle.sketch_grounds.specs.Zones.{Room, room_past}
 use Rattle.sketch_account.proofs.accounts.Scales.set_prices.Goals as goal
 
 pub invariant_of-self : goal.invariant_of-self

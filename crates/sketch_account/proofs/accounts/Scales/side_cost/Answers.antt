@@ -2,7 +2,7 @@ use Rattle.std.proofs.Common.{◌≡◌, List, subst, sym}
 use Rattle.std.specs.Prelude.{MatchOption}
 use Rattle.board_base.specs.declared.men.Colour.{Colour}
 use Rattle.board_base.specs.declared.men.Colour.TheVariants.{White, Black}
-use Rattle.past_account.specs.Account.{Counted}
+use Rattle.sketch_grounds.specs.Account.{Counted}
 use Rattle.sketch_account.specs.Basis.{AreFew, cost_on}
 use Rattle.sketch_account.specs.Counting.{counted_as}
 use Rattle.sketch_account.proofs.Weighed.{side-told}

@@ -1,7 +1,7 @@
 use Rattle.std.proofs.Common.{◌≡◌, ◌+◌, List, false, refl, ap, ◌∙◌}
 use Rattle.std.proofs.lemmas.Bool.{both_ways, lt-ltb, ltb-true}
 use Rattle.balance_rule.specs.Balance.{most_cost}
-use Rattle.past_account.specs.Account.{Counted}
+use Rattle.sketch_grounds.specs.Account.{Counted}
 use Rattle.sketch_account.specs.Basis.{Basis}
 use Rattle.sketch_account.specs.Counting.{counted_as}
 use Rattle.sketch_account.proofs.Weighed.{above-tells, above-told}

@@ -1,7 +1,7 @@
 use Rattle.std.proofs.Common.{ap, sym, ◌∙◌, subst, arith}
 use Rattle.std.specs.Prelude.{IsTrue}
 use Rattle.std.specs.List.{list_all}
-use Rattle.past_sketches.specs.Figures.{Sketch}
+use Rattle.figures.specs.Figures.{Sketch}
 use Rattle.sketch_steps.specs.Places.{has_low_place}
 use Rattle.sketch_walk.specs.Shorts.{AreShort, has_room}
 use Rattle.sketch_walk.specs.Walks.{left_of}
