@@ -8,7 +8,7 @@ use board_base::Colour;
 pub(crate) const WHOLE: i32 = 16_384;
 
 /// Up to which price the weighing shows that no prices do.
-const GRAIN: i32 = 16;
+const GRAIN: i32 = 8;
 
 /// How often weight is shifted after each new tally.
 const STEPS: u32 = 40;
@@ -145,9 +145,10 @@ impl SideSeen {
         if self.count == 0 {
             self.weights[0] = WHOLE;
         }
-        if self.count < 16 {
-            self.put(self.count, tally);
-            self.count += 1;
+        let at = self.count;
+        if at < 16 {
+            self.count = at + 1;
+            self.put(at, tally);
             self.compare(tally);
         } else {
             let at = lightest(&self.weights);
