@@ -11,7 +11,9 @@ use crate::lands::{Land, Lands};
 use crate::payers::{Payers, flat_prices};
 use crate::standing::StandingMen;
 use assignment::least_cost_is_least;
-use balance_rule::{Ground, begun_with, gone_row, ground_of, most_cost, number_of_home, stands};
+use balance_rule::{
+    Ground, begun_with, gone_row, ground_of, most_cost, number_of_home, set_prices, stands,
+};
 use board_base::{Board, Colour, Odds, Square, SquareSet};
 use query_base::Query;
 
@@ -81,6 +83,22 @@ fn flat_ground(query: &Query, set: SquareSet, payers: Payers) -> FlatGround {
 }
 
 impl FlatSide {
+    /// The same at other flat prices.
+    fn at(&self, payers: Payers) -> FlatSide
+        ensures { (result.odds ≡ self.now.odds) × (result.payers ≡ payers) }
+    {
+        let mut side = self.side;
+        set_prices(&mut side, &flat_prices(payers));
+        let lost = gone_row(&side);
+        FlatSide {
+            payers,
+            odds: self.odds,
+            side,
+            lost,
+            begun: self.begun,
+        }
+    }
+
     /// Whether this is of the side, at these prices and beside this set in games at these odds.
     fn fits(&self, side: Colour, payers: Payers, set: SquareSet, odds: Odds) -> bool
         ensures { IsTrue result → (self.now.side.side ≡ side) × (self.now.payers ≡ payers) × (self.now.side.frozen ≡ set) × (self.now.odds ≡ odds) }
@@ -89,6 +107,17 @@ impl FlatSide {
             return false;
         }
         self.odds.is_same(odds)
+    }
+}
+
+impl FlatGround {
+    /// The same at other flat prices.
+    fn at(&self, payers: Payers) -> FlatGround {
+        FlatGround {
+            white: self.white.at(payers),
+            black: self.black.at(payers),
+            most: most_cost(self.white.odds, &flat_prices(payers)),
+        }
     }
 }
 
@@ -102,8 +131,8 @@ impl FlatGrounds {
                 black: Land::of(&both.black.side),
             },
             both,
-            white_alone: flat_ground(query, set, Payers::WhiteAlone),
-            black_alone: flat_ground(query, set, Payers::BlackAlone),
+            white_alone: both.at(Payers::WhiteAlone),
+            black_alone: both.at(Payers::BlackAlone),
         }
     }
 

@@ -2,22 +2,27 @@ ghost use Rattle.std.specs.Prelude.{IfSome, ◌<◌, ◌≤◌};
 
 use crate::places::free_on;
 use crate::tallies::Tally;
-use arrayvec::ArrayVec;
 use board_base::Colour;
 
 /// The sum of the weights of a side's tallies.
 pub(crate) const WHOLE: i32 = 16_384;
 
 /// Up to which price the weighing shows that no prices do.
-const GRAIN: i32 = 16;
+const GRAIN: i32 = 8;
 
 /// How often weight is shifted after each new tally.
 const STEPS: u32 = 40;
 
+/// What each of at most sixteen tallies says on a place, in the order of the tallies.
+type Row = [i8; 16];
+
 /// Tallies of a side that were seen, in order, each with its weight.
 #[derive(Drop)]
 struct SideSeen {
-    tallies: ArrayVec<Tally, 16>,
+    /// How many there are, at most sixteen.
+    count: usize,
+    /// What they say, by places.
+    times: [Row; 96],
     weights: [i32; 16],
     /// By places, the greatest number that a tally says, at least 0.
     most: [i8; 96],
@@ -26,14 +31,14 @@ struct SideSeen {
 }
 
 /// The places on which something may be owed and the tallies of a side differ: what is owed there by their weights, beyond what is earned
-/// and what is free, and what each tally says, in the order of the tallies and then of the places.
+/// and what is free, and what each tally says, in the order of the places.
 #[derive(Drop)]
 struct Scale {
     count: usize,
     places: [u8; 96],
     owed: [i32; 96],
-    white: [[i8; 96]; 16],
-    black: [[i8; 96]; 16],
+    white: [Row; 96],
+    black: [Row; 96],
 }
 
 /// Tallies that were seen, those of each side apart, with weights. The cost at any prices is at most what each tally of White with each
@@ -49,14 +54,14 @@ pub(crate) struct Weighing {
     needs: [i32; 32],
 }
 
-/// The place of the lightest of the first tallies in their order.
-fn lightest(weights: &[i32; 16], count: usize) -> usize
+/// The place of the lightest tally in their order.
+fn lightest(weights: &[i32; 16]) -> usize
     ensures { result < 16 }
 {
     let mut at = 0;
     let mut least = i32::MAX;
     for i in 0..16 {
-        if i < count && weights[i] < least {
+        if weights[i] < least {
             at = i;
             least = weights[i];
         }
@@ -64,78 +69,118 @@ fn lightest(weights: &[i32; 16], count: usize) -> usize
     at
 }
 
+/// The greatest of these numbers and 0.
+fn greatest_of(row: &Row) -> i8 {
+    let mut most = 0;
+    for i in 0..16 {
+        most = row[i].max(most);
+    }
+    most
+}
+
+/// Whether these numbers aren't all the same.
+fn is_mixed(row: &Row) -> bool {
+    let mut mixed = false;
+    for i in 0..16 {
+        mixed |= row[i] != row[0];
+    }
+    mixed
+}
+
+/// Notes which tallies say another number than this on a place.
+fn note_others(others: &mut [bool; 16], row: &Row, number: i8) {
+    for i in 0..16 {
+        others[i] |= row[i] != number;
+    }
+}
+
+/// What the tallies say on a place, by their weights.
+fn weighted(row: &Row, weights: &[i32; 16]) -> i32 {
+    let mut sum = 0i32;
+    for i in 0..16 {
+        sum = sum.wrapping_add(weights[i].wrapping_mul(i32::from(row[i])));
+    }
+    sum
+}
+
+/// Adds what each tally says on a place, so many times.
+fn add_times(sums: &mut [i32; 16], row: &Row, by: i32) {
+    for i in 0..16 {
+        sums[i] = sums[i].wrapping_add(by.wrapping_mul(i32::from(row[i])));
+    }
+}
+
 impl SideSeen {
     /// No tallies were seen.
     fn new() -> SideSeen {
         SideSeen {
-            tallies: ArrayVec::new(),
+            count: 0,
+            times: [[0; 16]; 96],
             weights: [0; 16],
             most: [0; 96],
             differs: [false; 96],
         }
     }
 
+    /// Whether a tally is there.
+    fn has(&self, tally: &Tally) -> bool {
+        let mut others = [false; 16];
+        for k in 0..96 {
+            note_others(&mut others, &self.times[k], tally.times[k]);
+        }
+        for i in 0..16 {
+            if i < self.count && !others[i] {
+                return true;
+            }
+        }
+        false
+    }
+
     /// Adds a tally that isn't there. The first has the whole weight and the next have none; where there is no more room the lightest
     /// makes way, and leaves its weight.
     fn add(&mut self, tally: &Tally) {
-        if self.tallies.iter().any(|x| *x == *tally) {
+        if self.has(tally) {
             return;
         }
-        if self.tallies.is_empty() {
+        if self.count == 0 {
             self.weights[0] = WHOLE;
         }
-        if self.tallies.try_push(*tally).is_ok() {
+        let at = self.count;
+        if at < 16 {
+            self.count = at + 1;
+            self.put(at, tally);
             self.compare(tally);
         } else {
-            self.replace_lightest(tally);
+            let at = lightest(&self.weights);
+            self.put(at, tally);
+            self.compare_all();
+        }
+    }
+
+    /// Puts a tally in the place of another.
+    fn put(&mut self, at: usize, tally: &Tally)
+        requires { at < 16 }
+    {
+        for k in 0..96 {
+            self.times[k][at] = tally.times[k];
         }
     }
 
     /// Notes how a tally compares with the others.
     fn compare(&mut self, tally: &Tally) {
-        let Some(first) = self.tallies.as_slice().first() else {
-            return;
-        };
-        let first = *first;
         for k in 0..96 {
             self.most[k] = self.most[k].max(tally.times[k]);
-            self.differs[k] |= tally.times[k] != first.times[k];
+            self.differs[k] |= tally.times[k] != self.times[k][0];
         }
     }
 
-    /// Puts a tally where the lightest was.
-    fn replace_lightest(&mut self, tally: &Tally) {
-        let at = lightest(&self.weights, self.tallies.len());
-        if let Some(x) = self.tallies.get_mut(at) {
-            *x = *tally;
+    /// Notes how sixteen tallies compare.
+    fn compare_all(&mut self) {
+        for k in 0..96 {
+            let row = &self.times[k];
+            self.most[k] = greatest_of(row);
+            self.differs[k] = is_mixed(row);
         }
-        self.most = [0; 96];
-        self.differs = [false; 96];
-        for i in 0..16 {
-            if let Some(x) = self.tallies.as_slice().get(i) {
-                let x = *x;
-                self.compare(&x);
-            }
-        }
-    }
-
-    /// Adds what the tallies say on each place, by their weights.
-    fn add_weighted(&self, sums: &mut [i32; 96]) {
-        for i in 0..16 {
-            let weight = self.weights[i];
-            if let Some(tally) = self.tallies.as_slice().get(i) {
-                if weight != 0 {
-                    add_times(sums, tally, weight);
-                }
-            }
-        }
-    }
-}
-
-/// Adds what a tally says on each place, so many times.
-fn add_times(sums: &mut [i32; 96], tally: &Tally, weight: i32) {
-    for k in 0..96 {
-        sums[k] = sums[k].wrapping_add(weight.wrapping_mul(i32::from(tally.times[k])));
     }
 }
 
@@ -146,8 +191,8 @@ impl Scale {
             count: 0,
             places: [0; 96],
             owed: [0; 96],
-            white: [[0; 96]; 16],
-            black: [[0; 96]; 16],
+            white: [[0; 16]; 96],
+            black: [[0; 16]; 96],
         }
     }
 
@@ -158,11 +203,13 @@ impl Scale {
         self.count.min(96)
     }
 
-    /// Adds a place on which so much is owed.
-    fn add_place(&mut self, place: u8, owed: i32) {
+    /// Adds a place on which so much is owed and the tallies of each side say this.
+    fn add_place(&mut self, place: u8, owed: i32, white: &Row, black: &Row) {
         if self.count < 96 {
             self.places[self.count] = place;
             self.owed[self.count] = owed;
+            self.white[self.count] = *white;
+            self.black[self.count] = *black;
             self.count += 1;
         }
     }
@@ -177,33 +224,23 @@ impl Scale {
     }
 
     /// What the tallies of a side say.
-    fn rows(&self, side: Colour) -> &[[i8; 96]; 16] {
+    fn rows(&self, side: Colour) -> &[Row; 96] {
         match side {
             Colour::White => &self.white,
             Colour::Black => &self.black,
         }
     }
 
-    /// What each of the first tallies of a side owes on the places where anything is owed.
-    fn dues(&self, side: Colour, count: usize) -> [i32; 16] {
+    /// What each tally of a side owes on the places where anything is owed.
+    fn dues(&self, side: Colour) -> [i32; 16] {
         let rows = self.rows(side);
         let mut sums = [0i32; 16];
-        for i in 0..16 {
-            if i < count {
-                sums[i] = self.due(&rows[i]);
+        for x in 0..self.len() {
+            if self.owed[x] > 0 {
+                add_times(&mut sums, &rows[x], self.owed[x]);
             }
         }
         sums
-    }
-
-    /// What a tally owes on the places where anything is owed.
-    fn due(&self, row: &[i8; 96]) -> i32 {
-        let mut sum = 0i32;
-        for x in 0..self.len() {
-            let each = self.owed[x].max(0).wrapping_mul(i32::from(row[x]));
-            sum = sum.wrapping_add(each);
-        }
-        sum
     }
 
     /// By how much one tally of a side is above another, by the places.
@@ -212,11 +249,9 @@ impl Scale {
         requires to { shift.to < 16 }
     {
         let rows = self.rows(side);
-        let from = &rows[shift.from];
-        let to = &rows[shift.to];
         let mut rises = [0; 96];
         for x in 0..self.len() {
-            rises[x] = i32::from(to[x]).wrapping_sub(i32::from(from[x]));
+            rises[x] = i32::from(rows[x][shift.to]).wrapping_sub(i32::from(rows[x][shift.from]));
         }
         rises
     }
@@ -237,17 +272,6 @@ impl Scale {
     fn raise(&mut self, rises: &[i32; 96], by: i32) {
         for x in 0..self.len() {
             self.owed[x] = self.owed[x].wrapping_add(by.wrapping_mul(rises[x]));
-        }
-    }
-}
-
-/// Notes what these tallies say on the first of these places.
-fn tell(rows: &mut [[i8; 96]; 16], tallies: &[Tally], places: &[u8; 96], count: usize)
-    requires { count ≤ 96 }
-{
-    for (row, tally) in rows.iter_mut().zip(tallies) {
-        for x in 0..count {
-            row[x] = tally.times[places[x] as usize % 96];
         }
     }
 }
@@ -299,8 +323,7 @@ fn amount(gain: i32, squares: i32, weight: i32) -> i32 {
 
 /// Shifts weight between two tallies of a side; false where none goes over.
 fn shift_weight(seen: &mut SideSeen, scale: &mut Scale, side: Colour) -> bool {
-    let count = seen.tallies.len();
-    let Some(shift) = best_shift(&seen.weights, count, &scale.dues(side, count)) else {
+    let Some(shift) = best_shift(&seen.weights, seen.count, &scale.dues(side)) else {
         return false;
     };
     let rises = scale.rises(side, shift);
@@ -330,15 +353,14 @@ impl Weighing {
         }
     }
 
-    /// What is owed on each place, whether or not that can ever be more than nothing.
-    fn owed(&self) -> [i32; 96] {
-        let mut sums = [0i32; 96];
-        for k in 32..96 {
-            sums[k] = 0i32.wrapping_sub(WHOLE);
-        }
-        self.white.add_weighted(&mut sums);
-        self.black.add_weighted(&mut sums);
-        sums
+    /// What is owed on a place, whether or not that can ever be more than nothing.
+    fn owed_on(&self, place: usize) -> i32
+        requires { place < 96 }
+    {
+        let white = weighted(&self.white.times[place], &self.white.weights);
+        let black = weighted(&self.black.times[place], &self.black.weights);
+        let free = WHOLE.wrapping_mul(free_on(place));
+        white.wrapping_add(black).wrapping_sub(free)
     }
 
     /// Whether something may be owed on a place.
@@ -355,30 +377,33 @@ impl Weighing {
         self.white.add(white);
         self.black.add(black);
         self.sort_places();
-        let count = self.scale.len();
-        let scale = &mut self.scale;
-        let white = self.white.tallies.as_slice();
-        let black = self.black.tallies.as_slice();
-        tell(&mut scale.white, white, &scale.places, count);
-        tell(&mut scale.black, black, &scale.places, count);
     }
 
     /// Puts the places on which something may be owed and tallies differ on the scale, and sums up the others.
     fn sort_places(&mut self) {
-        let owed = self.owed();
         self.scale.count = 0;
         self.fixed = 0;
         self.needs = [0; 32];
         for k in 0..96 {
             if self.may_owe(k) {
-                if self.white.differs[k] || self.black.differs[k] {
-                    self.scale.add_place(k as u8, owed[k]);
-                } else {
-                    self.fixed = self.fixed.wrapping_add(owed[k].max(0));
-                    if k < 32 {
-                        self.needs[k] = owed[k];
-                    }
-                }
+                self.sort_place(k);
+            }
+        }
+    }
+
+    /// Puts a place on the scale if tallies differ there, or adds what is owed there.
+    fn sort_place(&mut self, k: usize)
+        requires { k < 96 }
+    {
+        let owed = self.owed_on(k);
+        if self.white.differs[k] || self.black.differs[k] {
+            let white = &self.white.times[k];
+            let black = &self.black.times[k];
+            self.scale.add_place(k as u8, owed, white, black);
+        } else {
+            self.fixed = self.fixed.wrapping_add(owed.max(0));
+            if k < 32 {
+                self.needs[k] = owed;
             }
         }
     }
