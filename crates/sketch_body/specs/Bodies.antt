@@ -44,6 +44,7 @@ SayEach P [] (i ∷ items) = ⊥
 SayEach P (text ∷ texts) [] = ⊥
 SayEach P (text ∷ texts) (i ∷ items) = Says P text i × SayEach P texts items
 
+-- the label is `now`
 abbrev pub is_now : Label → Bool
 is_now Now = true
 is_now (Step x) = false
@@ -54,12 +55,14 @@ abbrev mutual
   pub is_never_now : Node → Bool
   is_never_now (node label marks reason) = not (is_now label) && is_never_below reason
 
+  -- no node below is labelled so
   pub is_never_below : Reason → Bool
   is_never_below void = true
   is_never_below (closed k) = true
   is_never_below (steps ns) = are_never_now ns
   is_never_below (split s knight rook queen) = is_never_now knight && (is_never_now rook && is_never_now queen)
 
+  -- nor is any of these, or below them
   pub are_never_now : Nodes → Bool
   are_never_now none = true
   are_never_now (more n ns) = is_never_now n && are_never_now ns

@@ -24,6 +24,7 @@ first_due S = record { label = Now; sketch = S }
 abbrev pub due_of : Earlier → Due
 due_of e = record { label = label_for e.step; sketch = e.sketch }
 
+-- the kind that an officer of a split is
 abbrev pub kind_of : Officer → Kind
 kind_of Knight = kind.Knight
 kind_of Rook = kind.Rook

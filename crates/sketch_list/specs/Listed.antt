@@ -66,6 +66,7 @@ kind_taken TakenBishop = Some Bishop
 kind_taken TakenOther = Some Knight
 kind_taken PassedPawn = None
 
+-- the pawn that was taken en passant
 abbrev pub is_passed : Victim → Bool
 is_passed PassedPawn = true
 is_passed Nobody = false
@@ -125,6 +126,7 @@ is_open o exact T f y = may_be_above T f y && is_step exact T (step_for T f y) &
 abbrev pub origins : Colour → ℕ → List ℕ
 origins c t = behind c t ∷ behind c (behind c t) ∷ (behind c t - 1) ∷ (behind c t + 1) ∷ []
 
+-- nobody, or who may have fallen
 abbrev pub all_victims : List Victim
 all_victims = Nobody ∷ TakenPawn ∷ TakenBishop ∷ TakenOther ∷ PassedPawn ∷ []
 

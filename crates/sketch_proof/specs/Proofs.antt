@@ -60,6 +60,7 @@ abbrev mutual
   Ends (split s knight rook queen) g S =
       (i : ℕ) × IsFirstUnknown S s i × Holds knight g (Case officer.Knight) (known_at i Knight S) × Holds rook g (Case officer.Rook) (known_at i Rook S) × Holds queen g (Case officer.Queen) (known_at i Queen S)
 
+  -- the nodes are those of these steps, in order, and each holds
   pub HoldEach : Nodes → Setting → List Earlier → Type 0
   HoldEach none g [] = Unit {0}
   HoldEach none g (e ∷ es) = ⊥

@@ -25,6 +25,7 @@ some_letters (b ∷ text) = letters_from 97 (b ∷ text)
 unfoldable pub files_of : List ℕ → Option (List ℕ)
 files_of text = cond (starts_with nat_eq text (codes "files ")) (some_letters (drop 6 text)) None
 
+-- what the first line says, with so many lines of prices and this text of the files
 abbrev pub head_with : ℕ → List ℕ → Option Head
 head_with P text = option_map (λ files. record { prices = P; files = files }) (files_of text)
 

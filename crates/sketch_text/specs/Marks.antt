@@ -21,6 +21,7 @@ figures_from n least [] = Some []
 figures_from zero least (w ∷ ws) = None
 figures_from (suc n) least (w ∷ ws) = option_and_then (λ i. option_map (λ more. i ∷ more) (figures_from n (i + 1) ws)) (number_within least 32 w)
 
+-- by the line of prices with this number, figures whose numbers these words are
 abbrev pub marked_by : ℕ → List ℕ → Option Marks
 marked_by k text = option_map (λ figures. record { by = k; figures = figures }) (figures_from 32 1 (words text))
 

@@ -44,6 +44,7 @@ marked_end_of P text = parted 32 (number_within 1 8) (λ count. None) (λ count 
 unfoldable pub rest_of : ℕ → List ℕ → Option (ℕ × End)
 rest_of P text = cond (starts_with nat_eq text (codes "marks ")) (marked_end_of P (drop 6 text)) (option_map (λ end. (0, end)) (end_of P text))
 
+-- a node with this label, whose marks and end this text says
 abbrev pub node_with : ℕ → Label → List ℕ → Option SketchNode
 node_with P label text = option_map (λ rest. record { label = label; marks = rest.0; end = rest.1 }) (rest_of P text)
 
@@ -51,6 +52,7 @@ node_with P label text = option_map (λ rest. record { label = label; marks = re
 unfoldable pub case_of : ℕ → List ℕ → Option SketchNode
 case_of P text = parted 32 officer_of (λ kind. None) (λ kind rest. node_with P (Case kind) rest) text
 
+-- the label of a step, or `now`, and the rest
 unfoldable pub labelled_of : ℕ → List ℕ → Option SketchNode
 labelled_of P text = parted 32 label_of (λ label. None) (λ label rest. node_with P label rest) text
 

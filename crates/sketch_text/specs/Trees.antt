@@ -29,10 +29,12 @@ pub data Line : Type 0 where
   of_node : SketchNode → Line
   of_marks : Marks → Line
 
+-- how many nodes these are
 abbrev pub count : Nodes → ℕ
 count none = 0
 count (more n ns) = count ns + 1
 
+-- the end of a node that has this below it, as its line says it
 abbrev pub end_of : Reason → End
 end_of void = Void
 end_of (closed k) = Closed k
@@ -44,12 +46,14 @@ abbrev mutual
   pub lines_of : Node → List Line
   lines_of (node label marks reason) = of_node (record { label = label; marks = length marks; end = end_of reason }) ∷ (map (λ m. of_marks m) marks ++ lines_below reason)
 
+  -- the lines behind those of a node and its marks
   pub lines_below : Reason → List Line
   lines_below void = []
   lines_below (closed k) = []
   lines_below (steps ns) = lines_each ns
   lines_below (split s knight rook queen) = lines_of knight ++ (lines_of rook ++ lines_of queen)
 
+  -- the lines of nodes, one after another
   pub lines_each : Nodes → List Line
   lines_each none = []
   lines_each (more n ns) = lines_of n ++ lines_each ns
@@ -59,12 +63,14 @@ abbrev mutual
   pub height : Node → ℕ
   height (node label marks reason) = height_below reason
 
+  -- how many nodes are one below another under a node that ends so
   pub height_below : Reason → ℕ
   height_below void = 0
   height_below (closed k) = 0
   height_below (steps ns) = height_each ns
   height_below (split s knight rook queen) = max (height knight) (max (height rook) (height queen)) + 1
 
+  -- the same, with the highest of these nodes
   pub height_each : Nodes → ℕ
   height_each none = 0
   height_each (more n ns) = max (height n + 1) (height_each ns)
