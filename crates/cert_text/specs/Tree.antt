@@ -42,6 +42,7 @@ abbrev mutual
   units_in (expand kids) = units_each kids
   units_in (sketch b) = units_of b
 
+  -- those of the sketches in these trees
   pub units_each : Forest → ℕ
   units_each none = 0
   units_each (more label tree rest) = units_in tree + units_each rest
