@@ -20,3 +20,4 @@ mod OneRest
 pub mod Halting
 pub mod Pieces
 pub mod Feeding
+pub mod SketchNumbers
