@@ -21,6 +21,7 @@ use Rattle.capture_prices.specs.Prices.{PriceList}
 use Rattle.past_sketches.specs.Figures.{sketch_of}
 use Rattle.sketch_body.specs.Bodies.{Item, of_line, of_prices}
 use Rattle.sketch_body.specs.Due.{read_as}
+use Rattle.sketch_text.specs.Heads.{Head}
 use Rattle.sketch_text.specs.Trees.{Line}
 use Rattle.sketch_checker.specs.LineWalk.{Walking as SketchWalking, OnStep, begun}
 use Rattle.sketch_checker.specs.LineWalk as sketches
@@ -49,6 +50,10 @@ pub data Walking : Type 0 where
   going : List Frame → Walking
   sketching : Sketched → List Frame → Walking
   stopped : ℕ → Fault → Walking
+
+-- before the first line behind that which begins a sketch, at this query
+abbrev pub first_sketched : Asked → Head → Sketched
+first_sketched q h = record { query = q; exact = files_of h.files; prices = []; wanted = h.prices; nodes = None }
 
 abbrev pub go_on : Walking → (List Frame → Walking) → Walking
 go_on (going frames) go = go frames
@@ -83,7 +88,7 @@ abbrev pub OnBody : BodyLine → Asked → List Frame → ℕ → Walking → Ty
 OnBody (Rule r) q frames n after = Stays (ReasonSupports q r) why.Rule frames n after
 OnBody (Back k) q frames n after = Stays (IsSomeAnd (ancestor (map query_of_frame frames) k) (λ a. Covers a q)) why.Back frames n after
 OnBody (Expand c) q frames n after = Opens (Reaches [] q) (record { query = q; left = unmoves q; due = c; line = n } ∷ frames) n after
-OnBody (Sketch h) q frames n after = after ≡ sketching (record { query = q; exact = files_of h.files; prices = []; wanted = h.prices; nodes = None }) frames
+OnBody (Sketch h) q frames n after = after ≡ sketching (first_sketched q h) frames
 
 -- A child on line n whose label comes before the unmove u, the first that no child had: it is stray. After u: u is left out.
 abbrev pub OnLabel : Ordering → Unmove → ℕ → Type 0 → Walking → Type 0

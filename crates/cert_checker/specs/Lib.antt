@@ -8,5 +8,6 @@ pub mod Stages
 pub mod Remains
 pub mod Walking
 pub mod Framing
+pub mod Sketching
 pub mod Counting
 pub mod Staging

@@ -13,6 +13,7 @@ mod line_ends;
 mod line_walk;
 mod reasons;
 mod refusals;
+mod sketching;
 mod stages;
 mod streams;
 mod walking;
