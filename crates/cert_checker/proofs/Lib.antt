@@ -16,6 +16,7 @@ pub mod Settling
 pub mod TreeLines
 pub mod Answering
 mod ReasonsSettled
+mod AskSettled
 mod OneRest
 pub mod Halting
 pub mod Pieces
