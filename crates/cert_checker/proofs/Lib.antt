@@ -20,3 +20,7 @@ mod OneRest
 pub mod Halting
 pub mod Pieces
 pub mod Feeding
+pub mod SketchPlaces
+pub mod SketchDue
+pub mod SketchNumbers
+pub mod SketchWalked
