@@ -22,3 +22,9 @@ pub mod Halting
 pub mod Pieces
 pub mod Feeding
 pub mod SketchNumbers
+pub mod SketchPlaces
+pub mod SketchDue
+pub mod SketchWalked
+pub mod SketchSteps
+pub mod Stopping
+pub mod SketchTrees

@@ -148,12 +148,18 @@ rest_some (line ∷ lines) stage n =
 stays-one : (P : Type 0) (w : Why) (frames : List Frame) (n : ℕ) (a b : Walking) → Stays P w frames n a → Stays P w frames n b → a ≡ b
 stays-one P w frames n (going f) (going g) x y = ap going (x.1 ∙ sym y.1)
 stays-one P w frames n (going f) (stopped j g) x y = absurd (y.0 x.0)
+stays-one P w frames n (going f) (sketching s g) x y = absurd y
+stays-one P w frames n (sketching s f) b x y = absurd x
+stays-one P w frames n (stopped i f) (sketching s g) x y = absurd y
 stays-one P w frames n (stopped i f) (going g) x y = absurd (x.0 y.0)
 stays-one P w frames n (stopped i f) (stopped j g) x y = ap (λ (k : ℕ). stopped k f) (x.1 ∙ sym y.1) ∙ ap (stopped j) (x.2 ∙ sym y.2)
 
 opens-one : (A : Type 0) (frames : List Frame) (n : ℕ) (a b : Walking) → Opens A frames n a → Opens A frames n b → a ≡ b
 opens-one A frames n (going f) (going g) x y = ap going (x.1 ∙ sym y.1)
 opens-one A frames n (going f) (stopped j g) x y = absurd (x.0 y.0)
+opens-one A frames n (going f) (sketching s g) x y = absurd y
+opens-one A frames n (sketching s f) b x y = absurd x
+opens-one A frames n (stopped i f) (sketching s g) x y = absurd y
 opens-one A frames n (stopped i f) (going g) x y = absurd (y.0 x.0)
 opens-one A frames n (stopped i f) (stopped j g) x y = ap (λ (k : ℕ). stopped k f) (x.1 ∙ sym y.1) ∙ ap (stopped j) (x.2 ∙ sym y.2)
 

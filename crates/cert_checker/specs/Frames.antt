@@ -76,11 +76,13 @@ ended (f ∷ frames) = end_at f.due f frames (ended frames)
 -- a node of one line: the frames stay where P holds, else there is a fault
 abbrev pub Stays : Type 0 → Why → List Frame → ℕ → Walking → Type 0
 Stays P w frames n (going after) = P × (after ≡ frames)
+Stays P w frames n (sketching s after) = ⊥
 Stays P w frames n (stopped m f) = (P → ⊥) × (m ≡ n) × (f ≡ unsupported w)
 
 -- a node with children: one more frame, but a fault at the array
 abbrev pub Opens : Type 0 → List Frame → ℕ → Walking → Type 0
 Opens IsArray frames n (going after) = (IsArray → ⊥) × (after ≡ frames)
+Opens IsArray frames n (sketching s after) = ⊥
 Opens IsArray frames n (stopped m f) = IsArray × (m ≡ n) × (f ≡ unsupported why.Array)
 
 -- a node with this body and query on line n, below these frames

@@ -13,6 +13,8 @@ mod line_ends;
 mod line_walk;
 mod reasons;
 mod refusals;
+mod sketch_lines;
+mod sketch_walk;
 mod sketching;
 mod stages;
 mod streams;

@@ -1,4 +1,4 @@
-ghost use Rattle.std.specs.Prelude.{◌≡◌, ◌≤◌, [], OnErr, OnOk, length, map};
+ghost use Rattle.std.specs.Prelude.{◌≡◌, ◌≤◌, [], IfOk, OnErr, OnOk, length, map};
 ghost use Rattle.sketch_body.specs.Bodies.{head_of, units_of};
 ghost use Rattle.sketch_body.specs.Whole.{is_body, left_of};
 ghost use Rattle.sketch_body.specs.Seen.{item_of, line_of, with_item};
@@ -10,9 +10,34 @@ use crate::wholes::{are_all_priced, are_files};
 use arrayvec::ArrayVec;
 use board_base::Memory;
 use capture_prices::Prices;
-use sketch_text::SketchHead;
-use std::alloc::Global;
+use sketch_text::{MarkLine, SketchHead};
+use std::alloc::{AllocError, Global};
 use std::marker::Model;
+
+fn copied_line(line: &SketchLine) -> SketchLine
+    ensures { line_of result ≡ line_of line.now }
+{
+    match line {
+        SketchLine::Node(node) => SketchLine::Node(*node),
+        SketchLine::Marks(marks) => {
+            let Some(copy) = MarkLine::new(marks.by(), marks.figures()) else {
+                unreachable!()
+            };
+            SketchLine::Marks(copy)
+        }
+    }
+}
+
+/// Copies of the lines.
+fn copied_lines(alloc: Global, lines: &[SketchLine]) -> Result<Vec<SketchLine>, AllocError>
+    ensures { IfOk result (λ copies. map line_of copies.items ≡ map line_of lines.now) }
+{
+    let mut copies = Vec::new(alloc);
+    for line in lines {
+        copies.push(copied_line(line))?;
+    }
+    Ok(copies)
+}
 
 /// What a sketch says, in memory: the exact files, the lines of prices, and those of nodes and of marks.
 #[derive(Drop)]
@@ -84,6 +109,26 @@ impl SketchBody {
                 Ok(()) => Ok(()),
                 Err(_) => Err(Memory),
             },
+        }
+    }
+
+    /// A copy of the sketch.
+    pub fn copied(&self, alloc: Global) -> Result<SketchBody, Memory>
+        ensures { IfOk result (λ copy. copy ≡ self.now) }
+    {
+        let Ok(files) = ArrayVec::try_from(self.files.as_slice()) else {
+            unreachable!()
+        };
+        match (
+            Vec::from_slice(alloc, self.prices.as_slice()),
+            copied_lines(alloc, self.lines.as_slice()),
+        ) {
+            (Ok(prices), Ok(lines)) => Ok(SketchBody {
+                files,
+                prices,
+                lines,
+            }),
+            _ => Err(Memory),
         }
     }
 

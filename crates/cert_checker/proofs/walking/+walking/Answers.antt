@@ -2,12 +2,11 @@ use Rattle.std.proofs.Common.{◌∙◌, List, reverse, refl, sym, ap, subst, ar
 use Rattle.std.specs.List.{Contains}
 use Rattle.std.specs.declared.cmp.Ordering.TheVariants.{Equal}
 use Rattle.board_base.specs.declared.unmoves.Unmove.{Unmove}
-use Rattle.cert_text.specs.Tree.{none}
-use Rattle.cert_text.specs.Sizes.{size_all}
+use Rattle.cert_text.specs.Tree.{more, none}
 use Rattle.cert_text.specs.Seen.{tree_of}
 use Rattle.cert_text.proofs.Forests.{kid_smaller, rest-end}
 use Rattle.cert_checker.specs.Walk.{fault_at, next_line, Walks}
-use Rattle.cert_checker.specs.Walking.{IsLabelFault}
+use Rattle.cert_checker.specs.Walking.{HaveSketches, IsLabelFault, lines_in_all}
 use Rattle.general_lemmas.proofs.Lasts.{pushed}
 use Rattle.general_lemmas.proofs.Lists.{contains-first, contains-later}
 use Rattle.cert_checker.proofs.Children.{rest-next}
@@ -30,8 +29,10 @@ pub check_kids-check_node-requires : goal.check_kids-check_node-requires
 check_kids-check_node-requires t c =
     let kid = rw c.unwrap-kid.ensures at c.get.ensures.kid in
     let smaller = kid_smaller c.args.kids.now c.loop-i.i _ _ kid in
-    let here = ap size_all (rest-next c.args.kids.now c.loop-i.i _ _ kid) in
-    (omega (arith, smaller, c.decreases), omega (arith, here, c.loop-i.invariant.near, c.requires))
+    let next = rest-next c.args.kids.now c.loop-i.i _ _ kid in
+    let here = ap lines_in_all next in
+    let both : HaveSketches (more _ _ _) = subst HaveSketches next c.loop-i.invariant.sketches in
+    (omega (arith, smaller, c.decreases), record { room = omega (arith, here, c.loop-i.invariant.place, c.requires.room); sketches = both.0 })
 
 pub check_kids-returns-in-Err-check_node-clause-walk : goal.check_kids-returns-in-Err-check_node-clause-walk
 check_kids-returns-in-Err-check_node-clause-walk t c =
@@ -49,7 +50,7 @@ pub check_kids-loop-i-preserved : goal.check_kids-loop-i-preserved
 check_kids-loop-i-preserved t c =
     let here = rest-next c.args.kids.now c.loop-i.i _ _ (rw c.unwrap-kid.ensures at c.get.ensures.kid) in
     let first = rw c.in-Ok-check_label.ensures.ok.0 at c.next.ensures in
-    let sizes = ap size_all here in
+    let counts = ap lines_in_all here in
     let ancestors = pushed c.args.ancestors.now.items _ c.args.query.now c.loop-i.invariant.kept in
     let kid = kid_walk (tree_of c.unwrap-kid.result.now.node) _ c.args.query.now c.in-Ok-check_label.unmove (reverse c.args.ancestors.now.items) _ c.loop-i.next (next_line c.in-Ok-check_node.after) c.pred.ensures ancestors c.in-Ok-check_node.ensures.walk in
     record {
@@ -58,7 +59,8 @@ check_kids-loop-i-preserved t c =
       listed = λ u there.
           c.loop-i.invariant.listed u (subst (λ (us : List Unmove). Contains us u) (sym first) (contains-later c.in-Ok-check_label.unmove c.next.new.self u there));
       kept = c.in-Ok-check_node.ensures.kept ∙ c.loop-i.invariant.kept;
-      near = omega (arith, sizes, c.in-Ok-check_node.ensures.near, c.loop-i.invariant.near);
+      place = omega (arith, counts, c.in-Ok-check_node.ensures.next, c.loop-i.invariant.place);
+      sketches = (subst HaveSketches here c.loop-i.invariant.sketches).1;
     }
 
 pub check_kids-returns-in-Some-clause-walk : goal.check_kids-returns-in-Some-clause-walk
