@@ -28,3 +28,4 @@ pub mod SketchWalked
 pub mod SketchSteps
 pub mod Stopping
 pub mod SketchTrees
+pub mod SketchTaking
