@@ -29,3 +29,4 @@ pub mod SketchSteps
 pub mod Stopping
 pub mod SketchTrees
 pub mod SketchTaking
+pub mod SketchNodes
