@@ -4,6 +4,8 @@ use Rattle.std.proofs.lemmas.Bool.{and_parts}
 use Rattle.std.proofs.lemmas.List.{length-map}
 use Rattle.std.specs.Prelude.{Some}
 use Rattle.board_base.specs.declared.unmoves.Unmove.{Unmove}
+use Rattle.capture_prices.specs.Prices.{PriceList}
+use Rattle.sketch_text.specs.Trees.{Line}
 use Rattle.sketch_body.specs.Bodies.{Body, Item, SayEach, items_of, of_line, of_prices}
 use Rattle.cert_text.specs.Tree.{Tree, Forest, rule, back, expand, sketch, none, more, count, kid_at}
 use Rattle.cert_text.specs.Sizes.{rest_of}
@@ -27,7 +29,7 @@ each-said P (text ∷ texts) [] said = absurd said
 each-said P (text ∷ texts) (i ∷ items) said = ap suc (each-said P texts items said.1)
 
 sketch-lines : (b : Body) → length (items_of b) ≡ length b.prices + length b.lines
-sketch-lines b = omega (arith, length-append (map (λ p. of_prices p) b.prices) (map (λ l. of_line l) b.lines), length-map (λ p. of_prices p) b.prices, length-map (λ l. of_line l) b.lines)
+sketch-lines b = omega (arith, length-append (map (λ (p : PriceList). of_prices p) b.prices) (map (λ (l : Line). of_line l) b.lines), length-map b.prices (λ (p : PriceList). of_prices p), length-map b.lines (λ (l : Line). of_line l))
 
 mutual
   -- a tree has its own line, and the lines below it
@@ -35,7 +37,7 @@ mutual
   tree-lines (rule r) depth lines below = omega (arith, ap length below)
   tree-lines (back k) depth lines below = omega (arith, ap length below)
   tree-lines (expand kids) depth lines below = omega (arith, kids-lines kids (suc depth) lines below)
-  tree-lines (sketch b) depth lines (texts, are, said) = omega (arith, ap length are, length-map ended texts, each-said (length b.prices) texts (items_of b) said.said, sketch-lines b)
+  tree-lines (sketch b) depth lines (texts, are, said) = omega (arith, ap length are, length-map texts ended, each-said (length b.prices) texts (items_of b) said.said, sketch-lines b)
 
   kids-lines : (f : Forest) (depth : ℕ) (lines : Lines) → AreKids f depth lines → lines_in_all f ≡ length lines
   kids-lines none depth lines kids = omega (arith, ap length kids)

@@ -1,13 +1,16 @@
 -- The lines of a sketch in memory, one after another.
-use Rattle.std.proofs.Common.{◌≡◌, ℕ, ◌+◌, ◌<◌, ◌≤◌, Bool, true, false, List, [], ◌∷◌, ◌++◌, drop, get_or, length, map, refl, sym, ap, ◌∙◌, subst, arith}
+use Rattle.std.proofs.Common.{◌≡◌, ℕ, ◌+◌, ◌<◌, ◌≤◌, ◌&&◌, Bool, true, false, List, [], ◌∷◌, ◌++◌, drop, get_or, length, map, refl, sym, ap, ◌∙◌, subst, arith}
 use Rattle.std.proofs.lemmas.List.{drop_all, drop_more}
 use Rattle.std.specs.Prelude.{Option, Some, None}
+use Rattle.std.specs.List.{list_all}
 use Rattle.capture_prices.specs.Prices.{PriceList}
 use Rattle.past_sketches.specs.Figures.{Sketch}
 use Rattle.sketch_text.specs.Trees.{Line}
-use Rattle.sketch_body.specs.Bodies.{Body, Item, items_of, of_line, of_prices}
+use Rattle.sketch_text.specs.Heads.{is_head}
+use Rattle.sketch_body.specs.Bodies.{Body, Item, head_of, items_of, of_line, of_prices}
 use Rattle.sketch_body.specs.Due.{Due, next}
 use Rattle.sketch_body.specs.Seen.{line_of}
+use Rattle.sketch_body.specs.Texts.{is_item}
 use Rattle.sketch_body.specs.Whole.{is_body, on_next, runs_out}
 use Rattle.sketch_body.specs.declared.lines.SketchLine.{SketchLine}
 use Rattle.std.proofs.lemmas.Bool.{and_parts}
@@ -56,8 +59,8 @@ prices-out (p ∷ ps) P nodes rest = prices-out ps P nodes rest
 pub body-due : (b : Body) (S : Sketch) → is_body b ≡ true → AreDue None (record { line = 0; announced = 1; due = first_due S ∷ [] } ∷ []) b.lines
 body-due b S known =
     let P : ℕ = length b.prices in
-    let rest = (and_parts _ _ known).1 in
-    let out = (and_parts _ (runs_out (record { prices = P; wanted = P; marks = 0; nodes = 1 ∷ [] }) (items_of b)) rest).1 in
+    let rest = (and_parts (is_head (head_of b)) (list_all (is_item P) (items_of b) && runs_out (record { prices = P; wanted = P; marks = 0; nodes = 1 ∷ [] }) (items_of b)) known).1 in
+    let out = (and_parts (list_all (is_item P) (items_of b)) (runs_out (record { prices = P; wanted = P; marks = 0; nodes = 1 ∷ [] }) (items_of b)) rest).1 in
     (record { prices = P; wanted = 0; marks = 0; nodes = 1 ∷ [] }, stands-first P S, sym (prices-out b.prices P (1 ∷ []) (map (λ l. of_line l) b.lines)) ∙ out)
 
 -- LINES IN MEMORY

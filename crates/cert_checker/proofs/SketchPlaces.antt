@@ -35,25 +35,25 @@ settled-open (f ∷ fs) open_ = by-number f.announced open_
     by-number zero low = absurd (omega arith)
     by-number (suc n) low = refl
 
-mutual
-  left-ended : (fs : List Frame) (o : Option Opened) (gs : List Frame) → going o gs ≡ ended fs → AreLeft o gs (map (λ f. f.announced) fs)
-  left-ended [] o gs e =
-      let none : o ≡ None = cc in
-      let nothing : gs ≡ [] = cc in
-      record { none = none; open_ = subst IsOpen (sym nothing) tt; nodes_are = ap (λ (l : List Frame). map (λ f. f.announced) l) (sym nothing) }
-  left-ended (f ∷ fs) o gs e = left-at f.announced f fs o gs refl e
+-- below a node to which no more nodes come none is left
+left-due : (ds : List DueNode) (top : ℕ) (later : Walking) (o : Option Opened) (gs : List Frame) (nodes : List ℕ) → (going o gs ≡ later → AreLeft o gs nodes) → going o gs ≡ end_due ds top later → AreLeft o gs (zero ∷ nodes)
+left-due [] top later o gs nodes on e = let is = on e in record { none = is.none; open_ = is.open_; nodes_are = is.nodes_are }
+left-due (d ∷ ds) top later o gs nodes on e = absurd cc
 
-  left-at : (n : ℕ) (f : Frame) (fs : List Frame) (o : Option Opened) (gs : List Frame) → n ≡ f.announced → going o gs ≡ end_at n f fs (ended fs) → AreLeft o gs (n ∷ map (λ f. f.announced) fs)
-  left-at zero f fs o gs number e = left-due f.due f fs o gs e
-  left-at (suc n) f fs o gs number e =
-      let none : o ≡ None = cc in
-      let all : gs ≡ f ∷ fs = cc in
-      let some : 0 < f.announced = omega arith in
-      record { none = none; open_ = subst IsOpen (sym all) some; nodes_are = ap (λ (k : ℕ). k ∷ map (λ f. f.announced) fs) number ∙ ap (λ (l : List Frame). map (λ f. f.announced) l) (sym all) }
+left-at : (n : ℕ) (f : Frame) (fs : List Frame) (later : Walking) (o : Option Opened) (gs : List Frame) → n ≡ f.announced → (going o gs ≡ later → AreLeft o gs (map (λ f. f.announced) fs)) → going o gs ≡ end_at n f fs later → AreLeft o gs (n ∷ map (λ f. f.announced) fs)
+left-at zero f fs later o gs number on e = left-due f.due f.line later o gs (map (λ f. f.announced) fs) on e
+left-at (suc n) f fs later o gs number on e =
+    let none : o ≡ None = cc in
+    let all : gs ≡ f ∷ fs = cc in
+    let some : 0 < f.announced = omega arith in
+    record { none = none; open_ = subst IsOpen (sym all) some; nodes_are = ap (λ (k : ℕ). k ∷ map (λ f. f.announced) fs) number ∙ ap (λ (l : List Frame). map (λ f. f.announced) l) (sym all) }
 
-  left-due : (ds : List DueNode) (f : Frame) (fs : List Frame) (o : Option Opened) (gs : List Frame) → going o gs ≡ end_due ds f.line (ended fs) → AreLeft o gs (zero ∷ map (λ f. f.announced) fs)
-  left-due [] f fs o gs e = let is = left-ended fs o gs e in record { none = is.none; open_ = is.open_; nodes_are = is.nodes_are }
-  left-due (d ∷ ds) f fs o gs e = absurd cc
+left-ended : (fs : List Frame) (o : Option Opened) (gs : List Frame) → going o gs ≡ ended fs → AreLeft o gs (map (λ f. f.announced) fs)
+left-ended [] o gs e =
+    let none : o ≡ None = cc in
+    let nothing : gs ≡ [] = cc in
+    record { none = none; open_ = subst IsOpen (sym nothing) tt; nodes_are = ap (λ (l : List Frame). map (λ f. f.announced) l) (sym nothing) }
+left-ended (f ∷ fs) o gs e = left-at f.announced f fs (ended fs) o gs refl (λ h. left-ended fs o gs h) e
 
 -- LINES
 
@@ -64,9 +64,9 @@ left-end Void g S top fs o gs (inr x) = let is = left-ended fs o gs x.1 in recor
 left-end (Closed k) g S top fs o gs (inl x) = let e = x.1 in absurd cc
 left-end (Closed k) g S top fs o gs (inr x) = let is = left-ended fs o gs x.1 in record { none = is.none; open_ = is.open_; nodes_are = is.nodes_are }
 left-end (Steps m) g S top fs o gs (inl x) = let e = x.1 in absurd cc
-left-end (Steps m) g S top fs o gs (inr x) = left-ended (_ ∷ fs) o gs x.2.1
+left-end (Steps m) g S top fs o gs (inr x) = left-ended (_ ∷ fs) o gs x.2
 left-end (Split s) g S top fs o gs (inl x) = let e = x.1 in absurd cc
-left-end (Split s) g S top fs o gs (inr x) = left-ended (_ ∷ fs) o gs x.2.1
+left-end (Split s) g S top fs o gs (inr x) = left-ended (_ ∷ fs) o gs x.2
 
 same-number : (e : End) → announced e ≡ announced_by e
 same-number Void = refl
@@ -110,7 +110,7 @@ cond-some false d e on = absurd cc
 -- not too deep
 room-below : (n k : ℕ) → if_any n (nat_lt k 64) ≡ true → not (nat_lt 63 k && nat_lt 0 n) ≡ true
 room-below zero k e = ap not (and_right (nat_lt 63 k) false refl)
-room-below (suc n) k e = let low : k < 64 = ltb-true k 64 e in ap not (and_left (nat_lt 63 k) true (le-ltb 63 k (omega arith)))
+room-below (suc n) k e = let low : k < 64 = ltb-true k 64 e in ap not (and_left (nat_lt 63 k) (nat_lt 0 (suc n)) (le-ltb 63 k (omega arith)))
 
 open-here : (P : ℕ) (fs : List Frame) (x : SketchNode) (e : Due) → IsOpen fs → after P 0 0 (settled (map (λ f. f.announced) fs)) (of_line (of_node x)) ≡ Some e → after_node P (map (λ f. f.announced) fs) x ≡ Some e
 open-here P fs x e open_ on = ap (λ (ns : List ℕ). after_node P ns x) (sym (settled-open fs open_)) ∙ on
@@ -125,7 +125,7 @@ node-comes P (f ∷ fs) x e on = by-number f.announced on
         let fits = (cond-some (fits_depth P (length (map (λ f. f.announced) fs)) x) _ e on_).0 in
         let rest = (and_parts (fits_label (length (map (λ f. f.announced) fs)) x.label) _ fits).1 in
         let low : if_any (announced x.end) (nat_lt (length (map (λ f. f.announced) fs)) 64) ≡ true = (and_parts (if_any (announced x.end) (nat_lt (length (map (λ f. f.announced) fs)) 64)) (if_any x.marks (nat_lt 0 P)) rest).0 in
-        let size : length (map (λ (f : Frame). f.announced) fs) ≡ length fs = length-map (λ (f : Frame). f.announced) fs in
+        let size : length (map (λ (f : Frame). f.announced) fs) ≡ length fs = length-map fs (λ (f : Frame). f.announced) in
         room-below (announced_by x.end) (length fs) (ap (λ (k : ℕ). if_any k (nat_lt (length fs) 64)) (sym (same-number x.end)) ∙ ap (λ (k : ℕ). if_any (announced x.end) (nat_lt k 64)) (sym size) ∙ low)
 
 comes-by : (P : ℕ) (o : Option Opened) (fs : List Frame) (l : Line) (e : Due) → IsGoing o fs → after P 0 (marks_of o) (settled (announced_of o fs)) (of_line l) ≡ Some e → may_come o fs l ≡ true

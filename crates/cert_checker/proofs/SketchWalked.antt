@@ -1,16 +1,20 @@
 -- What the walk over the lines of a sketch comes to, as that of a tree of a certificate.
-use Rattle.std.proofs.Common.{◌≡◌, ℕ, ◌+◌, Bool, true, inl, inr, List, [], ◌∷◌, ◌++◌, length, map, refl, sym, ap, ◌∙◌, subst}
-use Rattle.std.proofs.lemmas.Bool.{and_parts}
+use Rattle.std.proofs.Common.{◌≡◌, ℕ, ◌+◌, ◌<◌, ◌≤◌, ◌&&◌, Bool, true, inl, inr, nat_le, List, [], ◌∷◌, ◌++◌, append_assoc, get_or, length, map, take, refl, sym, ap, ◌∙◌, subst, arith}
+use Rattle.std.proofs.lemmas.Bool.{and_parts, leb-true}
 use Rattle.std.specs.Prelude.{None, IsTrue}
 use Rattle.std.specs.List.{Contains, list_all}
 use Rattle.capture_prices.specs.Prices.{PriceList, are_prices}
+use Rattle.board_base.specs.Board.{Places}
+use Rattle.board_base.specs.declared.men.Colour.TheVariants.{White, Black}
 use Rattle.query_base.specs.Asked.{Asked}
 use Rattle.past_sketches.specs.Figures.{Sketch, sketch_of}
 use Rattle.general_lemmas.proofs.Lists.{contains-cases, contains-none}
+use Rattle.general_lemmas.proofs.Splits.{up_to}
 use Rattle.sketch_text.specs.Trees.{Line, Node, lines_of}
-use Rattle.sketch_body.specs.Bodies.{AreOfTree, Body, Item, items_of, of_line, of_prices}
+use Rattle.sketch_text.specs.Heads.{are_files, is_head}
+use Rattle.sketch_body.specs.Bodies.{AreOfTree, Body, Item, head_of, items_of, of_line, of_prices}
 use Rattle.sketch_body.specs.Texts.{is_item}
-use Rattle.sketch_body.specs.Whole.{is_body}
+use Rattle.sketch_body.specs.Whole.{first_due as prices_first, is_body, runs_out}
 use Rattle.sketch_body.proofs.Readings.{body_texts}
 use Rattle.sketch_proof.specs.Proofs.{Setting}
 use Rattle.sketch_checker.specs.DueNodes.{first_due}
@@ -20,6 +24,8 @@ use Rattle.sketch_checker.specs.Supports.{MayAsk, setting_of}
 use Rattle.sketch_checker.specs.TreeWalk.{Walked as SketchWalked, Walks as WalksSketchTree, Wrong}
 use Rattle.sketch_checker.specs.TreeWalk as sketches
 use Rattle.sketch_checker.proofs.LinesWalked.{tree-walk}
+use Rattle.sketch_checker.proofs.Rooted.{root-begins}
+use Rattle.sketch_checker.proofs.Sides.{begun-low, both-sides, few-told}
 use Rattle.cert_text.specs.Tree.{sketch}
 use Rattle.cert_checker.specs.Sketches.{files_of, why_of}
 use Rattle.cert_checker.specs.Walk.{Walks, fault_at, next_line, unsupported}
@@ -44,8 +50,27 @@ all-prices P (q ∷ ps) rest known p there =
 pub prices-known : (b : Body) → is_body b ≡ true → (p : PriceList) → Contains b.prices p → IsTrue (are_prices p)
 prices-known b known =
     let P : ℕ = length b.prices in
-    let rest = (and_parts _ _ known).1 in
-    all-prices P b.prices (map (λ l. of_line l) b.lines) (and_parts (list_all (is_item P) (items_of b)) _ rest).0
+    let rest = (and_parts (is_head (head_of b)) (list_all (is_item P) (items_of b) && runs_out (prices_first P) (items_of b)) known).1 in
+    all-prices P b.prices (map (λ l. of_line l) b.lines) (and_parts (list_all (is_item P) (items_of b)) (runs_out (prices_first P) (items_of b)) rest).0
+
+pub few-prices : (b : Body) → is_body b ≡ true → length b.prices ≤ 64
+few-prices b known =
+    let P : ℕ = length b.prices in
+    let head = (and_parts (is_head (head_of b)) (list_all (is_item P) (items_of b) && runs_out (prices_first P) (items_of b)) known).0 in
+    leb-true P 64 (and_parts (nat_le P 64) (are_files 0 b.files) head).0
+
+-- no more figures than a sketch can hold
+pub few-men : (o : List Bool) (board : Places) → IsRoot o board → length (sketch_of board) ≤ 32
+few-men o board root =
+    let S : Sketch = sketch_of board in
+    let can = root-begins o board root in
+    omega (arith, both-sides S, few-told o S White can.white, few-told o S Black can.black, begun-low o White, begun-low o Black)
+
+-- one more line of prices
+pub prices-next : (g h k : Setting) (ps all : List PriceList) (i : ℕ) (x : PriceList) → i < length all → x ≡ get_or all i x → h ≡ record g { prices = ps ++ take i all } → k ≡ record h { prices = h.prices ++ x ∷ [] } → k ≡ record g { prices = ps ++ take (i + 1) all }
+prices-next g h k ps all i x inside here before after =
+    after ∙ ap (λ (f : Setting). record f { prices = f.prices ++ x ∷ [] }) before
+    ∙ ap (λ (l : List PriceList). record g { prices = l }) (append_assoc ps (take i all) (x ∷ []) ∙ ap (λ (l : List PriceList). ps ++ l) (sym (up_to all i x inside here)))
 
 -- where the walk over the lines stops
 stop-comes : (walked : SketchWalked) (m : ℕ) (w : Wrong) → ComesTo walked (stopped m w) → walked ≡ sketches.fault_at m w
