@@ -3,19 +3,27 @@ use Rattle.std.proofs.Common.{◌≡◌, ℕ, zero, suc, ◌+◌, ◌<◌, true,
 use Rattle.std.proofs.lemmas.Bool.{cond-false, cond-true}
 use Rattle.std.proofs.lemmas.List.{length-map, map-append, reverse-append}
 use Rattle.std.specs.Prelude.{Option, Some, None}
+use Rattle.std.specs.Option.{option_and_then}
+use Rattle.board_base.specs.declared.unmoves.Unmove.{Unmove}
+use Rattle.sketch_text.specs.Heads.{Head}
 use Rattle.query_base.specs.Asked.{Asked}
 use Rattle.query_base.specs.declared.claims.Claim.{Claim}
 use Rattle.sketch_body.specs.Due.{Reading, is_over}
 use Rattle.cert_text.specs.Certificate.{Lines}
 use Rattle.cert_text.specs.Reading.{HasRoom}
-use Rattle.cert_text.specs.Due.{Due, closed, nodes_due, sketch_due, step}
+use Rattle.cert_text.specs.Lines.{said}
+use Rattle.cert_text.specs.NodeLines.{kid_body}
+use Rattle.cert_text.specs.Due.{Due, closed, nodes_due, put_due, sketch_due, step}
 use Rattle.cert_text.specs.declared.node_lines.BodyLine.{BodyLine}
 use Rattle.cert_text.specs.declared.node_lines.BodyLine.TheVariants.{Rule, Back, Expand, Sketch}
 use Rattle.cert_checker.specs.Answers.{Answer}
-use Rattle.cert_checker.specs.Counting.{AreCounts, IsDue, counts_with}
+use Rattle.cert_checker.specs.Counting.{AreCounts, CountsTo, IsDue, counts_with}
 use Rattle.cert_checker.specs.Frames.{OnLine, Walking}
 use Rattle.cert_checker.specs.Framing.{due_of, popped, stopped_by, IsOpen, IsStack}
+use Rattle.cert_checker.specs.Sketching.{SketchState}
 use Rattle.cert_checker.specs.Stages.{bad, nodes, Stepped, Rest}
+use Rattle.cert_checker.specs.declared.counting.Counted.{Counted}
+use Rattle.cert_checker.specs.declared.counting.Counted.TheVariants as counted
 use Rattle.cert_checker.specs.declared.frames.Frame.{Frame}
 use Rattle.cert_checker.specs.declared.frames.FirstFault.{FirstFault}
 use Rattle.cert_checker.specs.declared.frames.FirstFault.TheVariants.{Unlisted, Unsupported}
@@ -94,3 +102,33 @@ closed_rest x claim q r due news units n lines a over same settled rest =
 pub open_rest : (w : Walking) (claim : Claim) (q : Asked) (r : Reading) (due : List ℕ) (n : ℕ) (lines : Lines) (a : Answer) → is_over r.due ≡ false → Rest (nodes claim q w (sketch_due r due)) n lines a → Rest (nodes claim q w (closed r due)) n lines a
 open_rest w claim q r due n lines a still rest =
     subst (λ (d : Due). Rest (nodes claim q w d) n lines a) (sym (cond-false (is_over r.due) (nodes_due r.units due) (sketch_due r due) still)) rest
+
+-- the line of a child, by the numbers before and after it
+pub counted_kid : (units : ℕ) (olds news : List ℕ) (depth : ℕ) (line : List ℕ) (label : Unmove) (body : BodyLine) → 0 < length olds → IsDue olds → depth ≡ length olds → said (kid_body depth) line ≡ Some (label, body) → ((due : ℕ) (above : List ℕ) → olds ≡ suc due ∷ above → news ≡ counts_with body (due ∷ above))
+    → (rest : List ℕ) × (step (nodes_due units olds) line ≡ put_due units body rest) × (news ≡ counts_with body rest)
+counted_kid units [] news depth line label body some due deep says put = absurd (omega arith)
+counted_kid units (zero ∷ above) news depth line label body some due deep says put = absurd (omega arith)
+counted_kid units (suc d ∷ above) news depth line label body some due deep says put =
+    let here : said (kid_body (suc (length above))) line ≡ Some (label, body) = ap (λ (k : ℕ). said (kid_body k) line) (sym deep) ∙ says in
+    (d ∷ above, ap (option_and_then (λ (kid : Unmove × BodyLine). put_due units kid.1 (d ∷ above))) here, put d above refl)
+
+-- no sketch begins there
+abbrev pub IsPlain : BodyLine → Type 0
+IsPlain (Rule r) = Unit {0}
+IsPlain (Back k) = Unit {0}
+IsPlain (Expand n) = Unit {0}
+IsPlain (Sketch h) = ⊥
+
+plain_put : (units : ℕ) (body : BodyLine) (due : List ℕ) → IsPlain body → put_due units body due ≡ Some (nodes_due units (counts_with body due))
+plain_put units (Rule r) due plain = refl
+plain_put units (Back k) due plain = refl
+plain_put units (Expand n) due plain = refl
+plain_put units (Sketch h) due plain = absurd plain
+
+pub nodes_counted : (units : ℕ) (k : SketchState) (body : BodyLine) (o : Option Due) (rest news after : List ℕ) → IsPlain body → k.units ≡ units → o ≡ put_due units body rest → news ≡ counts_with body rest → after ≡ popped news → CountsTo counted.Nodes o k after
+nodes_counted units k body o rest news after plain same goes put settled =
+    (counts_with body rest, goes ∙ plain_put units body rest plain ∙ ap (λ (u : ℕ). Some (nodes_due u (counts_with body rest))) (sym same), settled ∙ ap popped put)
+
+pub sketch_counted : (result : Counted) (units : ℕ) (k : SketchState) (h : Head) (o : Option Due) (rest news : List ℕ) → o ≡ put_due units (Sketch h) rest → news ≡ rest → ((due : List ℕ) → CountsTo result (put_due units (Sketch h) due) k due) → CountsTo result o k news
+sketch_counted result units k h o rest news goes put counts =
+    subst (λ (p : Option Due). CountsTo result p k news) (ap (put_due units (Sketch h)) put ∙ sym goes) (counts news)

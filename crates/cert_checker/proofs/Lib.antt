@@ -30,3 +30,4 @@ pub mod Stopping
 pub mod SketchTrees
 pub mod SketchTaking
 pub mod SketchNodes
+pub mod SketchRests

@@ -170,7 +170,7 @@ impl Sketching {
                 let _ = self.walk.add_prices(&prices);
                 Some(None)
             }
-            SketchItem::Line(line) => Some(self.take_node(number, &line)),
+            SketchItem::Line(node) => Some(self.take_node(number, &node)),
         }
     }
 
