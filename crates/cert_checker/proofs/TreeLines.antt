@@ -98,7 +98,6 @@ mutual
       (each.0, inr (elsewhere, each.1), each.2)
   tree_walk (expand kids) q frames n front lines (stopped m f) last few below (here, number, why-is) walks =
       (fault_at m f, inl (here, ap (λ (k : ℕ). fault_at k f) number ∙ ap (fault_at n) why-is), stopped_on (front ++ lines) m (n + 1) f last walks)
-
   tree_walk (expand kids) q frames n front lines (sketching s fs) last few below on walks = absurd on
   tree_walk (sketch b) q frames n front lines after last few (texts, e, are) on walks =
       let here = subst (λ (w : Walking). WalksOn w (n + 1) (front ++ lines) last) on walks in

@@ -28,11 +28,7 @@ fn add_all_prices(walk: &mut SketchWalk, prices: &[Prices])
 }
 
 /// Takes these lines, which are all that are due. The first of them has this number; the number after the last is given.
-fn take_all_lines(
-    walk: &mut SketchWalk,
-    first: u32,
-    lines: &[SketchLine],
-) -> Result<u32, LineFault>
+fn take_all_lines(walk: &mut SketchWalk, first: u32, lines: &[SketchLine]) -> Result<u32, LineFault>
     requires due { AreDue walk.old.opened walk.old.frames (map line_of lines.now) }
     requires room { first + length lines.now < 2 ^ 32 }
     ensures walk { IsEnd result (WalksOn walk.old.setting (going walk.old.opened walk.old.frames) first (map line_of lines.now)) }

@@ -52,10 +52,10 @@ impl Model for Sketching {
     ghost Value = { SketchState };
 
     ghost view = { λ s. record {
-        units = s.units;
-        reading = s.due;
-        sketched = record { query = s.query; exact = s.walk.setting.exact; prices = s.walk.setting.prices; wanted = s.due.due.wanted; nodes = nodes_at s.begun s.walk.opened s.walk.frames };
-        setting = s.walk.setting;
+      units = s.units;
+      reading = s.due;
+      sketched = record { query = s.query; exact = s.walk.setting.exact; prices = s.walk.setting.prices; wanted = s.due.due.wanted; nodes = nodes_at s.begun s.walk.opened s.walk.frames };
+      setting = s.walk.setting;
     } };
 }
 

@@ -224,7 +224,14 @@ fn take_sketch(
         return Step::Sketching(*claim, *query);
     }
     sketching.close();
-    step_after(*claim, *query, NodeStep::Nodes(None), frames, counts, number)
+    step_after(
+        *claim,
+        *query,
+        NodeStep::Nodes(None),
+        frames,
+        counts,
+        number,
+    )
 }
 
 /// The step after a line of a sketch, where the walk has met this fault before.
