@@ -129,10 +129,7 @@ module _ (old new : SketchState) (later : Reading) (n : ℕ) (line : List ℕ) (
   asked go none = record { root = go.root none; known = is.known }
 
   stands : (go : GoesOn (read_on old later) new n l) → StandsAt later.due go.opened go.frames
-  stands go = stands_later old.setting old.sketched old.reading later n l go.opened go.frames is.in_step due (on_line go)
-    where
-      on_line : (go : GoesOn (read_on old later) new n l) → sketches.OnLine old.setting (opened_in old.sketched.nodes) (frames_in old.sketched old.sketched.nodes) n l (sketches.going go.opened go.frames)
-      on_line go = go.line
+  stands go = stands_later old.setting old.sketched old.reading later n l go.opened go.frames is.in_step due go.line
 
   now : (go : GoesOn (read_on old later) new n l) → new.sketched ≡ record old.sketched { nodes = Some (go.opened, go.frames) }
   now go = go.sketched ∙ ap (λ (s : Sketched). record s { nodes = Some (go.opened, go.frames) }) same

@@ -72,7 +72,7 @@ nodes_walk [] (l ∷ ls) s o fs r last_ frames n lines last is leads over walks 
 nodes_walk (t ∷ texts) [] s o fs r last_ frames n lines last is leads over walks = absurd leads
 nodes_walk (t ∷ texts) (l ∷ ls) s o fs r last_ frames n lines last is (later, e, rest) over (after, on, more) =
     let steps : Steps (sketches.going o fs) (at_nodes s o fs) frames n l after = item_on (at_nodes s o fs) r later frames n t (of_line l) after is e on in
-    by_step steps.0 steps.1 steps.2
+    by_step steps.0 (λ p gs kept here. nodes_walk texts ls s p gs later last_ frames (n + 1) lines last kept rest over here) steps.1 steps.2
   where
     g : Setting
     g = setting_of s.query s.exact s.prices
@@ -83,9 +83,13 @@ nodes_walk (t ∷ texts) (l ∷ ls) s o fs r last_ frames n lines last is (later
     due : next r.due (of_line l) ≡ Some later.due
     due = said_next r later (ended t) (of_line l) (said_back (step r) t (of_line l, later) e)
 
-    on_from : (p : Option Opened) (gs : List SketchFrame) → OnStep g (sketches.going o fs) n l (sketches.going p gs) → StandsAt later.due p gs → after ≡ cond (is_over later.due) (going frames) (sketching (at_nodes s p gs) frames)
+    -- what the walk over the lines that follow comes to
+    Further : Option Opened → List SketchFrame → Type 0
+    Further p gs = IsInStep (at_nodes s p gs) later → WalksOn (sketching (at_nodes s p gs) frames) (n + 1) (map ended texts ++ lines) last → (w : SketchWalking) × SketchWalksOn g (sketches.going p gs) (n + 1) ls w × Ends w frames (n + 1 + length ls) lines last
+
+    on_from : (p : Option Opened) (gs : List SketchFrame) → Further p gs → OnStep g (sketches.going o fs) n l (sketches.going p gs) → StandsAt later.due p gs → after ≡ cond (is_over later.due) (going frames) (sketching (at_nodes s p gs) frames)
         → (w : SketchWalking) × SketchWalksOn g (sketches.going o fs) n (l ∷ ls) w × Ends w frames (n + length (l ∷ ls)) lines last
-    on_from p gs step_ stands is_ = elim (cases_Bool (is_over later.due)) [
+    on_from p gs go step_ stands is_ = elim (cases_Bool (is_over later.due)) [
       | inl end ↦
           let none = nothing_more later last_ texts (map (λ l. of_line l) ls) end rest in
           let no = no_lines ls none.1 in
@@ -98,16 +102,16 @@ nodes_walk (t ∷ texts) (l ∷ ls) s o fs r last_ frames n lines last is (later
       | inr still ↦
           let at_next : after ≡ sketching (at_nodes s p gs) frames = is_ ∙ cond-false (is_over later.due) (going frames) (sketching (at_nodes s p gs) frames) still in
           let here = subst (λ (w : Walking). WalksOn w (n + 1) (map ended texts ++ lines) last) at_next more in
-          let it = nodes_walk texts ls s p gs later last_ frames (n + 1) lines last (nodes_kept (at_nodes s o fs) r later l p gs is due stands still) rest over here in
+          let it = go (nodes_kept (at_nodes s o fs) r later l p gs is due stands still) here in
           (it.0, (sketches.going p gs, step_, it.1), subst (λ (k : ℕ). Ends it.0 frames k lines last) size it.2)
     ]
 
-    by_step : (next_ : SketchWalking) → OnStep g (sketches.going o fs) n l next_ → after ≡ as_sketched next_ (at_nodes s o fs) frames → (w : SketchWalking) × SketchWalksOn g (sketches.going o fs) n (l ∷ ls) w × Ends w frames (n + length (l ∷ ls)) lines last
-    by_step (sketches.stopped k v) step_ is_ =
+    by_step : (next_ : SketchWalking) → ((p : Option Opened) (gs : List SketchFrame) → Further p gs) → OnStep g (sketches.going o fs) n l next_ → after ≡ as_sketched next_ (at_nodes s o fs) frames → (w : SketchWalking) × SketchWalksOn g (sketches.going o fs) n (l ∷ ls) w × Ends w frames (n + length (l ∷ ls)) lines last
+    by_step (sketches.stopped k v) go step_ is_ =
         (sketches.stopped k v, (sketches.stopped k v, step_, stays g ls k (n + 1) v), stops (map ended texts ++ lines) k (n + 1) (unsupported (why_of v)) after last is_ more)
-    by_step (sketches.going p gs) step_ is_ =
+    by_step (sketches.going p gs) go step_ is_ =
         let stands : StandsAt later.due p gs = due-next g r.due later.due o fs n l p gs is.nodes due step_ in
-        on_from p gs step_ stands (is_ ∙ behind_as later.due p gs (at_nodes s o fs) frames stands)
+        on_from p gs (go p gs) step_ stands (is_ ∙ behind_as later.due p gs (at_nodes s o fs) frames stands)
 
 -- LINES OF PRICES
 
