@@ -14,7 +14,7 @@ mod line_walk;
 mod reasons;
 mod refusals;
 mod sketch_lines;
-mod sketch_walk;
+mod sketch_walking;
 mod sketching;
 mod stages;
 mod streams;

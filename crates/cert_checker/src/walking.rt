@@ -8,7 +8,7 @@ ghost use Rattle.cert_checker.specs.Walking.{HasSketches, HaveSketches, IsFault,
 
 use crate::reasons::reason_supports;
 use crate::refusals::{Refused, Why};
-use crate::sketch_walk::check_sketch;
+use crate::sketch_walking::check_sketch;
 use board_base::{Unmove, cmp_unmove};
 use cert_text::{Body, Kids, Node};
 use query_base::{Query, is_array, is_covered};

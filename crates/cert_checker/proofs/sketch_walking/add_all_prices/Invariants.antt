@@ -1,6 +1,6 @@
 use Rattle.std.proofs.Common.{◌≡◌, ◌++◌, take}
 use Rattle.sketch_checker.specs.LineWalk.{going}
-use Rattle.cert_checker.proofs.sketch_walk.add_all_prices.Given as goal
+use Rattle.cert_checker.proofs.sketch_walking.add_all_prices.Given as goal
 
 abbrev pub invariant-loop-line : goal.invariant-loop-line
 invariant-loop-line l = record {

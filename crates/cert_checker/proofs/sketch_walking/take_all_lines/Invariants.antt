@@ -3,7 +3,7 @@ use Rattle.sketch_body.specs.Seen.{line_of}
 use Rattle.sketch_checker.specs.LineWalk.{going}
 use Rattle.cert_checker.specs.SketchLines.{AreDue}
 use Rattle.cert_checker.proofs.SketchDue.{LeadsOn}
-use Rattle.cert_checker.proofs.sketch_walk.take_all_lines.Given as goal
+use Rattle.cert_checker.proofs.sketch_walking.take_all_lines.Given as goal
 
 abbrev pub invariant-loop-line : goal.invariant-loop-line
 invariant-loop-line l = record {

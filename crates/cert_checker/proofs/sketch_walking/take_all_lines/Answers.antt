@@ -5,7 +5,7 @@ use Rattle.sketch_proof.specs.Proofs.{Setting}
 use Rattle.sketch_checker.specs.LineWalk.{OnLine, Walking, WalksOn, going, stopped}
 use Rattle.cert_checker.specs.SketchLines.{AreDue, IsAfter}
 use Rattle.cert_checker.proofs.SketchDue.{leads-end, leads-next, leads-stop, line-comes, line-left, lines-next, none-left}
-use Rattle.cert_checker.proofs.sketch_walk.take_all_lines.Goals as goal
+use Rattle.cert_checker.proofs.sketch_walking.take_all_lines.Goals as goal
 
 pub loop-line-init : goal.loop-line-init
 loop-line-init c = record { due = c.requires.due; setting = refl; place = omega arith; walked = λ last walks. walks }
