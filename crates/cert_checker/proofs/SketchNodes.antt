@@ -77,8 +77,8 @@ none_begun false o fs e = refl
 
 -- sketches may not be asked about the board
 pub node_refused : (at : Option (Option Opened × List SketchFrame)) (s : Sketched) (frames : List Frame) (n : ℕ) (l : Line) → at ≡ None → (IsRoot s.query.odds s.query.board → ⊥) → OnNodes at s frames n l (stopped n (unsupported why.Rule))
-node_refused None s frames n l e no = inl (λ may. no may.root, refl)
-node_refused (Some x) s frames n l e no = absurd cc
+node_refused None s frames n l e never = inl (λ may. never may.root, refl)
+node_refused (Some x) s frames n l e never = absurd cc
 
 record StandsAs (old : SketchState) (o : Option Opened) (fs : List SketchFrame) : Type 0 where
   opened_is : o ≡ opened_in old.sketched.nodes

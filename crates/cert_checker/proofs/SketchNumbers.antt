@@ -24,7 +24,7 @@ marks-count (m ∷ ms) g S n j (inr x) = let rest = marks-count ms g _ (n + 1) j
 mutual
   pub node-count : (x : Node) (g : Setting) (d : Due) (n j : ℕ) → Walks x g d n (next_line j) → j ≡ n + length (lines_of x)
   node-count (node label marks reason) g d n j (inl x) = let e = x.1 in absurd cc
-  node-count (node label marks reason) g d n j (inr (same, k, first, on)) =
+  node-count (node label marks reason) g d n j (inr (same, (k, first, on))) =
       let o = onwards-from k (WalksBelow reason g (with_lines marks d.sketch) n) j on in
       let a = marks-count marks g d.sketch (n + 1) o.0 (subst (WalksMarks marks g d.sketch (n + 1)) o.1 first) in
       let b = below-count reason g (with_lines marks d.sketch) n o.0 j o.2 in

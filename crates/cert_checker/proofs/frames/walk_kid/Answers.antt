@@ -7,7 +7,7 @@ use Rattle.cert_checker.proofs.frames.walk_kid.Goals as goal
 pub returns-clause-walk : goal.returns-clause-walk
 returns-clause-walk c =
     kid_walked c.go_below.result c.go_below.new.sketching c.args.top c.take_first-first.result c.take_first-first.new.left (reverse c.args.frames.now.items) (reverse c.push.new.self.items) (reverse c.go_below.new.frames.items) c.args.line c.args.label.now c.args.body.now _
-    c.take_first-first.ensures.first c.take_first-first.ensures.others (pushed c.args.frames.now.items c.push.new.self.items _ c.push.ensures.items) c.look_at.ensures c.go_below.ensures.walk
+    c.take_first-first.ensures.first c.take_first-first.ensures.others (pushed c.args.frames.now.items c.push.new.self.items _ c.push.ensures.items) c.look_at-found.ensures c.go_below.ensures.walk
 
 pub returns-clause-due : goal.returns-clause-due
 returns-clause-due c =
