@@ -1,10 +1,11 @@
 -- What the walk over the lines of a sketch comes to, as that of a tree of a certificate.
 use Rattle.std.proofs.Common.{◌≡◌, ℕ, ◌+◌, ◌<◌, ◌≤◌, ◌&&◌, Bool, true, inl, inr, nat_le, List, [], ◌∷◌, ◌++◌, append_assoc, get_or, length, map, take, refl, sym, ap, ◌∙◌, subst, arith}
 use Rattle.std.proofs.lemmas.Bool.{and_parts, leb-true}
-use Rattle.std.specs.Prelude.{None, IsTrue}
+use Rattle.std.specs.Prelude.{IsTrue, None, Option}
 use Rattle.std.specs.List.{Contains, list_all}
 use Rattle.capture_prices.specs.Prices.{PriceList, are_prices}
 use Rattle.board_base.specs.Board.{Places}
+use Rattle.board_base.specs.Rights.{Rights}
 use Rattle.board_base.specs.declared.men.Colour.TheVariants.{White, Black}
 use Rattle.query_base.specs.Asked.{Asked}
 use Rattle.past_sketches.specs.Figures.{Sketch, sketch_of}
@@ -21,6 +22,7 @@ use Rattle.sketch_checker.specs.DueNodes.{first_due}
 use Rattle.sketch_checker.specs.LineWalk.{ComesTo, Walking as SketchWalking, WalksOn, begun, going, stopped}
 use Rattle.sketch_checker.specs.Roots.{IsRoot}
 use Rattle.sketch_checker.specs.Supports.{MayAsk, setting_of}
+use Rattle.sketch_checker.specs.Walks.{Frame, Opened}
 use Rattle.sketch_checker.specs.TreeWalk.{Walked as SketchWalked, Walks as WalksSketchTree, Wrong}
 use Rattle.sketch_checker.specs.TreeWalk as sketches
 use Rattle.sketch_checker.proofs.LinesWalked.{tree-walk}
@@ -31,6 +33,8 @@ use Rattle.cert_checker.specs.Sketches.{files_of, why_of}
 use Rattle.cert_checker.specs.Walk.{Walks, fault_at, next_line, unsupported}
 use Rattle.cert_checker.specs.declared.refusals.Why.{Why}
 use Rattle.cert_checker.specs.declared.refusals.Why.TheVariants as why
+use Rattle.cert_checker.specs.SketchLines.{AreDue}
+use Rattle.cert_checker.proofs.SketchDue.{body-due}
 use Rattle.cert_checker.proofs.SketchNumbers.{node-count}
 
 -- the lines are those of a tree
@@ -116,3 +120,32 @@ module _ (b : Body) (q : Asked) (ancestors : List Asked) (n : ℕ) (known : is_b
         let it = tree-walk t.tree g (sketch_of q.board) place (stopped m w) (over-tree (stopped m w) walks) in
         let fault = subst (λ (k : SketchWalked). WalksSketchTree t.tree g (first_due (sketch_of q.board)) place k) (stop-comes it.0 m w it.2) it.1 in
         (sketches.fault_at m w, (t.tree, t.written, inr (asked, fault)), ap (λ (v : Why). fault_at m (unsupported v)) e)
+
+-- AS FUNCTIONS HAVE IT
+
+-- what the walk rests on
+pub set-up : (q : Asked) (b : Body) (odds : List Bool) (held : Rights) (exact : List Bool) (files : List ℕ) (ps : List PriceList) (g h k : Setting) → odds ≡ q.odds → held ≡ q.held → exact ≡ files_of files → files ≡ b.files → ps ≡ b.prices
+    → g ≡ record { odds = odds; held = held; exact = exact; prices = [] } → h ≡ record g { prices = g.prices ++ ps } → k ≡ h → k ≡ setting_of q (files_of b.files) b.prices
+set-up q b odds held exact files ps g h k same-odds same-held same-exact same-files same-prices e f i =
+    i ∙ f ∙ ap (λ (s : Setting). record s { prices = s.prices ++ ps }) e
+    ∙ ap (λ (o : List Bool). record { odds = o; held = held; exact = exact; prices = ps }) same-odds
+    ∙ ap (λ (r : Rights). record { odds = q.odds; held = r; exact = exact; prices = ps }) same-held
+    ∙ ap (λ (x : List Bool). record { odds = q.odds; held = q.held; exact = x; prices = ps }) (same-exact ∙ ap files_of same-files)
+    ∙ ap (λ (l : List PriceList). record { odds = q.odds; held = q.held; exact = files_of b.files; prices = l }) same-prices
+
+-- all lines are due, where the walk has begun
+pub begun-due : (b : Body) (S : Sketch) (o : Option Opened) (fs : List Frame) (lines : List Line) → is_body b ≡ true → going o fs ≡ begun S → lines ≡ b.lines → AreDue o fs lines
+begun-due b S o fs lines known first same =
+    let none : o ≡ None = cc in
+    let one : fs ≡ record { line = 0; announced = 1; due = first_due S ∷ [] } ∷ [] = cc in
+    subst (λ (x : Option Opened). AreDue x fs lines) (sym none) (
+    subst (λ (l : List Frame). AreDue None l lines) (sym one) (
+    subst (λ (l : List Line). AreDue None (record { line = 0; announced = 1; due = first_due S ∷ [] } ∷ []) l) (sym same) (body-due b S known)))
+
+-- the walk that was made
+pub same-walk : (g k : Setting) (w v : SketchWalking) (first n : ℕ) (lines all : List Line) (last : SketchWalking) → k ≡ g → v ≡ w → first ≡ n → lines ≡ all → WalksOn k v first lines last → WalksOn g w n all last
+same-walk g k w v first n lines all last setting start place same walks =
+    subst (λ (s : Setting). WalksOn s w n all last) setting (
+    subst (λ (x : SketchWalking). WalksOn k x n all last) start (
+    subst (λ (j : ℕ). WalksOn k v j all last) place (
+    subst (λ (l : List Line). WalksOn k v first l last) same walks)))
