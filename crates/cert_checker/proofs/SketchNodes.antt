@@ -49,6 +49,10 @@ begun_reading u units q h r g o fs e is few =
       setting = is ∙ ap (λ (s : Sketched). setting_of s.query s.exact s.prices) (sym same);
     }
 
+-- the setting, as it is made
+pub set_as : (q : Asked) (h : Head) (exact : List Bool) (files : List ℕ) (g : Setting) → g ≡ record { odds = q.odds; held = q.held; exact = exact; prices = [] } → exact ≡ files_of files → files ≡ h.files → g ≡ setting_of q (files_of h.files) []
+set_as q h exact files g is one two = is ∙ ap (λ (x : List Bool). setting_of q x []) (one ∙ ap files_of two)
+
 -- THE FIRST NODE
 
 pub begun_already : (u : ℕ) (r : Reading) (q : Asked) (g : Setting) (b : Bool) (o : Option Opened) (fs : List SketchFrame) → b ≡ true → HasBegun (state u r q g b o fs) (state u r q g b o fs)

@@ -2,7 +2,7 @@
 use Rattle.std.proofs.Common.{◌≡◌, ℕ, zero, suc, ◌+◌, ◌-◌, ◌<◌, ◌≤◌, Bool, true, false, cond, inl, inr, List, [], ◌∷◌, ◌++◌, length, refl, sym, ap, ◌∙◌, subst, arith}
 use Rattle.std.proofs.lemmas.Bool.{cond-false}
 use Rattle.std.proofs.lemmas.Option.{cond_some}
-use Rattle.std.specs.Prelude.{IsTrue, Option, Some, None}
+use Rattle.std.specs.Prelude.{IsTrue, MatchOption, Option, Some, None}
 use Rattle.std.specs.List.{Contains}
 use Rattle.capture_prices.specs.Prices.{PriceList, are_prices}
 use Rattle.general_lemmas.proofs.Lists.{contains-cases, contains-first, contains-later, contains-none}
@@ -53,6 +53,10 @@ said_line o item l later x e is one = said_as o item later x e is ∙ ap (λ (i 
 
 pub few_read : (r later : Reading) (line : List ℕ) (o : Option SketchItem) (item : SketchItem) → option_map (λ i. (item_of i, later)) o ≡ said (step r) line → o ≡ Some item → r.due.prices ≤ 64 → later.due.prices ≤ 64
 few_read r later line o item e is few = few_kept r later line (item_of item) (said_as o item later (said (step r) line) e is) few
+
+pub few_counted : (r later : Reading) (line : List ℕ) (o : Option SketchItem) → option_map (λ i. (item_of i, later)) o ≡ said (step r) line → MatchOption o (later ≡ r) (λ i. Unit {0}) → r.due.prices ≤ 64 → later.due.prices ≤ 64
+few_counted r later line None e kept few = subst (λ (x : Reading). x.due.prices ≤ 64) (sym kept) few
+few_counted r later line (Some item) e kept few = few_read r later line (Some item) item e refl few
 
 -- PRICES
 

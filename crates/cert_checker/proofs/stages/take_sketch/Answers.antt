@@ -19,9 +19,9 @@ returns-in-Some-fault-clause-rest c = λ lines a rest.
 pub returns-then-not-is_over-clause-rest : goal.returns-then-not-is_over-clause-rest
 returns-then-not-is_over-clause-rest c = λ lines a rest.
     on_rest c.args.sketching.now c.take.new.self c.args.claim.now c.args.query.now (reverse c.args.frames.now.items) (map due_of (reverse c.args.frames.now.items)) c.args.number c.args.line.now lines a c.requires.reading
-    (rw c.in-None-fault.is at (rw c.in-Some.is at c.take.ensures.takes)) (sym c.is_over.ensures ∙ c.if-not-is_over.true) rest
+    (rw c.in_default-fault.is at (rw c.in-Some.is at c.take.ensures.takes)) (sym c.is_over.ensures ∙ c.if-not-is_over.true) rest
 
 pub returns-clause-rest : goal.returns-clause-rest
 returns-clause-rest c = λ lines a rest.
     over_rest c.args.sketching.now c.take.new.self c.args.claim.now c.args.query.now (reverse c.args.frames.now.items) (map due_of (reverse c.args.frames.now.items)) c.close.new.self.units c.args.number c.args.line.now lines a c.requires.reading
-    (rw c.in-None-fault.is at (rw c.in-Some.is at c.take.ensures.takes)) (sym c.is_over.ensures ∙ c.if-not-is_over.false) c.close.ensures (c.step_after.ensures.rest c.close.new.self (c.args.number + 1) lines a rest)
+    (rw c.in_default-fault.is at (rw c.in-Some.is at c.take.ensures.takes)) (sym c.is_over.ensures ∙ c.if-not-is_over.false) c.close.ensures (c.step_after.ensures.rest c.close.new.self (c.args.number + 1) lines a rest)

@@ -1,9 +1,5 @@
-use Rattle.std.proofs.Common.{rules, length}
-use Rattle.std.specs.Prelude.{SomeIff}
-use Rattle.past_sketches.specs.Figures.{sketch_of}
-use Rattle.cert_checker.proofs.SketchNodes.{sketch_there}
 use Rattle.cert_checker.proofs.SketchWalked.{few-men}
 use Rattle.cert_checker.proofs.sketching.Sketching.begin_nodes.Goals as goal
 
 pub unreachable-requires : goal.unreachable-requires
-unreachable-requires c = c.HOLE
+unreachable-requires c = c.in_default.ensures (few-men c.self-inside.query.odds c.self-inside.query.board (c.is_root.ensures.root.0 c.if-not-is_root.false))
