@@ -17,7 +17,7 @@ use Rattle.cert_text.specs.Due.{Due, closed, nodes_due, put_due, sketch_due, ste
 use Rattle.cert_text.specs.declared.node_lines.BodyLine.{BodyLine}
 use Rattle.cert_text.specs.declared.node_lines.BodyLine.TheVariants.{Rule, Back, Expand, Sketch}
 use Rattle.cert_checker.specs.Answers.{Answer}
-use Rattle.cert_checker.specs.Counting.{AreCounts, CountsTo, IsDue, counts_with}
+use Rattle.cert_checker.specs.Counting.{AreCounts, CountsTo, IfCounted, IsDue, counts_with}
 use Rattle.cert_checker.specs.Frames.{OnLine, Walking}
 use Rattle.cert_checker.specs.Framing.{due_of, popped, stopped_by, IsOpen, IsStack}
 use Rattle.cert_checker.specs.Sketching.{SketchState}
@@ -132,3 +132,8 @@ nodes_counted units k body o rest news after plain same goes put settled =
 pub sketch_counted : (result : Counted) (units : ℕ) (k : SketchState) (h : Head) (o : Option Due) (rest news : List ℕ) → o ≡ put_due units (Sketch h) rest → news ≡ rest → ((due : List ℕ) → CountsTo result (put_due units (Sketch h) due) k due) → CountsTo result o k news
 sketch_counted result units k h o rest news goes put counts =
     subst (λ (p : Option Due). CountsTo result p k news) (ap (put_due units (Sketch h)) put ∙ sym goes) (counts news)
+
+pub if_counted : (result : Counted) (P : Type 0) → P → IfCounted result P
+if_counted counted.Bad P p = tt
+if_counted counted.Nodes P p = p
+if_counted counted.Sketch P p = p

@@ -14,6 +14,15 @@ halted_stage (at.Counting claim q found) k frames due n = refl
 halted_stage (at.Skipping claim q found) k frames due n = refl
 halted_stage (at.Bad m) k frames due n = refl
 
+-- whatever the frames and the numbers are
+pub halted_any : (s : Step) (k : SketchState) (frames others : List Frame) (due more : List ℕ) (n : ℕ) → stage_of (stop_at s n) k frames due ≡ halted_at (stage_of s k others more) n
+halted_any (at.Heading head) k frames others due more n = refl
+halted_any (at.Walking claim q) k frames others due more n = refl
+halted_any (at.Sketching claim q) k frames others due more n = refl
+halted_any (at.Counting claim q found) k frames others due more n = refl
+halted_any (at.Skipping claim q found) k frames others due more n = refl
+halted_any (at.Bad m) k frames others due more n = refl
+
 pub halted_ready : (s : Step) (k : SketchState) (frames : List Frame) (due : List ℕ) (n : ℕ) → IsReady (stop_at s n) k frames due
 halted_ready (at.Heading head) k frames due n = tt
 halted_ready (at.Walking claim q) k frames due n = tt

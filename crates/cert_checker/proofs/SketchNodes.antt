@@ -49,6 +49,10 @@ begun_reading u units q h r g o fs e is few =
       setting = is ∙ ap (λ (s : Sketched). setting_of s.query s.exact s.prices) (sym same);
     }
 
+-- the setting, as it is made
+pub set_as : (q : Asked) (h : Head) (exact : List Bool) (files : List ℕ) (g : Setting) → g ≡ record { odds = q.odds; held = q.held; exact = exact; prices = [] } → exact ≡ files_of files → files ≡ h.files → g ≡ setting_of q (files_of h.files) []
+set_as q h exact files g is one two = is ∙ ap (λ (x : List Bool). setting_of q x []) (one ∙ ap files_of two)
+
 -- THE FIRST NODE
 
 pub begun_already : (u : ℕ) (r : Reading) (q : Asked) (g : Setting) (b : Bool) (o : Option Opened) (fs : List SketchFrame) → b ≡ true → HasBegun (state u r q g b o fs) (state u r q g b o fs)
@@ -77,8 +81,8 @@ none_begun false o fs e = refl
 
 -- sketches may not be asked about the board
 pub node_refused : (at : Option (Option Opened × List SketchFrame)) (s : Sketched) (frames : List Frame) (n : ℕ) (l : Line) → at ≡ None → (IsRoot s.query.odds s.query.board → ⊥) → OnNodes at s frames n l (stopped n (unsupported why.Rule))
-node_refused None s frames n l e no = inl (λ may. no may.root, refl)
-node_refused (Some x) s frames n l e no = absurd cc
+node_refused None s frames n l e never = inl (λ may. never may.root, refl)
+node_refused (Some x) s frames n l e never = absurd cc
 
 record StandsAs (old : SketchState) (o : Option Opened) (fs : List SketchFrame) : Type 0 where
   opened_is : o ≡ opened_in old.sketched.nodes

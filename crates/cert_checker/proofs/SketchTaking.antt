@@ -2,7 +2,7 @@
 use Rattle.std.proofs.Common.{◌≡◌, ℕ, zero, suc, ◌+◌, ◌-◌, ◌<◌, ◌≤◌, Bool, true, false, cond, inl, inr, List, [], ◌∷◌, ◌++◌, length, refl, sym, ap, ◌∙◌, subst, arith}
 use Rattle.std.proofs.lemmas.Bool.{cond-false}
 use Rattle.std.proofs.lemmas.Option.{cond_some}
-use Rattle.std.specs.Prelude.{IsTrue, Option, Some, None}
+use Rattle.std.specs.Prelude.{IsTrue, MatchOption, Option, Some, None}
 use Rattle.std.specs.List.{Contains}
 use Rattle.capture_prices.specs.Prices.{PriceList, are_prices}
 use Rattle.general_lemmas.proofs.Lists.{contains-cases, contains-first, contains-later, contains-none}
@@ -14,6 +14,14 @@ use Rattle.sketch_body.proofs.Steps.{next_kept}
 use Rattle.sketch_proof.specs.Proofs.{Setting}
 use Rattle.sketch_checker.specs.LineWalk as sketches
 use Rattle.sketch_checker.specs.Placed.{may_come}
+use Rattle.sketch_checker.specs.Walks.{Frame as SketchFrame, Opened}
+use Rattle.query_base.specs.Asked.{Asked}
+use Rattle.sketch_body.specs.Seen.{item_of, line_of}
+use Rattle.sketch_body.specs.declared.lines.SketchItem.{SketchItem}
+use Rattle.sketch_body.specs.declared.lines.SketchItem.TheVariants.{Prices, Line as ALine}
+use Rattle.sketch_body.specs.declared.lines.SketchLine.{SketchLine}
+use Rattle.cert_checker.proofs.SketchNodes.{state}
+use Rattle.std.specs.Option.{option_map}
 use Rattle.sketch_checker.specs.Supports.{MayAsk, setting_of}
 use Rattle.cert_text.specs.Lines.{said}
 use Rattle.cert_checker.specs.Frames.{OnNodes, Sketched, Walking, as_sketched, going, sketching}
@@ -32,6 +40,23 @@ read_on old later = record { units = old.units; reading = later; sketched = reco
 -- it has few lines of prices
 pub few_kept : (r later : Reading) (line : List ℕ) (i : Item) → said (step r) line ≡ Some (i, later) → r.due.prices ≤ 64 → later.due.prices ≤ 64
 few_kept r later line i e few = let same = next_kept r.due i later.due (said_next r later line i e) in omega (arith, same, few)
+
+-- what an item says that was read
+said_as : (o : Option SketchItem) (item : SketchItem) (later : Reading) (x : Option (Item × Reading)) → option_map (λ i. (item_of i, later)) o ≡ x → o ≡ Some item → x ≡ Some (item_of item, later)
+said_as o item later x e is = sym e ∙ ap (option_map (λ (i : SketchItem). (item_of i, later))) is
+
+pub said_prices : (o : Option SketchItem) (item : SketchItem) (p : PriceList) (later : Reading) (x : Option (Item × Reading)) → option_map (λ i. (item_of i, later)) o ≡ x → o ≡ Some item → item ≡ Prices p → x ≡ Some (of_prices p, later)
+said_prices o item p later x e is one = said_as o item later x e is ∙ ap (λ (i : SketchItem). Some (item_of i, later)) one
+
+pub said_line : (o : Option SketchItem) (item : SketchItem) (l : SketchLine) (later : Reading) (x : Option (Item × Reading)) → option_map (λ i. (item_of i, later)) o ≡ x → o ≡ Some item → item ≡ ALine l → x ≡ Some (of_line (line_of l), later)
+said_line o item l later x e is one = said_as o item later x e is ∙ ap (λ (i : SketchItem). Some (item_of i, later)) one
+
+pub few_read : (r later : Reading) (line : List ℕ) (o : Option SketchItem) (item : SketchItem) → option_map (λ i. (item_of i, later)) o ≡ said (step r) line → o ≡ Some item → r.due.prices ≤ 64 → later.due.prices ≤ 64
+few_read r later line o item e is few = few_kept r later line (item_of item) (said_as o item later (said (step r) line) e is) few
+
+pub few_counted : (r later : Reading) (line : List ℕ) (o : Option SketchItem) → option_map (λ i. (item_of i, later)) o ≡ said (step r) line → MatchOption o (later ≡ r) (λ i. Unit {0}) → r.due.prices ≤ 64 → later.due.prices ≤ 64
+few_counted r later line None e kept few = subst (λ (x : Reading). x.due.prices ≤ 64) (sym kept) few
+few_counted r later line (Some item) e kept few = few_read r later line (Some item) item e refl few
 
 -- PRICES
 
@@ -61,6 +86,14 @@ prices_room old later line p is e =
 -- the sketch behind a line of prices
 abbrev pub with_prices : SketchState → Reading → PriceList → SketchState
 with_prices old later p = record { units = old.units; reading = later; sketched = record old.sketched { prices = old.sketched.prices ++ p ∷ []; wanted = later.due.wanted }; setting = record old.setting { prices = old.setting.prices ++ p ∷ [] } }
+
+pub added_prices : (u : ℕ) (r later : Reading) (q : Asked) (g h : Setting) (b : Bool) (o x : Option Opened) (fs gs : List SketchFrame) (p : PriceList) → h ≡ record g { prices = g.prices ++ p ∷ [] } → sketches.going x gs ≡ sketches.going o fs → state u later q h b x gs ≡ with_prices (state u r q g b o fs) later p
+added_prices u r later q g h b o x fs gs p added kept =
+    let one : x ≡ o = cc in
+    let two : gs ≡ fs = cc in
+    ap (λ (k : Setting). state u later q k b x gs) added
+    ∙ ap (λ (y : Option Opened). state u later q (record g { prices = g.prices ++ p ∷ [] }) b y gs) one
+    ∙ ap (λ (ys : List SketchFrame). state u later q (record g { prices = g.prices ++ p ∷ [] }) b o ys) two
 
 pub prices_taken : (old new : SketchState) (later : Reading) (p : PriceList) (n : ℕ) (line : List ℕ) → IsReading old → said (step old.reading) line ≡ Some (of_prices p, later) → new ≡ with_prices old later p → Takes (Some None) old new n line
 prices_taken old new later p n line is e same =

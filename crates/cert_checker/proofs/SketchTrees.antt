@@ -194,8 +194,8 @@ first_walk (l ∷ ls) (t ∷ texts) x q exact prices r last_ frames n lines last
     begins = record { prices = is.prices; wanted = is.wanted; nodes = stands_here s r later l is due; still = is.still }
 
     by_ask : OnNodes None s frames n l after → (k : SketchWalked) × BodyWalks q exact prices (l ∷ ls) n k × SketchCarries k frames lines last
-    by_ask (inl no) =
-        (trees.fault_at n trees.unsupported, (x, written, inl (no.0, refl)), stops (map ended texts ++ lines) n (n + 1) (unsupported why.Rule) after last no.1 more)
+    by_ask (inl refused) =
+        (trees.fault_at n trees.unsupported, (x, written, inl (refused.0, refl)), stops (map ended texts ++ lines) n (n + 1) (unsupported why.Rule) after last refused.1 more)
     by_ask (inr (may, (next_, step_, is_))) =
         let steps : Steps (sketches.going None (frames_in s None)) first frames n l after = (next_, step_, is_ ∙ same_end next_ s None (frames_in s None) frames) in
         let says = says_item first r later (ended t) (of_line l) begins (said_back (step r) t (of_line l, later) e) in

@@ -68,6 +68,7 @@ fn count_sketch(sketching: &mut Sketching, head: &SketchHead) -> Counted
     ensures due { (due : List ℕ) → CountsTo result (put_due sketching.old.units (BodyLine.Sketch head.now) due) sketching.new due }
     ensures units { sketching.new.units ≡ sketching.old.units }
     ensures few { head.now.prices ≤ 64 → IfSketch result sketching.new }
+    ensures nodes { result ≡ Counted.Nodes → ⊥ }
 {
     if sketching.count_from(head) {
         Counted::Sketch

@@ -182,7 +182,10 @@ impl Sketching {
         ensures units { self.new.units ≡ self.old.units }
         ensures few { self.new.reading.due.prices ≤ 64 }
     {
-        read_sketch_line(&mut self.due, line).is_some()
+        match read_sketch_line(&mut self.due, line) {
+            Some(_) => true,
+            None => false,
+        }
     }
 
     /// No line of the sketch is due.

@@ -11,7 +11,6 @@ ghost use Rattle.cert_checker.specs.Sketching.{IsReading, SketchState};
 ghost use Rattle.cert_checker.specs.Stages.{Rest, answer_at, answer_by, in_head, nodes};
 ghost use Rattle.cert_checker.specs.Staging.{BarsNothing, CanEnd, IfGood, IfReading, IsReady, ReadsMore, rooting, stage_of, stop_at, taken};
 ghost use Rattle.cert_checker.specs.declared.frames.Frame.{Frame as AnyFrame};
-ghost use Rattle.cert_checker.specs.declared.frames.FirstFault.{FirstFault as AnyFault};
 
 use crate::counting::{Counted, count_frames, count_line, settle_counts};
 use crate::frames::{FirstFault, Frame, NodeStep, body_fault, go_below, settle, take_line};
@@ -66,17 +65,17 @@ fn step_in_sketch(
     claim: Claim,
     query: Query,
     found: Option<FirstFault>,
-    frames: &[Frame],
+    frames: &ArrayVec<Frame, 256>,
     counts: &mut ArrayVec<u32, 256>,
 ) -> Step
-    requires { IsStack (reverse frames.now) }
-    ensures stage { (k : SketchState) (n : ℕ) → stage_of result k (reverse frames.now) (reverse counts.new.items) ≡ taken (NodeStep.Sketch found) k claim query (reverse frames.now) n }
-    ensures ready { (k : SketchState) → IsReading k → IsReady result k (reverse frames.now) (reverse counts.new.items) }
+    requires { IsStack (reverse frames.now.items) }
+    ensures stage { (k : SketchState) (n : ℕ) → stage_of result k (reverse frames.now.items) (reverse counts.new.items) ≡ taken (NodeStep.Sketch found) k claim query (reverse frames.now.items) n }
+    ensures ready { (k : SketchState) → IsReading k → IsReady result k (reverse frames.now.items) (reverse counts.new.items) }
 {
     match found {
         None => Step::Sketching(claim, query),
         Some(found) => {
-            count_frames(frames, counts);
+            count_frames(frames.as_slice(), counts);
             Step::Skipping(claim, query, found)
         }
     }
@@ -102,7 +101,7 @@ fn step_after(
             let found = settle(frames, fault);
             step_at(claim, query, found, frames, counts)
         }
-        NodeStep::Sketch(found) => step_in_sketch(claim, query, found, frames.as_slice(), counts),
+        NodeStep::Sketch(found) => step_in_sketch(claim, query, found, frames, counts),
     }
 }
 
@@ -295,14 +294,12 @@ fn take_read(
     }
 }
 
-/// Goes over from counting nodes to the lines of a sketch.
+/// The step where the lines of a sketch are counted.
 #[inline(never)]
-fn skip(step: &mut Step)
-    ensures { (claim : AnyClaim) (q : Asked) (found : AnyFault) → step.old ≡ Step.Counting claim q found → step.new ≡ Step.Skipping claim q found }
+fn skipping(claim: &Claim, query: &Query, found: &FirstFault) -> Step
+    ensures { result ≡ Step.Skipping claim.now query.now found.now }
 {
-    if let Step::Counting(claim, query, found) = *step {
-        *step = Step::Skipping(claim, query, found);
-    }
+    Step::Skipping(*claim, *query, *found)
 }
 
 /// Takes a line, with its end. Where only children are counted, the step stays in its place.
@@ -320,9 +317,12 @@ pub(crate) fn take(
     ensures ready { IsReady step.new sketching.new (reverse frames.new.items) (reverse counts.new.items) }
 {
     match step {
-        Step::Counting(_, _, _) => match count_line(counts, sketching, line) {
+        Step::Counting(claim, query, found) => match count_line(counts, sketching, line) {
             Counted::Nodes => {}
-            Counted::Sketch => skip(step),
+            Counted::Sketch => {
+                let next = skipping(claim, query, found);
+                *step = next;
+            }
             Counted::Bad => *step = Step::Bad(number),
         },
         _ => take_read(step, sketching, frames, counts, number, line),
