@@ -2,11 +2,12 @@ use Rattle.std.proofs.Common.{◌∙◌, List, reverse, refl, sym, ap, subst, ar
 use Rattle.std.specs.List.{Contains}
 use Rattle.std.specs.declared.cmp.Ordering.TheVariants.{Equal}
 use Rattle.board_base.specs.declared.unmoves.Unmove.{Unmove}
-use Rattle.cert_text.specs.Tree.{more, none}
-use Rattle.cert_text.specs.Seen.{tree_of}
+use Rattle.cert_text.specs.Tree.{none}
+use Rattle.cert_text.specs.Seen.{body_tree, tree_of}
+use Rattle.cert_text.specs.declared.nodes.Body.{Body}
 use Rattle.cert_text.proofs.Forests.{kid_smaller, rest-end}
 use Rattle.cert_checker.specs.Walk.{fault_at, next_line, Walks}
-use Rattle.cert_checker.specs.Walking.{HaveSketches, IsLabelFault, lines_in_all}
+use Rattle.cert_checker.specs.Walking.{HaveSketches, IsLabelFault, IsWalked, lines_in_all}
 use Rattle.general_lemmas.proofs.Lasts.{pushed}
 use Rattle.general_lemmas.proofs.Lists.{contains-first, contains-later}
 use Rattle.cert_checker.proofs.Children.{rest-next}
@@ -31,8 +32,8 @@ check_kids-check_node-requires t c =
     let smaller = kid_smaller c.args.kids.now c.loop-i.i _ _ kid in
     let next = rest-next c.args.kids.now c.loop-i.i _ _ kid in
     let here = ap lines_in_all next in
-    let both : HaveSketches (more _ _ _) = subst HaveSketches next c.loop-i.invariant.sketches in
-    (omega (arith, smaller, c.decreases), record { room = omega (arith, here, c.loop-i.invariant.place, c.requires.room); sketches = both.0 })
+    let both = subst HaveSketches next c.loop-i.invariant.sketches in
+    (omega (arith, smaller, c.decreases), (omega (arith, here, c.loop-i.invariant.place, c.requires.room), both.0))
 
 pub check_kids-returns-in-Err-check_node-clause-walk : goal.check_kids-returns-in-Err-check_node-clause-walk
 check_kids-returns-in-Err-check_node-clause-walk t c =
@@ -72,3 +73,12 @@ pub check_kids-returns-in-None-clause-walk : goal.check_kids-returns-in-None-cla
 check_kids-returns-in-None-clause-walk t c =
     let end = rest-end c.args.kids.now c.loop-i.i (omega (arith, c.len-i-end.ensures)) in
     c.loop-i.invariant.whole _ (at_end _ none c.args.query.now c.loop-i.unmoves _ _ c.args.top c.loop-i.next _ end c.in-None.ensures.0 refl)
+
+pub check_kids-returns-in-None-clause-next : goal.check_kids-returns-in-None-clause-next
+check_kids-returns-in-None-clause-next t c =
+    let end = ap lines_in_all (rest-end c.args.kids.now c.loop-i.i (omega (arith, c.len-i-end.ensures))) in
+    omega (arith, end, c.loop-i.invariant.place)
+
+pub check_node-returns-in-Sketch-clause-walk : goal.check_node-returns-in-Sketch-clause-walk
+check_node-returns-in-Sketch-clause-walk t c =
+    subst (λ (b : Body). IsWalked c.check_sketch.result (Walks (body_tree b) c.args.query.now (reverse c.args.ancestors.now.items) c.args.line)) (sym c.in-Sketch.is) (c.check_sketch.ensures.walk (reverse c.args.ancestors.now.items))
