@@ -129,9 +129,11 @@ pub nodes_counted : (units : ℕ) (k : SketchState) (body : BodyLine) (o : Optio
 nodes_counted units k body o rest news after plain same goes put settled =
     (counts_with body rest, goes ∙ plain_put units body rest plain ∙ ap (λ (u : ℕ). Some (nodes_due u (counts_with body rest))) (sym same), settled ∙ ap popped put)
 
-pub sketch_counted : (result : Counted) (units : ℕ) (k : SketchState) (h : Head) (o : Option Due) (rest news : List ℕ) → o ≡ put_due units (Sketch h) rest → news ≡ rest → ((due : List ℕ) → CountsTo result (put_due units (Sketch h) due) k due) → CountsTo result o k news
-sketch_counted result units k h o rest news goes put counts =
-    subst (λ (p : Option Due). CountsTo result p k news) (ap (put_due units (Sketch h)) put ∙ sym goes) (counts news)
+pub sketch_counted : (result : Counted) (units : ℕ) (k : SketchState) (h : Head) (body : BodyLine) (o : Option Due) (rest news : List ℕ) → body ≡ Sketch h → o ≡ put_due units body rest → news ≡ counts_with body rest → ((due : List ℕ) → CountsTo result (put_due units (Sketch h) due) k due) → CountsTo result o k news
+sketch_counted result units k h body o rest news is goes put counts =
+    let here : news ≡ rest = put ∙ ap (λ (b : BodyLine). counts_with b rest) is in
+    let there : o ≡ put_due units (Sketch h) rest = goes ∙ ap (λ (b : BodyLine). put_due units b rest) is in
+    subst (λ (p : Option Due). CountsTo result p k news) (ap (put_due units (Sketch h)) here ∙ sym there) (counts news)
 
 pub if_counted : (result : Counted) (P : Type 0) → P → IfCounted result P
 if_counted counted.Bad P p = tt

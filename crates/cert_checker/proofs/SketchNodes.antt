@@ -3,6 +3,7 @@ use Rattle.std.proofs.Common.{◌≡◌, ℕ, ◌≤◌, Bool, true, false, inl,
 use Rattle.std.specs.Prelude.{IsTrue, Option, Some, None}
 use Rattle.std.specs.List.{Contains}
 use Rattle.std.proofs.lemmas.Option.{same_Some}
+use Rattle.board_base.specs.Rights.{Rights}
 use Rattle.capture_prices.specs.Prices.{PriceList, are_prices}
 use Rattle.past_sketches.specs.Figures.{sketch_of}
 use Rattle.query_base.specs.Asked.{Asked}
@@ -50,8 +51,10 @@ begun_reading u units q h r g o fs e is few =
     }
 
 -- the setting, as it is made
-pub set_as : (q : Asked) (h : Head) (exact : List Bool) (files : List ℕ) (g : Setting) → g ≡ record { odds = q.odds; held = q.held; exact = exact; prices = [] } → exact ≡ files_of files → files ≡ h.files → g ≡ setting_of q (files_of h.files) []
-set_as q h exact files g is one two = is ∙ ap (λ (x : List Bool). setting_of q x []) (one ∙ ap files_of two)
+pub set_as : (q : Asked) (h : Head) (odds : List Bool) (held : Rights) (exact : List Bool) (files : List ℕ) (g : Setting) → odds ≡ q.odds → held ≡ q.held → g ≡ record { odds = odds; held = held; exact = exact; prices = [] } → exact ≡ files_of files → files ≡ h.files → g ≡ setting_of q (files_of h.files) []
+set_as q h odds held exact files g odd right is one two =
+    is ∙ ap (λ (o : List Bool). record { odds = o; held = held; exact = exact; prices = [] }) odd ∙ ap (λ (r : Rights). record { odds = q.odds; held = r; exact = exact; prices = [] }) right
+    ∙ ap (λ (x : List Bool). setting_of q x []) (one ∙ ap files_of two)
 
 -- THE FIRST NODE
 

@@ -11,7 +11,7 @@ returns-in-Sketch-clause-step c =
     let deep : c.len-depth.result ≡ length olds = omega (arith, length-reverse c.args.counts.now.items, c.len-depth.ensures.value) in
     let some : 0 < length olds = search rules in
     let kid = counted_kid c.args.sketching.now.units olds (reverse c.put_counts.new.counts.items) _ c.args.line.now _ _ some c.requires.open deep (sym c.read_kid_line.ensures ∙ c.in-Some.is) c.put_counts.ensures in
-    sketch_counted c.count_sketch.result c.args.sketching.now.units c.count_sketch.new.sketching c.in-Sketch.head _ kid.0 (reverse c.put_counts.new.counts.items) (rw c.in-Sketch.is at kid.1) (rw c.in-Sketch.is at kid.2) c.count_sketch.ensures.due
+    sketch_counted c.count_sketch.result c.args.sketching.now.units c.count_sketch.new.sketching c.in-Sketch.head c.in-Some.body _ kid.0 (reverse c.put_counts.new.counts.items) c.in-Sketch.is kid.1 kid.2 c.count_sketch.ensures.due
 
 pub returns-in-Sketch-clause-counts : goal.returns-in-Sketch-clause-counts
 returns-in-Sketch-clause-counts c =
@@ -43,7 +43,7 @@ returns-in_default c =
     record {
       step = nodes_counted c.args.sketching.now.units c.args.sketching.now c.in-Some.body _ kid.0 (reverse c.put_counts.new.counts.items) (reverse c.settle_counts.new.counts.items) plain refl kid.1 kid.2 c.settle_counts.ensures.due;
       counts = subst AreCounts (sym c.settle_counts.ensures.due) (counts_popped (reverse c.put_counts.new.counts.items) (counts_kept c.in-Some.body olds (reverse c.put_counts.new.counts.items) some c.requires.open room c.requires.counts c.put_counts.ensures));
-      open = λ _. c.settle_counts.ensures.open;
+      «open» = λ _. c.settle_counts.ensures.open;
       few = tt;
       units = refl;
     }
