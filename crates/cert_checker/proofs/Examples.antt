@@ -28,7 +28,8 @@ use Rattle.unmove_gen.specs.Predecessor.{unmove_after}
 use Rattle.unmove_gen.proofs.Members.{list-passes}
 use Rattle.unmove_gen.proofs.Parts.{parts}
 use Rattle.unmove_gen.proofs.Taken.{listed_after}
-use Rattle.cert_text.specs.Tree.{Tree, Forest, rule, back, expand, none, more}
+use Rattle.sketch_body.specs.Bodies.{Body}
+use Rattle.cert_text.specs.Tree.{Tree, Forest, rule, back, expand, sketch, none, more}
 use Rattle.cert_checker.specs.Proving.{Proves}
 use Rattle.board_base.proofs.KindsOfMen.{none-stand}
 
@@ -42,6 +43,10 @@ the_array = asked initial_array
 -- the board without men has no kings, and so no game reaches it
 kings_missing : Proves (rule (Line Kings)) (asked no_men) []
 kings_missing = λ each. let missing : false ≡ true = ap (λ (n : ℕ). n == 1) (each White) in cc
+
+-- nothing can be asked of its sketch
+no_sketch : (b : Body) → Proves (sketch b) (asked no_men) [] → ⊥
+no_sketch b proves = let missing : false ≡ true = ap (λ (n : ℕ). n == 1) (proves.2.asked.root.kings White) in cc
 
 -- the array has its kings
 kings_there : Proves (rule (Line Kings)) the_array [] → ⊥

@@ -16,7 +16,18 @@ pub mod Settling
 pub mod TreeLines
 pub mod Answering
 mod ReasonsSettled
+mod AskSettled
 mod OneRest
 pub mod Halting
 pub mod Pieces
 pub mod Feeding
+pub mod SketchNumbers
+pub mod SketchPlaces
+pub mod SketchDue
+pub mod SketchWalked
+pub mod SketchSteps
+pub mod Stopping
+pub mod SketchTrees
+pub mod SketchTaking
+pub mod SketchNodes
+pub mod SketchRests

@@ -1,10 +1,20 @@
 -- From each stage on there is one answer to the lines that follow.
-use Rattle.std.proofs.Common.{◌≡◌, ℕ, suc, ◌+◌, inl, inr, List, [], ◌∷◌, ◌++◌, length, map, refl, sym, ap, ◌∙◌, subst}
+use Rattle.std.proofs.Common.{◌≡◌, ℕ, suc, ◌+◌, ◌-◌, inl, inr, List, [], ◌∷◌, ◌++◌, length, map, refl, sym, ap, ◌∙◌, subst}
 use Rattle.std.specs.Prelude.{◌↔◌, Option, Some, None, slice_get}
 use Rattle.std.specs.declared.cmp.Ordering.{Ordering}
 use Rattle.std.specs.declared.cmp.Ordering.TheVariants.{Less, Equal, Greater}
 use Rattle.board_base.specs.Texts.{unmove_order}
 use Rattle.board_base.specs.declared.unmoves.Unmove.{Unmove}
+use Rattle.past_sketches.specs.Figures.{sketch_of}
+use Rattle.sketch_text.specs.Trees.{Line}
+use Rattle.sketch_body.specs.Bodies.{Item, of_line, of_prices}
+use Rattle.sketch_body.specs.Due.{read_as}
+use Rattle.sketch_checker.specs.LineWalk.{Walking as SketchWalking, begun}
+use Rattle.sketch_checker.specs.LineWalk as sketches
+use Rattle.sketch_checker.specs.Supports.{MayAsk, setting_of}
+use Rattle.sketch_checker.specs.Walks.{Frame as SketchFrame, Opened}
+use Rattle.sketch_checker.proofs.OneLine.{step-one}
+use Rattle.sketch_checker.proofs.SomeLine.{walk-some}
 use Rattle.query_base.specs.Asked.{Asked}
 use Rattle.query_base.specs.Ancestors.{CoversAt}
 use Rattle.query_base.specs.Reach.{Reaches}
@@ -16,22 +26,23 @@ use Rattle.unmove_gen.specs.Predecessor.{predecessor}
 use Rattle.cert_text.specs.Lines.{cut, said}
 use Rattle.cert_text.specs.NodeLines.{kid_body, root_body}
 use Rattle.cert_text.specs.Certificate.{Lines}
-use Rattle.cert_text.specs.Due.{put_due, step}
+use Rattle.cert_text.specs.Due.{Due, put_due, step}
 use Rattle.cert_text.specs.Heads.{head_step}
 use Rattle.cert_text.specs.declared.heads.Head.{Head}
 use Rattle.cert_text.specs.declared.heads.Head.TheVariants.{FormatDue, ClaimDue, DemandDue, ClockOrFenDue, FenDue, RootDue}
 use Rattle.cert_text.specs.declared.node_lines.BodyLine.{BodyLine}
-use Rattle.cert_text.specs.declared.node_lines.BodyLine.TheVariants.{Rule, Back, Expand}
+use Rattle.cert_text.specs.declared.node_lines.BodyLine.TheVariants.{Rule, Back, Expand, Sketch}
 use Rattle.cert_checker.specs.Answers.{Answer, Answers}
 use Rattle.cert_checker.specs.Reasons.{ReasonSupports}
 use Rattle.cert_checker.specs.Walk.{unlisted, unsupported}
-use Rattle.cert_checker.specs.Frames.{Walking, going, stopped, go_on, ended, Onto, Stays, Opens, OnBody, OnLabel, OnFirst, OnSaid, OnOpen, OnLine, fewer, query_of_frame}
-use Rattle.cert_checker.specs.Stages.{Stage, in_head, nodes, bad, headed, Rooted, Stepped, OnHead, NextStage, Rest, answer_at}
+use Rattle.cert_checker.specs.Frames.{Sketched, Walking, going, sketching, stopped, as_sketched, first_sketched, go_on, ended, marks_due, Stays, Steps, Opens, OnBody, OnItem, OnLabel, OnFirst, OnNext, OnNodes, OnSaid, OnOpen, OnLine, fewer, query_of_frame}
+use Rattle.cert_checker.specs.Stages.{Stage, in_head, nodes, bad, headed, Begun, Rooted, Stepped, OnHead, NextStage, Rest, answer_at}
 use Rattle.cert_checker.specs.declared.frames.Frame.{Frame}
 use Rattle.cert_checker.specs.declared.refusals.Why.{Why}
 use Rattle.cert_checker.specs.declared.refusals.Why.TheVariants as why
 use Rattle.cert_checker.specs.Remains.{Checking, Remains, StandsFor}
 use Rattle.cert_checker.proofs.OneText.{one_answer}
+use Rattle.cert_checker.proofs.AskSettled.{ask_settled}
 use Rattle.cert_checker.proofs.ReasonsSettled.{covering_settled, reason_settled}
 use Rattle.general_lemmas.proofs.Settling.{Settled}
 
@@ -48,6 +59,7 @@ opens-some A frames n (inr f) = (going frames, (f, refl))
 body-some : (body : BodyLine) (q : Asked) (frames : List Frame) (n : ℕ) → (after : Walking) × OnBody body q frames n after
 body-some (Rule r) q frames n = stays-some (ReasonSupports q r) why.Rule frames n (reason_settled q r)
 body-some (Back k) q frames n = stays-some (CoversAt q (map query_of_frame frames) k) why.Back frames n (covering_settled q (map query_of_frame frames) k)
+body-some (Sketch h) q frames n = (sketching (first_sketched q h) frames, refl)
 body-some (Expand c) q frames n = opens-some (Reaches [] q) (record { query = q; left = unmoves q; due = c; line = n } ∷ frames) n (array_settled q)
 
 label-some : (o : Ordering) (u : Unmove) (n : ℕ) (Kid : Walking → Type 0) → (after : Walking) × Kid after → (after : Walking) × OnLabel o u n (Kid after) after
@@ -67,20 +79,45 @@ open-some : (n : ℕ) (line : List ℕ) (frames : List Frame) → (after : Walki
 open-some n line [] = (going [], refl)
 open-some n line (f ∷ frames) = said-some (said (kid_body (suc (length frames))) line) f frames n
 
-onto-some : (w : Walking) (Next : List Frame → Walking → Type 0) → ((frames : List Frame) → (after : Walking) × Next frames after) → (after : Walking) × Onto w Next after
-onto-some (going frames) Next some = some frames
-onto-some (stopped n f) Next some = (stopped n f, refl)
+steps-some : (w : SketchWalking) (s : Sketched) (frames : List Frame) (n : ℕ) (l : Line) → (after : Walking) × Steps w s frames n l after
+steps-some w s frames n l =
+    let x = walk-some (setting_of s.query s.exact s.prices) (l ∷ []) w n in
+    (as_sketched x.1.0 s frames, (x.1.0, x.1.1, refl))
+
+first-node-some : (s : Sketched) (frames : List Frame) (n : ℕ) (l : Line) → Settled (MayAsk s.query s.prices) → (after : Walking) × OnNodes None s frames n l after
+first-node-some s frames n l (inl may) =
+    let some = steps-some (begun (sketch_of s.query.board)) s frames n l in
+    (some.0, inr (may, some.1))
+first-node-some s frames n l (inr f) = (stopped n (unsupported why.Rule), inl (f, refl))
+
+nodes-some : (at : Option (Option Opened × List SketchFrame)) (s : Sketched) (frames : List Frame) (n : ℕ) (l : Line) → (after : Walking) × OnNodes at s frames n l after
+nodes-some None s frames n l = first-node-some s frames n l (ask_settled s.query s.prices)
+nodes-some (Some at) s frames n l = steps-some (sketches.going at.0 at.1) s frames n l
+
+item-some : (o : Option Item) (s : Sketched) (frames : List Frame) (n : ℕ) → (after : Walking) × OnItem o s frames n after
+item-some None s frames n = (sketching s frames, refl)
+item-some (Some (of_prices p)) s frames n = (sketching (record s { prices = s.prices ++ p ∷ []; wanted = s.wanted - 1 }) frames, refl)
+item-some (Some (of_line l)) s frames n = nodes-some s.nodes s frames n l
+
+next-line-some : (w : Walking) (n : ℕ) (line : List ℕ) → (after : Walking) × OnNext w n line after
+next-line-some (going frames) n line = open-some n line frames
+next-line-some (sketching s frames) n line = item-some (said (read_as (length s.prices + s.wanted) s.wanted (marks_due s.nodes)) line) s frames n
+next-line-some (stopped m f) n line = (stopped m f, refl)
 
 line-some : (w : Walking) (n : ℕ) (line : List ℕ) → (after : Walking) × OnLine w n line after
-line-some w n line = onto-some (go_on w ended) (OnOpen n line) (open-some n line)
+line-some w n line = next-line-some (go_on w ended) n line
+
+begun-some : (o : Option Due) (body : BodyLine) (claim : Claim) (q : Asked) (n : ℕ) → (next : Stage) × Begun o body claim q n next
+begun-some None body claim q n = (bad n, refl)
+begun-some (Some due) body claim q n =
+    let walk = body-some body (target q claim) [] n in
+    (nodes claim q walk.0 due, (walk.0, walk.1, refl))
 
 rooted-some : (o : Option BodyLine) (claim : Claim) (q : Asked) (n : ℕ) → (next : Stage) × Rooted o claim q n next
 rooted-some None claim q n = (bad n, refl)
-rooted-some (Some body) claim q n =
-    let walk = body-some body (target q claim) [] n in
-    (nodes claim q walk.0 (put_due body []), (walk.0, walk.1, refl))
+rooted-some (Some body) claim q n = begun-some (put_due 0 body []) body claim q n
 
-stepped-some : (o : Option (List ℕ)) (claim : Claim) (q : Asked) (w : Walking) (n : ℕ) (line : List ℕ) → (next : Stage) × Stepped o claim q w n line next
+stepped-some : (o : Option Due) (claim : Claim) (q : Asked) (w : Walking) (n : ℕ) (line : List ℕ) → (next : Stage) × Stepped o claim q w n line next
 stepped-some None claim q w n line = (bad n, refl)
 stepped-some (Some due) claim q w n line =
     let after = line-some w n line in
@@ -111,18 +148,25 @@ rest_some (line ∷ lines) stage n =
 stays-one : (P : Type 0) (w : Why) (frames : List Frame) (n : ℕ) (a b : Walking) → Stays P w frames n a → Stays P w frames n b → a ≡ b
 stays-one P w frames n (going f) (going g) x y = ap going (x.1 ∙ sym y.1)
 stays-one P w frames n (going f) (stopped j g) x y = absurd (y.0 x.0)
+stays-one P w frames n (going f) (sketching s g) x y = absurd y
+stays-one P w frames n (sketching s f) b x y = absurd x
+stays-one P w frames n (stopped i f) (sketching s g) x y = absurd y
 stays-one P w frames n (stopped i f) (going g) x y = absurd (x.0 y.0)
 stays-one P w frames n (stopped i f) (stopped j g) x y = ap (λ (k : ℕ). stopped k f) (x.1 ∙ sym y.1) ∙ ap (stopped j) (x.2 ∙ sym y.2)
 
 opens-one : (A : Type 0) (frames : List Frame) (n : ℕ) (a b : Walking) → Opens A frames n a → Opens A frames n b → a ≡ b
 opens-one A frames n (going f) (going g) x y = ap going (x.1 ∙ sym y.1)
 opens-one A frames n (going f) (stopped j g) x y = absurd (x.0 y.0)
+opens-one A frames n (going f) (sketching s g) x y = absurd y
+opens-one A frames n (sketching s f) b x y = absurd x
+opens-one A frames n (stopped i f) (sketching s g) x y = absurd y
 opens-one A frames n (stopped i f) (going g) x y = absurd (y.0 x.0)
 opens-one A frames n (stopped i f) (stopped j g) x y = ap (λ (k : ℕ). stopped k f) (x.1 ∙ sym y.1) ∙ ap (stopped j) (x.2 ∙ sym y.2)
 
 body-one : (body : BodyLine) (q : Asked) (frames : List Frame) (n : ℕ) (a b : Walking) → OnBody body q frames n a → OnBody body q frames n b → a ≡ b
 body-one (Rule r) q frames n a b x y = stays-one (ReasonSupports q r) why.Rule frames n a b x y
 body-one (Back k) q frames n a b x y = stays-one (CoversAt q (map query_of_frame frames) k) why.Back frames n a b x y
+body-one (Sketch h) q frames n a b x y = x ∙ sym y
 body-one (Expand c) q frames n a b x y = opens-one (Reaches [] q) (record { query = q; left = unmoves q; due = c; line = n } ∷ frames) n a b x y
 
 label-one : (o : Ordering) (u : Unmove) (n : ℕ) (a b : Walking) (A B : Type 0) → (A → B → a ≡ b) → OnLabel o u n A a → OnLabel o u n B b → a ≡ b
@@ -143,19 +187,40 @@ open-one : (n : ℕ) (line : List ℕ) (frames : List Frame) (a b : Walking) →
 open-one n line [] a b x y = x ∙ sym y
 open-one n line (f ∷ frames) a b x y = said-one (said (kid_body (suc (length frames))) line) f frames n a b x y
 
-onto-one : (w : Walking) (Next : List Frame → Walking → Type 0) (a b : Walking) → ((frames : List Frame) → Next frames a → Next frames b → a ≡ b) → Onto w Next a → Onto w Next b → a ≡ b
-onto-one (going frames) Next a b one x y = one frames x y
-onto-one (stopped n f) Next a b one x y = x ∙ sym y
+steps-one : (w : SketchWalking) (s : Sketched) (frames : List Frame) (n : ℕ) (l : Line) (a b : Walking) → Steps w s frames n l a → Steps w s frames n l b → a ≡ b
+steps-one w s frames n l a b (u, on, e) (v, on2, f) =
+    e ∙ ap (λ (k : SketchWalking). as_sketched k s frames) (step-one (setting_of s.query s.exact s.prices) w n l u v on on2) ∙ sym f
+
+nodes-one : (at : Option (Option Opened × List SketchFrame)) (s : Sketched) (frames : List Frame) (n : ℕ) (l : Line) (a b : Walking) → OnNodes at s frames n l a → OnNodes at s frames n l b → a ≡ b
+nodes-one None s frames n l a b (inl x) (inl y) = x.1 ∙ sym y.1
+nodes-one None s frames n l a b (inl x) (inr y) = absurd (x.0 y.0)
+nodes-one None s frames n l a b (inr x) (inl y) = absurd (y.0 x.0)
+nodes-one None s frames n l a b (inr x) (inr y) = steps-one (begun (sketch_of s.query.board)) s frames n l a b x.1 y.1
+nodes-one (Some at) s frames n l a b x y = steps-one (sketches.going at.0 at.1) s frames n l a b x y
+
+item-one : (o : Option Item) (s : Sketched) (frames : List Frame) (n : ℕ) (a b : Walking) → OnItem o s frames n a → OnItem o s frames n b → a ≡ b
+item-one None s frames n a b x y = x ∙ sym y
+item-one (Some (of_prices p)) s frames n a b x y = x ∙ sym y
+item-one (Some (of_line l)) s frames n a b x y = nodes-one s.nodes s frames n l a b x y
+
+next-line-one : (w : Walking) (n : ℕ) (line : List ℕ) (a b : Walking) → OnNext w n line a → OnNext w n line b → a ≡ b
+next-line-one (going frames) n line a b x y = open-one n line frames a b x y
+next-line-one (sketching s frames) n line a b x y = item-one (said (read_as (length s.prices + s.wanted) s.wanted (marks_due s.nodes)) line) s frames n a b x y
+next-line-one (stopped m f) n line a b x y = x ∙ sym y
 
 line-one : (w : Walking) (n : ℕ) (line : List ℕ) (a b : Walking) → OnLine w n line a → OnLine w n line b → a ≡ b
-line-one w n line a b x y = onto-one (go_on w ended) (OnOpen n line) a b (λ frames. open-one n line frames a b) x y
+line-one w n line a b x y = next-line-one (go_on w ended) n line a b x y
+
+begun-one : (o : Option Due) (body : BodyLine) (claim : Claim) (q : Asked) (n : ℕ) (s t : Stage) → Begun o body claim q n s → Begun o body claim q n t → s ≡ t
+begun-one None body claim q n s t x y = x ∙ sym y
+begun-one (Some due) body claim q n s t (w, on, e) (v, on2, f) =
+    e ∙ ap (λ (k : Walking). nodes claim q k due) (body-one body (target q claim) [] n w v on on2) ∙ sym f
 
 rooted-one : (o : Option BodyLine) (claim : Claim) (q : Asked) (n : ℕ) (s t : Stage) → Rooted o claim q n s → Rooted o claim q n t → s ≡ t
 rooted-one None claim q n s t x y = x ∙ sym y
-rooted-one (Some body) claim q n s t (w, on, e) (v, on2, f) =
-    e ∙ ap (λ (k : Walking). nodes claim q k (put_due body [])) (body-one body (target q claim) [] n w v on on2) ∙ sym f
+rooted-one (Some body) claim q n s t x y = begun-one (put_due 0 body []) body claim q n s t x y
 
-stepped-one : (o : Option (List ℕ)) (claim : Claim) (q : Asked) (w : Walking) (n : ℕ) (line : List ℕ) (s t : Stage) → Stepped o claim q w n line s → Stepped o claim q w n line t → s ≡ t
+stepped-one : (o : Option Due) (claim : Claim) (q : Asked) (w : Walking) (n : ℕ) (line : List ℕ) (s t : Stage) → Stepped o claim q w n line s → Stepped o claim q w n line t → s ≡ t
 stepped-one None claim q w n line s t x y = x ∙ sym y
 stepped-one (Some due) claim q w n line s t (a, on, e) (b, on2, f) = e ∙ ap (λ (k : Walking). nodes claim q k due) (line-one w n line a b on on2) ∙ sym f
 

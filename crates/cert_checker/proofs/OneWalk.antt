@@ -1,5 +1,5 @@
 -- A walk comes to one thing.
-use Rattle.std.proofs.Common.{◌≡◌, ℕ, ◌+◌, inl, inr, List, [], ◌∷◌, sym, ap, ◌∙◌, subst}
+use Rattle.std.proofs.Common.{◌≡◌, ℕ, ◌+◌, inl, inr, List, [], ◌∷◌, length, sym, ap, ◌∙◌, subst}
 use Rattle.std.specs.declared.cmp.Ordering.{Ordering}
 use Rattle.std.specs.declared.cmp.Ordering.TheVariants.{Less, Equal, Greater}
 use Rattle.board_base.specs.Texts.{unmove_order}
@@ -7,10 +7,14 @@ use Rattle.board_base.specs.declared.unmoves.Unmove.{Unmove}
 use Rattle.query_base.specs.Asked.{Asked}
 use Rattle.query_base.specs.Ancestors.{CoversAt}
 use Rattle.cert_checker.specs.Reasons.{ReasonSupports}
+use Rattle.sketch_body.specs.Bodies.{Body}
+use Rattle.sketch_checker.proofs.Supporting.{bodies-one}
+use Rattle.sketch_checker.specs.TreeWalk.{Walked as SketchWalked}
 use Rattle.unmove_gen.specs.Listed.{unmoves}
 use Rattle.unmove_gen.specs.Predecessor.{predecessor}
-use Rattle.cert_text.specs.Tree.{Tree, Forest, rule, back, expand, none, more}
-use Rattle.cert_checker.specs.Walk.{Walked, fault_at, next_line, Unless, Onwards, ByLabel, Walks, WalksEach}
+use Rattle.cert_text.specs.Tree.{Tree, Forest, rule, back, expand, sketch, none, more}
+use Rattle.cert_checker.specs.Sketches.{WalksSketch, files_of}
+use Rattle.cert_checker.specs.Walk.{Walked, fault_at, next_line, Unless, Onwards, ByLabel, Walks, WalksEach, walked_by}
 use Rattle.cert_checker.specs.declared.refusals.Why.{Why}
 use Rattle.cert_checker.specs.declared.refusals.Why.TheVariants as why
 use Rattle.cert_checker.proofs.Walks.{WalksKid}
@@ -30,6 +34,9 @@ one_onwards : (kid : Walked) (Rest : ℕ → Walked → Type 0) (a b : Walked) �
 one_onwards (fault_at n f) Rest a b rest x y = x ∙ sym y
 one_onwards (next_line n) Rest a b rest x y = rest n x y
 
+one_sketch : (b : Body) (q : Asked) (n : ℕ) (k j : SketchWalked) → WalksSketch b q n k → WalksSketch b q n j → k ≡ j
+one_sketch b q n k j x y = bodies-one q (files_of b.files) b.prices b.lines (n + 1 + length b.prices) k j x y
+
 mutual
   pub one_walk : (t : Tree) (q : Asked) (ancestors : List Asked) (n : ℕ) (a b : Walked) → Walks t q ancestors n a → Walks t q ancestors n b → a ≡ b
   one_walk (rule r) q ancestors n a b x y = one_unless (ReasonSupports q r) why.Rule n a b x y
@@ -38,6 +45,7 @@ mutual
   one_walk (expand kids) q ancestors n a b (inl x) (inr y) = absurd (y.0 x.0)
   one_walk (expand kids) q ancestors n a b (inr x) (inl y) = absurd (x.0 y.0)
   one_walk (expand kids) q ancestors n a b (inr x) (inr y) = one_each kids q (unmoves q) ancestors n (n + 1) a b x.1 y.1
+  one_walk (sketch s) q ancestors n a b (k, x, e) (j, y, f) = e ∙ ap walked_by (one_sketch s q n k j x y) ∙ sym f
 
   one_each : (f : Forest) (q : Asked) (us : List Unmove) (ancestors : List Asked) (top n : ℕ) (a b : Walked) → WalksEach f q us ancestors top n a → WalksEach f q us ancestors top n b → a ≡ b
   one_each none q [] ancestors top n a b x y = x ∙ sym y

@@ -11,12 +11,13 @@ use Rattle.query_base.specs.Asked.{Asked}
 use Rattle.query_base.specs.declared.claims.Claim.{Claim}
 use Rattle.unmove_gen.specs.Listed.{unmoves}
 use Rattle.cert_text.specs.Reading.{HasRoom}
-use Rattle.cert_text.specs.Due.{put_due, step, is_done}
+use Rattle.cert_text.specs.Due.{Due, is_done, kid_step, nodes_due, none_left, step}
 use Rattle.cert_text.specs.declared.node_lines.BodyLine.{BodyLine}
-use Rattle.cert_text.specs.declared.node_lines.BodyLine.TheVariants.{Rule, Back, Expand}
+use Rattle.cert_text.specs.declared.node_lines.BodyLine.TheVariants.{Rule, Back, Expand, Sketch}
 use Rattle.query_base.specs.Ancestors.{ancestor}
 use Rattle.cert_checker.specs.Answers.{Answer, bad_text}
-use Rattle.cert_checker.specs.Frames.{Walking, going, stopped, go_on, Onto, ended, end_at, end_unmoves, query_of_frame, OnOpen}
+use Rattle.cert_checker.specs.Counting.{counts_with}
+use Rattle.cert_checker.specs.Frames.{Walking, going, sketching, stopped, go_on, ended, end_at, end_unmoves, query_of_frame, OnNext}
 use Rattle.cert_checker.specs.Framing.{popped, due_of, stopped_by, walking, with_body, IsOpen, IsStack}
 use Rattle.cert_checker.specs.Stages.{Stage, nodes, Stepped, answer_by, Rest}
 use Rattle.cert_checker.specs.declared.frames.Frame.{Frame}
@@ -62,41 +63,44 @@ ended_idle (f ∷ frames) = end_at_idle f.due f frames (ended frames) refl (ende
 -- frames are ended once
 pub settled_once : (w : Walking) → go_on (go_on w ended) ended ≡ go_on w ended
 settled_once (going frames) = ended_idle frames
+settled_once (sketching s frames) = refl
 settled_once (stopped n f) = refl
 
-done_popped : (due : List ℕ) → is_done (popped due) ≡ is_done due
+done_popped : (due : List ℕ) → none_left (popped due) ≡ none_left due
 done_popped [] = refl
 done_popped (zero ∷ due) = done_popped due
 done_popped (suc m ∷ due) = refl
 
-pub step_popped : (due : List ℕ) (line : List ℕ) → step (popped due) line ≡ step due line
-step_popped [] line = refl
-step_popped (zero ∷ due) line = step_popped due line
-step_popped (suc m ∷ due) line = refl
+pub step_popped : (units : ℕ) (due : List ℕ) (line : List ℕ) → kid_step units (popped due) line ≡ kid_step units due line
+step_popped units [] line = refl
+step_popped units (zero ∷ due) line = step_popped units due line
+step_popped units (suc m ∷ due) line = refl
 
-stepped_ended : (o : Option (List ℕ)) (claim : Claim) (q : Asked) (w : Walking) (n : ℕ) (line : List ℕ) (next : Stage) → Stepped o claim q (go_on w ended) n line next → Stepped o claim q w n line next
+stepped_ended : (o : Option Due) (claim : Claim) (q : Asked) (w : Walking) (n : ℕ) (line : List ℕ) (next : Stage) → Stepped o claim q (go_on w ended) n line next → Stepped o claim q w n line next
 stepped_ended None claim q w n line next e = e
 stepped_ended (Some due) claim q w n line next (after, on, e) =
-    (after, subst (λ (v : Walking). Onto v (OnOpen n line) after) (settled_once w) on, e)
+    (after, subst (λ (v : Walking). OnNext v n line after) (settled_once w) on, e)
 
 -- what is answered where the frames with no child due were taken off
-pub rest_settled : (lines : List (List ℕ)) (claim : Claim) (q : Asked) (w : Walking) (due : List ℕ) (n : ℕ) (a : Answer) → Rest (nodes claim q (go_on w ended) (popped due)) n lines a → Rest (nodes claim q w due) n lines a
-rest_settled [] claim q w due n a e =
-    e ∙ ap (λ (b : Bool). cond b (answer_by claim q (go_on (go_on w ended) ended)) (bad_text n)) (done_popped due)
-    ∙ ap (λ (v : Walking). cond (is_done due) (answer_by claim q v) (bad_text n)) (settled_once w)
-rest_settled (line ∷ lines) claim q w due n a (next, stepped, rest) =
-    (next, stepped_ended (step due line) claim q w n line next (subst (λ (o : Option (List ℕ)). Stepped o claim q (go_on w ended) n line next) (step_popped due line) stepped), rest)
+pub rest_settled : (lines : List (List ℕ)) (claim : Claim) (q : Asked) (w : Walking) (units : ℕ) (due : List ℕ) (n : ℕ) (a : Answer) → Rest (nodes claim q (go_on w ended) (nodes_due units (popped due))) n lines a → Rest (nodes claim q w (nodes_due units due)) n lines a
+rest_settled [] claim q w units due n a e =
+    e ∙ ap (λ (b : Bool). cond b (answer_by claim q n (go_on (go_on w ended) ended)) (bad_text n)) (done_popped due)
+    ∙ ap (λ (v : Walking). cond (none_left due) (answer_by claim q n v) (bad_text n)) (settled_once w)
+rest_settled (line ∷ lines) claim q w units due n a (next, stepped, rest) =
+    (next, stepped_ended (kid_step units due line) claim q w n line next (subst (λ (o : Option Due). Stepped o claim q (go_on w ended) n line next) (step_popped units due line) stepped), rest)
 
-pub due_with : (body : BodyLine) (q : Asked) (frames : List Frame) (n : ℕ) → map due_of (with_body body q frames n) ≡ put_due body (map due_of frames)
+pub due_with : (body : BodyLine) (q : Asked) (frames : List Frame) (n : ℕ) → map due_of (with_body body q frames n) ≡ counts_with body (map due_of frames)
 due_with (Rule r) q frames n = refl
 due_with (Back k) q frames n = refl
 due_with (Expand c) q frames n = refl
+due_with (Sketch h) q frames n = refl
 
 -- a new frame, where its children have room
 pub stack_with : (body : BodyLine) (q : Asked) (frames : List Frame) (n : ℕ) → HasRoom (length frames) body → IsStack frames → IsStack (with_body body q frames n)
 stack_with (Rule r) q frames n room stack = stack
 stack_with (Back k) q frames n room stack = stack
 stack_with (Expand c) q frames n room stack = (room, λ u there. there, stack)
+stack_with (Sketch h) q frames n room stack = stack
 
 pub listed_rest : (us : List Unmove) (q : Asked) → ((u : Unmove) → Contains us u → Contains (unmoves q) u) → (u : Unmove) → Contains (drop 1 us) u → Contains (unmoves q) u
 listed_rest [] q all u there = all u there

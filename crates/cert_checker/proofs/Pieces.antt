@@ -3,19 +3,24 @@ use Rattle.std.proofs.Common.{◌≡◌, ◌≢◌, ℕ, zero, suc, ◌+◌, ◌
 use Rattle.std.proofs.lemmas.Bool.{ne_eqb, cond-false}
 use Rattle.std.specs.Prelude.{Option, None}
 use Rattle.std.specs.List.{onto_first}
-use Rattle.std.specs.Option.{option_map}
+use Rattle.std.specs.Option.{option_and_then, option_map}
 use Rattle.board_base.specs.declared.unmoves.Unmove.{Unmove}
+use Rattle.query_base.specs.Asked.{Asked}
+use Rattle.query_base.specs.declared.claims.Claim.{Claim}
+use Rattle.sketch_body.specs.Bodies.{Item}
+use Rattle.sketch_body.specs.Due.{Reading}
 use Rattle.cert_text.specs.Lines.{cut, ended}
 use Rattle.cert_text.specs.Mute.{IsMute}
 use Rattle.cert_text.specs.Certificate.{Lines}
 use Rattle.cert_text.specs.declared.heads.Head.{Head}
 use Rattle.cert_text.specs.declared.heads.Head.TheVariants.{FormatDue, ClaimDue, DemandDue, ClockOrFenDue, FenDue, RootDue}
-use Rattle.cert_text.specs.Due.{put_due, step}
+use Rattle.cert_text.specs.Due.{Due, closed, kid_step, nodes_due, put_due, sketch_due, step}
 use Rattle.cert_text.specs.declared.node_lines.BodyLine.{BodyLine}
 use Rattle.cert_text.proofs.Cuts.{cut-whole}
 use Rattle.cert_checker.specs.Answers.{Answer, Answers, bad_text}
+use Rattle.cert_checker.specs.Frames.{Walking}
 use Rattle.cert_checker.specs.Stages.{OnHead, Stage, bad, in_head, nodes, headed, Rooted, Stepped, NextStage, Rest, answer_at}
-use Rattle.cert_checker.specs.Staging.{IsPart, NoEnd, halted_at}
+use Rattle.cert_checker.specs.Staging.{IsLow, IsPart, NoEnd, halted_at}
 use Rattle.cert_checker.proofs.Answering.{rest_bad}
 
 pub no_end_both : (g h : List ℕ) → NoEnd g → NoEnd h → NoEnd (g ++ h)
@@ -85,16 +90,21 @@ mute_head (ClockOrFenDue claim odds) n line mute = ap (λ (o : Option Head). hea
 mute_head (FenDue claim odds clock) n line mute = ap (λ (o : Option Head). headed o n) (sym (mute.head (FenDue claim odds clock)))
 mute_head (RootDue claim q) n line mute = subst (λ (o : Option BodyLine). Rooted o claim q n (bad n)) (sym mute.root) refl
 
-mute_step : (due : List ℕ) (line : List ℕ) → IsMute line → step due line ≡ None
-mute_step [] line mute = refl
-mute_step (zero ∷ due) line mute = mute_step due line mute
-mute_step (suc c ∷ due) line mute = ap (option_map (λ (kid : Unmove × BodyLine). put_due kid.1 (c ∷ due))) (mute.kid (suc (length due)))
+mute_kid : (units : ℕ) (due : List ℕ) (line : List ℕ) → IsMute line → kid_step units due line ≡ None
+mute_kid units [] line mute = refl
+mute_kid units (zero ∷ due) line mute = mute_kid units due line mute
+mute_kid units (suc c ∷ due) line mute = ap (option_and_then (λ (kid : Unmove × BodyLine). put_due units kid.1 (c ∷ due))) (mute.kid (suc (length due)))
+
+mute_nodes : (o : Option Due) (claim : Claim) (q : Asked) (walk : Walking) (n : ℕ) (line : List ℕ) → o ≡ None → Stepped o claim q walk n line (bad n)
+mute_nodes o claim q walk n line none = subst (λ (p : Option Due). Stepped p claim q walk n line (bad n)) (sym none) refl
 
 -- a line that says nothing is bad text
-mute_stage : (s : Stage) (n : ℕ) (line : List ℕ) → IsMute line → NextStage s n line (halted_at s n)
-mute_stage (in_head due) n line mute = mute_head due n line mute
-mute_stage (nodes claim q walk due) n line mute = subst (λ (o : Option (List ℕ)). Stepped o claim q walk n line (bad n)) (sym (mute_step due line mute)) refl
-mute_stage (bad k) n line mute = refl
+mute_stage : (s : Stage) (n : ℕ) (line : List ℕ) → IsLow s → IsMute line → NextStage s n line (halted_at s n)
+mute_stage (in_head due) n line low mute = mute_head due n line mute
+mute_stage (nodes claim q walk (nodes_due units due)) n line low mute = mute_nodes (kid_step units due line) claim q walk n line (mute_kid units due line mute)
+mute_stage (nodes claim q walk (sketch_due r due)) n line low mute =
+    mute_nodes (step (sketch_due r due) line) claim q walk n line (ap (option_map (λ (p : Item × Reading). closed p.1 due)) (mute.sketch r low))
+mute_stage (bad k) n line low mute = refl
 
 bad_rest : (lines : Lines) (k n : ℕ) (a : Answer) → a ≡ bad_text k → Rest (bad k) n lines a
 bad_rest [] k n a e = e
@@ -110,18 +120,18 @@ halted_moved (nodes claim q walk due) k m n lines others a rest = bad_moved line
 halted_moved (bad j) k m n lines others a rest = bad_moved lines others j m n a rest
 
 -- the gathered line is too long
-pub rest_long : ((line : List ℕ) → 256 < length line → IsMute line) → (s t : Stage) (n : ℕ) (g part after others : List ℕ) (ends : Bool) (a : Answer) → NoEnd g → IsPart ends part → 256 < length g + length part → t ≡ halted_at s n → Rest t n (cut (after ++ others)) a → Rest s n (cut (g ++ (part ++ others))) a
-rest_long mutes s t n g part after others ends a none is long stop rest =
+pub rest_long : ((line : List ℕ) → 256 < length line → IsMute line) → (s t : Stage) (n : ℕ) (g part after others : List ℕ) (ends : Bool) (a : Answer) → IsLow s → NoEnd g → IsPart ends part → 256 < length g + length part → t ≡ halted_at s n → Rest t n (cut (after ++ others)) a → Rest s n (cut (g ++ (part ++ others))) a
+rest_long mutes s t n g part after others ends a low none is long stop rest =
     let o = over g part others ends none is long in
     let halted = subst (λ (u : Stage). Rest u n (cut (after ++ others)) a) stop rest in
     subst (λ (lines : Lines). Rest s n lines a) (sym o.2)
-    (halted_at s n, mute_stage s n o.0 (mutes o.0 o.3), halted_moved s n n (n + 1) (cut (after ++ others)) o.1 a halted)
+    (halted_at s n, mute_stage s n o.0 low (mutes o.0 o.3), halted_moved s n n (n + 1) (cut (after ++ others)) o.1 a halted)
 
 -- the bytes end in a line
-pub rest_unended : ((line : List ℕ) → ((text : List ℕ) → line ≢ ended text) → IsMute line) → (s : Stage) (n : ℕ) (g : List ℕ) (a : Answer) → NoEnd g → (g ≡ [] → ⊥) → a ≡ answer_at (halted_at s n) n → Rest s n (cut g) a
-rest_unended mutes s n g a none some e =
+pub rest_unended : ((line : List ℕ) → ((text : List ℕ) → line ≢ ended text) → IsMute line) → (s : Stage) (n : ℕ) (g : List ℕ) (a : Answer) → IsLow s → NoEnd g → (g ≡ [] → ⊥) → a ≡ answer_at (halted_at s n) n → Rest s n (cut g) a
+rest_unended mutes s n g a low none some e =
     subst (λ (lines : Lines). Rest s n lines a) (sym (cut-whole g some (no_end_at g none)))
-    (halted_at s n, mute_stage s n g (mutes g (λ text. unended g text none)), halted_moved s n n (n + 1) [] [] a e)
+    (halted_at s n, mute_stage s n g low (mutes g (λ text. unended g text none)), halted_moved s n n (n + 1) [] [] a e)
 
 -- bytes that were fed, for any way to say what is still answered
 pub fed_more : (bytes piece : List ℕ) (Before After : List ℕ → Answer → Type 0) → ((others : List ℕ) (a : Answer) → After others a → Before (piece ++ others) a) → ((others : List ℕ) (a : Answer) → Before others a → Answers (cut (bytes ++ others)) a) → (others : List ℕ) (a : Answer) → After others a → Answers (cut ((bytes ++ piece) ++ others)) a

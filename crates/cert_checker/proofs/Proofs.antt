@@ -1,5 +1,5 @@
 -- A walk meets no fault exactly where the tree proves its query.
-use Rattle.std.proofs.Common.{◌≡◌, ℕ, ◌+◌, inl, inr, List, [], ◌∷◌, refl, sym, ap, subst}
+use Rattle.std.proofs.Common.{◌≡◌, ℕ, ◌+◌, inl, inr, List, [], ◌∷◌, length, refl, sym, ap, subst}
 use Rattle.std.proofs.lemmas.Cmp.{tied_itself}
 use Rattle.std.specs.List.{Contains}
 use Rattle.std.specs.declared.cmp.Ordering.{Ordering}
@@ -8,12 +8,17 @@ use Rattle.board_base.specs.Texts.{unmove_order}
 use Rattle.board_base.specs.declared.unmoves.Unmove.{Unmove}
 use Rattle.board_base.proofs.Ordered.{unmove_order_total, unmove_order_exact}
 use Rattle.query_base.specs.Asked.{Asked}
+use Rattle.sketch_body.specs.Bodies.{Body}
+use Rattle.sketch_checker.specs.TreeWalk.{Walked as SketchWalked}
+use Rattle.sketch_checker.specs.TreeWalk as sketches
+use Rattle.sketch_checker.proofs.Supporting.{bodies-exact}
 use Rattle.unmove_gen.specs.Listed.{unmoves}
 use Rattle.unmove_gen.specs.Predecessor.{predecessor}
-use Rattle.cert_text.specs.Tree.{Tree, Forest, rule, back, expand, none, more}
+use Rattle.cert_text.specs.Tree.{Tree, Forest, rule, back, expand, sketch, none, more}
 use Rattle.cert_text.specs.Certificate.{Lines, Certificate, AreLinesOf, root_at}
 use Rattle.cert_checker.specs.Proving.{Proves, ProvesEach, ProvesClaim}
-use Rattle.cert_checker.specs.Walk.{Walked, fault_at, next_line, Onwards, ByLabel, Walks, WalksEach, WalksTo}
+use Rattle.cert_checker.specs.Sketches.{IsSketchOf, WalksSketch, files_of}
+use Rattle.cert_checker.specs.Walk.{Walked, fault_at, next_line, Onwards, ByLabel, Walks, WalksEach, WalksTo, walked_by}
 use Rattle.general_lemmas.proofs.Lists.{contains-first, contains-later}
 use Rattle.cert_checker.proofs.Walks.{WalksKid, by_label}
 use Rattle.cert_checker.proofs.Written.{CanBeWritten, IsWritten, AreWritten, tree_written}
@@ -30,6 +35,13 @@ is_past : (kid : Walked) (m : ℕ) (Rest : ℕ → Walked → Type 0) → Onward
 is_past (fault_at n f) m Rest on = absurd (cc)
 is_past (next_line k) m Rest on = (k, refl, on)
 
+sketch_clean : (b : Body) (q : Asked) (n m : ℕ) (k : SketchWalked) → WalksSketch b q n k → next_line m ≡ walked_by k → IsSketchOf b q
+sketch_clean b q n m (sketches.fault_at j w) walks e = absurd cc
+sketch_clean b q n m (sketches.next_line j) walks e = (bodies-exact q (files_of b.files) b.prices b.lines (n + 1 + length b.prices)).0 (j, walks)
+
+sketch_supports : (b : Body) (q : Asked) (n : ℕ) → IsSketchOf b q → (m : ℕ) × WalksSketch b q n (sketches.next_line m)
+sketch_supports b q n supports = (bodies-exact q (files_of b.files) b.prices b.lines (n + 1 + length b.prices)).1 supports
+
 mutual
   clean_proves : (t : Tree) (q : Asked) (ancestors : List Asked) (n m : ℕ) → IsWritten t → Walks t q ancestors n (next_line m) → Proves t q ancestors
   clean_proves (rule r) q ancestors n m w walks = walks.0
@@ -37,6 +49,7 @@ mutual
   clean_proves (expand kids) q ancestors n m w (inl (here, e)) = absurd (cc)
   clean_proves (expand kids) q ancestors n m w (inr (elsewhere, walks)) =
       (elsewhere, clean_each kids q (unmoves q) ancestors n (n + 1) m w (captures_spelled q) walks)
+  clean_proves (sketch b) q ancestors n m w (k, walks, e) = sketch_clean b q n m k walks e
 
   clean_each : (f : Forest) (q : Asked) (us : List Unmove) (ancestors : List Asked) (top n m : ℕ) → AreWritten f → ((u : Unmove) → Contains us u → CanBeWritten u) → WalksEach f q us ancestors top n (next_line m) → ProvesEach f q us ancestors
   clean_each none q [] ancestors top n m w all walks = refl
@@ -60,6 +73,7 @@ mutual
   proves_clean (expand kids) q ancestors n proves =
       let each = each_clean kids q (unmoves q) ancestors n (n + 1) proves.1 in
       (each.0, inr (proves.0, each.1))
+  proves_clean (sketch b) q ancestors n proves = let it = sketch_supports b q n proves in (it.0, (sketches.next_line it.0, it.1, refl))
 
   each_clean : (f : Forest) (q : Asked) (us : List Unmove) (ancestors : List Asked) (top n : ℕ) → ProvesEach f q us ancestors → (m : ℕ) × WalksEach f q us ancestors top n (next_line m)
   each_clean none q us ancestors top n none-left = (n, subst (λ (vs : List Unmove). WalksEach none q vs ancestors top n (next_line n)) (sym none-left) refl)

@@ -14,11 +14,14 @@ use Rattle.balance_rule.proofs.Sound.{balance-unreached}
 use Rattle.cert_checker.specs.Reasons.{ReasonSupports}
 use Rattle.cert_text.specs.declared.reasons.Reason.{Reason}
 use Rattle.cert_text.specs.declared.reasons.Reason.TheVariants.{Line, Balance}
+use Rattle.sketch_body.specs.Bodies.{Body}
+use Rattle.sketch_checker.proofs.Supporting.{body-unreached}
 use Rattle.unmove_gen.specs.Listed.{unmoves}
 use Rattle.unmove_gen.specs.Predecessor.{predecessor, unmove_after}
 use Rattle.unmove_gen.proofs.Taken.{listed_after, reached_after}
-use Rattle.cert_text.specs.Tree.{Tree, Forest, rule, back, expand, none, more}
+use Rattle.cert_text.specs.Tree.{Tree, Forest, rule, back, expand, sketch, none, more}
 use Rattle.cert_checker.specs.Proving.{Proves, ProvesEach}
+use Rattle.cert_checker.specs.Sketches.{IsSketchOf, files_of}
 use Rattle.general_lemmas.proofs.Lists.{by_last, contains-cases, contains-none}
 
 -- no game of at most n moves reaches the query
@@ -64,11 +67,16 @@ reason_unreached : (q : Asked) (r : Reason) → ReasonSupports q r → (g : List
 reason_unreached q (Line r) p g = unreached q r p g
 reason_unreached q (Balance set d) p g = balance-unreached q set d p g
 
+-- no game reaches what a sketch supports
+sketch_unreached : (b : Body) (q : Asked) → IsSketchOf b q → (g : List Move) → Reaches g q → ⊥
+sketch_unreached b q p g = body-unreached q (files_of b.files) b.prices b.lines p g
+
 -- no game of at most n moves reaches what is proved below ancestors that none reaches
 safe : (n : ℕ) (t : Tree) (q : Asked) (ancestors : List Asked) → Proves t q ancestors → AllSafe n ancestors → Safe n q
 safe n (rule r) q ancestors p all = λ g short. reason_unreached q r p g
 safe n (back k) q ancestors p all = λ g short reaches.
     let a = ancestor_safe n ancestors k (λ b. Covers b q) all p in a.1 g short (reached a.0 q g a.2 reaches)
+safe n (sketch b) q ancestors p all = λ g short. sketch_unreached b q p g
 safe zero (expand kids) q ancestors p all = by_game zero q p.0 (λ g u short. absurd (omega arith))
 safe (suc n) (expand kids) q ancestors p all =
     let same : Safe n q = safe n (expand kids) q ancestors p (sooner n ancestors all) in

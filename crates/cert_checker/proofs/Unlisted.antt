@@ -7,10 +7,12 @@ use Rattle.std.specs.declared.cmp.Ordering.TheVariants.{Less, Equal, Greater}
 use Rattle.board_base.specs.Texts.{unmove_order}
 use Rattle.board_base.specs.declared.unmoves.Unmove.{Unmove}
 use Rattle.query_base.specs.Asked.{Asked}
+use Rattle.sketch_checker.specs.TreeWalk.{Walked as SketchWalked}
+use Rattle.sketch_checker.specs.TreeWalk as sketches
 use Rattle.unmove_gen.specs.Listed.{unmoves}
 use Rattle.unmove_gen.specs.Predecessor.{predecessor}
-use Rattle.cert_text.specs.Tree.{Tree, Forest, rule, back, expand, none, more}
-use Rattle.cert_checker.specs.Walk.{Walked, Walks, WalksEach, ByLabel, Onwards, fault_at, next_line, unlisted}
+use Rattle.cert_text.specs.Tree.{Tree, Forest, rule, back, expand, sketch, none, more}
+use Rattle.cert_checker.specs.Walk.{Walked, Walks, WalksEach, ByLabel, Onwards, fault_at, next_line, unlisted, walked_by}
 
 -- the unmove is in the list of some query
 abbrev pub IsOfSome : Unmove → Type 0
@@ -36,10 +38,16 @@ unlisted-by Less tree rest q v us ancestors top n m u all here on w = cc
 unlisted-by Greater tree rest q v us ancestors top n m u all here on w = first-of q u v us m n all w
 unlisted-by Equal tree rest q v us ancestors top n m u all here on w = unlisted-kid w.0 tree rest q v us ancestors top n m u here on w.1 w.2
 
+-- a sketch has no unmoves
+not-sketch : (k : SketchWalked) (m : ℕ) (u : Unmove) → fault_at m (unlisted u) ≡ walked_by k → ⊥
+not-sketch (sketches.fault_at n w) m u e = cc
+not-sketch (sketches.next_line n) m u e = cc
+
 mutual
   pub unlisted-of : (t : Tree) (q : Asked) (ancestors : List Asked) (n m : ℕ) (u : Unmove) → Walks t q ancestors n (fault_at m (unlisted u)) → IsOfSome u
   unlisted-of (rule r) q ancestors n m u w = let e = w.2 in cc
   unlisted-of (back k) q ancestors n m u w = let e = w.2 in cc
+  unlisted-of (sketch b) q ancestors n m u w = absurd (not-sketch w.0 m u w.2)
   unlisted-of (expand kids) q ancestors n m u w = elim w [
     | inl array ↦ let e = array.1 in cc
     | inr walked ↦ unlisted-each kids q (unmoves q) ancestors n (n + 1) m u (λ v there. there) walked.1

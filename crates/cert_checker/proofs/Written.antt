@@ -7,7 +7,7 @@ use Rattle.board_base.specs.Texts.{can_capture, unmove_from}
 use Rattle.board_base.specs.declared.unmoves.Unmove.{Unmove}
 use Rattle.board_base.proofs.OneText.{unmove_read}
 use Rattle.fen_text.proofs.PartLemmas.{IsFollowed, followed}
-use Rattle.cert_text.specs.Tree.{Tree, Forest, rule, back, expand, none, more}
+use Rattle.cert_text.specs.Tree.{Tree, Forest, rule, back, expand, sketch, none, more}
 use Rattle.cert_text.specs.Lines.{said, without_end}
 use Rattle.cert_text.specs.NodeLines.{kid_body, body_at}
 use Rattle.cert_text.specs.Certificate.{Lines, AreBelow, AreKids}
@@ -23,6 +23,7 @@ abbrev mutual
   IsWritten (rule r) = Unit {0}
   IsWritten (back k) = Unit {0}
   IsWritten (expand kids) = AreWritten kids
+  IsWritten (sketch b) = Unit {0}
 
   pub AreWritten : Forest → Type 0
   AreWritten none = Unit {0}
@@ -52,6 +53,7 @@ mutual
   tree_written (rule r) depth lines below = tt
   tree_written (back k) depth lines below = tt
   tree_written (expand kids) depth lines below = kids_written kids (suc depth) lines below
+  tree_written (sketch b) depth lines below = tt
 
   kids_written : (f : Forest) (depth : ℕ) (lines : Lines) → AreKids f depth lines → AreWritten f
   kids_written none depth lines kids = tt

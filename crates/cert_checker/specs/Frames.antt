@@ -1,5 +1,5 @@
 -- The walk over lines that come one after another, with a frame for each node some of whose children may be due.
-use Rattle.std.specs.Prelude.{ℕ, ◌+◌, ◌-◌, ◌≡◌, ◌⊎◌, List, [], ◌∷◌, ◌++◌, length, map, drop, slice_get, Option, Some, None, IsSomeAnd}
+use Rattle.std.specs.Prelude.{ℕ, ◌+◌, ◌-◌, ◌≡◌, ◌⊎◌, Bool, List, [], ◌∷◌, ◌++◌, length, map, drop, slice_get, Option, Some, None, IsSomeAnd}
 use Rattle.std.proofs.Common.{zero, suc}
 use Rattle.std.specs.declared.cmp.Ordering.{Ordering}
 use Rattle.std.specs.declared.cmp.Ordering.TheVariants.{Less, Equal, Greater}
@@ -21,6 +21,7 @@ use Rattle.capture_prices.specs.Prices.{PriceList}
 use Rattle.past_sketches.specs.Figures.{sketch_of}
 use Rattle.sketch_body.specs.Bodies.{Item, of_line, of_prices}
 use Rattle.sketch_body.specs.Due.{read_as}
+use Rattle.sketch_text.specs.Heads.{Head}
 use Rattle.sketch_text.specs.Trees.{Line}
 use Rattle.sketch_checker.specs.LineWalk.{Walking as SketchWalking, OnStep, begun}
 use Rattle.sketch_checker.specs.LineWalk as sketches
@@ -35,11 +36,11 @@ use Rattle.cert_checker.specs.declared.frames.Frame.{Frame}
 abbrev pub query_of_frame : Frame → Asked
 query_of_frame f = f.query
 
--- A sketch whose lines are read: the query that it is about, its exact files, the lines of prices that have come, and how many come next;
--- and, once its first node has come, the node whose lines of marks are being read, if there is one, and the frames of the others.
+-- A sketch whose lines are read: the query that it is about, which files are exact, the lines of prices that have come, and how many come
+-- next; and, once its first node has come, the node whose lines of marks are being read, if there is one, and the frames of the others.
 pub record Sketched : Type 0 where
   pub query : Asked
-  pub files : List ℕ
+  pub exact : List Bool
   pub prices : List PriceList
   pub wanted : ℕ
   pub nodes : Option (Option Opened × List SketchFrame)
@@ -49,6 +50,10 @@ pub data Walking : Type 0 where
   going : List Frame → Walking
   sketching : Sketched → List Frame → Walking
   stopped : ℕ → Fault → Walking
+
+-- before the first line behind that which begins a sketch, at this query
+abbrev pub first_sketched : Asked → Head → Sketched
+first_sketched q h = record { query = q; exact = files_of h.files; prices = []; wanted = h.prices; nodes = None }
 
 abbrev pub go_on : Walking → (List Frame → Walking) → Walking
 go_on (going frames) go = go frames
@@ -71,11 +76,13 @@ ended (f ∷ frames) = end_at f.due f frames (ended frames)
 -- a node of one line: the frames stay where P holds, else there is a fault
 abbrev pub Stays : Type 0 → Why → List Frame → ℕ → Walking → Type 0
 Stays P w frames n (going after) = P × (after ≡ frames)
+Stays P w frames n (sketching s after) = ⊥
 Stays P w frames n (stopped m f) = (P → ⊥) × (m ≡ n) × (f ≡ unsupported w)
 
 -- a node with children: one more frame, but a fault at the array
 abbrev pub Opens : Type 0 → List Frame → ℕ → Walking → Type 0
 Opens IsArray frames n (going after) = (IsArray → ⊥) × (after ≡ frames)
+Opens IsArray frames n (sketching s after) = ⊥
 Opens IsArray frames n (stopped m f) = IsArray × (m ≡ n) × (f ≡ unsupported why.Array)
 
 -- a node with this body and query on line n, below these frames
@@ -83,7 +90,7 @@ abbrev pub OnBody : BodyLine → Asked → List Frame → ℕ → Walking → Ty
 OnBody (Rule r) q frames n after = Stays (ReasonSupports q r) why.Rule frames n after
 OnBody (Back k) q frames n after = Stays (IsSomeAnd (ancestor (map query_of_frame frames) k) (λ a. Covers a q)) why.Back frames n after
 OnBody (Expand c) q frames n after = Opens (Reaches [] q) (record { query = q; left = unmoves q; due = c; line = n } ∷ frames) n after
-OnBody (Sketch h) q frames n after = after ≡ sketching (record { query = q; files = h.files; prices = []; wanted = h.prices; nodes = None }) frames
+OnBody (Sketch h) q frames n after = after ≡ sketching (first_sketched q h) frames
 
 -- A child on line n whose label comes before the unmove u, the first that no child had: it is stray. After u: u is left out.
 abbrev pub OnLabel : Ordering → Unmove → ℕ → Type 0 → Walking → Type 0
@@ -127,7 +134,7 @@ as_sketched (sketches.going None (f ∷ fs)) s frames = sketching (record s { no
 as_sketched (sketches.going (Some o) fs) s frames = sketching (record s { nodes = Some (Some o, fs) }) frames
 
 abbrev pub Steps : SketchWalking → Sketched → List Frame → ℕ → Line → Walking → Type 0
-Steps w s frames n l after = (next : SketchWalking) × OnStep (setting_of s.query (files_of s.files) s.prices) w n l next × (after ≡ as_sketched next s frames)
+Steps w s frames n l after = (next : SketchWalking) × OnStep (setting_of s.query s.exact s.prices) w n l next × (after ≡ as_sketched next s frames)
 
 -- a line of a node or of marks; at the first node it is looked at whether sketches may be asked about the board
 abbrev pub OnNodes : Option (Option Opened × List SketchFrame) → Sketched → List Frame → ℕ → Line → Walking → Type 0

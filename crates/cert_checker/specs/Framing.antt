@@ -7,9 +7,9 @@ use Rattle.board_base.specs.declared.unmoves.Unmove.{Unmove}
 use Rattle.query_base.specs.Asked.{Asked}
 use Rattle.unmove_gen.specs.Listed.{unmoves}
 use Rattle.cert_text.specs.declared.node_lines.BodyLine.{BodyLine}
-use Rattle.cert_text.specs.declared.node_lines.BodyLine.TheVariants.{Rule, Back, Expand}
+use Rattle.cert_text.specs.declared.node_lines.BodyLine.TheVariants.{Rule, Back, Expand, Sketch}
 use Rattle.cert_checker.specs.Walk.{unlisted, unsupported}
-use Rattle.cert_checker.specs.Frames.{Walking, going, stopped, end_unmoves}
+use Rattle.cert_checker.specs.Frames.{Walking, end_unmoves, first_sketched, going, sketching, stopped}
 use Rattle.cert_checker.specs.declared.frames.Frame.{Frame}
 use Rattle.cert_checker.specs.declared.frames.FirstFault.{FirstFault}
 use Rattle.cert_checker.specs.declared.frames.FirstFault.TheVariants as found
@@ -41,6 +41,16 @@ abbrev pub with_body : BodyLine → Asked → List Frame → ℕ → List Frame
 with_body (Rule r) q frames n = frames
 with_body (Back k) q frames n = frames
 with_body (Expand c) q frames n = record { query = q; left = unmoves q; due = c; line = n } ∷ frames
+with_body (Sketch h) q frames n = frames
+
+-- the walk behind a node's line, number n, with this body and query: at the fault that was found, in the node's sketch, or at these frames
+-- with that of the node
+abbrev pub behind : Option FirstFault → BodyLine → Asked → List Frame → ℕ → Walking
+behind (Some f) body q frames n = stopped_by f
+behind None (Rule r) q frames n = going frames
+behind None (Back k) q frames n = going frames
+behind None (Expand c) q frames n = going (with_body (Expand c) q frames n)
+behind None (Sketch h) q frames n = sketching (first_sketched q h) frames
 
 -- the unmoves that are left are unmoves of the frame's query
 abbrev pub IsListed : Frame → Type 0

@@ -7,6 +7,8 @@ pub mod Frames
 pub mod Stages
 pub mod Remains
 pub mod Walking
+pub mod SketchLines
 pub mod Framing
+pub mod Sketching
 pub mod Counting
 pub mod Staging

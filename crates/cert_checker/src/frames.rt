@@ -1,4 +1,4 @@
-ghost use Rattle.std.specs.Prelude.{◌≡◌, ◌+◌, ◌-◌, ◌<◌, ◌∷◌, ◌↔◌, List, IfSome, IsSomeAnd, IsTrue, None, Some, drop, map, reverse, slice_get, suc};
+ghost use Rattle.std.specs.Prelude.{◌≡◌, ◌+◌, ◌-◌, ◌<◌, ◌≤◌, ◌∷◌, ◌↔◌, List, ℕ, IfSome, IsSomeAnd, IsTrue, None, Some, drop, map, reverse, slice_get, suc};
 ghost use Rattle.std.specs.List.{Contains};
 ghost use Rattle.arrayvec.specs.ArrayVec.{array_vec_len};
 ghost use Rattle.query_base.specs.Asked.{Asked};
@@ -6,21 +6,24 @@ ghost use Rattle.query_base.specs.Targets.{Covers};
 ghost use Rattle.query_base.specs.declared.claims.Claim.{Claim as AnyClaim};
 ghost use Rattle.unmove_gen.specs.Listed.{unmoves};
 ghost use Rattle.cert_text.specs.Reading.{HasRoom};
-ghost use Rattle.cert_text.specs.Due.{put_due, step};
+ghost use Rattle.cert_text.specs.Due.{nodes_due, put_due, step};
 ghost use Rattle.query_base.specs.Ancestors.{ancestor};
 ghost use Rattle.cert_checker.specs.Frames.{OnBody, OnFirst, OnKid, ended, go_on, going, query_of_frame};
-ghost use Rattle.cert_checker.specs.Framing.{IsListed, IsOpen, IsStack, due_of, end_unmoves_of, popped, walking, with_body};
+ghost use Rattle.cert_checker.specs.Counting.{counts_with};
+ghost use Rattle.cert_checker.specs.Framing.{IsListed, IsOpen, IsStack, behind, due_of, end_unmoves_of, popped, walking, with_body};
 ghost use Rattle.cert_checker.specs.Stages.{Stepped};
-ghost use Rattle.cert_checker.specs.Staging.{taken};
+ghost use Rattle.cert_checker.specs.Staging.{IfGood, IfReading, due_after, taken, walk_after};
 ghost use Rattle.cert_checker.specs.declared.frames.Frame.{Frame as AnyFrame};
 
 use crate::left_unmoves::LeftUnmoves;
 use crate::reasons::reason_supports;
 use crate::refusals::Why;
+use crate::sketching::Sketching;
 use arrayvec::ArrayVec;
 use board_base::{Board, CastleSet, Colour, Odds, Unmove, cmp_unmove};
 use cert_text::{BodyLine, read_kid_line};
 use query_base::{Query, covers, is_array};
+use sketch_text::SketchHead;
 use std::cmp::Ordering;
 use unmove_gen::pred;
 
@@ -37,20 +40,24 @@ pub struct Frame {
     pub(crate) line: u32,
 }
 
+/// A query of no man, for places where none stands.
+pub(crate) fn no_query() -> Query {
+    Query {
+        board: Board::empty(),
+        turn: Colour::White,
+        odds: Odds::none(),
+        held: CastleSet::none(),
+        only: None,
+        barred: None,
+        clock: None,
+    }
+}
+
 impl Default for Frame {
     /// What stands in the unused places of an array of frames.
     fn default() -> Frame {
-        let query = Query {
-            board: Board::empty(),
-            turn: Colour::White,
-            odds: Odds::none(),
-            held: CastleSet::none(),
-            only: None,
-            barred: None,
-            clock: None,
-        };
         Frame {
-            query,
+            query: no_query(),
             left: LeftUnmoves::none(),
             due: 0,
             line: 0,
@@ -110,7 +117,7 @@ pub(crate) fn body_fault(
     frames: &[Frame],
     line: u32,
 ) -> Option<FirstFault>
-    ensures { OnBody body.now query.now (reverse frames.now) line (walking result (with_body body.now query.now (reverse frames.now) line)) }
+    ensures { OnBody body.now query.now (reverse frames.now) line (behind result body.now query.now (reverse frames.now) line) }
 {
     match body {
         BodyLine::Rule(reason) => {
@@ -143,6 +150,7 @@ pub(crate) fn body_fault(
                 None
             }
         }
+        BodyLine::Sketch(_) => None,
     }
 }
 
@@ -166,6 +174,59 @@ pub(crate) fn push_body(
     }
 }
 
+/// What the lines up to that of a node come to.
+#[derive(Clone, Copy, PartialEq, Eq, Debug)]
+pub enum NodeStep {
+    /// The sketch that the line begins makes the units too many, or the line says nothing of a node.
+    Bad,
+    /// The next line is that of a node, or none follows. This is the first fault of the walk, if there is one.
+    Nodes(Option<FirstFault>),
+    /// The next line is one of a sketch.
+    Sketch(Option<FirstFault>),
+}
+
+/// Begins the sketch of a node with this query.
+fn begin_sketch(
+    sketching: &mut Sketching,
+    head: &SketchHead,
+    query: &Query,
+    fault: Option<FirstFault>,
+) -> NodeStep
+    ensures due { (due : List ℕ) → put_due sketching.old.units (BodyLine.Sketch head.now) due ≡ due_after result sketching.new due }
+    ensures walk { (frames : List AnyFrame) (n : ℕ) → IfGood result (behind fault (BodyLine.Sketch head.now) query.now frames n ≡ walk_after result sketching.new frames) }
+    ensures units { sketching.new.units ≡ sketching.old.units }
+    ensures reading { head.now.prices ≤ 64 → IfReading result sketching.new }
+{
+    if sketching.begin(head, query) {
+        NodeStep::Sketch(fault)
+    } else {
+        NodeStep::Bad
+    }
+}
+
+/// Goes below a node with this body and query on this line, whose fault is given, if it has one.
+pub(crate) fn go_below(
+    frames: &mut ArrayVec<Frame, 256>,
+    sketching: &mut Sketching,
+    body: &BodyLine,
+    query: &Query,
+    fault: Option<FirstFault>,
+    line: u32,
+) -> NodeStep
+    requires { array_vec_len frames.old < 256 }
+    ensures frames { reverse frames.new.items ≡ with_body body.now query.now (reverse frames.old.items) line }
+    ensures due { (due : List ℕ) → put_due sketching.old.units body.now due ≡ due_after result sketching.new (counts_with body.now due) }
+    ensures walk { IfGood result (behind fault body.now query.now (reverse frames.old.items) line ≡ walk_after result sketching.new (reverse frames.new.items)) }
+    ensures units { sketching.new.units ≡ sketching.old.units }
+    ensures reading { (depth : ℕ) → HasRoom depth body.now → IfReading result sketching.new }
+{
+    push_body(frames, body, query, line);
+    if let BodyLine::Sketch(head) = body {
+        return begin_sketch(sketching, head, query, fault);
+    }
+    NodeStep::Nodes(fault)
+}
+
 /// The fault of a child with this label and body, where this is the first unmove that no child had; and the child's query, which
 /// where there is a fault may be another.
 fn look_at(
@@ -177,7 +238,7 @@ fn look_at(
     line: u32,
 ) -> (Option<FirstFault>, Query)
     requires { IfSome first (λ u. Contains (unmoves query.now) u) }
-    ensures { OnFirst first query.now (reverse frames.now) line label.now body.now (walking result.0 (with_body body.now result.1 (reverse frames.now) line)) }
+    ensures { OnFirst first query.now (reverse frames.now) line label.now body.now (behind result.0 body.now result.1 (reverse frames.now) line) }
 {
     let stray = FirstFault::Unsupported {
         line,
@@ -200,16 +261,19 @@ fn look_at(
 fn walk_kid(
     top: Frame,
     frames: &mut ArrayVec<Frame, 256>,
+    sketching: &mut Sketching,
     line: u32,
     label: &Unmove,
     body: &BodyLine,
-) -> Option<FirstFault>
+) -> NodeStep
     requires due { 0 < top.due }
     requires room { array_vec_len frames.old < 255 }
     requires listed { IsListed top }
-    ensures walk { OnKid top (reverse frames.old.items) line label.now body.now (walking result (reverse frames.new.items)) }
-    ensures due { map due_of (reverse frames.new.items) ≡ put_due body.now ((top.due - 1) ∷ map due_of (reverse frames.old.items)) }
+    ensures walk { IfGood result (OnKid top (reverse frames.old.items) line label.now body.now (walk_after result sketching.new (reverse frames.new.items))) }
+    ensures due { put_due sketching.old.units body.now ((top.due - 1) ∷ map due_of (reverse frames.old.items)) ≡ due_after result sketching.new (map due_of (reverse frames.new.items)) }
+    ensures units { sketching.new.units ≡ sketching.old.units }
     ensures stack { HasRoom (suc (array_vec_len frames.old)) body.now → IsStack (reverse frames.old.items) → IsStack (reverse frames.new.items) }
+    ensures reading { (depth : ℕ) → HasRoom depth body.now → IfReading result sketching.new }
 {
     let Frame {
         query,
@@ -225,30 +289,30 @@ fn walk_kid(
         line: own,
     });
     let (found, before) = look_at(first, label, body, &query, frames.as_slice(), line);
-    push_body(frames, body, &before, line);
-    found
+    go_below(frames, sketching, body, &before, found, line)
 }
 
-/// Takes the line of a node below the root, where the walk has met no fault. None comes where it goes bad; else the first fault of
-/// the walk, if this line has it.
+/// Takes the line of a node below the root, where the walk has met no fault.
 pub(crate) fn take_line(
     frames: &mut ArrayVec<Frame, 256>,
+    sketching: &mut Sketching,
     number: u32,
     line: &[u8],
-) -> Option<Option<FirstFault>>
+) -> NodeStep
     requires stack { IsStack (reverse frames.old.items) }
     requires open { IsOpen (reverse frames.old.items) }
-    ensures stage { (claim : AnyClaim) (q : Asked) → Stepped (step (map due_of (reverse frames.old.items)) line.now) claim q (going (reverse frames.old.items)) number line.now
-        (taken result claim q (reverse frames.new.items) number) }
-    ensures stack { IfSome result (λ f. IsStack (reverse frames.new.items)) }
+    ensures stage { (claim : AnyClaim) (q : Asked) → Stepped (step (nodes_due sketching.old.units (map due_of (reverse frames.old.items))) line.now) claim q (going (reverse frames.old.items)) number line.now
+        (taken result sketching.new claim q (reverse frames.new.items) number) }
+    ensures stack { IfGood result (IsStack (reverse frames.new.items)) }
+    ensures reading { IfReading result sketching.new }
 {
     let Some(top) = frames.pop() else {
-        return None;
+        return NodeStep::Bad;
     };
     let depth = (frames.len() + 1) as u8;
     match read_kid_line(depth, line) {
-        None => None,
-        Some((label, body)) => Some(walk_kid(top, frames, number, &label, &body)),
+        None => NodeStep::Bad,
+        Some((label, body)) => walk_kid(top, frames, sketching, number, &label, &body),
     }
 }
 

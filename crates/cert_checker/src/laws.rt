@@ -9,7 +9,7 @@ ghost use Rattle.cert_text.specs.Certificate.{AreLinesOf, Certificate, Lines};
 ghost use Rattle.cert_text.specs.ClaimLines.{promotes_well};
 ghost use Rattle.cert_checker.specs.Proving.{ProvesClaim};
 ghost use Rattle.cert_checker.specs.Walk.{Walked, Walks, WalksTo, next_line, unlisted};
-ghost use Rattle.cert_text.specs.Due.{refused};
+ghost use Rattle.cert_text.specs.Due.{Due, refused};
 ghost use Rattle.cert_text.specs.Lines.{cut};
 ghost use Rattle.cert_checker.specs.Answers.{Answer, Answers, accepted, fault};
 ghost use Rattle.cert_checker.specs.Frames.{Walking};
@@ -69,5 +69,5 @@ pub fn one_answer_remains()
 /// The law that below the root's line bad text goes first, wherever it stands, and else the walk over the lines that follow, from
 /// its frames or its first fault on, gives the answer.
 pub fn bad_text_goes_first()
-    ensures { (lines : Lines) (claim : AnyClaim) (q : Asked) (walk : Walking) (due : List ℕ) (n : ℕ) (a : Answer) → Rest (nodes claim q walk due) n lines a → BadTextFirst (refused due n lines) claim q walk n lines a }
+    ensures { (lines : Lines) (claim : AnyClaim) (q : Asked) (walk : Walking) (due : Due) (n : ℕ) (a : Answer) → Rest (nodes claim q walk due) n lines a → BadTextFirst (refused due n lines) claim q walk n lines a }
 {}

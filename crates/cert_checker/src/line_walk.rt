@@ -2,10 +2,11 @@ ghost use Rattle.std.specs.Prelude.{◌≡◌, ◌+◌, ◌∷◌};
 ghost use Rattle.cert_text.specs.Certificate.{Lines};
 ghost use Rattle.cert_checker.specs.Answers.{Answer, answer_as};
 ghost use Rattle.cert_checker.specs.Stages.{Rest, answer_at, heading};
-ghost use Rattle.cert_checker.specs.Staging.{halted_at};
+ghost use Rattle.cert_checker.specs.Staging.{IsLow, halted_at};
 
 use crate::frames::Frame;
 use crate::refusals::{Accepted, Fault};
+use crate::sketching::Sketching;
 use crate::stages::{Step, answer, stop, take};
 use arrayvec::ArrayVec;
 use cert_text::Head;
@@ -15,6 +16,7 @@ use std::marker::Model;
 #[derive(Drop)]
 pub struct Walk {
     step: Step,
+    sketching: Sketching,
     frames: ArrayVec<Frame, 256>,
     counts: ArrayVec<u32, 256>,
 }
@@ -26,9 +28,9 @@ impl Model for Walk {
 
     ghost Value = { Stage };
 
-    ghost view = { λ w. stage_of w.step (reverse w.frames.items) (reverse w.counts.items) };
+    ghost view = { λ w. stage_of w.step w.sketching (reverse w.frames.items) (reverse w.counts.items) };
 
-    ghost invariant = { λ w. IsReady w.step (reverse w.frames.items) (reverse w.counts.items) };
+    ghost invariant = { λ w. IsReady w.step w.sketching (reverse w.frames.items) (reverse w.counts.items) };
 }
 
 impl Walk {
@@ -38,6 +40,7 @@ impl Walk {
     {
         Walk {
             step: Step::Heading(Head::FormatDue),
+            sketching: Sketching::idle(),
             frames: ArrayVec::new(),
             counts: ArrayVec::new(),
         }
@@ -50,6 +53,7 @@ impl Walk {
     {
         take(
             &mut self.step,
+            &mut self.sketching,
             &mut self.frames,
             &mut self.counts,
             number,
@@ -59,7 +63,8 @@ impl Walk {
 
     /// The next line is none of a certificate.
     pub(crate) fn halt(&mut self, number: u32)
-        ensures { self.new ≡ halted_at self.old number }
+        ensures halted { self.new ≡ halted_at self.old number }
+        ensures low { IsLow self.old }
     {
         self.step = stop(&self.step, number);
     }
@@ -78,7 +83,8 @@ impl Walk {
 
     /// The answer where one line follows that is none of a certificate.
     pub(crate) fn answer_halted(&self, number: u32) -> Result<Accepted, Fault>
-        ensures { answer_as result ≡ answer_at (halted_at self.now number) number }
+        ensures answer { answer_as result ≡ answer_at (halted_at self.now number) number }
+        ensures low { IsLow self.now }
     {
         let last = stop(&self.step, number);
         answer(

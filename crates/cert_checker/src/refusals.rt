@@ -13,13 +13,15 @@ pub struct Accepted {
 /// Why a node doesn't prove that no game reaches its query.
 #[derive(Clone, Copy, PartialEq, Eq, Debug)]
 pub enum Why {
-    /// `rule`: what stands behind it doesn't support the query.
+    /// `rule`: what stands behind it doesn't support the query. In a sketch: what the line says isn't so, or steps are left behind its last
+    /// node, or no sketch can be asked about the board.
     Rule,
     /// `back`: the ancestor doesn't cover the query.
     Back,
     /// `expand`: the game of no moves reaches the query.
     Array,
-    /// The label is none of the unmoves that its parent's other children leave: it comes before the first of them, or none is left.
+    /// The label is none of the unmoves that its parent's other children leave: it comes before the first of them, or none is left. In a
+    /// sketch: it isn't that of the next step or case, or none is left.
     Stray,
 }
 
@@ -32,7 +34,7 @@ pub enum Refused {
     /// This unmove of a node's query is the label of none of its children. The line is that of the child whose label comes after
     /// it, or the node's own where no child's does.
     Unlisted { line: u32, unmove: Unmove },
-    /// The node on this line doesn't prove its query.
+    /// The node on this line doesn't prove its query, or it is a line of a sketch that doesn't.
     Unsupported { line: u32, why: Why },
     /// Want of memory.
     Memory,
@@ -47,7 +49,7 @@ pub enum Fault {
     /// This unmove of a node's query is the label of none of its children. The line is that of the child whose label comes after
     /// it, or the node's own where no child's does.
     Unlisted { line: u32, unmove: Unmove },
-    /// The node on this line doesn't prove its query.
+    /// The node on this line doesn't prove its query, or it is a line of a sketch that doesn't.
     Unsupported { line: u32, why: Why },
 }
 
@@ -60,7 +62,7 @@ pub enum StreamRefused {
     /// This unmove of a node's query is the label of none of its children. The line is that of the child whose label comes after
     /// it, or the node's own where no child's does.
     Unlisted { line: u32, unmove: Unmove },
-    /// The node on this line doesn't prove its query.
+    /// The node on this line doesn't prove its query, or it is a line of a sketch that doesn't.
     Unsupported { line: u32, why: Why },
     /// There are more than 67,108,864 bytes: one more was read.
     TooLong,

@@ -1,16 +1,21 @@
-ghost use Rattle.std.specs.Prelude.{◌≡◌, ◌+◌, ◌∷◌, Err, None, map, reverse};
+ghost use Rattle.std.specs.Prelude.{◌≡◌, ◌+◌, ◌≤◌, ◌∷◌, ℕ, Err, List, None, map, reverse};
 ghost use Rattle.query_base.specs.Asked.{Asked};
 ghost use Rattle.query_base.specs.declared.claims.Claim.{Claim as AnyClaim};
 ghost use Rattle.cert_text.specs.Certificate.{Lines};
+ghost use Rattle.cert_text.specs.Due.{closed, nodes_due, sketch_due};
 ghost use Rattle.cert_checker.specs.Answers.{Answer, answer_as};
+ghost use Rattle.cert_checker.specs.Counting.{AreCounts};
 ghost use Rattle.cert_checker.specs.Framing.{IsOpen, IsStack, due_of, stopped_by, walking};
-ghost use Rattle.cert_checker.specs.Frames.{going};
+ghost use Rattle.cert_checker.specs.Frames.{going, sketching as at_sketch};
+ghost use Rattle.cert_checker.specs.Sketching.{IsReading, SketchState};
 ghost use Rattle.cert_checker.specs.Stages.{Rest, answer_at, answer_by, in_head, nodes};
-ghost use Rattle.cert_checker.specs.Staging.{BarsNothing, IsReady, ReadsMore, rooting, stage_of, stop_at};
+ghost use Rattle.cert_checker.specs.Staging.{BarsNothing, CanEnd, IfGood, IfReading, IsReady, ReadsMore, rooting, stage_of, stop_at, taken};
+ghost use Rattle.cert_checker.specs.declared.frames.Frame.{Frame as AnyFrame};
 
-use crate::counting::{count_frames, count_line};
-use crate::frames::{FirstFault, Frame, body_fault, push_body, settle, take_line};
+use crate::counting::{Counted, count_frames, count_line, settle_counts};
+use crate::frames::{FirstFault, Frame, NodeStep, body_fault, go_below, settle, take_line};
 use crate::refusals::{Accepted, Fault};
+use crate::sketching::Sketching;
 use arrayvec::ArrayVec;
 use cert_text::{Head, read_head_line, read_root_line};
 use query_base::{Claim, Query, target};
@@ -20,10 +25,14 @@ use query_base::{Claim, Query, target};
 pub enum Step {
     /// A line of the head, or the root's.
     Heading(Head),
-    /// A line below the root's, or none, where the walk has met no fault.
+    /// That of a node below the root, or none, where the walk has met no fault.
     Walking(Claim, Query),
-    /// A line below the root's, or none, where the walk has met this fault. From there on only the children due are counted.
+    /// A line of a sketch, where the walk has met no fault.
+    Sketching(Claim, Query),
+    /// That of a node below the root, or none, where the walk has met this fault. From there on only what is due is counted.
     Counting(Claim, Query, FirstFault),
+    /// A line of a sketch, where the walk has met this fault.
+    Skipping(Claim, Query, FirstFault),
     /// The text went bad at this line.
     Bad(u32),
 }
@@ -38,8 +47,8 @@ fn step_at(
 ) -> Step
     requires stack { IsStack (reverse frames.now.items) }
     requires open { IsOpen (reverse frames.now.items) }
-    ensures stage { stage_of result (reverse frames.now.items) (reverse counts.new.items) ≡ nodes claim query (walking found (reverse frames.now.items)) (map due_of (reverse frames.now.items)) }
-    ensures ready { IsReady result (reverse frames.now.items) (reverse counts.new.items) }
+    ensures stage { (k : SketchState) → stage_of result k (reverse frames.now.items) (reverse counts.new.items) ≡ nodes claim query (walking found (reverse frames.now.items)) (nodes_due k.units (map due_of (reverse frames.now.items))) }
+    ensures ready { (k : SketchState) → IsReady result k (reverse frames.now.items) (reverse counts.new.items) }
 {
     match found {
         None => Step::Walking(claim, query),
@@ -50,18 +59,66 @@ fn step_at(
     }
 }
 
+/// The step where a sketch is to be read, and the walk has met this fault, if there is one.
+#[inline(never)]
+fn step_in_sketch(
+    claim: Claim,
+    query: Query,
+    found: Option<FirstFault>,
+    frames: &ArrayVec<Frame, 256>,
+    counts: &mut ArrayVec<u32, 256>,
+) -> Step
+    requires { IsStack (reverse frames.now.items) }
+    ensures stage { (k : SketchState) (n : ℕ) → stage_of result k (reverse frames.now.items) (reverse counts.new.items) ≡ taken (NodeStep.Sketch found) k claim query (reverse frames.now.items) n }
+    ensures ready { (k : SketchState) → IsReading k → IsReady result k (reverse frames.now.items) (reverse counts.new.items) }
+{
+    match found {
+        None => Step::Sketching(claim, query),
+        Some(found) => {
+            count_frames(frames.as_slice(), counts);
+            Step::Skipping(claim, query, found)
+        }
+    }
+}
+
+/// The step after a node's line, number `number`, that comes to this.
+fn step_after(
+    claim: Claim,
+    query: Query,
+    line: NodeStep,
+    frames: &mut ArrayVec<Frame, 256>,
+    counts: &mut ArrayVec<u32, 256>,
+    number: u32,
+) -> Step
+    requires { IfGood line (IsStack (reverse frames.old.items)) }
+    ensures rest { (k : SketchState) (n : ℕ) (lines : Lines) (a : Answer) → Rest (stage_of result k (reverse frames.new.items) (reverse counts.new.items)) n lines a
+        → Rest (taken line k claim query (reverse frames.old.items) number) n lines a }
+    ensures ready { (k : SketchState) → IfReading line k → IsReady result k (reverse frames.new.items) (reverse counts.new.items) }
+{
+    match line {
+        NodeStep::Bad => Step::Bad(number),
+        NodeStep::Nodes(fault) => {
+            let found = settle(frames, fault);
+            step_at(claim, query, found, frames, counts)
+        }
+        NodeStep::Sketch(found) => step_in_sketch(claim, query, found, frames, counts),
+    }
+}
+
 /// The step after the root's line.
 fn take_root(
     claim: Claim,
     query: Query,
+    sketching: &mut Sketching,
     frames: &mut ArrayVec<Frame, 256>,
     counts: &mut ArrayVec<u32, 256>,
     number: u32,
     line: &[u8],
 ) -> Step
-    requires { query.barred ≡ None }
-    ensures rest { (lines : Lines) (a : Answer) → Rest (stage_of result (reverse frames.new.items) (reverse counts.new.items)) (number + 1) lines a → Rest (rooting claim query) number (line.now ∷ lines) a }
-    ensures ready { IsReady result (reverse frames.new.items) (reverse counts.new.items) }
+    requires barred { query.barred ≡ None }
+    requires first { sketching.old.units ≡ 0 }
+    ensures rest { (lines : Lines) (a : Answer) → Rest (stage_of result sketching.new (reverse frames.new.items) (reverse counts.new.items)) (number + 1) lines a → Rest (rooting claim query) number (line.now ∷ lines) a }
+    ensures ready { IsReady result sketching.new (reverse frames.new.items) (reverse counts.new.items) }
 {
     let Some(body) = read_root_line(line) else {
         return Step::Bad(number);
@@ -69,25 +126,26 @@ fn take_root(
     let aim = target(&query, &claim);
     frames.clear();
     let fault = body_fault(&body, &aim, frames.as_slice(), number);
-    push_body(frames, &body, &aim, number);
-    let found = settle(frames, fault);
-    step_at(claim, query, found, frames, counts)
+    let root = go_below(frames, sketching, &body, &aim, fault, number);
+    step_after(claim, query, root, frames, counts, number)
 }
 
 /// The step after a line of the head, or the root's.
 fn take_head(
     head: &Head,
+    sketching: &mut Sketching,
     frames: &mut ArrayVec<Frame, 256>,
     counts: &mut ArrayVec<u32, 256>,
     number: u32,
     line: &[u8],
 ) -> Step
-    requires { BarsNothing head.now }
-    ensures rest { (lines : Lines) (a : Answer) → Rest (stage_of result (reverse frames.new.items) (reverse counts.new.items)) (number + 1) lines a → Rest (in_head head.now) number (line.now ∷ lines) a }
-    ensures ready { IsReady result (reverse frames.new.items) (reverse counts.new.items) }
+    requires barred { BarsNothing head.now }
+    requires first { sketching.old.units ≡ 0 }
+    ensures rest { (lines : Lines) (a : Answer) → Rest (stage_of result sketching.new (reverse frames.new.items) (reverse counts.new.items)) (number + 1) lines a → Rest (in_head head.now) number (line.now ∷ lines) a }
+    ensures ready { IsReady result sketching.new (reverse frames.new.items) (reverse counts.new.items) }
 {
     if let Head::RootDue(claim, query) = head {
-        return take_root(*claim, *query, frames, counts, number, line);
+        return take_root(*claim, *query, sketching, frames, counts, number, line);
     }
     match read_head_line(head, line) {
         Some(next) => Step::Heading(next),
@@ -99,6 +157,7 @@ fn take_head(
 fn take_node(
     claim: &Claim,
     query: &Query,
+    sketching: &mut Sketching,
     frames: &mut ArrayVec<Frame, 256>,
     counts: &mut ArrayVec<u32, 256>,
     number: u32,
@@ -106,17 +165,95 @@ fn take_node(
 ) -> Step
     requires stack { IsStack (reverse frames.old.items) }
     requires open { IsOpen (reverse frames.old.items) }
-    ensures rest { (lines : Lines) (a : Answer) → Rest (stage_of result (reverse frames.new.items) (reverse counts.new.items)) (number + 1) lines a
-        → Rest (nodes claim.now query.now (going (reverse frames.old.items)) (map due_of (reverse frames.old.items))) number (line.now ∷ lines) a }
-    ensures ready { IsReady result (reverse frames.new.items) (reverse counts.new.items) }
+    ensures rest { (lines : Lines) (a : Answer) → Rest (stage_of result sketching.new (reverse frames.new.items) (reverse counts.new.items)) (number + 1) lines a
+        → Rest (nodes claim.now query.now (going (reverse frames.old.items)) (nodes_due sketching.old.units (map due_of (reverse frames.old.items)))) number (line.now ∷ lines) a }
+    ensures ready { IsReady result sketching.new (reverse frames.new.items) (reverse counts.new.items) }
 {
-    match take_line(frames, number, line) {
-        Some(fault) => {
-            let found = settle(frames, fault);
-            step_at(*claim, *query, found, frames, counts)
-        }
-        None => Step::Bad(number),
+    let node = take_line(frames, sketching, number, line);
+    step_after(*claim, *query, node, frames, counts, number)
+}
+
+/// The step after a line of a sketch, where the walk has met this fault.
+fn step_skipping(
+    claim: Claim,
+    query: Query,
+    found: FirstFault,
+    sketching: &mut Sketching,
+    counts: &mut ArrayVec<u32, 256>,
+) -> Step
+    requires counts { AreCounts (reverse counts.old.items) }
+    requires few { sketching.old.reading.due.prices ≤ 64 }
+    ensures rest { (frames : List AnyFrame) (n : ℕ) (lines : Lines) (a : Answer) → Rest (stage_of result sketching.new frames (reverse counts.new.items)) n lines a
+        → Rest (nodes claim query (stopped_by found) (closed sketching.old.reading (reverse counts.old.items))) n lines a }
+    ensures ready { (frames : List AnyFrame) → IsReady result sketching.new frames (reverse counts.new.items) }
+{
+    if !sketching.is_over() {
+        return Step::Skipping(claim, query, found);
     }
+    sketching.close();
+    settle_counts(counts);
+    Step::Counting(claim, query, found)
+}
+
+/// The step after a line of a sketch, where the walk has met no fault before.
+#[inline(never)]
+fn take_sketch(
+    claim: &Claim,
+    query: &Query,
+    sketching: &mut Sketching,
+    frames: &mut ArrayVec<Frame, 256>,
+    counts: &mut ArrayVec<u32, 256>,
+    number: u32,
+    line: &[u8],
+) -> Step
+    requires stack { IsStack (reverse frames.old.items) }
+    requires reading { IsReading sketching.old }
+    ensures rest { (lines : Lines) (a : Answer) → Rest (stage_of result sketching.new (reverse frames.new.items) (reverse counts.new.items)) (number + 1) lines a
+        → Rest (nodes claim.now query.now (at_sketch sketching.old.sketched (reverse frames.old.items)) (sketch_due sketching.old.reading (map due_of (reverse frames.old.items)))) number (line.now ∷ lines) a }
+    ensures ready { IsReady result sketching.new (reverse frames.new.items) (reverse counts.new.items) }
+{
+    let Some(fault) = sketching.take(number, line) else {
+        return Step::Bad(number);
+    };
+    if let Some(found) = fault {
+        count_frames(frames.as_slice(), counts);
+        return step_skipping(*claim, *query, found, sketching, counts);
+    }
+    if !sketching.is_over() {
+        return Step::Sketching(*claim, *query);
+    }
+    sketching.close();
+    step_after(
+        *claim,
+        *query,
+        NodeStep::Nodes(None),
+        frames,
+        counts,
+        number,
+    )
+}
+
+/// The step after a line of a sketch, where the walk has met this fault before.
+#[inline(never)]
+fn skip_line(
+    claim: &Claim,
+    query: &Query,
+    found: FirstFault,
+    sketching: &mut Sketching,
+    counts: &mut ArrayVec<u32, 256>,
+    number: u32,
+    line: &[u8],
+) -> Step
+    requires counts { AreCounts (reverse counts.old.items) }
+    requires few { sketching.old.reading.due.prices ≤ 64 }
+    ensures rest { (frames : List AnyFrame) (lines : Lines) (a : Answer) → Rest (stage_of result sketching.new frames (reverse counts.new.items)) (number + 1) lines a
+        → Rest (nodes claim.now query.now (stopped_by found) (sketch_due sketching.old.reading (reverse counts.old.items))) number (line.now ∷ lines) a }
+    ensures ready { (frames : List AnyFrame) → IsReady result sketching.new frames (reverse counts.new.items) }
+{
+    if !sketching.count(line) {
+        return Step::Bad(number);
+    }
+    step_skipping(*claim, *query, found, sketching, counts)
 }
 
 /// Takes a line, with its end, where more than children is to be read.
@@ -124,50 +261,71 @@ fn take_node(
 #[inline(never)]
 fn take_read(
     step: &mut Step,
+    sketching: &mut Sketching,
     frames: &mut ArrayVec<Frame, 256>,
     counts: &mut ArrayVec<u32, 256>,
     number: u32,
     line: &[u8],
 )
     requires reads { ReadsMore step.old }
-    requires ready { IsReady step.old (reverse frames.old.items) (reverse counts.old.items) }
-    ensures rest { (lines : Lines) (a : Answer) → Rest (stage_of step.new (reverse frames.new.items) (reverse counts.new.items)) (number + 1) lines a
-        → Rest (stage_of step.old (reverse frames.old.items) (reverse counts.old.items)) number (line.now ∷ lines) a }
-    ensures ready { IsReady step.new (reverse frames.new.items) (reverse counts.new.items) }
+    requires ready { IsReady step.old sketching.old (reverse frames.old.items) (reverse counts.old.items) }
+    ensures rest { (lines : Lines) (a : Answer) → Rest (stage_of step.new sketching.new (reverse frames.new.items) (reverse counts.new.items)) (number + 1) lines a
+        → Rest (stage_of step.old sketching.old (reverse frames.old.items) (reverse counts.old.items)) number (line.now ∷ lines) a }
+    ensures ready { IsReady step.new sketching.new (reverse frames.new.items) (reverse counts.new.items) }
 {
     match step {
         Step::Heading(head) => {
-            let next = take_head(head, frames, counts, number, line);
+            let next = take_head(head, sketching, frames, counts, number, line);
             *step = next;
         }
         Step::Walking(claim, query) => {
-            let next = take_node(claim, query, frames, counts, number, line);
+            let next = take_node(claim, query, sketching, frames, counts, number, line);
+            *step = next;
+        }
+        Step::Sketching(claim, query) => {
+            let next = take_sketch(claim, query, sketching, frames, counts, number, line);
+            *step = next;
+        }
+        Step::Skipping(claim, query, found) => {
+            let next = skip_line(claim, query, *found, sketching, counts, number, line);
             *step = next;
         }
         Step::Counting(_, _, _) | Step::Bad(_) => {}
     }
 }
 
+/// The step where the lines of a sketch are counted.
+#[inline(never)]
+fn skipping(claim: &Claim, query: &Query, found: &FirstFault) -> Step
+    ensures { result ≡ Step.Skipping claim.now query.now found.now }
+{
+    Step::Skipping(*claim, *query, *found)
+}
+
 /// Takes a line, with its end. Where only children are counted, the step stays in its place.
 pub(crate) fn take(
     step: &mut Step,
+    sketching: &mut Sketching,
     frames: &mut ArrayVec<Frame, 256>,
     counts: &mut ArrayVec<u32, 256>,
     number: u32,
     line: &[u8],
 )
-    requires { IsReady step.old (reverse frames.old.items) (reverse counts.old.items) }
-    ensures rest { (lines : Lines) (a : Answer) → Rest (stage_of step.new (reverse frames.new.items) (reverse counts.new.items)) (number + 1) lines a
-        → Rest (stage_of step.old (reverse frames.old.items) (reverse counts.old.items)) number (line.now ∷ lines) a }
-    ensures ready { IsReady step.new (reverse frames.new.items) (reverse counts.new.items) }
+    requires { IsReady step.old sketching.old (reverse frames.old.items) (reverse counts.old.items) }
+    ensures rest { (lines : Lines) (a : Answer) → Rest (stage_of step.new sketching.new (reverse frames.new.items) (reverse counts.new.items)) (number + 1) lines a
+        → Rest (stage_of step.old sketching.old (reverse frames.old.items) (reverse counts.old.items)) number (line.now ∷ lines) a }
+    ensures ready { IsReady step.new sketching.new (reverse frames.new.items) (reverse counts.new.items) }
 {
     match step {
-        Step::Counting(_, _, _) => {
-            if !count_line(counts, line) {
-                *step = Step::Bad(number);
+        Step::Counting(claim, query, found) => match count_line(counts, sketching, line) {
+            Counted::Nodes => {}
+            Counted::Sketch => {
+                let next = skipping(claim, query, found);
+                *step = next;
             }
-        }
-        _ => take_read(step, frames, counts, number, line),
+            Counted::Bad => *step = Step::Bad(number),
+        },
+        _ => take_read(step, sketching, frames, counts, number, line),
     }
 }
 
@@ -182,7 +340,7 @@ pub(crate) fn stop(step: &Step, number: u32) -> Step
 }
 
 fn fault_of(found: FirstFault) -> Fault
-    ensures { (claim : AnyClaim) (q : Asked) → answer_as (Err result) ≡ answer_by claim q (stopped_by found) }
+    ensures { (claim : AnyClaim) (q : Asked) (n : ℕ) → answer_as (Err result) ≡ answer_by claim q n (stopped_by found) }
 {
     match found {
         FirstFault::Unlisted { line, unmove } => Fault::Unlisted { line, unmove },
@@ -197,8 +355,8 @@ pub(crate) fn answer(
     counts: &[u32],
     number: u32,
 ) -> Result<Accepted, Fault>
-    requires { IsReady step.now (reverse frames.now) (reverse counts.now) }
-    ensures { answer_as result ≡ answer_at (stage_of step.now (reverse frames.now) (reverse counts.now)) number }
+    requires { CanEnd step.now (reverse frames.now) (reverse counts.now) }
+    ensures { (k : SketchState) → answer_as result ≡ answer_at (stage_of step.now k (reverse frames.now) (reverse counts.now)) number }
 {
     match *step {
         Step::Walking(claim, query) => {

@@ -1,14 +1,14 @@
-ghost use Rattle.std.specs.Prelude.{◌≡◌, ◌+◌, ◌^◌, ◌<◌, ◌≤◌, Some, IfErr, IfOk, OnOk, reverse};
+ghost use Rattle.std.specs.Prelude.{◌≡◌, ◌+◌, ◌^◌, ◌<◌, Some, IfErr, IfOk, OnOk, reverse};
 ghost use Rattle.std.specs.declared.cmp.Ordering.TheVariants.{Equal};
 ghost use Rattle.board_base.specs.Texts.{unmove_order};
 ghost use Rattle.unmove_gen.specs.Listed.{unmoves};
-ghost use Rattle.cert_text.specs.Sizes.{size, size_all};
 ghost use Rattle.cert_text.specs.Seen.{tree_of};
 ghost use Rattle.cert_checker.specs.Walk.{Walks, WalksEach};
-ghost use Rattle.cert_checker.specs.Walking.{IsFault, IsLabelFault, IsWalked};
+ghost use Rattle.cert_checker.specs.Walking.{HasSketches, HaveSketches, IsFault, IsLabelFault, IsWalked, lines_in, lines_in_all};
 
 use crate::reasons::reason_supports;
 use crate::refusals::{Refused, Why};
+use crate::sketch_walking::check_sketch;
 use board_base::{Unmove, cmp_unmove};
 use cert_text::{Body, Kids, Node};
 use query_base::{Query, is_array, is_covered};
@@ -42,10 +42,11 @@ pub fn check_node(
     ancestors: &mut Vec<Query>,
     line: u32,
 ) -> Result<u32, Refused>
-    requires { line + size (tree_of node.now) < 2 ^ 32 }
+    requires room { line + lines_in (tree_of node.now) < 2 ^ 32 }
+    requires sketches { HasSketches (tree_of node.now) }
     ensures walk { IsWalked result (Walks (tree_of node.now) query.now (reverse ancestors.old.items) line) }
     ensures kept { OnOk result (ancestors.new.items ≡ ancestors.old.items) }
-    ensures near { IfOk result (λ n. n ≤ line + size (tree_of node.now)) }
+    ensures next { IfOk result (λ n. n ≡ line + lines_in (tree_of node.now)) }
 {
     match &node.body {
         Body::Rule(reason) => {
@@ -77,6 +78,7 @@ pub fn check_node(
             }
             check_kids(query, kids, ancestors, line)
         }
+        Body::Sketch(body) => check_sketch(query, body, line),
     }
 }
 
@@ -88,10 +90,11 @@ fn check_kids(
     ancestors: &mut Vec<Query>,
     top: u32,
 ) -> Result<u32, Refused>
-    requires { top + 1 + size_all kids.now < 2 ^ 32 }
+    requires room { top + 1 + lines_in_all kids.now < 2 ^ 32 }
+    requires sketches { HaveSketches kids.now }
     ensures walk { IsWalked result (WalksEach kids.now query.now (unmoves query.now) (reverse ancestors.old.items) top (top + 1)) }
     ensures kept { OnOk result (ancestors.new.items ≡ ancestors.old.items) }
-    ensures near { IfOk result (λ n. n ≤ top + 1 + size_all kids.now) }
+    ensures next { IfOk result (λ n. n ≡ top + 1 + lines_in_all kids.now) }
 {
     match ancestors.push(*query) {
         Ok(()) => {}

@@ -11,7 +11,7 @@ use Rattle.cert_checker.proofs.checkers.take_part.Goals as goal
 pub returns-then-len-part-gt256-clause-rest : goal.returns-then-len-part-gt256-clause-rest
 returns-then-len-part-gt256-clause-rest c = λ others a rest.
     rest_long (λ line past. c.no_long_lines.ensures.long line (omega (arith, past))) c.args.walk.now c.halt.new.self c.args.number.now c.args.gathered.now.items c.args.part.now c.args.gathered.now.items others c.args.ended a
-    c.requires.no_end c.requires.part (omega (arith, c.len.ensures.value, c.if-len-part-gt256.true)) c.halt.ensures rest
+    c.halt.ensures.low c.requires.no_end c.requires.part (omega (arith, c.len.ensures.value, c.if-len-part-gt256.true)) c.halt.ensures.halted rest
 
 pub returns-then-is_empty-clause-rest : goal.returns-then-is_empty-clause-rest
 returns-then-is_empty-clause-rest c = λ others a rest.

@@ -8,7 +8,8 @@ use Rattle.cert_text.proofs.Cuts.{few_lines}
 use Rattle.cert_text.proofs.HeadTexts.{head_count}
 use Rattle.cert_checker.specs.Proving.{target_of}
 use Rattle.cert_checker.specs.Walk.{next_line, Walks, WalksTo}
-use Rattle.cert_checker.proofs.Children.{small_tree}
+use Rattle.cert_text.proofs.CertTexts.{writable}
+use Rattle.cert_checker.proofs.Children.{sketches-fit, tree-lines}
 use Rattle.cert_checker.proofs.Proofs.{walk_proves}
 use Rattle.cert_checker.proofs.Unbarred.{query_unbarred}
 use Rattle.cert_checker.proofs.checking.read_proof.Goals as goal
@@ -22,10 +23,13 @@ root_walk cert q above m n query none place walks =
 pub target-requires : goal.target-requires
 target-requires c = query_unbarred _ _ c.in-Ok.ensures.ok
 
-pub check_node-requires : goal.check_node-requires
-check_node-requires c =
+pub check_node-requires-clause-room : goal.check_node-requires-clause-room
+check_node-requires-clause-room c =
     let a = c.in-Ok.ensures.ok in
-    omega (arith, small_tree (tree_of c.in-Ok.cert.root) 0 a.below a.nodes, few_lines c.args.bytes.now, ap length a.parts, length-append a.head (a.root_line ∷ a.below), head_count a.head c.in-Ok.cert.claim c.in-Ok.cert.query a.heading, c.root_line_of.ensures, c.requires)
+    omega (arith, tree-lines (tree_of c.in-Ok.cert.root) 0 a.below a.nodes, few_lines c.args.bytes.now, ap length a.parts, length-append a.head (a.root_line ∷ a.below), head_count a.head c.in-Ok.cert.claim c.in-Ok.cert.query a.heading, c.root_line_of.ensures, c.requires)
+
+pub check_node-requires-clause-sketches : goal.check_node-requires-clause-sketches
+check_node-requires-clause-sketches c = sketches-fit (tree_of c.in-Ok.cert.root) 0 (writable (cut c.args.bytes.now) (cert_of c.in-Ok.cert) c.in-Ok.ensures.ok).root
 
 pub returns-in-Ok-check_node-clause-proves : goal.returns-in-Ok-check_node-clause-proves
 returns-in-Ok-check_node-clause-proves c =

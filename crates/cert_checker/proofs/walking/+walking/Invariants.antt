@@ -1,10 +1,11 @@
-use Rattle.std.proofs.Common.{◌≡◌, ◌+◌, ◌≤◌, [], ◌∷◌, ◌++◌, reverse}
+use Rattle.std.proofs.Common.{◌≡◌, ◌+◌, [], ◌∷◌, ◌++◌, reverse}
 use Rattle.std.specs.List.{Contains}
 use Rattle.board_base.specs.declared.unmoves.Unmove.{Unmove}
 use Rattle.unmove_gen.specs.Listed.{unmoves}
 use Rattle.cert_text.specs.Sizes.{rest_of, size, size_all}
 use Rattle.cert_text.specs.Seen.{tree_of}
 use Rattle.cert_checker.specs.Walk.{Walked, WalksEach}
+use Rattle.cert_checker.specs.Walking.{HaveSketches, lines_in_all}
 use Rattle.cert_checker.proofs.walking.+walking.Given as goal
 
 abbrev pub decreases-check_kids : goal.decreases-check_kids
@@ -19,5 +20,6 @@ invariant-check_kids-loop-i l = record {
       → WalksEach l.kids l.query (unmoves l.query) (reverse l.fn.ancestors.items) l.top (l.top + 1) walked;
   listed : (u : Unmove) → Contains l.unmoves u → Contains (unmoves l.query) u;
   kept : l.ancestors.items ≡ l.fn.ancestors.items ++ l.query ∷ [];
-  near : l.next + size_all (rest_of l.kids l.i) ≤ l.top + 1 + size_all l.kids;
+  place : l.next + lines_in_all (rest_of l.kids l.i) ≡ l.top + 1 + lines_in_all l.kids;
+  sketches : HaveSketches (rest_of l.kids l.i);
 }
