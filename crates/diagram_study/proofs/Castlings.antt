@@ -1,9 +1,9 @@
 -- What is found of two castlings together.
-use Rattle.std.proofs.Common.{◌≡◌, ℕ, List, [], ◌∷◌, map, refl, subst}
+use Rattle.std.proofs.Common.{◌≡◌, ℕ, Bool, false, List, [], ◌∷◌, map, refl, sym, ap, ◌∙◌, subst}
 use Rattle.std.specs.Prelude.{IsTrue}
 use Rattle.std.specs.List.{All, filter}
 use Rattle.std.proofs.lemmas.List.Elements.{All-cons, All-filter, All-head, All-nil, All-same, All-tail}
-use Rattle.board_base.specs.Rights.{Rights, holds, with_castling}
+use Rattle.board_base.specs.Rights.{Rights, holds, no_rights, with_castling}
 use Rattle.board_base.specs.declared.castles.Castle.{Castle}
 use Rattle.board_base.specs.declared.castles.Castle.TheVariants.{WhiteShort, WhiteLong, BlackShort, BlackLong}
 use Rattle.board_base.specs.declared.moves.Move.{Move}
@@ -15,11 +15,19 @@ use Rattle.line_claims.specs.Due.{with_both}
 use Rattle.line_claims.specs.Lines.{in_order}
 use Rattle.line_claims.specs.declared.claims.LineClaim.TheVariants.{NotBoth}
 use Rattle.diagram_study.specs.Decisions.{IsPairAgreed}
-use Rattle.diagram_study.specs.Findings.{IsContradicted, IsFound}
-use Rattle.diagram_study.specs.Joined.{IsLineContradicted}
+use Rattle.claim_findings.specs.Findings.{IsContradicted, IsFound}
+use Rattle.claim_findings.specs.Joined.{IsLineContradicted}
 use Rattle.diagram_study.specs.Pairs.{IsPairFound, are_both_in, castle_pairs, pair_of}
 use Rattle.diagram_study.specs.declared.pairs.PairFound.{PairFound}
-use Rattle.diagram_study.proofs.Together.{PartsMakeLines, proved_holds}
+use Rattle.claim_findings.proofs.Together.{PartsMakeLines, proved_holds}
+
+-- a set without any castling
+pub holds-none : (set : Rights) → ((x : Castle) → holds set x ≡ false) → set ≡ no_rights
+holds-none set none =
+    ap (λ (b : Bool). let s : Rights = record { white_short = b; white_long = set.white_long; black_short = set.black_short; black_long = set.black_long } in s) (none WhiteShort)
+    ∙ ap (λ (b : Bool). let s : Rights = record { white_short = false; white_long = b; black_short = set.black_short; black_long = set.black_long } in s) (none WhiteLong)
+    ∙ ap (λ (b : Bool). let s : Rights = record { white_short = false; white_long = false; black_short = b; black_long = set.black_long } in s) (none BlackShort)
+    ∙ ap (λ (b : Bool). let s : Rights = record { white_short = false; white_long = false; black_short = false; black_long = b } in s) (none BlackLong)
 
 -- a castling that is added is held, and so is what was held
 added : (s : Rights) (x : Castle) → IsTrue (holds (with_castling s x) x)

@@ -9,13 +9,14 @@ use Rattle.board_base.specs.declared.unmoves.Unmove.{Unmove}
 use Rattle.query_base.specs.Asked.{Asked}
 use Rattle.query_base.specs.declared.claims.Claim.TheVariants.{Last}
 use Rattle.unmove_gen.specs.Listed.{unmoves}
-use Rattle.unmove_gen.specs.Predecessor.{predecessor, left_by}
+use Rattle.unmove_gen.specs.Predecessor.{predecessor}
 use Rattle.line_claims.specs.Lines.{has_text}
 use Rattle.line_claims.specs.Listing.{AreListed}
-use Rattle.diagram_study.specs.Findings.{IsFound, is_proved, is_refuted}
+use Rattle.claim_findings.proofs.OpenFronts.{listed_more, listed_none}
+use Rattle.claim_findings.specs.Findings.{IsFound, is_proved, is_refuted}
 use Rattle.diagram_study.specs.Forced.{AreForced, IsForced, IsOpenPlace, LastFound}
 use Rattle.diagram_study.specs.Retractions.{AreLeft, HasLeft}
-use Rattle.diagram_study.specs.declared.findings.Finding.{Finding}
+use Rattle.claim_findings.specs.declared.findings.Finding.{Finding}
 
 -- the first of a list of one
 pub only_first : (left : List Unmove) → length left ≡ 1 → MatchOption (slice_get left 0) (length left ≡ 1 → ⊥) (λ u. left ≡ u ∷ [])
@@ -61,20 +62,6 @@ left_listed q depth nodes (v ∷ us) u are =
 
 pub forced_listed_here : (q : Asked) (most nodes : ℕ) (u : Unmove) → IsForced q most nodes u → Contains (unmoves q) u
 forced_listed_here q most nodes u forced = left_listed q (most - 1) nodes (unmoves q) u forced.last.left.are
-
--- one step more in front
-pub listed_more : (q : Asked) (u : Unmove) (us : List Unmove) → Contains (unmoves q) u → AreListed (predecessor q u) us → AreListed q (u ∷ us)
-listed_more q u us here rest = λ before after v e. by_front before after v e
-  where
-    by_front : (before after : List Unmove) (v : Unmove) → u ∷ us ≡ before ++ v ∷ after → Contains (unmoves (left_by q before)) v
-    by_front [] after v e = let same : u ≡ v = cc in subst (Contains (unmoves q)) same here
-    by_front (w ∷ before) after v e =
-        let same : u ≡ w = cc in
-        let tail : us ≡ before ++ v ∷ after = cc in
-        subst (λ (x : Unmove). Contains (unmoves (left_by (predecessor q x) before)) v) same (rest before after v tail)
-
-pub listed_none : (q : Asked) → AreListed q []
-listed_none q = λ before after u e. absurd (omega (arith, ap length e, length-append before (u ∷ after)))
 
 pub forced_listed : (room : ℕ) (q : Asked) (most nodes : ℕ) (steps : List Unmove) → AreForced room q most nodes steps → AreListed q steps
 forced_listed zero q most nodes steps forced = subst (AreListed q) (sym forced) (listed_none q)

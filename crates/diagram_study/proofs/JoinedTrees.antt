@@ -24,10 +24,10 @@ use Rattle.retro_search.specs.Outcomes.{HasProof}
 use Rattle.retro_search.specs.declared.searchers.Outcome.{Outcome}
 use Rattle.retro_search.specs.declared.searchers.Outcome.TheVariants.{Refuted}
 use Rattle.retro_search.proofs.Trees.Ancestors.{Extends, proves_below}
-use Rattle.diagram_study.specs.Findings.{IsFound, IsOutcome, is_proved, is_refuted}
+use Rattle.claim_findings.specs.Findings.{IsFound, IsOutcome, is_proved, is_refuted}
 use Rattle.diagram_study.specs.Looks.{AreHeights, AreLooked, IsHeight, IsKeptIn, IsLooked, claim_but}
-use Rattle.diagram_study.specs.declared.findings.Finding.{Finding}
-use Rattle.diagram_study.specs.declared.findings.Finding.TheVariants.{Proved, Countered, Open, Spent}
+use Rattle.claim_findings.specs.declared.findings.Finding.{Finding}
+use Rattle.claim_findings.specs.declared.findings.Finding.TheVariants.{Proved, Countered, Open, Spent}
 use Rattle.diagram_study.specs.declared.retractions.Looked.{Looked}
 use Rattle.diagram_study.proofs.Looking.{heights_low}
 

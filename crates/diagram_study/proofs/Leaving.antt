@@ -1,7 +1,6 @@
 -- The retractions that are left so far.
 use Rattle.std.proofs.Common.{◌≡◌, ℕ, ◌+◌, ◌≤◌, Bool, true, false, cond, List, [], ◌∷◌, ◌++◌, length, refl, ap, sym, subst, ◌∙◌, arith, append_assoc, append-nil, length-append, inl, inr}
-use Rattle.std.specs.Prelude.{IsTrue, ◌&&◌}
-use Rattle.board_base.specs.Texts.{can_capture, can_promote}
+use Rattle.std.specs.Prelude.{IsTrue}
 use Rattle.std.specs.List.{All, Contains}
 use Rattle.std.proofs.lemmas.List.Elements.{All-nil, All-push, All-same, Contains-append_right}
 use Rattle.general_lemmas.proofs.Lists.{contains-cases, contains-first, contains-later, contains-none}
@@ -13,7 +12,7 @@ use Rattle.query_base.specs.Reach.{Holds, Reaches}
 use Rattle.query_base.specs.declared.claims.Claim.TheVariants.{Illegal}
 use Rattle.unmove_gen.specs.Listed.{unmoves}
 use Rattle.unmove_gen.specs.Predecessor.{predecessor, unmove_after}
-use Rattle.diagram_study.specs.Findings.{IsOutcome, is_refuted}
+use Rattle.claim_findings.specs.Findings.{IsOutcome, is_refuted}
 use Rattle.diagram_study.specs.Retractions.{AreLeft, EndsAmong}
 use Rattle.retro_search.specs.declared.searchers.Outcome.{Outcome}
 use Rattle.retro_search.specs.declared.searchers.Outcome.TheVariants.{Refuted, Open, Spent}
@@ -124,6 +123,3 @@ all_left q depth nodes still left number so_far none =
 pub found_before : (q before : Asked) (below depth nodes : ℕ) (u : Unmove) (outcome : Outcome) → before ≡ predecessor q u → below ≡ depth → IsOutcome before Illegal below nodes outcome → IsOutcome (predecessor q u) Illegal depth nodes outcome
 found_before q before below depth nodes u outcome is same found =
     subst (λ (n : ℕ). IsOutcome (predecessor q u) Illegal n nodes outcome) same (subst (λ (r : Asked). IsOutcome r Illegal below nodes outcome) is found)
-
-pub with_text : (u : Unmove) → IsTrue (can_promote u.mv.promo) → IsTrue (can_capture u.mv.promo u.captured u.ep) → IsTrue (has_text u)
-with_text u promotion capture = ap (λ (b : Bool). b && can_capture u.mv.promo u.captured u.ep) promotion ∙ capture

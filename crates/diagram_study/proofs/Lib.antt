@@ -1,16 +1,9 @@
-pub mod Steps
 pub mod Plain
-pub mod Searching
-pub mod Together
 pub mod Leaving
 pub mod LastMoves
-pub mod Playing
-pub mod Agreeing
 pub mod Looking
 pub mod JoinedTrees
 pub mod Forcing
-pub mod OpenFronts
-pub mod Staying
 pub mod Telling
 pub mod Castlings
 pub mod Gathered

@@ -14,7 +14,7 @@ use Rattle.unmove_gen.specs.Listed.{unmoves}
 use Rattle.unmove_gen.specs.Predecessor.{predecessor}
 use Rattle.retro_search.specs.declared.searchers.Outcome.{Outcome}
 use Rattle.retro_search.specs.declared.searchers.Outcome.TheVariants.{Refuted}
-use Rattle.diagram_study.specs.Findings.{IsOutcome}
+use Rattle.claim_findings.specs.Findings.{IsOutcome}
 use Rattle.diagram_study.specs.Looks.{AreHeights, AreLooked, IsHeight, IsKeptIn, IsLooked}
 use Rattle.diagram_study.specs.declared.retractions.Looked.{Looked}
 

@@ -11,7 +11,7 @@ use Rattle.board_base.specs.Legal.{is_move}
 use Rattle.board_base.specs.declared.moves.Move.{Move}
 use Rattle.board_base.specs.declared.unmoves.Unmove.{Unmove}
 use Rattle.diagram_study.specs.Retractions.{one_move}
-use Rattle.diagram_study.proofs.Steps.{at_place}
+use Rattle.claim_findings.proofs.Steps.{at_place}
 
 -- the unmove has this move
 abbrev pub has_move : Move → Unmove → Bool

@@ -12,11 +12,13 @@ use Rattle.codex_verdict.specs.Rights.{claim_of}
 use Rattle.codex_verdict.specs.declared.kinds.Right.{Right}
 use Rattle.query_base.specs.declared.claims.Claim.TheVariants.{Illegal}
 use Rattle.line_claims.specs.Due.{with_both}
-use Rattle.diagram_study.specs.Decisions.{Grows, IsDecided, IsPairSought, IsRightSought}
+use Rattle.claim_findings.specs.Decisions.{Grows, IsAgreed, IsDecided}
+use Rattle.claim_findings.specs.declared.deciding.Decided.{Decided}
+use Rattle.diagram_study.specs.Decisions.{IsPairAgreed, IsPairSought, IsRightAgreed, IsRightSought}
 use Rattle.diagram_study.specs.Pairs.{pair_of}
 use Rattle.diagram_study.specs.declared.pairs.PairFound.{PairFound}
 use Rattle.diagram_study.specs.declared.rights.RightFound.{RightFound}
-use Rattle.diagram_study.proofs.Agreeing.{decided_grown}
+use Rattle.claim_findings.proofs.Agreeing.{decided_grown}
 
 pub rights_more : (each : List Right) (i : ℕ) (f : RightFound) (old new : List RightFound) → i < length each → f.right ≡ get_or each i f.right → map (λ g. g.right) old ≡ take i each → new ≡ old ++ f ∷ [] → map (λ g. g.right) new ≡ take (i + 1) each
 rights_more each i f old new inside here so_far longer =
@@ -66,3 +68,14 @@ each_told {A} P R front rest old new was x step longer next so_far =
 pub nothing_left : {A : Type 0} (l : List A) → length l ≡ 0 → l ≡ []
 nothing_left [] none = refl
 nothing_left (x ∷ l) none = absurd (omega (arith, none))
+
+-- by these games too
+pub right_by : (q : Asked) (claim : Claim) (most nodes : ℕ) (games : List (List Move)) (f : RightFound) (d : Decided) → claim ≡ claim_of f.right → IsRightSought q most nodes games f → (IsDecided q claim most nodes games (record { finding = f.finding; stuck = f.stuck }) → IsAgreed q claim most nodes games d) → IsRightAgreed q most nodes games (record { right = f.right; finding = d.finding; stuck = d.stuck })
+right_by q claim most nodes games f d is sought step =
+    let here : IsDecided q claim most nodes games (record { finding = f.finding; stuck = f.stuck }) = subst (λ (k : Claim). IsDecided q k most nodes games (record { finding = f.finding; stuck = f.stuck })) (sym is) sought.decided in
+    record { agreed = subst (λ (k : Claim). IsAgreed q k most nodes games d) is (step here) }
+
+pub pair_by : (q both : Asked) (most nodes : ℕ) (games : List (List Move)) (f : PairFound) (d : Decided) → both ≡ with_both q f.first f.second → IsPairSought q most nodes games f → (IsDecided both Illegal most nodes games (record { finding = f.finding; stuck = f.stuck }) → IsAgreed both Illegal most nodes games d) → IsPairAgreed q most nodes games (record { first = f.first; second = f.second; finding = d.finding; stuck = d.stuck })
+pair_by q both most nodes games f d is sought step =
+    let here : IsDecided both Illegal most nodes games (record { finding = f.finding; stuck = f.stuck }) = subst (λ (a : Asked). IsDecided a Illegal most nodes games (record { finding = f.finding; stuck = f.stuck })) (sym is) sought.decided in
+    record { agreed = subst (λ (a : Asked). IsAgreed a Illegal most nodes games d) is (step here) }

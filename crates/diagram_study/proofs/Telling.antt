@@ -12,19 +12,20 @@ use Rattle.line_claims.specs.declared.claims.LineClaim.{LineClaim}
 use Rattle.line_claims.specs.declared.claims.LineClaim.TheVariants.{Line}
 use Rattle.length_bound.specs.declared.texts.LengthText.{LengthText}
 use Rattle.unmove_gen.specs.Listed.{unmoves}
-use Rattle.diagram_study.specs.Ends.{IsStuck}
-use Rattle.diagram_study.specs.Findings.{IsFound, is_proved}
-use Rattle.diagram_study.specs.Joined.{IsLineFound}
+use Rattle.claim_findings.specs.Ends.{IsStuck}
+use Rattle.claim_findings.specs.Findings.{IsFound, is_proved}
+use Rattle.claim_findings.specs.Joined.{IsLineFound}
 use Rattle.diagram_study.specs.Rights.{AreFound, open_castlings}
-use Rattle.diagram_study.specs.Games.{AgreesWith}
+use Rattle.claim_findings.specs.Games.{AgreesWith}
 use Rattle.diagram_study.specs.Pairs.{ArePairsFound}
 use Rattle.diagram_study.specs.Retractions.{HasLeft, TellsLast, one_move}
 use Rattle.diagram_study.specs.Forced.{AreForced, TellsForced, TellsSteps}
 use Rattle.diagram_study.specs.Possible.{TellsPossible}
 use Rattle.diagram_study.specs.Studies.{IsStudy, TellsAgain, TellsBehind, TellsLength, TellsMore, TellsOther, TellsPlain, TellsPosition, makes_demands, other_side, without_demands}
-use Rattle.diagram_study.specs.Texts.{capture_lines, castling_lines, decided_lines, found_line, left_line, other_line, pair_lines, plain_line, steps_line}
-use Rattle.diagram_study.specs.declared.findings.Finding.{Finding}
-use Rattle.diagram_study.specs.declared.findings.Finding.TheVariants.{Proved, Countered, Open, Spent}
+use Rattle.diagram_study.specs.Texts.{capture_lines, castling_lines, left_line, other_line, pair_lines, plain_line}
+use Rattle.claim_findings.specs.Lines.{decided_lines, found_line, steps_line}
+use Rattle.claim_findings.specs.declared.findings.Finding.{Finding}
+use Rattle.claim_findings.specs.declared.findings.Finding.TheVariants.{Proved, Countered, Open, Spent}
 use Rattle.diagram_study.specs.declared.pairs.PairFound.{PairFound}
 use Rattle.diagram_study.specs.declared.rights.RightFound.{RightFound}
 

@@ -20,21 +20,22 @@ use Rattle.line_claims.specs.declared.claims.LineClaim.{LineClaim}
 use Rattle.line_claims.specs.declared.claims.LineClaim.TheVariants.{Line, NotBoth}
 use Rattle.unmove_gen.specs.Listed.{unmoves}
 use Rattle.diagram_study.specs.Facts.{Fact, GoesBy, IsSo, IsTrueOf, SaysTrue, at_least, found, left, line_of, other, possible, steps, stuck}
-use Rattle.diagram_study.specs.Findings.{IsContradicted, IsFound, is_proved}
+use Rattle.claim_findings.specs.Findings.{IsContradicted, IsFound, is_proved}
 use Rattle.diagram_study.specs.Forced.{TellsForced}
-use Rattle.diagram_study.specs.Games.{AgreesWith}
+use Rattle.claim_findings.specs.Games.{AgreesWith}
 use Rattle.diagram_study.specs.Possible.{TellsPossible}
 use Rattle.diagram_study.specs.Pairs.{IsPairFound}
 use Rattle.diagram_study.specs.Retractions.{TellsLast, one_move}
 use Rattle.diagram_study.specs.Rights.{IsRightFound}
 use Rattle.diagram_study.specs.Studies.{IsStudy, TellsAgain, TellsBehind, TellsLength, TellsMore, TellsPosition, makes_demands, other_side}
-use Rattle.diagram_study.specs.Texts.{capture_line, capture_lines, castling_line, castling_lines, decided_lines, decided_steps, left_line, pair_lines, plain_line, steps_words, stuck_line}
-use Rattle.diagram_study.specs.declared.findings.Finding.{Finding}
-use Rattle.diagram_study.specs.declared.findings.Finding.TheVariants.{Proved, Countered, Open, Spent}
+use Rattle.diagram_study.specs.Texts.{capture_line, capture_lines, castling_line, castling_lines, left_line, pair_lines, plain_line}
+use Rattle.claim_findings.specs.Lines.{decided_lines, decided_steps, steps_words, stuck_line}
+use Rattle.claim_findings.specs.declared.findings.Finding.{Finding}
+use Rattle.claim_findings.specs.declared.findings.Finding.TheVariants.{Proved, Countered, Open, Spent}
 use Rattle.diagram_study.specs.declared.pairs.PairFound.{PairFound}
 use Rattle.diagram_study.specs.declared.rights.RightFound.{RightFound}
 use Rattle.diagram_study.proofs.LastMoves.{all_end, all_end_in, few_or_not}
-use Rattle.diagram_study.proofs.Together.{proved_holds}
+use Rattle.claim_findings.proofs.Together.{proved_holds}
 
 -- what was found of a claim is so
 found_so : (q : Asked) (claim : Claim) (most nodes : ℕ) (finding : Finding) → IsFound q claim most nodes finding → IsSo finding (Holds claim q) (IsContradicted claim q)

@@ -9,14 +9,15 @@ use Rattle.query_base.specs.declared.claims.Claim.{Claim}
 use Rattle.query_base.specs.declared.claims.Claim.TheVariants.{Illegal}
 use Rattle.line_claims.specs.Holding.{HoldsLine}
 use Rattle.line_claims.specs.declared.claims.LineClaim.{LineClaim}
-use Rattle.diagram_study.specs.Findings.{IsContradicted}
-use Rattle.diagram_study.specs.Games.{AgreesWith, IsEndIn}
-use Rattle.diagram_study.specs.Joined.{IsLineContradicted}
+use Rattle.claim_findings.specs.Findings.{IsContradicted}
+use Rattle.claim_findings.specs.Games.{AgreesWith, IsEndIn}
+use Rattle.claim_findings.specs.Joined.{IsLineContradicted}
 use Rattle.diagram_study.specs.Possible.{IsEnd}
 use Rattle.diagram_study.specs.Studies.{other_side}
-use Rattle.diagram_study.specs.Texts.{found_line, left_line, length_line, other_line, plain_line, possible_line, steps_line, stuck_line}
-use Rattle.diagram_study.specs.declared.findings.Finding.{Finding}
-use Rattle.diagram_study.specs.declared.findings.Finding.TheVariants.{Proved, Countered, Open, Spent}
+use Rattle.claim_findings.specs.Lines.{found_line, steps_line, stuck_line}
+use Rattle.diagram_study.specs.Texts.{left_line, length_line, other_line, plain_line, possible_line}
+use Rattle.claim_findings.specs.declared.findings.Finding.{Finding}
+use Rattle.claim_findings.specs.declared.findings.Finding.TheVariants.{Proved, Countered, Open, Spent}
 
 -- what a line says: what was found of a claim, or of a claim of several steps; at which retractions a search stays open; which unmoves are
 -- left, and with which of these some game ends; how long games are at least; what was found with the other side to move

@@ -5,11 +5,11 @@ use Rattle.query_base.specs.Asked.{Asked}
 use Rattle.query_base.specs.declared.claims.Claim.TheVariants.{Last}
 use Rattle.unmove_gen.specs.Predecessor.{predecessor}
 use Rattle.line_claims.specs.declared.claims.LineClaim.TheVariants.{Line}
-use Rattle.diagram_study.specs.Findings.{IsFound, is_proved}
-use Rattle.diagram_study.specs.Joined.{IsLineFound}
+use Rattle.claim_findings.specs.Findings.{IsFound, is_proved}
+use Rattle.claim_findings.specs.Joined.{IsLineFound}
 use Rattle.diagram_study.specs.Retractions.{HasLeft}
-use Rattle.diagram_study.specs.Texts.{steps_line}
-use Rattle.diagram_study.specs.declared.findings.Finding.{Finding}
+use Rattle.claim_findings.specs.Lines.{steps_line}
+use Rattle.claim_findings.specs.declared.findings.Finding.{Finding}
 
 -- what was found of the claim that the unmove's move was the last
 pub record LastFound (q : Asked) (most nodes : ℕ) (u : Unmove) (finding : Finding) : Type 0 where

@@ -1,8 +1,4 @@
 pub mod Budgets
-pub mod Findings
-pub mod Games
-pub mod Ends
-pub mod Joined
 pub mod Rights
 pub mod Pairs
 pub mod Retractions

@@ -10,11 +10,11 @@ use Rattle.query_base.specs.declared.claims.Claim.TheVariants.{Illegal}
 use Rattle.line_claims.specs.Due.{with_both}
 use Rattle.line_claims.specs.Holding.{HoldsLine}
 use Rattle.line_claims.specs.declared.claims.LineClaim.TheVariants.{NotBoth}
-use Rattle.diagram_study.specs.Ends.{IsStuck}
-use Rattle.diagram_study.specs.Findings.{IsFound, is_proved}
-use Rattle.diagram_study.specs.Games.{AgreesWith}
-use Rattle.diagram_study.specs.Joined.{IsLineContradicted}
-use Rattle.diagram_study.specs.declared.findings.Finding.TheVariants.{Countered}
+use Rattle.claim_findings.specs.Ends.{IsStuck}
+use Rattle.claim_findings.specs.Findings.{IsFound, is_proved}
+use Rattle.claim_findings.specs.Games.{AgreesWith}
+use Rattle.claim_findings.specs.Joined.{IsLineContradicted}
+use Rattle.claim_findings.specs.declared.findings.Finding.TheVariants.{Countered}
 use Rattle.diagram_study.specs.declared.pairs.PairFound.{PairFound}
 
 -- each two castlings, in the order K, Q, k, q

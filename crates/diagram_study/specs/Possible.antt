@@ -6,7 +6,7 @@ use Rattle.board_base.specs.declared.unmoves.Unmove.{Unmove}
 use Rattle.query_base.specs.Asked.{Asked}
 use Rattle.query_base.specs.Reach.{Reaches}
 use Rattle.unmove_gen.specs.Predecessor.{unmove_after}
-use Rattle.diagram_study.specs.Games.{IsEndIn}
+use Rattle.claim_findings.specs.Games.{IsEndIn}
 use Rattle.diagram_study.specs.Texts.{possible_line}
 
 -- some game that reaches the query ends with the move of this unmove, and that move captured what the unmove says

@@ -10,9 +10,9 @@ use Rattle.query_base.specs.declared.claims.Claim.TheVariants.{Illegal, Last}
 use Rattle.unmove_gen.specs.Predecessor.{predecessor, unmove_after}
 use Rattle.unmove_gen.specs.Listed.{unmoves}
 use Rattle.retro_search.specs.declared.searchers.Outcome.{Outcome}
-use Rattle.diagram_study.specs.Findings.{IsFound, IsOutcome, is_proved, is_refuted}
-use Rattle.diagram_study.specs.Texts.{found_line}
-use Rattle.diagram_study.specs.declared.findings.Finding.{Finding}
+use Rattle.claim_findings.specs.Findings.{IsFound, IsOutcome, is_proved, is_refuted}
+use Rattle.claim_findings.specs.Lines.{found_line}
+use Rattle.claim_findings.specs.declared.findings.Finding.{Finding}
 
 -- Of these unmoves of the query those are left whose predecessor the search doesn't refute, in order.
 abbrev pub AreLeft : Asked → ℕ → ℕ → List Unmove → List Unmove → Type 0

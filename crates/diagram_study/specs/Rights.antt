@@ -7,10 +7,10 @@ use Rattle.query_base.specs.Asked.{Asked}
 use Rattle.codex_verdict.specs.Rights.{AreRights, claim_of}
 use Rattle.codex_verdict.specs.declared.kinds.Right.{Right}
 use Rattle.codex_verdict.specs.declared.kinds.Right.TheVariants.{Castling, EnPassant}
-use Rattle.diagram_study.specs.Ends.{IsStuck}
-use Rattle.diagram_study.specs.Findings.{IsFound, is_proved}
-use Rattle.diagram_study.specs.Games.{AgreesWith}
-use Rattle.diagram_study.specs.declared.findings.Finding.{Finding}
+use Rattle.claim_findings.specs.Ends.{IsStuck}
+use Rattle.claim_findings.specs.Findings.{IsFound, is_proved}
+use Rattle.claim_findings.specs.Games.{AgreesWith}
+use Rattle.claim_findings.specs.declared.findings.Finding.{Finding}
 use Rattle.diagram_study.specs.declared.rights.RightFound.{RightFound}
 
 -- the right is that of a castling which the query demands

@@ -12,17 +12,18 @@ use Rattle.query_base.specs.declared.claims.Claim.TheVariants.{Illegal}
 use Rattle.length_bound.specs.Longest.{IsBest, longer_side, side_length}
 use Rattle.length_bound.specs.declared.texts.LengthText.{LengthText}
 use Rattle.unmove_gen.specs.Listed.{unmoves}
-use Rattle.diagram_study.specs.Ends.{IsStuck}
-use Rattle.diagram_study.specs.Findings.{IsFound, is_proved}
+use Rattle.claim_findings.specs.Ends.{IsStuck}
+use Rattle.claim_findings.specs.Findings.{IsFound, is_proved}
 use Rattle.diagram_study.specs.Rights.{AreFound, open_castlings}
-use Rattle.diagram_study.specs.Games.{AgreesWith}
+use Rattle.claim_findings.specs.Games.{AgreesWith}
 use Rattle.diagram_study.specs.Pairs.{ArePairsFound}
 use Rattle.diagram_study.specs.Retractions.{HasLeft, TellsLast, one_move}
 use Rattle.diagram_study.specs.Forced.{TellsForced}
 use Rattle.diagram_study.specs.Possible.{TellsPossible}
-use Rattle.diagram_study.specs.Texts.{capture_lines, castling_lines, decided_lines, left_line, length_line, other_line, pair_lines, plain_line}
-use Rattle.diagram_study.specs.declared.findings.Finding.{Finding}
-use Rattle.diagram_study.specs.declared.findings.Finding.TheVariants.{Proved, Countered, Open, Spent}
+use Rattle.diagram_study.specs.Texts.{capture_lines, castling_lines, left_line, length_line, other_line, pair_lines, plain_line}
+use Rattle.claim_findings.specs.Lines.{decided_lines}
+use Rattle.claim_findings.specs.declared.findings.Finding.{Finding}
+use Rattle.claim_findings.specs.declared.findings.Finding.TheVariants.{Proved, Countered, Open, Spent}
 use Rattle.diagram_study.specs.declared.pairs.PairFound.{PairFound}
 use Rattle.diagram_study.specs.declared.rights.RightFound.{RightFound}
 

@@ -4,12 +4,9 @@ ghost use Rattle.line_claims.specs.Lines.{has_text};
 ghost use Rattle.diagram_study.specs.Forced.{AreForced, IsForced, IsOpenPlace, TellsForced, TellsSteps};
 ghost use Rattle.diagram_study.specs.Retractions.{HasLeft};
 
-use crate::proving::{seek, seek_line};
 use crate::retractions::retractions;
-use crate::searchers::Searchers;
-use crate::subjects::Subject;
-use crate::texts::push_steps;
 use board_base::{Unmove, UnmoveList};
+use claim_findings::{Searchers, Subject, push_steps, seek, seek_line};
 use line_claims::{LineClaim, StepList};
 use query_base::Claim;
 use std::alloc::AllocError;

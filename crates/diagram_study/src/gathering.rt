@@ -1,18 +1,14 @@
 ghost use Rattle.std.specs.Prelude.{◌≡◌, ◌≢◌, IfOk, false};
 ghost use Rattle.std.specs.List.{All, Contains};
 ghost use Rattle.unmove_gen.specs.Listed.{unmoves};
-ghost use Rattle.diagram_study.specs.Findings.{IsFound, is_proved};
+ghost use Rattle.claim_findings.specs.Findings.{IsFound, is_proved};
 ghost use Rattle.diagram_study.specs.Gathering.{AreGathered, AreSought};
 
-use crate::deciding::{Decided, agreed, counter};
-use crate::findings::Finding;
-use crate::games::Games;
 use crate::pairs::{PairFound, agreed_pairs, seek_pairs};
 use crate::possible::look_for_ends;
 use crate::rights::{RightFound, agreed_rights, open_castlings, seek_rights};
-use crate::searchers::Searchers;
-use crate::subjects::Subject;
 use board_base::UnmoveList;
+use claim_findings::{Decided, Finding, Games, Searchers, Subject, agreed, counter};
 use line_claims::parts_make_lines_hold;
 use query_base::Claim;
 use std::alloc::{AllocError, Global};

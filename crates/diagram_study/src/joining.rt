@@ -3,14 +3,13 @@ ghost use Rattle.std.specs.List.{All, Contains};
 ghost use Rattle.board_base.specs.Legal.{is_move};
 ghost use Rattle.query_base.specs.Reach.{Reaches};
 ghost use Rattle.retro_search.specs.Outcomes.{HasProof};
-ghost use Rattle.diagram_study.specs.Findings.{IsFound, is_proved, is_refuted};
+ghost use Rattle.claim_findings.specs.Findings.{IsFound, is_proved, is_refuted};
 ghost use Rattle.diagram_study.specs.Looks.{AreHeights, AreLooked, claim_but};
 ghost use Rattle.diagram_study.specs.declared.retractions.Looked.{Looked as ALooked};
 
-use crate::findings::Finding;
 use crate::retractions::{Counted, Looked};
-use crate::subjects::Subject;
 use board_base::{Move, is_move};
+use claim_findings::{Finding, Subject};
 use query_base::is_array;
 use retro_search::Outcome;
 

@@ -2,18 +2,17 @@ ghost use Rattle.std.specs.Prelude.{ℕ, ◌≡◌, ◌++◌, IfOk, IsTrue, OnOk
 ghost use Rattle.std.specs.List.{All, filter};
 ghost use Rattle.line_claims.specs.Due.{with_both};
 ghost use Rattle.line_claims.specs.Lines.{in_order};
-ghost use Rattle.diagram_study.specs.Decisions.{Grows, HasStuckPairText, IsPairAgreed, IsPairSought};
+ghost use Rattle.claim_findings.specs.Decisions.{Grows};
+ghost use Rattle.diagram_study.specs.Decisions.{HasStuckPairText, IsPairAgreed, IsPairSought};
 ghost use Rattle.diagram_study.specs.Pairs.{are_both_in, castle_pairs, pair_of};
-ghost use Rattle.diagram_study.specs.Texts.{decided_steps, pair_lines};
+ghost use Rattle.claim_findings.specs.Lines.{decided_steps};
+ghost use Rattle.diagram_study.specs.Texts.{pair_lines};
 
-use crate::deciding::{Decided, agreed, decide};
-use crate::findings::Finding;
-use crate::games::Games;
-use crate::searchers::Searchers;
-use crate::subjects::Subject;
-use crate::texts::push_decided_steps;
 use board_base::Castle::{BlackLong, BlackShort, WhiteLong, WhiteShort};
 use board_base::{Castle, CastleSet, UnmoveList};
+use claim_findings::{
+    Decided, Finding, Games, Searchers, Subject, agreed, decide, push_decided_steps,
+};
 use line_claims::LineClaim;
 use query_base::{Claim, Query};
 use std::alloc::{AllocError, Global};

@@ -2,13 +2,13 @@ ghost use Rattle.std.specs.Prelude.{List, ℕ, ◌≡◌, ◌≤◌, ◌↔◌, 
 ghost use Rattle.std.specs.List.{All, Contains};
 ghost use Rattle.line_claims.specs.Lines.{has_text};
 ghost use Rattle.unmove_gen.specs.Listed.{unmoves};
-ghost use Rattle.diagram_study.specs.Decisions.{Grows};
+ghost use Rattle.claim_findings.specs.Decisions.{Grows};
 ghost use Rattle.diagram_study.specs.Possible.{AreEnds, HasFewLeft, TellsEnds, TellsPossible};
 ghost use Rattle.diagram_study.specs.Retractions.{EndsAmong};
 
-use crate::games::Games;
 use crate::texts::push_possible;
 use board_base::UnmoveList;
+use claim_findings::Games;
 use query_base::{Query, is_array};
 use std::alloc::{AllocError, Global};
 

@@ -8,11 +8,8 @@ ghost use Rattle.diagram_study.specs.Looks.{AreLooked};
 ghost use Rattle.diagram_study.specs.Retractions.{HasLeft, TellsLast, TellsMove, one_move};
 
 use crate::joining::joined_up;
-use crate::proving::{search_at, seek};
-use crate::searchers::{Searchers, is_refuted};
-use crate::subjects::Subject;
-use crate::texts::push_found;
 use board_base::{Move, Unmove, UnmoveList, is_move};
+use claim_findings::{Searchers, Subject, is_refuted, push_found, search_at, seek};
 use query_base::Claim;
 use retro_search::{Limits, Outcome};
 use std::alloc::AllocError;

@@ -2,19 +2,15 @@ ghost use Rattle.std.specs.Prelude.{ℕ, ◌≡◌, ◌++◌, IfOk, IsTrue, OnOk
 ghost use Rattle.std.specs.List.{All};
 ghost use Rattle.cert_text.specs.ClaimLines.{promotes_well};
 ghost use Rattle.codex_verdict.specs.Rights.{claim_of};
-ghost use Rattle.diagram_study.specs.Decisions.{Grows, HasStuckText, IsRightAgreed, IsRightSought};
-ghost use Rattle.diagram_study.specs.Findings.{is_proved};
+ghost use Rattle.claim_findings.specs.Decisions.{Grows};
+ghost use Rattle.diagram_study.specs.Decisions.{HasStuckText, IsRightAgreed, IsRightSought};
+ghost use Rattle.claim_findings.specs.Findings.{is_proved};
 ghost use Rattle.diagram_study.specs.Rights.{AreDue, is_demanded, open_castlings, with_right};
 ghost use Rattle.diagram_study.specs.Texts.{capture_line, capture_lines, castling_line, castling_lines};
 
-use crate::deciding::{Decided, agreed, decide};
-use crate::findings::Finding;
-use crate::games::Games;
-use crate::searchers::Searchers;
-use crate::subjects::Subject;
-use crate::texts::push_decided;
 use arrayvec::ArrayVec;
 use board_base::{CastleSet, UnmoveList};
+use claim_findings::{Decided, Finding, Games, Searchers, Subject, agreed, decide, push_decided};
 use codex_verdict::{Right, claim_of, rights};
 use query_base::{Claim, Query};
 use std::alloc::{AllocError, Global};

@@ -1,11 +1,5 @@
-pub mod Adding
-pub mod Changes
-pub mod Parts
-pub mod Astray
 pub mod Runs
 pub mod Movers
 pub mod Trees
 pub mod Wraps
-pub mod Homeless
-pub mod OneLeast
 pub mod OneText

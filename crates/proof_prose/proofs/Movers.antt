@@ -4,10 +4,10 @@ use Rattle.std.proofs.lemmas.Bool.{cases_Bool, cond-false, cond-true, eqb-false,
 use Rattle.query_base.specs.Asked.{Asked}
 use Rattle.retraction_bars.specs.Told.{NobodyMoved}
 use Rattle.unmove_gen.specs.Listed.{unmoves}
-use Rattle.proof_prose.specs.Reasons.{moves_sentence}
-use Rattle.proof_prose.specs.Sentences.{Says}
-use Rattle.proof_prose.specs.declared.sentences.Sentence.{Sentence}
-use Rattle.proof_prose.specs.declared.sentences.Sentence.TheVariants.{Still, Moved}
+use Rattle.proof_prose.specs.Bodies.{moves_sentence}
+use Rattle.proof_sentences.specs.Sentences.{Says}
+use Rattle.proof_sentences.specs.declared.sentences.Sentence.{Sentence}
+use Rattle.proof_sentences.specs.declared.sentences.Sentence.TheVariants.{Still, Moved}
 use Rattle.proof_prose.proofs.Runs.{none-left}
 
 -- there are so many retractions, and of none what is told is so

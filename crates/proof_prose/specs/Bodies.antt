@@ -1,9 +1,25 @@
 -- What is said of nodes.
-use Rattle.std.specs.Prelude.{ℕ, ◌≡◌, List, [], map}
+use Rattle.std.specs.Prelude.{ℕ, ◌≡◌, ◌==◌, Bool, cond, List, [], ◌∷◌, Option, is_none, map}
 use Rattle.std.specs.List.{All}
-use Rattle.proof_prose.specs.Reasons.{AddsLine}
+use Rattle.board_base.specs.declared.unmoves.Unmove.{Unmove}
+use Rattle.query_base.specs.Asked.{Asked}
+use Rattle.proof_sentences.specs.Reasons.{Adds, AddsReason}
+use Rattle.proof_sentences.specs.declared.sentences.Sentence.{Sentence}
+use Rattle.proof_sentences.specs.declared.sentences.Sentence.TheVariants as sentence
 use Rattle.proof_prose.specs.declared.bodies.Spoken.{Spoken}
+use Rattle.proof_prose.specs.declared.nodes.Line.{Line}
+use Rattle.proof_prose.specs.declared.nodes.Line.TheVariants.{Because, Back, Moves}
 use Rattle.proof_prose.specs.declared.nodes.Told.{Told}
+
+-- whether there are retractions; of the first node other words are used
+abbrev pub moves_sentence : ℕ → Bool → Sentence
+moves_sentence n first = cond (n == 0) (sentence.Still first) (sentence.Moved first)
+
+-- the own line of a node is told: its reason; that the position stands later again; or whether there are retractions
+abbrev pub AddsLine : Option Unmove → Line → Asked → List ℕ → List ℕ → Type 0
+AddsLine label (Because r) q old new = AddsReason (is_none label) q r old new
+AddsLine label (Back k above) q old new = Adds q (sentence.Back k above ∷ []) old new
+AddsLine label (Moves n) q old new = Adds q (moves_sentence n (is_none label) ∷ []) old new
 
 -- what is said of a node: sentences that tell its own line, each of which holds of its query
 abbrev pub IsBody : Told → List ℕ → Type 0

@@ -4,7 +4,7 @@ use Rattle.std.specs.List.{flat_map, range_with_len}
 use Rattle.std.specs.Fmt.{decimal}
 use Rattle.board_base.specs.Board.{Places, at, is_in}
 use Rattle.board_base.specs.declared.castles.Castle.TheVariants.{WhiteShort, WhiteLong, BlackShort, BlackLong}
-use Rattle.board_base.specs.Play.{double_of, king_home, rook_home, side}
+use Rattle.board_base.specs.Play.{double_of, side}
 use Rattle.board_base.specs.Rights.{holds}
 use Rattle.board_base.specs.Texts.{square_text}
 use Rattle.board_base.specs.declared.men.Colour.{Colour}
@@ -19,6 +19,7 @@ use Rattle.query_base.specs.Asked.{Asked}
 use Rattle.query_base.specs.declared.claims.Claim.{Claim}
 use Rattle.query_base.specs.declared.claims.Claim.TheVariants.{Illegal, Last, Lost, Ep}
 use Rattle.proof_prose.specs.Rows.{rows_of}
+use Rattle.proof_sentences.specs.Phrases.{unmoved_words}
 use Rattle.prose_words.specs.Words.{initial, kind_word, place_initial, place_letter, side_word, squares_words, wing_word}
 
 -- a place of the diagram after a space
@@ -79,15 +80,6 @@ last_words m = codes "The last move was " ++ square_text m.from ++ codes "-" ++ 
 abbrev pub only_given : Option Move → List ℕ
 only_given None = []
 only_given (Some m) = last_words m
-
--- that the king and the rook of these squares are what they were
-unfoldable pub stayed_words : ℕ → ℕ → List ℕ
-stayed_words king rook =
-    codes "the king of " ++ square_text king ++ codes " and the rook of " ++ square_text rook ++ codes " never moved, and the rook was never taken"
-
--- that the king and the rook of a castling are what they were
-abbrev pub unmoved_words : Castle → List ℕ
-unmoved_words x = stayed_words (king_home x) (rook_home x)
 
 -- that a right to castle is given
 abbrev pub right_words : Castle → List ℕ

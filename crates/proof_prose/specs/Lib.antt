@@ -1,10 +1,6 @@
 pub mod Heads
 pub mod Labels
 pub mod Nodes
-pub mod Sentences
-pub mod Firsts
-pub mod Lessened
-pub mod Reasons
 pub mod Rows
 pub mod Bodies
 pub mod Paragraphs

@@ -2,15 +2,14 @@
 
 ghost use Rattle.std.specs.Prelude.{◌≡◌, ◌∷◌, [], IfOk, is_none, length};
 ghost use Rattle.std.specs.List.{All};
-ghost use Rattle.proof_prose.specs.Bodies.{AreSpoken, IsBody};
-ghost use Rattle.proof_prose.specs.Reasons.{Adds, AddsLine, moves_sentence};
+ghost use Rattle.proof_prose.specs.Bodies.{AddsLine, AreSpoken, IsBody, moves_sentence};
+ghost use Rattle.proof_sentences.specs.Reasons.{Adds};
 ghost use Rattle.unmove_gen.specs.Listed.{unmoves};
 ghost use Rattle.proof_prose.specs.Standing.{Stands};
 
 use crate::letters::{Letters, kept};
 use crate::nodes::{Line, Told};
-use crate::reasons::{push_one, push_reason};
-use crate::sentences::Sentence;
+use proof_sentences::{Sentence, push_one, push_reason};
 use query_base::Query;
 use retraction_bars::{bars_hold, pairs_hold, ways_are_told};
 use std::alloc::{AllocError, Global};

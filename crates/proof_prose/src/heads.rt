@@ -1,19 +1,19 @@
 //! The diagram, the claim and what is supposed.
 
 ghost use Rattle.std.specs.Prelude.{◌≡◌, ◌++◌, ◌<◌, ◌||◌, IfOk, codes, cond, not};
-ghost use Rattle.proof_prose.specs.Heads.{became, claim_words, clock_given, clock_words, closing_text, diagram_text, given_words, givens_text, going_words, has_givens, has_rights, kept_words, last_words, left_out, legal_words, lost_words, lower_text, move_words, mover_initial, not_words, odds_given, odds_line, odds_words, only_given, opening_text, other_words, place_text, promotion_words, rank_line, rank_text, reached_words, right_given, right_words, stayed_words, supposed_words, unmoved_words, upper_text};
-ghost use Rattle.board_base.specs.Board.{at, is_in};
+ghost use Rattle.proof_prose.specs.Heads.{became, claim_words, clock_given, clock_words, closing_text, diagram_text, given_words, givens_text, going_words, has_givens, has_rights, kept_words, last_words, left_out, legal_words, lost_words, lower_text, move_words, mover_initial, not_words, odds_given, odds_line, odds_words, only_given, opening_text, other_words, place_text, promotion_words, rank_line, rank_text, reached_words, right_given, right_words, supposed_words, upper_text};
+ghost use Rattle.proof_sentences.specs.Phrases.{unmoved_words};
+ghost use Rattle.board_base.specs.Board.{at};
 ghost use Rattle.fen_text.specs.OddsLines.{is_no_odds};
 ghost use Rattle.prose_words.specs.Words.{kind_word, squares_words};
 
-use crate::telling::push_either;
 use crate::wrapping::push_wrapped;
-use board_base::{Board, Castle, Colour, Kind, Man, Move, Odds, Square, SquareSet};
-use castle_history::home;
+use board_base::{Board, Castle, Colour, Kind, Man, Move, Odds, Square};
 use ep_history::{double_of, ep_fits};
+use proof_sentences::{push_either, push_unmoved, set_squares};
 use prose_words::{
-    initial, kind_word, place_initial, place_letter, push_number, push_square, push_squares, say,
-    side_word, wing_word,
+    initial, kind_word, place_initial, place_letter, push_number, push_square, say, side_word,
+    wing_word,
 };
 use query_base::{Claim, Query};
 use std::alloc::{AllocError, Global};
@@ -81,36 +81,6 @@ fn push_diagram(board: &Board, turn: Colour, out: &mut Vec<u8>) -> Result<(), Al
     push_upper(board, out)?;
     push_lower(board, turn, out)?;
     Ok(())
-}
-
-/// That the king and the rook of these squares are what they were.
-#[tactic(auto, unfolding(crate::specs::Heads::stayed_words))]
-fn push_stayed(king: Square, rook: Square, out: &mut Vec<u8>) -> Result<(), AllocError>
-    ensures { IfOk result (λ _. out.new.items ≡ out.old.items ++ stayed_words king rook) }
-{
-    say(b"the king of ", out)?;
-    push_square(king, out)?;
-    say(b" and the rook of ", out)?;
-    push_square(rook, out)?;
-    say(b" never moved, and the rook was never taken", out)?;
-    Ok(())
-}
-
-/// That the king and the rook of a castling are what they were.
-pub(crate) fn push_unmoved(castle: Castle, out: &mut Vec<u8>) -> Result<(), AllocError>
-    ensures { IfOk result (λ _. out.new.items ≡ out.old.items ++ unmoved_words castle) }
-{
-    let (king, rook) = home(castle);
-    push_stayed(king, rook, out)
-}
-
-/// The squares of the set, each after a space.
-pub(crate) fn set_squares(alloc: Global, set: SquareSet) -> Result<Vec<u8>, AllocError>
-    ensures { IfOk result (λ v. v.items ≡ squares_words (is_in set)) }
-{
-    let mut list = Vec::new(alloc);
-    push_squares(set, &mut list)?;
-    Ok(list)
 }
 
 /// That the men of these squares were left out, or the man of one.

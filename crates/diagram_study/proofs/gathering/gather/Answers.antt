@@ -5,7 +5,7 @@ use Rattle.query_base.specs.declared.claims.Claim.TheVariants.{Illegal}
 use Rattle.diagram_study.specs.Pairs.{are_both_in, castle_pairs}
 use Rattle.diagram_study.specs.Rights.{open_castlings}
 use Rattle.diagram_study.specs.declared.rights.RightFound.{RightFound}
-use Rattle.diagram_study.proofs.Agreeing.{decided_grown, grown_on}
+use Rattle.claim_findings.proofs.Agreeing.{decided_grown, grown_on}
 use Rattle.diagram_study.proofs.Seeking.{pairs_grown, sought_grown}
 use Rattle.diagram_study.proofs.gathering.gather.Goals as goal
 

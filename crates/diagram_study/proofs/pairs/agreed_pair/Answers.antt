@@ -1,4 +1,4 @@
-use Rattle.diagram_study.proofs.Agreeing.{pair_by}
+use Rattle.diagram_study.proofs.Seeking.{pair_by}
 use Rattle.diagram_study.proofs.pairs.agreed_pair.Goals as goal
 
 pub returns-clause-found : goal.returns-clause-found

@@ -1,4 +1,4 @@
-use Rattle.diagram_study.proofs.Agreeing.{grown_on}
+use Rattle.claim_findings.proofs.Agreeing.{grown_on}
 use Rattle.diagram_study.proofs.Seeking.{pair_more, two_more}
 use Rattle.diagram_study.proofs.pairs.seek_pairs.Goals as goal
 

@@ -1,6 +1,7 @@
 use Rattle.std.proofs.Common.{◌≡◌, map, take}
 use Rattle.std.specs.List.{All}
-use Rattle.diagram_study.specs.Decisions.{Grows, IsPairSought}
+use Rattle.claim_findings.specs.Decisions.{Grows}
+use Rattle.diagram_study.specs.Decisions.{IsPairSought}
 use Rattle.diagram_study.specs.Pairs.{pair_of}
 use Rattle.diagram_study.proofs.pairs.seek_pairs.Given as goal
 

@@ -2,9 +2,10 @@ use Rattle.std.proofs.Common.{List, ◌++◌, ap, ◌∙◌, arith}
 use Rattle.std.specs.List.{flat_map}
 use Rattle.std.proofs.lemmas.List.{take_all}
 use Rattle.line_claims.specs.declared.claims.LineClaim.TheVariants.{NotBoth}
-use Rattle.diagram_study.specs.Texts.{decided_steps, pair_lines}
+use Rattle.claim_findings.specs.Lines.{decided_steps}
+use Rattle.diagram_study.specs.Texts.{pair_lines}
 use Rattle.diagram_study.specs.declared.pairs.PairFound.{PairFound}
-use Rattle.diagram_study.proofs.Steps.{piece_more}
+use Rattle.claim_findings.proofs.Steps.{piece_more}
 use Rattle.diagram_study.proofs.pairs.tell_pairs.Goals as goal
 
 pub loop-f-preserved : goal.loop-f-preserved

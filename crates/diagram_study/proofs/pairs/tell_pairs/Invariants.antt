@@ -1,7 +1,7 @@
 use Rattle.std.proofs.Common.{◌≡◌, ◌++◌, take}
 use Rattle.std.specs.List.{flat_map}
 use Rattle.line_claims.specs.declared.claims.LineClaim.TheVariants.{NotBoth}
-use Rattle.diagram_study.specs.Texts.{decided_steps}
+use Rattle.claim_findings.specs.Lines.{decided_steps}
 use Rattle.diagram_study.proofs.pairs.tell_pairs.Given as goal
 
 abbrev pub invariant-loop-f : goal.invariant-loop-f

@@ -1,7 +1,7 @@
 use Rattle.std.proofs.Common.{refl, sym, ◌∙◌}
 use Rattle.std.specs.List.{Contains}
 use Rattle.unmove_gen.specs.Listed.{unmoves}
-use Rattle.diagram_study.proofs.Agreeing.{grown_none, grown_on}
+use Rattle.claim_findings.proofs.Agreeing.{grown_none, grown_on}
 use Rattle.diagram_study.proofs.LastMoves.{holds_at}
 use Rattle.diagram_study.proofs.possible.look_for_each.Goals as goal
 

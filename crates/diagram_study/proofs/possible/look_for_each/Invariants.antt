@@ -1,4 +1,4 @@
-use Rattle.diagram_study.specs.Decisions.{Grows}
+use Rattle.claim_findings.specs.Decisions.{Grows}
 use Rattle.diagram_study.proofs.possible.look_for_each.Given as goal
 
 abbrev pub invariant-loop-i : goal.invariant-loop-i

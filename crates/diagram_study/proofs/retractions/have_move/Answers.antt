@@ -1,6 +1,6 @@
 use Rattle.std.proofs.Common.{sym, ◌∙◌, arith}
 use Rattle.diagram_study.proofs.OneMove.{all_pass, has_move, passes_more, some_fails}
-use Rattle.diagram_study.proofs.Steps.{some_within}
+use Rattle.claim_findings.proofs.Steps.{some_within}
 use Rattle.diagram_study.proofs.retractions.have_move.Goals as goal
 
 pub unwrap-u-requires : goal.unwrap-u-requires

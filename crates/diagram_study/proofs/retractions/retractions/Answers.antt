@@ -1,7 +1,8 @@
 use Rattle.std.proofs.Common.{◌-◌, sym, ◌∙◌}
 use Rattle.std.proofs.lemmas.Bool.{both_ways}
-use Rattle.diagram_study.specs.Findings.{is_refuted}
-use Rattle.diagram_study.proofs.Leaving.{all_left, ends_among, found_before, left_dropped, left_first, left_kept, next_listed, with_text}
+use Rattle.claim_findings.specs.Findings.{is_refuted}
+use Rattle.diagram_study.proofs.Leaving.{all_left, ends_among, found_before, left_dropped, left_first, left_kept, next_listed}
+use Rattle.claim_findings.proofs.OpenFronts.{with_text}
 use Rattle.diagram_study.proofs.Looking.{kept_now, looked_all, looked_more, looked_none, widened}
 use Rattle.diagram_study.proofs.retractions.retractions.Goals as goal
 

@@ -1,7 +1,7 @@
 use Rattle.std.proofs.Common.{[], sym, ◌∙◌, append-nil}
 use Rattle.std.proofs.lemmas.Bool.{cond-false, cond-true}
 use Rattle.query_base.specs.declared.claims.Claim.TheVariants.{Last}
-use Rattle.diagram_study.specs.Texts.{found_line}
+use Rattle.claim_findings.specs.Lines.{found_line}
 use Rattle.diagram_study.proofs.Telling.{ok_then}
 use Rattle.diagram_study.proofs.retractions.tell_move.Goals as goal
 

@@ -1,4 +1,4 @@
-use Rattle.diagram_study.proofs.Agreeing.{right_by}
+use Rattle.diagram_study.proofs.Seeking.{right_by}
 use Rattle.diagram_study.proofs.rights.agreed_right.Goals as goal
 
 pub returns-clause-found : goal.returns-clause-found

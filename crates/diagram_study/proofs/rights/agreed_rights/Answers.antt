@@ -1,6 +1,6 @@
 use Rattle.std.proofs.Common.{◌≡◌, ◌∷◌, [], length, ap, sym, ◌∙◌, arith}
 use Rattle.std.specs.Vec.Iter.{into_iter_items}
-use Rattle.diagram_study.specs.Findings.{is_proved}
+use Rattle.claim_findings.specs.Findings.{is_proved}
 use Rattle.diagram_study.specs.Decisions.{IsRightAgreed, IsRightSought}
 use Rattle.diagram_study.specs.declared.rights.RightFound.{RightFound}
 use Rattle.diagram_study.proofs.Seeking.{each_told, nothing_left, told_all, told_more}

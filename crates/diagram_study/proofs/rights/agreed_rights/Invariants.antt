@@ -2,7 +2,7 @@ use Rattle.std.proofs.Common.{◌≡◌, ◌++◌, ℕ, length, map}
 use Rattle.std.specs.List.{All}
 use Rattle.std.specs.Vec.Iter.{into_iter_items, into_iter_len}
 use Rattle.diagram_study.specs.Decisions.{IsRightAgreed, IsRightSought}
-use Rattle.diagram_study.specs.Findings.{is_proved}
+use Rattle.claim_findings.specs.Findings.{is_proved}
 use Rattle.diagram_study.proofs.rights.agreed_rights.Given as goal
 
 abbrev pub invariant-loop-each : goal.invariant-loop-each

@@ -4,7 +4,7 @@ use Rattle.std.proofs.lemmas.List.{take_all}
 use Rattle.board_base.specs.Rights.{no_rights}
 use Rattle.diagram_study.specs.Rights.{open_castlings, with_right}
 use Rattle.diagram_study.specs.declared.rights.RightFound.{RightFound}
-use Rattle.diagram_study.proofs.Steps.{holds-none}
+use Rattle.diagram_study.proofs.Castlings.{holds-none}
 use Rattle.diagram_study.proofs.rights.open_castlings.Goals as goal
 
 pub loop-f-init : goal.loop-f-init

@@ -1,5 +1,5 @@
 use Rattle.std.proofs.Common.{arith}
-use Rattle.diagram_study.proofs.Agreeing.{grown_on}
+use Rattle.claim_findings.proofs.Agreeing.{grown_on}
 use Rattle.diagram_study.proofs.Seeking.{rights_more, sought_more}
 use Rattle.diagram_study.specs.declared.rights.RightFound.{RightFound}
 use Rattle.diagram_study.proofs.rights.seek_rights.Goals as goal

@@ -1,6 +1,7 @@
 use Rattle.std.proofs.Common.{◌≡◌, map, take}
 use Rattle.std.specs.List.{All}
-use Rattle.diagram_study.specs.Decisions.{Grows, IsRightSought}
+use Rattle.claim_findings.specs.Decisions.{Grows}
+use Rattle.diagram_study.specs.Decisions.{IsRightSought}
 use Rattle.diagram_study.proofs.rights.seek_rights.Given as goal
 
 abbrev pub invariant-loop-right : goal.invariant-loop-right

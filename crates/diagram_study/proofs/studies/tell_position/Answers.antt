@@ -2,7 +2,7 @@ use Rattle.std.specs.Prelude.{IsTrue, None}
 use Rattle.std.proofs.Common.{sym, ◌∙◌}
 use Rattle.board_base.specs.Legal.{is_move}
 use Rattle.board_base.specs.declared.unmoves.Unmove.{Unmove}
-use Rattle.diagram_study.specs.Findings.{is_proved}
+use Rattle.claim_findings.specs.Findings.{is_proved}
 use Rattle.diagram_study.proofs.JoinedTrees.{all_none, array_then}
 use Rattle.diagram_study.proofs.studies.tell_position.Goals as goal
 

@@ -2,7 +2,7 @@ use Rattle.std.proofs.Common.{ap, ◌∙◌, None}
 use Rattle.board_base.specs.Rights.{Rights}
 use Rattle.query_base.specs.Asked.{Asked}
 use Rattle.diagram_study.specs.Studies.{without_demands}
-use Rattle.diagram_study.proofs.Steps.{holds-none}
+use Rattle.diagram_study.proofs.Castlings.{holds-none}
 use Rattle.diagram_study.proofs.studies.without_demands.Goals as goal
 
 pub returns : goal.returns

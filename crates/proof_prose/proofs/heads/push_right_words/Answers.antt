@@ -1,7 +1,7 @@
 use Rattle.std.proofs.Common.{◌++◌, ◌∷◌, []}
 use Rattle.std.specs.Prelude.{codes}
 use Rattle.prose_words.proofs.Squares.{thence}
-use Rattle.proof_prose.specs.Heads.{unmoved_words}
+use Rattle.proof_sentences.specs.Phrases.{unmoved_words}
 use Rattle.proof_prose.proofs.heads.push_right_words.Goals as goal
 
 pub returns : goal.returns

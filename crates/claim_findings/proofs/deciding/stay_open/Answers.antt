@@ -1,0 +1,10 @@
+use Rattle.claim_findings.proofs.Staying.{stays_listed, stays_told}
+use Rattle.claim_findings.proofs.deciding.stay_open.Goals as goal
+
+pub front_of-requires : goal.front_of-requires
+front_of-requires c =
+    stays_listed c.target.result c.args.subject.now.query c.args.claim.now c.args.subject.now.limits.depth c.in-Line.line c.target.ensures.query (rw c.in-Line.is at c.in_ok-line.ensures)
+
+pub returns-in_ok-front-in-Line-clause-decided : goal.returns-in_ok-front-in-Line-clause-decided
+returns-in_ok-front-in-Line-clause-decided c =
+    stays_told _ c.unmoves_have_texts.ensures.promotion c.unmoves_have_texts.ensures.capture c.target.result c.args.subject.now.query c.args.claim.now c.args.subject.now.limits.depth c.args.subject.now.limits.nodes c.in-Line.line c.in_ok-front-in-Line.front c.target.ensures.query c.requires.open (rw c.in-Line.is at c.in_ok-line.ensures) c.in_ok-front-in-Line.ensures

@@ -1,0 +1,7 @@
+pub mod Findings
+pub mod Games
+pub mod Ends
+pub mod Joined
+pub mod Decisions
+pub mod Lines
+pub mod SearchEnds

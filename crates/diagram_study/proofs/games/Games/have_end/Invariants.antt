@@ -1,7 +1,0 @@
-use Rattle.std.proofs.Common.{take}
-use Rattle.std.specs.List.{All}
-use Rattle.diagram_study.specs.Decisions.{IsEndedBy}
-use Rattle.diagram_study.proofs.games.Games.have_end.Given as goal
-
-abbrev pub invariant-loop-game : goal.invariant-loop-game
-invariant-loop-game l = All (λ g. IsEndedBy g l.u.mv l.before → ⊥) (take l.game-index l.found)

@@ -1,6 +1,0 @@
-use Rattle.std.proofs.Common.{◌≡◌, ℕ, ◌<◌, false}
-use Rattle.proof_prose.specs.Firsts.{is_changed}
-use Rattle.proof_prose.proofs.reasons.changed_square.Given as goal
-
-abbrev pub invariant-loop-i : goal.invariant-loop-i
-invariant-loop-i l = (s : ℕ) → s < l.i → is_changed l.query.odds l.query.board l.set s ≡ false

@@ -1,5 +1,0 @@
-use Rattle.proof_prose.proofs.Adding.{adds-one}
-use Rattle.proof_prose.proofs.reasons.push_one.Goals as goal
-
-pub returns : goal.returns
-returns c = adds-one c.args.query.now c.args.sentence.now c.args.out.now.items _ c.requires c.in_ok-push_sentence.ensures

@@ -1,0 +1,7 @@
+pub mod Adding
+pub mod Changes
+pub mod Parts
+pub mod Astray
+pub mod Homeless
+pub mod OneLeast
+pub mod OneReason

@@ -1,0 +1,12 @@
+use Rattle.std.proofs.Common.{◌++◌}
+use Rattle.std.specs.Prelude.{codes}
+use Rattle.prose_words.proofs.Squares.{thence}
+use Rattle.proof_sentences.specs.Sentences.{counted}
+use Rattle.proof_sentences.proofs.telling.push_back.Goals as goal
+
+pub returns : goal.returns
+returns c =
+    let h0 = c.in_ok-say.ensures in
+    let h1 = thence c.args.out.now.items _ _ (codes "This is the position of ") (counted c.args.steps (codes " half-move") (codes " half-moves")) h0 (c.in_ok-push_counted.ensures) in
+    let h2 = thence c.args.out.now.items _ _ ((codes "This is the position of ") ++ (counted c.args.steps (codes " half-move") (codes " half-moves"))) (codes " later again, with no fewer demands; a shortest game doesn't repeat it.") h1 (c.in_ok-say-2.ensures) in
+    h2

@@ -1,0 +1,5 @@
+pub mod Phrases
+pub mod Sentences
+pub mod Firsts
+pub mod Lessened
+pub mod Reasons

@@ -1,0 +1,265 @@
+//! The sentences of a reason that supports a query.
+
+ghost use Rattle.std.specs.Prelude.{◌≡◌, ◌-◌, ◌≤◌, ◌∷◌, [], length, true, IfOk, IfSome, IsSome, IsTrue, List};
+ghost use Rattle.board_base.specs.Board.{array_of};
+ghost use Rattle.cert_checker.specs.Reasons.{ReasonSupports};
+ghost use Rattle.men_account.specs.Account.{is_any};
+ghost use Rattle.men_account.specs.Homes.{men_of};
+ghost use Rattle.pawn_assign.specs.PawnCosts.{pawn_squares};
+ghost use Rattle.static_rules.specs.SetRules.{CapsSupports, FrozenSupports, PromoSupports};
+ghost use Rattle.static_rules.specs.Supports.{Supports};
+ghost use Rattle.proof_sentences.specs.Firsts.{IsFirst, is_changed};
+ghost use Rattle.proof_sentences.specs.Reasons.{Adds, AddsReason, IsWayOf, TellsReason, TellsRule};
+ghost use Rattle.proof_sentences.specs.Sentences.{NeverMoved, Says};
+
+use crate::balancing::push_balance;
+use crate::lessening::lessened;
+use crate::rights::astray_right;
+use crate::sentences::Sentence;
+use crate::squares::{king_in_check, pawn_on_end};
+use crate::telling::push_sentence;
+use crate::ways::cheapest_way;
+use board_base::{Colour, Potentials, Square, SquareSet, array_of, is_same_place};
+use cert_text::Reason;
+use men_account::{allowance, counts, excess, men_of};
+use pawn_assign::{costs, least};
+use query_base::{Query, RuleLine};
+use std::alloc::{AllocError, Global};
+
+/// Whether the square is one of the set, and doesn't hold what it held in the beginning.
+fn is_changed(query: &Query, set: SquareSet, s: Square) -> bool
+    ensures { result ≡ is_changed query.now.odds query.now.board set s }
+{
+    set.has(s) && !is_same_place(query.board.at(s), array_of(query.odds).at(s))
+}
+
+/// The first square of the set that doesn't hold what it held in the beginning.
+fn changed_square(query: &Query, set: SquareSet) -> Option<Square>
+    requires { FrozenSupports query.now.odds query.now set }
+    ensures some { IsSome result }
+    ensures first { IfSome result (IsFirst (is_changed query.now.odds query.now.board set)) }
+{
+    for i in 0..64 {
+        let s = Square::known(i);
+        if is_changed(query, set, s) {
+            return Some(s);
+        }
+    }
+    None
+}
+
+/// With how few captures the side's pawns, at most eight, came to where they stand, by the first of the cheapest ways.
+fn way_of(query: &Query, side: Colour) -> Option<Sentence>
+    ensures says { IfSome result (λ s. Says s query.now) }
+    ensures shape { IfSome result (IsWayOf query.now side) }
+    ensures some { length (pawn_squares side query.now.board) ≤ 8 → IsSome result }
+{
+    match costs(&query.board, side, query.odds) {
+        Some(costs) => {
+            let least = least(&costs);
+            let files = cheapest_way(&costs, &least);
+            Some(Sentence::Way(side, least.cost, files))
+        }
+        None => None,
+    }
+}
+
+/// How many men the side lacks.
+fn missing_of(query: &Query, side: Colour) -> u8
+    ensures { result ≡ men_of side is_any (array_of query.now.odds) - men_of side is_any query.now.board }
+{
+    men_of(&array_of(query.odds), side).saturating_sub(men_of(&query.board, side))
+}
+
+/// Who shut each other in, and which of them can't have begun there.
+fn push_frozen(
+    alloc: Global,
+    query: &Query,
+    set: SquareSet,
+    out: &mut Vec<u8>,
+) -> Result<(), AllocError>
+    requires { FrozenSupports query.now.odds query.now set }
+    ensures { IfOk result (λ _. TellsRule true query.now (RuleLine.Frozen set) out.old.items out.new.items) }
+{
+    let odd = changed_square(query, set).unwrap();
+    push_sentence(alloc, query, &Sentence::Caged(set), out)?;
+    push_sentence(alloc, query, &Sentence::Changed(set, odd), out)?;
+    Ok(())
+}
+
+/// Who never moved, whose officers were captured meanwhile, and how many men were promoted.
+fn push_promo(
+    alloc: Global,
+    query: &Query,
+    first: bool,
+    side: Colour,
+    set: SquareSet,
+    out: &mut Vec<u8>,
+) -> Result<(), AllocError>
+    requires { PromoSupports query.now.odds query.now side set }
+    ensures { IfOk result (λ _. TellsRule first query.now (RuleLine.Promo side set) out.old.items out.new.items) }
+{
+    let pawns = counts(&query.board, side).pawns;
+    let began = allowance(side, query.odds).pawns;
+    push_sentence(alloc, query, &Sentence::Settled(set), out)?;
+    push_sentence(alloc, query, &Sentence::Gone(side, set), out)?;
+    push_sentence(
+        alloc,
+        query,
+        &Sentence::Promoted(side, set, pawns, began, first),
+        out,
+    )?;
+    Ok(())
+}
+
+/// Who never moved, how many captures the side's pawns made, and how many men the other side lacks.
+fn push_caps(
+    alloc: Global,
+    query: &Query,
+    first: bool,
+    side: Colour,
+    set: SquareSet,
+    p: &Potentials,
+    out: &mut Vec<u8>,
+) -> Result<(), AllocError>
+    requires { CapsSupports query.now.odds query.now side set p.now.u p.now.v }
+    ensures { IfOk result (λ _. TellsRule first query.now (RuleLine.Caps side set p.now) out.old.items out.new.items) }
+{
+    let way = way_of(query, side).unwrap();
+    let other = side.other();
+    let missing = missing_of(query, other);
+    push_sentence(alloc, query, &Sentence::Settled(set), out)?;
+    push_sentence(alloc, query, &way, out)?;
+    push_sentence(
+        alloc,
+        query,
+        &Sentence::Lacks(other, set, missing, first),
+        out,
+    )?;
+    Ok(())
+}
+
+/// Adds the words of a sentence that holds of the query.
+pub fn push_one(
+    alloc: Global,
+    query: &Query,
+    sentence: &Sentence,
+    out: &mut Vec<u8>,
+) -> Result<(), AllocError>
+    requires { Says sentence.now query.now }
+    ensures { IfOk result (λ _. Adds query.now (sentence.now ∷ []) out.old.items out.new.items) }
+{
+    push_sentence(alloc, query, sentence, out)?;
+    Ok(())
+}
+
+/// How many pawns and promoted men the side has, and with how many pawns it began.
+fn push_side(
+    alloc: Global,
+    query: &Query,
+    first: bool,
+    side: Colour,
+    out: &mut Vec<u8>,
+) -> Result<(), AllocError>
+    requires { Supports query.now (RuleLine.Count side) }
+    ensures { IfOk result (λ _. TellsRule first query.now (RuleLine.Count side) out.old.items out.new.items) }
+{
+    let men = counts(&query.board, side);
+    let allowed = allowance(side, query.odds);
+    let together = excess(&men, &allowed);
+    push_sentence(
+        alloc,
+        query,
+        &Sentence::Count(side, men.pawns, together, allowed.pawns, first),
+        out,
+    )?;
+    Ok(())
+}
+
+/// Where a pawn stands that can't stand there.
+fn push_ranks(alloc: Global, query: &Query, out: &mut Vec<u8>) -> Result<(), AllocError>
+    requires { Supports query.now RuleLine.Ranks }
+    ensures { IfOk result (λ _. TellsRule true query.now RuleLine.Ranks out.old.items out.new.items) }
+{
+    let s = pawn_on_end(&query.board).unwrap();
+    push_sentence(alloc, query, &Sentence::Ranks(s), out)?;
+    Ok(())
+}
+
+/// Which king stands in check.
+fn push_attacked(alloc: Global, query: &Query, out: &mut Vec<u8>) -> Result<(), AllocError>
+    requires { Supports query.now RuleLine.Check }
+    ensures { IfOk result (λ _. TellsRule true query.now RuleLine.Check out.old.items out.new.items) }
+{
+    let side = query.turn.other();
+    let s = king_in_check(&query.board, side).unwrap();
+    push_sentence(alloc, query, &Sentence::Check(side, s), out)?;
+    Ok(())
+}
+
+/// Which right to castle can't have been kept.
+fn push_rights(alloc: Global, query: &Query, out: &mut Vec<u8>) -> Result<(), AllocError>
+    requires { Supports query.now RuleLine.Rights }
+    ensures { IfOk result (λ _. TellsRule true query.now RuleLine.Rights out.old.items out.new.items) }
+{
+    let castle = astray_right(query).unwrap();
+    push_sentence(alloc, query, &Sentence::Rights(castle), out)?;
+    Ok(())
+}
+
+/// Why the rule line supports the query.
+fn push_rule(
+    alloc: Global,
+    query: &Query,
+    first: bool,
+    rule: &RuleLine,
+    out: &mut Vec<u8>,
+) -> Result<(), AllocError>
+    requires { Supports query.now rule.now }
+    ensures { IfOk result (λ _. TellsRule first query.now rule.now out.old.items out.new.items) }
+{
+    match rule {
+        RuleLine::Kings => push_one(alloc, query, &Sentence::Kings, out),
+        RuleLine::Ranks => push_ranks(alloc, query, out),
+        RuleLine::Check => push_attacked(alloc, query, out),
+        RuleLine::Rights => push_rights(alloc, query, out),
+        RuleLine::Count(side) => push_side(alloc, query, first, *side, out),
+        RuleLine::Frozen(set) => push_frozen(alloc, query, *set, out),
+        RuleLine::Promo(side, set) => push_promo(alloc, query, first, *side, *set, out),
+        RuleLine::Caps(side, set, p) => push_caps(alloc, query, first, *side, *set, p, out),
+    }
+}
+
+/// The same of any reason.
+fn push_supported(
+    alloc: Global,
+    query: &Query,
+    first: bool,
+    reason: &Reason,
+    out: &mut Vec<u8>,
+) -> Result<(), AllocError>
+    requires { ReasonSupports query.now reason.now }
+    ensures { IfOk result (λ _. TellsReason first query.now reason.now out.old.items out.new.items) }
+{
+    match reason {
+        Reason::Line(rule) => push_rule(alloc, query, first, rule, out),
+        Reason::Balance(set, prices) => push_balance(alloc, query, first, *set, prices, out),
+    }
+}
+
+/// Adds the sentences that say why the reason supports the query, with the least set that it needs. Whether the query is the first that is
+/// told decides some of their words.
+pub fn push_reason(
+    alloc: Global,
+    query: &Query,
+    first: bool,
+    reason: &Reason,
+    out: &mut Vec<u8>,
+) -> Result<(), AllocError>
+    requires { ReasonSupports query.now reason.now }
+    ensures { IfOk result (λ _. AddsReason first query.now reason.now out.old.items out.new.items) }
+{
+    let least = lessened(query, reason);
+    push_supported(alloc, query, first, &least, out)?;
+    Ok(())
+}
