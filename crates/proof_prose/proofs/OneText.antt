@@ -14,11 +14,12 @@ use Rattle.proof_prose.specs.Paragraphs.{told_text}
 use Rattle.proof_prose.specs.Prose.{Explains}
 use Rattle.proof_prose.specs.declared.bodies.Spoken.{Spoken}
 use Rattle.proof_prose.specs.declared.nodes.Line.{Line}
-use Rattle.proof_prose.specs.declared.nodes.Line.TheVariants.{Because, Back, Moves}
+use Rattle.proof_prose.specs.declared.nodes.Line.TheVariants.{Because, Sketched, Back, Moves}
 use Rattle.proof_prose.specs.declared.nodes.Told.{Told}
 
 one-line : (label : Option Unmove) (l : Line) (q : Asked) (o a b : List ℕ) → AddsLine label l q o a → AddsLine label l q o b → a ≡ b
 one-line label (Because r) q o a b h k = one-least-reason (is_none label) q r o a b h k
+one-line label Sketched q o a b h k = h.1 ∙ sym k.1
 one-line label (Back n above) q o a b h k = h.1 ∙ sym k.1
 one-line label (Moves n) q o a b h k = h.1 ∙ sym k.1
 

@@ -8,7 +8,7 @@ use Rattle.proof_sentences.specs.declared.sentences.Sentence.{Sentence}
 use Rattle.proof_sentences.specs.declared.sentences.Sentence.TheVariants as sentence
 use Rattle.proof_prose.specs.declared.bodies.Spoken.{Spoken}
 use Rattle.proof_prose.specs.declared.nodes.Line.{Line}
-use Rattle.proof_prose.specs.declared.nodes.Line.TheVariants.{Because, Back, Moves}
+use Rattle.proof_prose.specs.declared.nodes.Line.TheVariants.{Because, Sketched, Back, Moves}
 use Rattle.proof_prose.specs.declared.nodes.Told.{Told}
 
 -- whether there are retractions; of the first node other words are used
@@ -18,6 +18,7 @@ moves_sentence n first = cond (n == 0) (sentence.Still first) (sentence.Moved fi
 -- the own line of a node is told: its reason; that the position stands later again; or whether there are retractions
 abbrev pub AddsLine : Option Unmove → Line → Asked → List ℕ → List ℕ → Type 0
 AddsLine label (Because r) q old new = AddsReason (is_none label) q r old new
+AddsLine label Sketched q old new = Adds q (sentence.Sketched ∷ []) old new
 AddsLine label (Back k above) q old new = Adds q (sentence.Back k above ∷ []) old new
 AddsLine label (Moves n) q old new = Adds q (moves_sentence n (is_none label) ∷ []) old new
 

@@ -6,10 +6,10 @@ use Rattle.query_base.specs.Ancestors.{ancestor}
 use Rattle.query_base.specs.Asked.{Asked}
 use Rattle.cert_checker.specs.Proving.{target_of}
 use Rattle.cert_text.specs.Certificate.{Certificate}
-use Rattle.cert_text.specs.Tree.{Tree, Forest, rule, back, expand, none, more, count}
+use Rattle.cert_text.specs.Tree.{Tree, Forest, rule, back, expand, sketch, none, more, count}
 use Rattle.unmove_gen.specs.Predecessor.{predecessor}
 use Rattle.proof_prose.specs.declared.nodes.Line.{Line}
-use Rattle.proof_prose.specs.declared.nodes.Line.TheVariants.{Because, Back, Moves}
+use Rattle.proof_prose.specs.declared.nodes.Line.TheVariants.{Because, Sketched, Back, Moves}
 use Rattle.proof_prose.specs.declared.nodes.Told.{Told}
 
 -- the query of the ancestor so many steps above, or this one where there is none
@@ -20,6 +20,7 @@ earlier q above k = elim (ancestor above k) [ None ↦ q | Some a ↦ a ]
 abbrev pub line_of : Asked → List Asked → Tree → Line
 line_of q above (rule r) = Because r
 line_of q above (back k) = Back k (earlier q above k)
+line_of q above (sketch b) = Sketched
 line_of q above (expand kids) = Moves (count kids)
 
 -- what stands before the numbers of the children of the node with this number: `1.2.` for those of the second child of the first
@@ -36,6 +37,7 @@ abbrev mutual
   pub below : List ℕ → Asked → List Asked → Tree → List Told
   below prefix q above (rule r) = []
   below prefix q above (back k) = []
+  below prefix q above (sketch b) = []
   below prefix q above (expand kids) = kid_nodes prefix q above 1 kids
 
   -- children from this place on, each with the nodes below it

@@ -12,7 +12,7 @@ use Rattle.prose_words.specs.Words.{kind_word}
 use Rattle.proof_prose.specs.Rows.{rows_of}
 use Rattle.proof_prose.specs.declared.bodies.Spoken.{Spoken}
 use Rattle.proof_prose.specs.declared.nodes.Line.{Line}
-use Rattle.proof_prose.specs.declared.nodes.Line.TheVariants.{Because, Back, Moves}
+use Rattle.proof_prose.specs.declared.nodes.Line.TheVariants.{Because, Sketched, Back, Moves}
 use Rattle.proof_prose.specs.declared.nodes.Told.{Told}
 use Rattle.proof_prose.specs.declared.paragraphs.Said.{Said}
 
@@ -24,6 +24,7 @@ pub record Paragraph : Type 0 where
 -- the node has no children
 abbrev pub is_leaf : Line → Bool
 is_leaf (Because r) = true
+is_leaf Sketched = true
 is_leaf (Back k above) = true
 is_leaf (Moves n) = n == 0
 

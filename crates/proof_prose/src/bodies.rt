@@ -58,6 +58,7 @@ fn push_line(alloc: Global, node: &Told, out: &mut Vec<u8>) -> Result<(), AllocE
     let first = node.label.is_none();
     match &node.line {
         Line::Because(reason) => push_reason(alloc, &node.query, first, reason, out),
+        Line::Sketched => push_one(alloc, &node.query, &Sentence::Sketched, out),
         Line::Back(steps, above) => {
             push_one(alloc, &node.query, &Sentence::Back(*steps, *above), out)
         }

@@ -25,6 +25,8 @@ use unmove_gen::pred;
 pub enum Line {
     /// The reason supports it.
     Because(Reason),
+    /// A sketch of the past shows it.
+    Sketched,
     /// The query so many nodes above, which is this one, asks no more.
     Back(u8, Query),
     /// It has so many retractions.
@@ -65,6 +67,7 @@ fn line_of(query: &Query, ancestors: &[Query], node: &Node) -> Line
     match &node.body {
         Body::Rule(reason) => Line::Because(*reason),
         Body::Back(steps) => Line::Back(*steps, earlier(query, ancestors, *steps)),
+        Body::Sketch(_) => Line::Sketched,
         Body::Expand(kids) => Line::Moves(kids.len()),
     }
 }
@@ -121,7 +124,7 @@ fn push_below(
     ensures kept { IfOk result (λ _. ancestors.new.items ≡ ancestors.old.items) }
 {
     match &node.body {
-        Body::Rule(_) | Body::Back(_) => Ok(()),
+        Body::Rule(_) | Body::Back(_) | Body::Sketch(_) => Ok(()),
         Body::Expand(kids) => push_kids(alloc, query, kids, prefix, ancestors, out),
     }
 }
