@@ -14,7 +14,7 @@ use Rattle.sketch_body.specs.Texts.{is_item}
 use Rattle.sketch_body.specs.Whole.{is_body, on_next, runs_out}
 use Rattle.sketch_body.specs.declared.lines.SketchLine.{SketchLine}
 use Rattle.std.proofs.lemmas.Bool.{and_parts}
-use Rattle.sketch_proof.specs.Proofs.{Setting}
+use Rattle.sketch_checker.specs.Proofs.{Setting}
 use Rattle.sketch_checker.specs.DueNodes.{first_due}
 use Rattle.sketch_checker.specs.LineWalk.{OnLine, Walking, WalksOn, going, stopped}
 use Rattle.sketch_checker.specs.Placed.{may_come}

@@ -11,7 +11,7 @@ use Rattle.sketch_text.specs.Heads.{Head}
 use Rattle.sketch_text.specs.Trees.{Line}
 use Rattle.sketch_body.specs.Due.{Due, Reading, start}
 use Rattle.sketch_body.proofs.Readings.{start_parts}
-use Rattle.sketch_proof.specs.Proofs.{Setting}
+use Rattle.sketch_checker.specs.Proofs.{Setting}
 use Rattle.sketch_checker.specs.LineWalk.{OnLine, begun}
 use Rattle.sketch_checker.specs.LineWalk as sketches
 use Rattle.sketch_checker.specs.Roots.{IsRoot}

@@ -4,7 +4,7 @@ use Rattle.std.proofs.lemmas.List.{length-map}
 use Rattle.past_sketches.specs.Figures.{Sketch}
 use Rattle.sketch_text.specs.Marks.{Marks}
 use Rattle.sketch_text.specs.Trees.{Node, Nodes, Reason, closed, lines_below, lines_each, lines_of, more, node, none, of_marks, split, steps, void}
-use Rattle.sketch_proof.specs.Proofs.{Setting, with_lines}
+use Rattle.sketch_checker.specs.Proofs.{Setting, with_lines}
 use Rattle.sketch_checker.specs.DueNodes.{Due}
 use Rattle.sketch_checker.specs.TreeWalk.{Onwards, Walked, Walks, WalksBelow, WalksEach, WalksMarks, fault_at, next_line}
 

@@ -10,7 +10,7 @@ use Rattle.sketch_text.specs.declared.nodes.SketchNode.{SketchNode}
 use Rattle.past_sketches.specs.Figures.{Sketch}
 use Rattle.sketch_body.specs.Bodies.{of_line}
 use Rattle.sketch_body.specs.Due.{Due, after, after_node, announced, fits_depth, fits_label, if_any, is_done, is_over, next, settled}
-use Rattle.sketch_proof.specs.Proofs.{Setting}
+use Rattle.sketch_checker.specs.Proofs.{Setting}
 use Rattle.sketch_checker.specs.DueNodes.{Due as DueNode, first_due}
 use Rattle.sketch_checker.specs.LineWalk.{OnEnd, OnLine, OnNode, OnOpened, StopsUnless, Walking, end_at, end_due, ended, going, stopped}
 use Rattle.sketch_checker.specs.Placed.{announced_by, may_come}

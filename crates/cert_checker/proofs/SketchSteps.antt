@@ -10,7 +10,7 @@ use Rattle.sketch_body.specs.Bodies.{Item, of_line, of_prices}
 use Rattle.sketch_body.specs.Due.{Due, Reading, after, is_done, is_over, next, read_as, start, step}
 use Rattle.sketch_body.proofs.Readings.{start_parts}
 use Rattle.sketch_body.proofs.Steps.{next_kept, says_read, step_parts}
-use Rattle.sketch_proof.specs.Proofs.{Setting}
+use Rattle.sketch_checker.specs.Proofs.{Setting}
 use Rattle.sketch_checker.specs.LineWalk.{OnLine, OnStep, Walking as SketchWalking}
 use Rattle.sketch_checker.specs.LineWalk as sketches
 use Rattle.sketch_checker.specs.Supports.{MayAsk, setting_of}

@@ -11,7 +11,7 @@ use Rattle.sketch_text.specs.declared.nodes.SketchNode.{SketchNode}
 use Rattle.sketch_body.specs.Bodies.{Item, of_line, of_prices}
 use Rattle.sketch_body.specs.Due.{Due, Reading, after, after_node, fits_depth, is_over, next, step}
 use Rattle.sketch_body.proofs.Steps.{next_kept}
-use Rattle.sketch_proof.specs.Proofs.{Setting}
+use Rattle.sketch_checker.specs.Proofs.{Setting}
 use Rattle.sketch_checker.specs.LineWalk as sketches
 use Rattle.sketch_checker.specs.Placed.{may_come}
 use Rattle.sketch_checker.specs.Walks.{Frame as SketchFrame, Opened}

@@ -9,7 +9,7 @@ use Rattle.sketch_text.specs.Trees.{Line, Node, lines_of, node}
 use Rattle.sketch_body.specs.Bodies.{AreTextsOf, Body, Item, head_of, items_of, most_units, of_line, of_prices, units_of}
 use Rattle.sketch_body.specs.Due.{Leads, Reading, is_over, next, step}
 use Rattle.sketch_body.proofs.Readings.{stops as over_stops}
-use Rattle.sketch_proof.specs.Proofs.{Setting}
+use Rattle.sketch_checker.specs.Proofs.{Setting}
 use Rattle.sketch_checker.specs.DueNodes.{first_due}
 use Rattle.sketch_checker.specs.LineWalk.{ComesTo, OnStep, Walking as SketchWalking, WalksOn as SketchWalksOn, begun}
 use Rattle.sketch_checker.specs.LineWalk as sketches

@@ -17,7 +17,7 @@ use Rattle.sketch_body.specs.Bodies.{AreOfTree, Body, Item, head_of, items_of, o
 use Rattle.sketch_body.specs.Texts.{is_item}
 use Rattle.sketch_body.specs.Whole.{first_due as prices_first, is_body, runs_out}
 use Rattle.sketch_body.proofs.Readings.{body_texts}
-use Rattle.sketch_proof.specs.Proofs.{Setting}
+use Rattle.sketch_checker.specs.Proofs.{Setting}
 use Rattle.sketch_checker.specs.DueNodes.{first_due}
 use Rattle.sketch_checker.specs.LineWalk.{ComesTo, Walking as SketchWalking, WalksOn, begun, going, stopped}
 use Rattle.sketch_checker.specs.Roots.{IsRoot}

@@ -7,7 +7,7 @@ use Rattle.past_sketches.specs.Figures.{sketch_of}
 use Rattle.sketch_text.specs.Trees.{Line}
 use Rattle.sketch_body.specs.Bodies.{Item}
 use Rattle.sketch_body.specs.Due.{Due, Reading, is_over, step}
-use Rattle.sketch_proof.specs.Proofs.{Setting}
+use Rattle.sketch_checker.specs.Proofs.{Setting}
 use Rattle.sketch_checker.specs.DueNodes.{first_due}
 use Rattle.sketch_checker.specs.LineWalk.{OnLine}
 use Rattle.sketch_checker.specs.LineWalk as sketches

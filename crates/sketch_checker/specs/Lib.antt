@@ -9,3 +9,4 @@ pub mod Supports
 pub mod Able
 pub mod Dues
 pub mod Steering
+pub use Rattle.sketch_proof.specs.Proofs
