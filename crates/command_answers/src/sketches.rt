@@ -54,11 +54,7 @@ fn write_price_lines<K: Sink>(sink: &mut K, prices: &[Prices]) -> Result<(), Fai
 }
 
 /// Writes the lines of nodes and of marks.
-fn write_node_lines<K: Sink>(
-    sink: &mut K,
-    prices: u8,
-    lines: &[SketchLine],
-) -> Result<(), Failed>
+fn write_node_lines<K: Sink>(sink: &mut K, prices: u8, lines: &[SketchLine]) -> Result<(), Failed>
     requires few { prices ≤ 64 }
     requires known { list_all (is_line prices) (map line_of lines.now) ≡ true }
     ensures ok { OnOk result (Appends (K.taken sink.old) (K.taken sink.new) (concat (line_texts lines.now))) }

@@ -1,8 +1,7 @@
 //! Runs in which a read or a write fails: nothing is written then, or the front of the answer.
 
 use crate::rows::{BLOCKED_PAWN, CAPTURES, DOUBLE_STEP, NO_KINGS, TWO_STEPS};
-use run_driver::Status;
-use run_driver::{Ports, Row, WHOLE, is_answered, run_on};
+use run_driver::{Ports, Row, Status, WHOLE, is_answered, run_on};
 use std::alloc::Global;
 use std::process::Abort;
 use std::test::Fail;

@@ -2,8 +2,7 @@
 
 use crate::refusals::is_refused;
 use crate::rows::TWO_STEPS;
-use run_driver::Status;
-use run_driver::{Row, WHOLE, is_answered};
+use run_driver::{Row, Status, WHOLE, is_answered};
 use std::test::Fail;
 
 /// The last move was a double step, and before it White can have made no move. A certificate of 85 bytes.

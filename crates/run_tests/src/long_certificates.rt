@@ -1,8 +1,7 @@
 //! Certificates of many nodes: chains, and one with many children.
 
 use crate::refusals::is_refused;
-use run_driver::Status;
-use run_driver::{Row, WHOLE, is_answered, run_on};
+use run_driver::{Row, Status, WHOLE, is_answered, run_on};
 use std::alloc::{AllocError, Global};
 use std::test::Fail;
 

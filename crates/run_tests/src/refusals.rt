@@ -1,7 +1,6 @@
 //! Certificates are refused.
 
-use run_driver::Status;
-use run_driver::{Ports, Row, WHOLE, is_answered};
+use run_driver::{Ports, Row, Status, WHOLE, is_answered};
 use std::alloc::{AllocError, Global};
 
 /// Whether `check` and `explain` refuse the certificate with this line, whether it comes byte by byte, in sevens or whole.

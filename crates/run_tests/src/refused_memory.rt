@@ -3,8 +3,7 @@
 //! words, the input or the sink can't be had, a run is left out.
 
 use crate::rows::{BLOCKED_PAWN, CAPTURES, DOUBLE_STEP, NO_KINGS};
-use run_driver::Status;
-use run_driver::{Row, WHOLE, run_on};
+use run_driver::{Row, Status, WHOLE, run_on};
 use std::alloc::Global;
 use std::process::Abort;
 

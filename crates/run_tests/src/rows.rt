@@ -1,7 +1,6 @@
 //! Words and inputs whose runs are made to fail, and their answers.
 
-use run_driver::Status;
-use run_driver::Row;
+use run_driver::{Row, Status};
 
 /// No kings: the whole certificate has 64 bytes.
 pub(crate) const NO_KINGS: Row = Row {

@@ -1,7 +1,6 @@
 //! Words that call no command, since a blank is in one, or nothing. Others stand among the rows of `rows_run`.
 
-use run_driver::Status;
-use run_driver::{Row, WHOLE, is_answered};
+use run_driver::{Row, Status, WHOLE, is_answered};
 use std::test::Fail;
 
 const NO_COMMANDS: [&[&str]; 6] = [
