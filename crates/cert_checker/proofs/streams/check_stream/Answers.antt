@@ -1,4 +1,5 @@
-use Rattle.std.proofs.Common.{length, take, refl, arith}
+use Rattle.std.proofs.Common.{◌≡◌, ℕ, length, take, refl, subst, arith}
+use Rattle.std.specs.Io.KnownBytes.{Consumes}
 use Rattle.cert_text.specs.Lines.{cut}
 use Rattle.std.proofs.lemmas.List.{length-take}
 use Rattle.cert_checker.proofs.Feeding.{fed_all, fed_more, streamed_holds}
@@ -18,7 +19,8 @@ returns-in-Ok-eq0-clause-holds g c =
 
 pub returns-in-Ok-eq0-clause-answer : goal.returns-in-Ok-eq0-clause-answer
 returns-in-Ok-eq0-clause-answer g c =
-    fed_all _ _ _ _ _ _ MOST_BYTES c.streamed.result _ c.reads.invariant.so_far (rw c.in-Ok-eq0.field-0-is at c.in-Ok-eq0.ensures.bytes) (c.in-Ok-eq0.ensures.end c.in-Ok-eq0.field-0-is) c.streamed.ensures c.finish.ensures.answer
+    let zero : c.in-Ok-eq0.field-0 ≡ 0 = omega arith in
+    fed_all _ _ _ _ _ _ MOST_BYTES c.streamed.result _ c.reads.invariant.so_far (subst (λ (n : ℕ). Consumes (g.S.Source.left c.reads.src) (g.S.Source.left c.read_piece.new.src) (take n c.read_piece.new.buffer)) zero c.in-Ok-eq0.ensures.bytes) (c.in-Ok-eq0.ensures.end zero) c.streamed.ensures c.finish.ensures.answer
 
 pub reads-preserved : goal.reads-preserved
 reads-preserved g c = record {
