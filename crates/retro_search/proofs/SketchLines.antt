@@ -2,6 +2,7 @@
 use Rattle.std.proofs.Common.{◌≡◌, ℕ, ◌+◌, ◌*◌, ◌≤◌, true, List, [], ◌∷◌, ◌++◌, length, map, ap, arith, length-append}
 use Rattle.std.specs.List.{concat, list_all, sum_by}
 use Rattle.std.proofs.lemmas.Bool.{and_parts, leb-true}
+use Rattle.std.proofs.lemmas.List.Sums.{sum_by-cons}
 use Rattle.capture_prices.specs.Prices.{PriceList}
 use Rattle.cert_text.specs.Lines.{ended}
 use Rattle.cert_text.proofs.Short.{item_short}
@@ -27,11 +28,12 @@ some_figure (f ∷ figures) some = omega arith
 
 each_counts : (P : ℕ) (prices : List PriceList) (lines : List Line) → list_all (is_item P) (map (λ p. of_prices p) prices ++ map (λ l. of_line l) lines) ≡ true → length (map (λ p. of_prices p) prices ++ map (λ l. of_line l) lines) ≤ length prices + sum_by units_of_line lines
 each_counts P [] [] known = omega arith
-each_counts P [] (of_node x ∷ lines) known = omega (arith, each_counts P [] lines (and_parts _ _ known).1)
+each_counts P [] (of_node x ∷ lines) known =
+    omega (arith, sum_by-cons units_of_line (of_node x) lines, each_counts P [] lines (and_parts _ _ known).1)
 each_counts P [] (of_marks m ∷ lines) known =
     let own = and_parts _ _ known in
     let figure = and_parts _ _ (and_parts _ _ own.0).0 in
-    omega (arith, some_figure m.figures figure.1, each_counts P [] lines own.1)
+    omega (arith, sum_by-cons units_of_line (of_marks m) lines, some_figure m.figures figure.1, each_counts P [] lines own.1)
 each_counts P (p ∷ prices) lines known = omega (arith, each_counts P prices lines (and_parts _ _ known).1)
 
 -- they fill two lines of 128 bytes for each unit at most
