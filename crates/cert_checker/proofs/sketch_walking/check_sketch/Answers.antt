@@ -16,7 +16,7 @@ use Rattle.cert_checker.proofs.sketch_walking.check_sketch.Goals as goal
 pub returns-then-not-is_root-clause-walk : goal.returns-then-not-is_root-clause-walk
 returns-then-not-is_root-clause-walk c = λ ancestors.
     let no_root = λ (root : IsRoot c.args.query.now.odds c.args.query.now.board).
-        both_ways c.is_root.result c.if-not-is_root.true (c.is_root.ensures.root.1 (subst (λ (p : Asked). IsRoot p.odds p.board) (sym c.query.view_is) root)) in
+    both_ways c.is_root.result c.if-not-is_root.true (c.is_root.ensures.root.1 (subst (λ (p : Asked). IsRoot p.odds p.board) (sym c.query.view_is) root)) in
     subst (λ (k : ℕ). Walks (sketch c.args.body.now) c.args.query.now ancestors c.args.line (fault_at k (unsupported why.Rule))) (ap (λ (l : List PriceList). c.args.line + 1 + length l) (sym c.prices-prices.ensures))
     (none-asked c.args.body.now c.args.query.now ancestors c.args.line c.requires.body no_root)
 
