@@ -11,7 +11,7 @@ use Rattle.query_base.specs.Asked.{Asked}
 use Rattle.query_base.specs.declared.claims.Claim.{Claim}
 use Rattle.unmove_gen.specs.Listed.{unmoves}
 use Rattle.cert_text.specs.Reading.{HasRoom}
-use Rattle.cert_text.specs.Due.{Due, is_done, kid_step, nodes_due, none_left, step}
+use Rattle.cert_text.specs.Due.{Due, kid_step, nodes_due, none_left}
 use Rattle.cert_text.specs.declared.node_lines.BodyLine.{BodyLine}
 use Rattle.cert_text.specs.declared.node_lines.BodyLine.TheVariants.{Rule, Back, Expand, Sketch}
 use Rattle.query_base.specs.Ancestors.{ancestor}

@@ -1,5 +1,5 @@
 -- A walk over a tree of nodes of a sketch that meets no fault comes to the line after the tree's.
-use Rattle.std.proofs.Common.{◌≡◌, ℕ, suc, ◌+◌, inl, inr, List, [], ◌∷◌, ◌++◌, length, map, refl, subst, arith, length-append}
+use Rattle.std.proofs.Common.{◌≡◌, ℕ, ◌+◌, inl, inr, List, [], ◌∷◌, ◌++◌, length, map, refl, subst, arith, length-append}
 use Rattle.std.proofs.lemmas.List.{length-map}
 use Rattle.past_sketches.specs.Figures.{Sketch}
 use Rattle.sketch_text.specs.Marks.{Marks}

@@ -1,5 +1,5 @@
 -- A line of a sketch that is due may come where the walk stands, and the walk goes on to stand where the rest is due.
-use Rattle.std.proofs.Common.{◌≡◌, ℕ, zero, suc, ◌+◌, ◌-◌, ◌<◌, ◌&&◌, Bool, true, false, not, inl, inr, List, [], ◌∷◌, length, map, cond, nat_lt, refl, sym, ap, ◌∙◌, subst, arith}
+use Rattle.std.proofs.Common.{◌≡◌, ℕ, zero, suc, ◌-◌, ◌<◌, ◌&&◌, Bool, true, false, not, inl, inr, List, [], ◌∷◌, length, map, cond, nat_lt, refl, sym, ap, ◌∙◌, subst, arith}
 use Rattle.std.proofs.lemmas.Bool.{and_left, and_parts, and_right, le-ltb, ltb-true}
 use Rattle.std.proofs.lemmas.List.{length-map}
 use Rattle.std.specs.Prelude.{Option, Some, None}
@@ -12,10 +12,9 @@ use Rattle.sketch_body.specs.Bodies.{of_line}
 use Rattle.sketch_body.specs.Due.{Due, after, after_node, announced, fits_depth, fits_label, if_any, is_done, is_over, next, settled}
 use Rattle.sketch_checker.specs.Proofs.{Setting}
 use Rattle.sketch_checker.specs.DueNodes.{Due as DueNode, first_due}
-use Rattle.sketch_checker.specs.LineWalk.{OnEnd, OnLine, OnNode, OnOpened, StopsUnless, Walking, end_at, end_due, ended, going, stopped}
+use Rattle.sketch_checker.specs.LineWalk.{OnEnd, OnLine, OnNode, OnOpened, Walking, end_at, end_due, ended, going}
 use Rattle.sketch_checker.specs.Placed.{announced_by, may_come}
 use Rattle.sketch_checker.specs.Steering.{IsOpen}
-use Rattle.sketch_checker.specs.TreeWalk.{Wrong, unsupported}
 use Rattle.sketch_checker.specs.Walks.{Frame, Opened}
 use Rattle.cert_checker.specs.SketchLines.{IsGoing, StandsAt, announced_of, marks_of}
 

@@ -1,5 +1,5 @@
 -- What is answered from a line of a sketch on.
-use Rattle.std.proofs.Common.{◌≡◌, ℕ, ◌+◌, Bool, true, false, cond, List, ◌∷◌, map, refl, sym, ap, subst}
+use Rattle.std.proofs.Common.{◌≡◌, ℕ, ◌+◌, true, false, cond, List, ◌∷◌, refl, sym, ap, subst}
 use Rattle.std.proofs.lemmas.Bool.{cond-false, cond-true}
 use Rattle.std.specs.Prelude.{Option, Some, None}
 use Rattle.std.specs.Option.{option_map}
@@ -11,7 +11,7 @@ use Rattle.cert_text.specs.Certificate.{Lines}
 use Rattle.cert_text.specs.Due.{Due, closed, nodes_due, sketch_due, step}
 use Rattle.cert_checker.specs.Answers.{Answer}
 use Rattle.cert_checker.specs.Frames.{OnItem, OnLine, Walking, going, sketching}
-use Rattle.cert_checker.specs.Framing.{due_of, stopped_by}
+use Rattle.cert_checker.specs.Framing.{stopped_by}
 use Rattle.cert_checker.specs.Sketching.{IsReading, SketchState, Takes, behind_line}
 use Rattle.cert_checker.specs.Stages.{Rest, Stepped, bad, nodes}
 use Rattle.cert_checker.specs.declared.frames.Frame.{Frame}

@@ -1,5 +1,5 @@
 -- A line of a sketch, as it is due and as it is walked.
-use Rattle.std.proofs.Common.{◌≡◌, ℕ, zero, suc, ◌+◌, ◌-◌, Bool, true, false, cond, inl, inr, List, [], ◌∷◌, ◌++◌, length, refl, sym, ap, ◌∙◌, subst, arith, length-append}
+use Rattle.std.proofs.Common.{◌≡◌, ℕ, zero, suc, ◌+◌, ◌-◌, false, cond, inl, inr, List, [], ◌∷◌, ◌++◌, length, refl, sym, ap, ◌∙◌, subst, arith, length-append}
 use Rattle.std.proofs.lemmas.Bool.{both_ways, cases_Bool, cond-false, cond-true}
 use Rattle.std.specs.Prelude.{Option, Some, None}
 use Rattle.capture_prices.specs.Prices.{PriceList}
@@ -15,10 +15,10 @@ use Rattle.sketch_checker.specs.LineWalk.{OnLine, OnStep, Walking as SketchWalki
 use Rattle.sketch_checker.specs.LineWalk as sketches
 use Rattle.sketch_checker.specs.Supports.{MayAsk, setting_of}
 use Rattle.sketch_checker.specs.Walks.{Frame as SketchFrame, Opened}
-use Rattle.cert_text.specs.Lines.{ended, said}
+use Rattle.cert_text.specs.Lines.{said}
 use Rattle.cert_text.proofs.Due.{unbegun}
 use Rattle.cert_text.proofs.SpelledLines.{said_back, said_read}
-use Rattle.cert_checker.specs.Frames.{OnNodes, Sketched, Walking, as_sketched, first_sketched, going, marks_due, sketching}
+use Rattle.cert_checker.specs.Frames.{OnNodes, Sketched, as_sketched, first_sketched, going, marks_due, sketching}
 use Rattle.cert_checker.specs.SketchLines.{StandsAt}
 use Rattle.cert_checker.specs.Sketching.{AreNext, IsInStep, frames_in, opened_in}
 use Rattle.cert_checker.specs.declared.frames.Frame.{Frame}

@@ -24,7 +24,7 @@ use Rattle.cert_checker.proofs.SketchNodes.{state}
 use Rattle.std.specs.Option.{option_map}
 use Rattle.sketch_checker.specs.Supports.{MayAsk, setting_of}
 use Rattle.cert_text.specs.Lines.{said}
-use Rattle.cert_checker.specs.Frames.{OnNodes, Sketched, Walking, as_sketched, going, sketching}
+use Rattle.cert_checker.specs.Frames.{OnNodes, Sketched, as_sketched, going, sketching}
 use Rattle.cert_checker.specs.Framing.{stopped_by}
 use Rattle.cert_checker.specs.SketchLines.{StandsAt}
 use Rattle.cert_checker.specs.Sketching.{GoesOn, IsInStep, IsReading, SketchState, Takes, TakesNode, behind_line, frames_in, opened_in}

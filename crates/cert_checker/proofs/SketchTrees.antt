@@ -1,12 +1,12 @@
 -- The walk over the lines of a sketch is the walk over its tree.
-use Rattle.std.proofs.Common.{◌≡◌, ℕ, suc, ◌+◌, ◌-◌, ◌≤◌, Bool, true, false, cond, inl, inr, List, [], ◌∷◌, ◌++◌, length, map, refl, sym, ap, ◌∙◌, subst, arith, append_assoc, append-nil}
+use Rattle.std.proofs.Common.{◌≡◌, ℕ, ◌+◌, ◌-◌, ◌≤◌, Bool, true, false, cond, inl, inr, List, [], ◌∷◌, ◌++◌, length, map, refl, sym, ap, ◌∙◌, subst, arith, append_assoc, append-nil}
 use Rattle.std.proofs.lemmas.Bool.{both_ways, cases_Bool, cond-false, cond-true}
 use Rattle.std.specs.Prelude.{Option, Some, None}
 use Rattle.capture_prices.specs.Prices.{PriceList}
 use Rattle.past_sketches.specs.Figures.{sketch_of}
 use Rattle.query_base.specs.Asked.{Asked}
 use Rattle.sketch_text.specs.Trees.{Line, Node, lines_of, node}
-use Rattle.sketch_body.specs.Bodies.{AreTextsOf, Body, Item, head_of, items_of, most_units, of_line, of_prices, units_of}
+use Rattle.sketch_body.specs.Bodies.{AreTextsOf, Body, Item, head_of, most_units, of_line, of_prices, units_of}
 use Rattle.sketch_body.specs.Due.{Leads, Reading, is_over, next, step}
 use Rattle.sketch_body.proofs.Readings.{stops as over_stops}
 use Rattle.sketch_checker.specs.Proofs.{Setting}
@@ -19,21 +19,21 @@ use Rattle.sketch_checker.specs.TreeWalk as trees
 use Rattle.sketch_checker.specs.Walks.{Frame as SketchFrame, Opened}
 use Rattle.sketch_checker.proofs.LinesWalked.{tree-walk}
 use Rattle.sketch_checker.proofs.Settling.{stays}
-use Rattle.cert_text.specs.Lines.{ended, said}
+use Rattle.cert_text.specs.Lines.{ended}
 use Rattle.cert_text.specs.Certificate.{Lines}
 use Rattle.cert_text.proofs.Due.{sketch_reads}
 use Rattle.cert_text.proofs.SpelledLines.{said_back}
 use Rattle.cert_checker.specs.Frames.{OnItem, OnLine as CertOnLine, OnNodes, Sketched, Steps, Walking, WalksOn, as_sketched, first_sketched, going, sketching, stopped}
 use Rattle.cert_checker.specs.SketchLines.{StandsAt}
 use Rattle.cert_checker.specs.Sketches.{WalksSketch, files_of, why_of}
-use Rattle.cert_checker.specs.Sketching.{IsInStep, frames_in, opened_in}
+use Rattle.cert_checker.specs.Sketching.{IsInStep, frames_in}
 use Rattle.cert_checker.specs.Walk.{unsupported}
 use Rattle.cert_checker.specs.declared.frames.Frame.{Frame}
 use Rattle.cert_checker.specs.declared.refusals.Why.TheVariants as why
 use Rattle.cert_checker.proofs.SketchNumbers.{node-count}
 use Rattle.cert_checker.proofs.SketchPlaces.{due-next, over-ends}
 use Rattle.cert_checker.proofs.SketchSteps.{behind_as, first_in_step, nodes_kept, prices_kept, said_next, says_item, stands_here}
-use Rattle.cert_checker.proofs.Stopping.{stopped_on, stops}
+use Rattle.cert_checker.proofs.Stopping.{stops}
 
 -- the walk over nodes is at its end, and the certificate goes on; or it has stopped, and so has the certificate's
 abbrev Ends : SketchWalking → List Frame → ℕ → Lines → Walking → Type 0

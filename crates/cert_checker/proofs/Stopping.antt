@@ -1,5 +1,5 @@
 -- A walk that has stopped stays so.
-use Rattle.std.proofs.Common.{◌≡◌, ℕ, ◌+◌, List, [], ◌∷◌, subst}
+use Rattle.std.proofs.Common.{◌≡◌, ℕ, ◌+◌, [], ◌∷◌, subst}
 use Rattle.cert_text.specs.Certificate.{Lines}
 use Rattle.cert_checker.specs.Walk.{Fault}
 use Rattle.cert_checker.specs.Frames.{Walking, WalksOn, stopped}

@@ -21,7 +21,6 @@ use Rattle.cert_checker.specs.Sketching.{SketchState}
 use Rattle.cert_checker.specs.Stages.{bad, Stepped}
 use Rattle.cert_checker.specs.Staging.{IfGood, due_after, taken, walk_after}
 use Rattle.cert_checker.specs.declared.frames.Frame.{Frame}
-use Rattle.cert_checker.specs.declared.frames.FirstFault.{FirstFault}
 use Rattle.cert_checker.specs.declared.frames.NodeStep.{NodeStep}
 use Rattle.cert_checker.specs.declared.frames.NodeStep.TheVariants as comes
 use Rattle.cert_checker.proofs.Opening.{due_with, listed_rest, open_stands, stack_with}

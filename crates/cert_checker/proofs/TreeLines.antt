@@ -13,12 +13,11 @@ use Rattle.unmove_gen.specs.Predecessor.{predecessor}
 use Rattle.sketch_body.specs.Bodies.{head_of, most_units}
 use Rattle.sketch_checker.specs.TreeWalk.{Walked as SketchWalked}
 use Rattle.sketch_checker.specs.TreeWalk as sketches
-use Rattle.cert_text.specs.Lines.{ended}
 use Rattle.cert_text.specs.Tree.{Tree, Forest, rule, back, expand, sketch, none, more, count, units_each, units_in}
 use Rattle.cert_text.specs.Certificate.{Lines, AreBelow, AreKids, body_of}
 use Rattle.cert_text.specs.declared.node_lines.BodyLine.{BodyLine}
 use Rattle.query_base.specs.Ancestors.{ancestor}
-use Rattle.cert_checker.specs.Walk.{Fault, Walked, fault_at, next_line, unlisted, unsupported, Unless, ByLabel, Walks, WalksEach, walked_by}
+use Rattle.cert_checker.specs.Walk.{Walked, fault_at, next_line, unlisted, unsupported, Unless, ByLabel, Walks, WalksEach, walked_by}
 use Rattle.cert_checker.specs.Frames.{Walking, going, sketching, stopped, first_sketched, query_of_frame, Stays, OnBody, OnLabel, OnKid, OnSaid, WalksOn}
 use Rattle.cert_checker.specs.declared.refusals.Why.{Why}
 use Rattle.cert_checker.specs.declared.refusals.Why.TheVariants as why

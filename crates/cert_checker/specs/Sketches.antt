@@ -1,5 +1,5 @@
 -- Sketches as bodies of certificates: what supports a query, and what the walk comes to.
-use Rattle.std.specs.Prelude.{ℕ, ◌≡◌, ◌+◌, ◌==◌, Bool, List, length, map}
+use Rattle.std.specs.Prelude.{ℕ, ◌+◌, ◌==◌, Bool, List, length, map}
 use Rattle.std.specs.List.{list_any, range_with_len}
 use Rattle.query_base.specs.Asked.{Asked}
 use Rattle.sketch_body.specs.Bodies.{Body}

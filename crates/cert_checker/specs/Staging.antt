@@ -12,7 +12,6 @@ use Rattle.cert_checker.specs.Framing.{IsOpen, IsStack, due_of, stopped_by, walk
 use Rattle.cert_checker.specs.Sketching.{IsReading, SketchState}
 use Rattle.cert_checker.specs.Counting.{AreCounts, IsDue}
 use Rattle.cert_checker.specs.declared.frames.Frame.{Frame}
-use Rattle.cert_checker.specs.declared.frames.FirstFault.{FirstFault}
 use Rattle.cert_checker.specs.declared.frames.NodeStep.{NodeStep}
 use Rattle.cert_checker.specs.declared.frames.NodeStep.TheVariants as line
 use Rattle.cert_checker.specs.declared.stages.Step.{Step}

@@ -1,8 +1,5 @@
-use Rattle.std.proofs.Common.{◌≡◌, ◌+◌, ◌++◌, ◌∷◌, [], List, append-nil, length, take, refl, sym, ap, ◌∙◌, arith}
-use Rattle.std.proofs.lemmas.List.{take_all}
+use Rattle.std.proofs.Common.{List, append-nil, refl, sym, ap}
 use Rattle.capture_prices.specs.Prices.{PriceList}
-use Rattle.sketch_checker.specs.Proofs.{Setting}
-use Rattle.cert_checker.proofs.SketchWalked.{prices-next}
 use Rattle.cert_checker.proofs.sketch_walking.add_all_prices.Goals as goal
 
 pub loop-line-init : goal.loop-line-init

@@ -1,9 +1,8 @@
-use Rattle.std.proofs.Common.{◌≡◌, ◌<◌, ◌≤◌, List, drop, length, map, refl, ◌∙◌, subst, arith}
-use Rattle.sketch_text.specs.Trees.{Line}
+use Rattle.std.proofs.Common.{map, refl, ◌∙◌, subst, arith}
 use Rattle.sketch_body.specs.Seen.{line_of}
 use Rattle.sketch_checker.specs.Proofs.{Setting}
-use Rattle.sketch_checker.specs.LineWalk.{OnLine, Walking, WalksOn, going, stopped}
-use Rattle.cert_checker.specs.SketchLines.{AreDue, IsAfter}
+use Rattle.sketch_checker.specs.LineWalk.{OnLine, going, stopped}
+use Rattle.cert_checker.specs.SketchLines.{AreDue}
 use Rattle.cert_checker.proofs.SketchDue.{leads-end, leads-next, leads-stop, line-comes, line-left, lines-next, none-left}
 use Rattle.cert_checker.proofs.sketch_walking.take_all_lines.Goals as goal
 

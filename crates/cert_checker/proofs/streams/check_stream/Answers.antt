@@ -1,4 +1,4 @@
-use Rattle.std.proofs.Common.{◌≡◌, ℕ, length, take, refl, subst, arith}
+use Rattle.std.proofs.Common.{◌≡◌, ℕ, take, refl, subst, arith}
 use Rattle.std.specs.Io.KnownBytes.{Consumes}
 use Rattle.cert_text.specs.Lines.{cut}
 use Rattle.std.proofs.lemmas.List.{length-take}
