@@ -1,6 +1,7 @@
-use Rattle.std.proofs.Common.{◌≤◌, suc, arith, rules}
-use Rattle.cert_text.specs.Seen.{tree_of}
+use Rattle.std.proofs.Common.{◌≡◌, ◌≤◌, suc, ap, arith, rules, subst}
+use Rattle.cert_text.specs.Seen.{body_tree, tree_of}
 use Rattle.cert_text.specs.Sizes.{size, size_all}
+use Rattle.cert_text.specs.Tree.{sketch}
 use Rattle.cert_text.proofs.Forests.{kid_smaller}
 use Rattle.retro_ports.proofs.Pieces.{piece_cut, piece_written}
 use Rattle.command_answers.specs.Told.{HasLinesBelow}
@@ -44,4 +45,6 @@ pub write_kids-returns-clause-ok : goal.write_kids-returns-clause-ok
 write_kids-returns-clause-ok g t c = kids-end _ _ _ _ _ c.args.kids.now c.loop-i.i (omega (arith, c.loop-i-test.false, c.len-i-end.ensures)) c.loop-i.invariant
 
 pub write_below-write_sketch-requires : goal.write_below-write_sketch-requires
-write_below-write_sketch-requires g t c = sketch-known _ c.requires
+write_below-write_sketch-requires g t c =
+    let same : tree_of c.args.node.now ≡ sketch c.in-Sketch.sketch = ap body_tree c.in-Sketch.is in
+    sketch-known c.in-Sketch.sketch (subst HasLinesBelow same c.requires)
