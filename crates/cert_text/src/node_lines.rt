@@ -1,5 +1,4 @@
 ghost use Rattle.std.specs.Prelude.{◌≡◌, ◌<◌, ◌==◌, IfSome, None, Some, is_none};
-ghost use Rattle.std.specs.Option.{option_map};
 ghost use Rattle.fen_text.specs.Fen.{turn};
 ghost use Rattle.sketch_text.specs.Heads.{head_line};
 ghost use Rattle.cert_text.specs.NodeLines.{back_at, body_at, caps_of, expand_at, kid_body, node_line, promo_of, root_body, rule_of, set_and_potentials};
@@ -135,15 +134,12 @@ fn expand_line(depth: u8, number: u32) -> Option<BodyLine>
     }
 }
 
-// It is long, and most lines begin no sketch.
+// It is long, and most lines begin no sketch. What it gives is small: a body would be copied once more, also where this isn't called.
 #[inline(never)]
-fn read_sketch(text: &[u8]) -> Option<BodyLine>
-    ensures { result ≡ option_map (λ h. BodyLine.Sketch h) (head_line text.now) }
+fn read_head(text: &[u8]) -> Option<SketchHead>
+    ensures { result ≡ head_line text.now }
 {
-    match read_sketch_head(text) {
-        Some(head) => Some(BodyLine::Sketch(head)),
-        None => None,
-    }
+    read_sketch_head(text)
 }
 
 #[tactic(auto, unfolding(crate::specs::NodeLines::body_at))]
@@ -169,7 +165,10 @@ fn read_body(depth: u8, text: &[u8]) -> Option<BodyLine>
             None => None,
         };
     }
-    read_sketch(text)
+    match read_head(text) {
+        Some(head) => Some(BodyLine::Sketch(head)),
+        None => None,
+    }
 }
 
 #[tactic(auto, unfolding(crate::specs::NodeLines::root_body))]

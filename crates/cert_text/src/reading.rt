@@ -17,6 +17,7 @@ use crate::node_lines::{BodyLine, read_kid};
 use crate::nodes::{Body, Kid, Kids, Node};
 use crate::sketch_reading::{can_start, read_sketch};
 use board_base::Unmove;
+use sketch_text::SketchHead;
 use std::alloc::Global;
 
 /// Reads the line of a node below the root, with its end: the unmove that leads to it, and its body. The depth of the root is 0.
@@ -31,7 +32,6 @@ pub fn read_kid_line(depth: u8, line: &[u8]) -> Option<(Unmove, BodyLine)>
 }
 
 /// What the first line says of a child at this depth, and what follows it.
-#[inline(always)]
 fn next_kid(bytes: &[u8], depth: u8) -> Option<(Unmove, BodyLine, &[u8])>
     ensures says { IfSome result (λ kid. SaysKid depth (cut bytes.now) kid.0 kid.1 (cut kid.2.now)) }
     ensures fits { IfSome result (λ kid. HasRoom depth kid.1) }
@@ -64,27 +64,55 @@ struct Children<'a> {
     units: u32,
 }
 
+/// The node of a sketch with this first line, whose lines below it begin the bytes.
+// Its variables take much room, and most nodes are no sketches.
+#[inline(never)]
+fn read_sketch_below<'a>(
+    alloc: Global,
+    head: &SketchHead,
+    units: u32,
+    bytes: &'a [u8],
+    line: u32,
+) -> Result<Below<'a>, CertFault>
+    requires starts { CanStart units (BodyLine.Sketch head.now) }
+    requires room { line + length (cut bytes.now) < 2 ^ 32 }
+    ensures ok { IfOk result (λ b. (depth : ℕ) → ReadsBelow (BodyLine.Sketch head.now) depth (cut bytes.now) line units (tree_of b.node) (cut b.rest.now) b.line b.units) }
+    ensures bad { IfErr result (λ e. (depth : ℕ) → IfBadText e (IsRefused units (BodyLine.Sketch head.now) depth (cut bytes.now) line)) }
+{
+    match read_sketch(alloc, head, units, bytes, line) {
+        Ok(sketched) => Ok(Below {
+            node: Node {
+                body: Body::Sketch(sketched.body),
+            },
+            rest: sketched.rest,
+            line: sketched.line,
+            units: sketched.units,
+        }),
+        Err(fault) => Err(fault),
+    }
+}
+
 /// The node with this body, whose lines below its own begin the bytes.
 #[cycle(reader)]
-fn read_below(
+fn read_below<'a>(
     alloc: Global,
-    body: BodyLine,
+    body: &BodyLine,
     depth: u8,
     units: u32,
-    bytes: &[u8],
+    bytes: &'a [u8],
     line: u32,
-) -> Result<Below<'_>, CertFault>
-    requires fits { HasRoom depth body }
-    requires starts { CanStart units body }
+) -> Result<Below<'a>, CertFault>
+    requires fits { HasRoom depth body.now }
+    requires starts { CanStart units body.now }
     requires few { units ≤ most_units }
     requires room { line + length (cut bytes.now) < 2 ^ 32 }
-    ensures ok { IfOk result (λ b. ReadsBelow body depth (cut bytes.now) line units (tree_of b.node) (cut b.rest.now) b.line b.units) }
-    ensures bad { IfErr result (λ e. IfBadText e (IsRefused units body depth (cut bytes.now) line)) }
+    ensures ok { IfOk result (λ b. ReadsBelow body.now depth (cut bytes.now) line units (tree_of b.node) (cut b.rest.now) b.line b.units) }
+    ensures bad { IfErr result (λ e. IfBadText e (IsRefused units body.now depth (cut bytes.now) line)) }
 {
     match body {
         BodyLine::Rule(rule) => Ok(Below {
             node: Node {
-                body: Body::Rule(rule),
+                body: Body::Rule(*rule),
             },
             rest: bytes,
             line,
@@ -92,13 +120,13 @@ fn read_below(
         }),
         BodyLine::Back(steps) => Ok(Below {
             node: Node {
-                body: Body::Back(steps),
+                body: Body::Back(*steps),
             },
             rest: bytes,
             line,
             units,
         }),
-        BodyLine::Expand(count) => match read_kids(alloc, count, depth, units, bytes, line) {
+        BodyLine::Expand(count) => match read_kids(alloc, *count, depth, units, bytes, line) {
             Ok(children) => Ok(Below {
                 node: Node {
                     body: Body::Expand(children.kids),
@@ -109,17 +137,7 @@ fn read_below(
             }),
             Err(fault) => Err(fault),
         },
-        BodyLine::Sketch(head) => match read_sketch(alloc, &head, units, bytes, line) {
-            Ok(sketched) => Ok(Below {
-                node: Node {
-                    body: Body::Sketch(sketched.body),
-                },
-                rest: sketched.rest,
-                line: sketched.line,
-                units: sketched.units,
-            }),
-            Err(fault) => Err(fault),
-        },
+        BodyLine::Sketch(head) => read_sketch_below(alloc, head, units, bytes, line),
     }
 }
 
@@ -151,7 +169,7 @@ fn read_kids(
         if !can_start(&body, all) {
             return Err(CertFault::BadText { line: next });
         }
-        match read_below(alloc, body, depth + 1, all, after, next + 1) {
+        match read_below(alloc, &body, depth + 1, all, after, next + 1) {
             Ok(below) => {
                 rest = below.rest;
                 next = below.line;
@@ -199,7 +217,7 @@ pub fn read_cert(alloc: Global, bytes: &[u8]) -> Result<Cert, CertFault>
         Ok(header) => header,
         Err(line) => return Err(CertFault::BadText { line }),
     };
-    match read_below(alloc, header.body, 0, 0, header.rest, header.line) {
+    match read_below(alloc, &header.body, 0, 0, header.rest, header.line) {
         Ok(below) => match first_line(below.rest) {
             Some(_) => Err(CertFault::BadText { line: below.line }),
             None => Ok(Cert {
