@@ -6,7 +6,8 @@ measure.py search PROGRAM   `PROGRAM solve` on examples/, in time and by valgrin
 measure.py visits PROGRAM   how many positions `PROGRAM solve` visits there, and how many it would visit if it kept no refutations
 measure.py settle PROGRAM   `PROGRAM settle` beside `PROGRAM solve` on published problems: visits, nodes, lines with prices, milliseconds
 measure.py texts PROGRAM    `PROGRAM length` and `PROGRAM dossier` on examples/, and the checks of what they write, in machine instructions
-measure.py study PROGRAM FENS   `PROGRAM study 8 2000` of the diagrams of a file, a FEN of four fields a line: machine instructions, and by which functions
+measure.py study PROGRAM FILE .. [--every N]   `PROGRAM study 8 2000` of each Nth diagram of collections, which decided.py reads likewise: machine
+                            instructions, and by which functions
 measure.py stream PROGRAM   `PROGRAM check` on certificates of stray labels: machine instructions a byte, time and memory on 64 MiB
 measure.py moves            `legal_moves` on four middle-game positions: builds legal_moves.program over a copy of the crates
 measure.py pawns            `least` and `bound` on eight pawns, in machine instructions, by valgrind: builds pawns.program likewise
@@ -18,6 +19,7 @@ measure.py accounts         accounts of sketches at equal prices, anew, at other
 measure.py trees            searches for sketches, found and not, likewise: builds trees.program
 measure.py balance          the balance of captures at equal prices, and the search for prices, likewise: builds balance.program
 """
+import argparse
 import collections
 import contextlib
 import pathlib
@@ -28,6 +30,8 @@ import subprocess
 import sys
 import tempfile
 import time
+
+from soundness import diagrams_of
 
 HERE = pathlib.Path(__file__).resolve().parent
 ARRAY = b"rnbqkbnr/pppppppp/8/8/8/8/PPPPPPPP/RNBQKBNR w KQkq -\n"
@@ -210,18 +214,26 @@ def profiled(words, text):
     return own, inner, calls
 
 
-def study(program, path):
+def study(words):
+    parser = argparse.ArgumentParser(prog="measure.py study")
+    parser.add_argument("program")
+    parser.add_argument("files", nargs="+", type=pathlib.Path)
+    parser.add_argument("--every", type=int, default=1)
+    args = parser.parse_args(words)
+    program, fens = args.program, diagrams_of(args.files)[:: args.every]
     own, inner, calls = collections.Counter(), collections.Counter(), collections.Counter()
-    fens = [line for line in pathlib.Path(path).read_text().splitlines() if line.strip()]
     for fen in fens:
         for total, more in zip((own, inner, calls), profiled([program, "study", "8", "2000"], fen.encode() + b"\n")):
             total.update(more)
     every = sum(own.values())
     visited, asked = calls["retro_search::searching::search"], calls["price_search::desk::prices_by"]
+    # (homes at each of the three flat prices are kept for each key that was searched)
+    searched, evaluated = calls["price_search::desk::PlacedMen::by_traces"] // 3, calls["price_search::outcomes::outcome_of"]
     games = inner["game_search::finding::find_game"]
     rest = every - games
     print(f"{len(fens)} diagrams, {every:,} instructions, {games:,} of them for games, {visited:,} positions visited, {asked:,} asked for prices")
     print(f"without those for games {rest // max(visited, 1):,} for each that is visited, {rest // max(asked, 1):,} for each that is asked")
+    print(f"{searched:,} searches for prices, {evaluated / max(searched, 1):.2f} evaluations a search")
     for title, counts in (("alone", own), ("with what they call", inner)):
         for name, cost in counts.most_common(40):
             print(f"{100 * cost / every:5.1f} of a hundred {title}: {name}, {calls[name]:,} calls")
@@ -353,8 +365,8 @@ def main():
         settle(sys.argv[2])
     elif sys.argv[1:2] == ["texts"] and len(sys.argv) == 3:
         texts(sys.argv[2])
-    elif sys.argv[1:2] == ["study"] and len(sys.argv) == 4:
-        study(sys.argv[2], sys.argv[3])
+    elif sys.argv[1:2] == ["study"] and len(sys.argv) > 3:
+        study(sys.argv[2:])
     elif sys.argv[1:2] == ["stream"] and len(sys.argv) == 3:
         stream(sys.argv[2])
     elif sys.argv[1:] == ["moves"]:
