@@ -1,3 +1,5 @@
+ghost use Rattle.std.specs.Prelude.{◌≡◌};
+
 /// How far a search for a sketch goes.
 #[derive(Clone, Copy)]
 pub struct Limits {
@@ -11,6 +13,20 @@ pub struct Limits {
     pub files: bool,
 }
 
+impl Limits {
+    /// What is spent on each file that is taken to be exact: an eighth, but no less than a search needs that is worth while.
+    pub fn for_file(self) -> Limits
+        ensures { result.steps ≡ self.steps }
+    {
+        Limits {
+            steps: self.steps,
+            states: (self.states / 8).max(20),
+            ascents: (self.ascents / 8).max(40),
+            files: false,
+        }
+    }
+}
+
 /// Enough for most trees that close at all.
 pub const SMALL: Limits = Limits {
     steps: 100,
@@ -22,7 +38,7 @@ pub const SMALL: Limits = Limits {
 /// For the positions that matter most.
 pub const LARGE: Limits = Limits {
     steps: 250,
-    states: 1_500,
-    ascents: 1_500,
+    states: 2_000,
+    ascents: 2_000,
     files: true,
 };
