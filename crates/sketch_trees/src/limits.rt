@@ -38,7 +38,7 @@ pub const SMALL: Limits = Limits {
 /// For the positions that matter most.
 pub const LARGE: Limits = Limits {
     steps: 250,
-    states: 2_000,
-    ascents: 2_000,
+    states: 1_500,
+    ascents: 1_500,
     files: true,
 };
