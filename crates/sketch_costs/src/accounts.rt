@@ -16,7 +16,7 @@ pub(crate) struct Coming {
 }
 
 /// He can't have come.
-const NOWHERE: Coming = Coming {
+const NO_COMING: Coming = Coming {
     toll: NEVER,
     number: 0,
     is_straight: false,
@@ -24,9 +24,9 @@ const NOWHERE: Coming = Coming {
 
 /// How the pawn of a file came at the least toll to stand as this pawn; with a capture alone if it is forced.
 fn pawn_coming(fees: &Fees, row: &Row, file: usize, forced: bool) -> Coming {
-    let mut best = NOWHERE;
+    let mut best = NO_COMING;
     for number in squares_of(row.squares) {
-        let aside = fees.aside[file % 8][number % 64];
+        let aside = fees.aside_at(file, number);
         if !row.marked && aside < best.toll {
             best = Coming {
                 toll: aside,
@@ -34,7 +34,7 @@ fn pawn_coming(fees: &Fees, row: &Row, file: usize, forced: bool) -> Coming {
                 is_straight: false,
             };
         }
-        let straight = fees.straight[file % 8][number / 8 % 8];
+        let straight = fees.straight_at(file, number / 8);
         if !forced && number % 8 == file && straight < best.toll {
             best = Coming {
                 toll: straight,
@@ -48,7 +48,7 @@ fn pawn_coming(fees: &Fees, row: &Row, file: usize, forced: bool) -> Coming {
 
 /// How he came at the least toll to be promoted to this officer.
 fn promoted_coming(fees: &Fees, row: &Row, file: usize) -> Coming {
-    let mut best = NOWHERE;
+    let mut best = NO_COMING;
     for end in 0..8usize {
         let toll = fees.toll_at(file, 56 + end);
         if row.has_promotion(end) && toll < best.toll {
@@ -143,6 +143,26 @@ impl SideAccount {
         }
     }
 
+    /// What they cost if the figure of a row is forced, and none was before.
+    pub fn forced(&self, side: &SideTerrain, fees: &Fees, rows: &[Row], i: usize) -> SideAccount {
+        match rows.get(i) {
+            Some(row) => self.changed(i, &cost_row(side, fees, row, true)),
+            None => *self,
+        }
+    }
+
+    /// What they cost if one row costs this instead.
+    fn changed(&self, row: usize, cost: &[i32; 16]) -> SideAccount {
+        let mut costs = self.costs;
+        costs[row % 16] = *cost;
+        let assigned = self.assigned.moved(&costs, row);
+        SideAccount {
+            costs,
+            assigned,
+            sum: assigned.sum(&costs),
+        }
+    }
+
     /// Numbers of columns from which the next assignment is found soon, at prices that differ a little.
     pub fn columns(&self) -> [i32; 16] {
         self.assigned.columns
@@ -170,6 +190,6 @@ impl SideAccount {
         if costs[column % 16] == self.costs[i][column % 16] {
             return self.sum;
         }
-        self.assigned.sum_with(&self.costs, i, &costs)
+        self.changed(i, &costs).sum
     }
 }

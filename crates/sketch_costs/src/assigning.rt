@@ -14,6 +14,13 @@ pub(crate) struct Assigned {
     row_of: [usize; 16],
 }
 
+/// A column, and what a row costs there beyond the column's number.
+#[derive(Clone, Copy)]
+struct Place {
+    column: usize,
+    least: i32,
+}
+
 /// The way by which columns change rows so that one more row finds place.
 #[derive(Clone, Copy)]
 struct Path {
@@ -101,8 +108,38 @@ impl Assigned {
         }
     }
 
-    /// Gives a row a column.
+    /// The column in which a row costs the least, a free one before another.
+    fn cheapest(&self, cost: &[i32; 16]) -> Place {
+        let mut best = Place {
+            column: 0,
+            least: i32::MAX,
+        };
+        for j in 0..16usize {
+            let reached = cost[j].wrapping_sub(self.columns[j]);
+            let is_freer = reached == best.least && self.row_of[j] == NONE;
+            if reached < best.least || is_freer {
+                best = Place {
+                    column: j,
+                    least: reached,
+                };
+            }
+        }
+        best
+    }
+
+    /// Gives a row a column: the cheapest one if that is free.
     fn insert(&mut self, costs: &Costs, row: usize) {
+        let place = self.cheapest(&costs[row % 16]);
+        if self.row_of[place.column % 16] == NONE {
+            self.rows[row % 16] = place.least;
+            self.row_of[place.column % 16] = row;
+        } else {
+            self.make_room(costs, row);
+        }
+    }
+
+    /// Gives a row a column, and others other ones if need be.
+    fn make_room(&mut self, costs: &Costs, row: usize) {
         self.rows[row % 16] = 0;
         let path = self.path_from(costs, row);
         self.raise(&path, row);
@@ -135,18 +172,16 @@ impl Assigned {
         sum
     }
 
-    /// The least cost if one row costs this instead.
-    pub(crate) fn sum_with(&self, costs: &Costs, row: usize, cost: &[i32; 16]) -> i32 {
-        let mut changed = *costs;
-        changed[row % 16] = *cost;
+    /// Gives a row a column anew whose costs have changed to these.
+    pub(crate) fn moved(&self, costs: &Costs, row: usize) -> Assigned {
         let mut other = *self;
         for j in 0..16usize {
             if other.row_of[j] == row {
                 other.row_of[j] = NONE;
             }
         }
-        other.insert(&changed, row);
-        other.sum(&changed)
+        other.insert(costs, row);
+        other
     }
 }
 

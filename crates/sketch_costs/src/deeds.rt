@@ -34,8 +34,8 @@ fn count_straight(tally: &mut Tally, side: Colour, number: usize) {
 fn captured_from(fees: &Fees, file: usize, number: usize) -> usize
     requires { 16 ≤ number }
 {
-    let sum = fees.aside[file % 8][number % 64];
-    let take = fees.take[number % 64];
+    let sum = fees.aside_at(file, number);
+    let take = fees.take_at(number);
     let left = fees.fee_at(file, number - 9);
     let is_left = number % 8 == 7 || left.wrapping_add(take) == sum;
     if number % 8 > 0 && is_left {
@@ -52,8 +52,7 @@ fn count_aside(tally: &mut Tally, side: Colour, fees: &Fees, file: usize, number
         if at < 16 {
             return;
         }
-        let aside = &fees.aside[file % 8];
-        if aside[(at - 8) % 64] == aside[at % 64] {
+        if fees.aside_at(file, at - 8) == fees.aside_at(file, at) {
             at -= 8;
         } else {
             tally.count_capture(side, class_at(side, at) % 16);

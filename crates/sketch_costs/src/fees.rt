@@ -9,23 +9,54 @@ use price_ascent::PriceRow;
 /// What a way costs that there isn't.
 pub(crate) const NEVER: i32 = 8_000;
 
+/// A number for each square, by ranks and files as the side sees them.
+type Each = [[i32; 8]; 8];
+
+/// Where a pawn went who is gone, by the number of the square, and what he pays less what he earns.
+#[derive(Clone, Copy)]
+struct Loss {
+    number: usize,
+    toll: i32,
+}
+
+/// What the pawn of a file pays.
+#[derive(Clone, Copy)]
+struct Ways {
+    /// Who comes to each square with a capture.
+    aside: Each,
+    /// Who goes straight up to this rank.
+    straight: [i32; 8],
+    /// Who is gone.
+    lost: Loss,
+}
+
+/// There is no way.
+const NOWHERE: Ways = Ways {
+    aside: [[NEVER; 8]; 8],
+    straight: [NEVER; 8],
+    lost: Loss {
+        number: 8,
+        toll: NEVER,
+    },
+};
+
 /// What a side's men cost at prices, by numbers of squares as the side sees them.
 #[derive(Clone, Copy)]
 pub struct Fees {
     /// For a capture there.
-    pub(crate) take: [i32; 64],
+    take: Each,
     /// For treading it without ever capturing.
-    gate: [i32; 64],
+    gate: Each,
     /// What a man of the side who is taken there earns.
-    pub(crate) earned: [i32; 64],
+    earned: Each,
+    /// NEVER for the squares of the wall, and 0 for others.
+    blocked: Each,
     /// What the enemy pays on each class.
     pub(crate) enemy: [i32; 16],
     /// What a man earns at most who was promoted on this file of the last rank.
     after: [i32; 8],
-    /// By files of homes: what the pawn pays who comes there with a capture.
-    pub(crate) aside: [[i32; 64]; 8],
-    /// By files of homes: what he pays who goes straight up to this rank.
-    pub(crate) straight: [[i32; 8]; 8],
+    /// What pawns pay, by files of homes.
+    ways: [Ways; 8],
     /// What the man of each home costs who is gone.
     pub(crate) gone: [i32; 16],
 }
@@ -44,28 +75,33 @@ pub(crate) fn class_at(side: Colour, number: usize) -> usize {
     class_of(square_at(side, number)) as usize
 }
 
-/// What is paid and earned on each square; nothing is known of ways.
+/// Of numbers of classes those of the squares of a rank; they are the same on every other rank.
+fn on_rank(side: Colour, numbers: &[i32; 16], rank: usize) -> [i32; 8] {
+    let mut row = [0; 8];
+    for file in 0..8usize {
+        row[file] = numbers[class_at(side, 8 * (rank % 8) + file) % 16];
+    }
+    row
+}
+
+/// What is paid on each square; nothing is known of ways.
 fn fees_of_squares(terrain: &SideTerrain, prices: &PriceRow) -> Fees {
     let side = terrain.side;
     let own = takes_of(side, prices);
+    let takes = [on_rank(side, &own, 0), on_rank(side, &own, 1)];
     let enemy = takes_of(side.other(), prices);
     let mut fees = Fees {
-        take: [0; 64],
-        gate: [0; 64],
-        earned: [0; 64],
+        take: [[0; 8]; 8],
+        gate: [[0; 8]; 8],
+        earned: [[0; 8]; 8],
+        blocked: [[0; 8]; 8],
         enemy,
         after: [0; 8],
-        aside: [[NEVER; 64]; 8],
-        straight: [[NEVER; 8]; 8],
+        ways: [NOWHERE; 8],
         gone: [NEVER; 16],
     };
-    for number in 0..64usize {
-        let class = class_at(side, number) % 16;
-        fees.take[number] = own[class];
-        fees.gate[number] = i32::from(prices.gate(square_at(side, number)));
-        if has(terrain.exposed, number) {
-            fees.earned[number] = enemy[class];
-        }
+    for rank in 0..8usize {
+        fees.take[rank] = takes[rank % 2];
     }
     for file in 0..8usize {
         fees.after[file] = most_of(&enemy, terrain.promoted_classes[file]);
@@ -73,62 +109,125 @@ fn fees_of_squares(terrain: &SideTerrain, prices: &PriceRow) -> Fees {
     fees
 }
 
+impl Fees {
+    /// Adds what depends on the squares of the terrain one by one.
+    fn add_squares(&mut self, terrain: &SideTerrain, prices: &PriceRow) {
+        let side = terrain.side;
+        let enemy = self.enemy;
+        let earned = [on_rank(side, &enemy, 0), on_rank(side, &enemy, 1)];
+        for number in 0..64usize {
+            let rank = number / 8 % 8;
+            let file = number % 8;
+            self.gate[rank][file] = i32::from(prices.gate(square_at(side, number)));
+            if has(terrain.exposed, number) {
+                self.earned[rank][file] = earned[rank % 2][file];
+            }
+            if !has(terrain.free, number) {
+                self.blocked[rank][file] = NEVER;
+            }
+        }
+    }
+}
+
 /// What the pawn of a file pays who goes straight up to each rank.
-fn straight_ways(free: u64, gate: &[i32; 64], file: usize) -> [i32; 8] {
+fn straight_ways(blocked: &Each, gate: &Each, file: usize) -> [i32; 8] {
     let mut ways = [NEVER; 8];
     let mut toll = 0i32;
     for rank in 1..8usize {
-        let number = (8 * rank + file % 8) % 64;
-        if !has(free, number) {
+        if blocked[rank][file % 8] > 0 {
             return ways;
         }
-        toll = toll.wrapping_add(gate[number]);
+        toll = toll.wrapping_add(gate[rank][file % 8]);
         ways[rank] = toll;
     }
     ways
 }
 
-/// What a pawn pays who comes to a square and captures next.
-fn fee_before(aside: &[i32; 64], straight: &[i32; 8], file: usize, number: usize) -> i32 {
-    if number % 8 == file && straight[number / 8 % 8] < NEVER {
-        0
-    } else {
-        aside[number % 64]
+/// What the pawn of a file pays who comes to the squares of a rank and captures next, if he pays so much to come there with a capture, and
+/// so much straight on.
+fn fees_before(aside: &[i32; 8], straight: i32, file: usize) -> [i32; 8] {
+    let mut fees = *aside;
+    if straight < NEVER {
+        fees[file % 8] = 0;
     }
+    fees
 }
 
-/// What the pawn of a file pays who comes to each square with a capture.
-fn ways_aside(free: u64, take: &[i32; 64], straight: &[i32; 8], file: usize) -> [i32; 64] {
-    let mut aside = [NEVER; 64];
-    for number in 16..64usize {
-        if has(free, number) {
-            let left = if number % 8 > 0 {
-                fee_before(&aside, straight, file, number - 9)
-            } else {
-                NEVER
+/// What a pawn pays who comes with a capture to the squares of a rank, if he pays this on the rank behind and captures next, or stays.
+fn ways_on(fees: &[i32; 8], last: &[i32; 8], take: &[i32; 8], blocked: &[i32; 8]) -> [i32; 8] {
+    let mut row = [NEVER; 8];
+    for file in 0..8usize {
+        let left = if file > 0 { fees[file - 1] } else { NEVER };
+        let right = if file < 7 { fees[file + 1] } else { NEVER };
+        let capture = left.min(right).wrapping_add(take[file]);
+        row[file] = capture.min(last[file]).min(NEVER).max(blocked[file]);
+    }
+    row
+}
+
+/// The lesser loss of this one and those on the squares of a rank, the first of such.
+fn lesser_loss(least: Loss, rank: usize, losses: &[i32; 8]) -> Loss {
+    let mut best = least;
+    for file in 0..8usize {
+        if losses[file] < best.toll {
+            best = Loss {
+                number: 8 * (rank % 8) + file,
+                toll: losses[file],
             };
-            let right = if number % 8 < 7 {
-                fee_before(&aside, straight, file, number - 7)
-            } else {
-                NEVER
-            };
-            let capture = left.min(right).wrapping_add(take[number]);
-            aside[number] = capture.min(aside[number - 8]).min(NEVER);
         }
     }
-    aside
+    best
+}
+
+/// The differences of these numbers.
+fn less(paid: &[i32; 8], earned: &[i32; 8]) -> [i32; 8] {
+    let mut row = [0; 8];
+    for file in 0..8usize {
+        row[file] = paid[file].wrapping_sub(earned[file]);
+    }
+    row
 }
 
 impl Fees {
+    /// Adds the ways of the pawn of a file.
+    fn add_ways(&mut self, file: usize) {
+        let f = file % 8;
+        let straight = straight_ways(&self.blocked, &self.gate, f);
+        let mut aside = [[NEVER; 8]; 8];
+        let mut lost = Loss {
+            number: 8 + f,
+            toll: 0i32.wrapping_sub(self.earned[1][f]),
+        };
+        let mut fees = fees_before(&aside[1], straight[1], f);
+        for rank in 2..8usize {
+            aside[rank] = ways_on(
+                &fees,
+                &aside[rank - 1],
+                &self.take[rank],
+                &self.blocked[rank],
+            );
+            fees = fees_before(&aside[rank], straight[rank], f);
+            if rank < 7 {
+                lost = lesser_loss(lost, rank, &less(&fees, &self.earned[rank]));
+            }
+        }
+        let mut last = aside[7];
+        last[f] = last[f].min(straight[7]);
+        self.ways[f] = Ways {
+            aside,
+            straight,
+            lost: lesser_loss(lost, 7, &less(&last, &self.after)),
+        };
+    }
+
     /// What the men of a side cost at these prices.
     pub fn new(terrain: &SideTerrain, prices: &PriceRow) -> Fees {
         let mut fees = fees_of_squares(terrain, prices);
+        fees.add_squares(terrain, prices);
         for file in 0..8usize {
             if terrain.begins[8 + file] {
-                let straight = straight_ways(terrain.free, &fees.gate, file);
-                fees.aside[file] = ways_aside(terrain.free, &fees.take, &straight, file);
-                fees.straight[file] = straight;
-                fees.gone[8 + file] = fees.loss_at(file, fees.least_loss(file));
+                fees.add_ways(file);
+                fees.gone[8 + file] = fees.ways[file].lost.toll;
             }
             if terrain.begins[file] {
                 fees.gone[file] = 0i32.wrapping_sub(most_of(
@@ -140,58 +239,52 @@ impl Fees {
         fees
     }
 
-    /// What the pawn of a file pays who comes to a square and captures next.
-    pub(crate) fn fee_at(&self, file: usize, number: usize) -> i32 {
-        fee_before(
-            &self.aside[file % 8],
-            &self.straight[file % 8],
-            file,
-            number,
-        )
+    /// What is paid for a capture on the square with this number.
+    pub(crate) fn take_at(&self, number: usize) -> i32 {
+        self.take[number / 8 % 8][number % 8]
     }
 
-    /// Whether the pawn of a file can come straight to a square.
+    /// What the pawn of a file pays who comes to a square with a capture.
+    pub(crate) fn aside_at(&self, file: usize, number: usize) -> i32 {
+        self.ways[file % 8].aside[number / 8 % 8][number % 8]
+    }
+
+    /// What he pays who goes straight up to this rank.
+    pub(crate) fn straight_at(&self, file: usize, rank: usize) -> i32 {
+        self.ways[file % 8].straight[rank % 8]
+    }
+
+    /// What he pays who comes to a square and captures next.
+    pub(crate) fn fee_at(&self, file: usize, number: usize) -> i32 {
+        if self.is_open(file, number) {
+            0
+        } else {
+            self.aside_at(file, number)
+        }
+    }
+
+    /// Whether he can come straight to a square.
     pub(crate) fn is_open(&self, file: usize, number: usize) -> bool {
-        number % 8 == file && self.straight[file % 8][number / 8 % 8] < NEVER
+        number % 8 == file && self.straight_at(file, number / 8) < NEVER
     }
 
     /// Whether he comes there without a capture, and pays no more so.
     pub(crate) fn is_straight(&self, file: usize, number: usize) -> bool {
-        let straight = self.straight[file % 8][number / 8 % 8];
-        self.is_open(file, number) && straight <= self.aside[file % 8][number % 64]
+        let straight = self.straight_at(file, number / 8);
+        self.is_open(file, number) && straight <= self.aside_at(file, number)
     }
 
     /// What he pays who comes to a square and stays.
     pub(crate) fn toll_at(&self, file: usize, number: usize) -> i32 {
         if self.is_straight(file, number) {
-            self.straight[file % 8][number / 8 % 8]
+            self.straight_at(file, number / 8)
         } else {
-            self.aside[file % 8][number % 64]
+            self.aside_at(file, number)
         }
     }
 
-    /// What he pays, less what he earns, who is taken on a square, or after he was promoted there.
-    fn loss_at(&self, file: usize, number: usize) -> i32 {
-        if number >= 56 {
-            self.toll_at(file, number)
-                .wrapping_sub(self.after[number % 8])
-        } else {
-            self.fee_at(file, number)
-                .wrapping_sub(self.earned[number % 64])
-        }
-    }
-
-    /// Where the pawn of a file went who is gone.
+    /// Where he went who is gone, by the number of the square.
     pub(crate) fn least_loss(&self, file: usize) -> usize {
-        let mut best = (8 + file % 8) % 64;
-        let mut least = self.loss_at(file, best);
-        for number in 16..64usize {
-            let loss = self.loss_at(file, number);
-            if loss < least {
-                best = number;
-                least = loss;
-            }
-        }
-        best
+        self.ways[file % 8].lost.number
     }
 }

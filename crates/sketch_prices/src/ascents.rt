@@ -1,6 +1,8 @@
+use crate::both::{Books, BothAccounts, row_on};
+use crate::kept::BothFees;
 use board_base::Colour;
 use price_ascent::{PriceRow, Tally, Weighing};
-use sketch_costs::{Deeds, Fees, Rows, SideAccount, Terrain};
+use sketch_costs::Deeds;
 
 /// How often prices are tried.
 const ROUNDS: u32 = 100;
@@ -17,23 +19,11 @@ pub struct Target {
     pub row: usize,
 }
 
-/// What prices came to: by how much the figures cost more than all gates, and how often each price is paid and earned then.
+/// How often each price is paid and earned by the men of both sides.
 #[derive(Clone, Copy)]
-struct Outcome {
-    above: i32,
+struct BothTallies {
     white: Tally,
     black: Tally,
-}
-
-/// An ascent: what it is for, the prices so far, and the numbers of columns from which homes are found soon.
-#[derive(Drop)]
-struct Ascent<'a, 'b> {
-    terrain: &'a Terrain,
-    rows: &'b Rows,
-    target: Option<Target>,
-    prices: PriceRow,
-    white_columns: [i32; 16],
-    black_columns: [i32; 16],
 }
 
 /// By how much the figures fall short of the bound.
@@ -47,82 +37,66 @@ fn shortfall(above: i32) -> u32 {
     }
 }
 
-impl Ascent<'_, '_> {
-    /// The row that is to be forced, if it is of this side.
-    fn forced(&self, side: Colour) -> Option<usize> {
-        match self.target {
-            Some(target) if target.side == side => Some(target.row),
-            _ => None,
-        }
-    }
+/// What the men of a side did.
+fn deeds(books: Books<'_>, accounts: &BothAccounts, target: Option<Target>, side: Colour) -> Deeds {
+    Deeds::new(
+        books.terrain.of(side),
+        books.fees.of(side),
+        books.rows.of(side),
+        accounts.of(side),
+        row_on(target, side),
+    )
+}
 
-    /// What the men of a side cost.
-    fn account(&self, fees: &Fees, side: Colour, columns: [i32; 16]) -> SideAccount {
-        SideAccount::new(
-            self.terrain.of(side),
-            fees,
-            self.rows.of(side),
-            self.forced(side),
-            columns,
-        )
-    }
-
-    /// What they did.
-    fn deeds(&self, fees: &Fees, side: Colour, account: &SideAccount) -> Deeds {
-        Deeds::new(
-            self.terrain.of(side),
-            fees,
-            self.rows.of(side),
-            account,
-            self.forced(side),
-        )
-    }
-
-    /// What the prices come to, if so much is owed on the places of captures.
-    fn outcome(&mut self, owed: &[i32; 32]) -> Outcome {
-        let white_fees = Fees::new(&self.terrain.white, &self.prices);
-        let black_fees = Fees::new(&self.terrain.black, &self.prices);
-        let white = self.account(&white_fees, Colour::White, self.white_columns);
-        let black = self.account(&black_fees, Colour::Black, self.black_columns);
-        self.white_columns = white.columns();
-        self.black_columns = black.columns();
-        let white_deeds = self.deeds(&white_fees, Colour::White, &white);
-        let black_deeds = self.deeds(&black_fees, Colour::Black, &black);
-        Outcome {
-            above: white
-                .sum
-                .wrapping_add(black.sum)
-                .wrapping_sub(self.prices.gate_sum()),
-            white: white_deeds.with_fallen(&black_deeds.needs(owed)),
-            black: black_deeds.with_fallen(&white_deeds.needs(owed)),
-        }
+/// How often each price is paid and earned, if so much is owed on the places of captures.
+fn tallies(
+    books: Books<'_>,
+    accounts: &BothAccounts,
+    target: Option<Target>,
+    owed: &[i32; 32],
+) -> BothTallies {
+    let white = deeds(books, accounts, target, Colour::White);
+    let black = deeds(books, accounts, target, Colour::Black);
+    BothTallies {
+        white: white.with_fallen(&black.needs(owed)),
+        black: black.with_fallen(&white.needs(owed)),
     }
 }
 
 /// Prices at which the figures cost more than their true homes can, or do so if what a mark of the target would say is false, if the ascent
-/// from equal prices finds some. It ends where the tallies on its way show that there are none.
-pub(crate) fn seek(terrain: &Terrain, rows: &Rows, target: Option<Target>) -> Option<PriceRow> {
-    let mut ascent = Ascent {
-        terrain,
-        rows,
-        target,
-        prices: PriceRow::flat(),
-        white_columns: [0; 16],
-        black_columns: [0; 16],
-    };
+/// from equal prices finds some. The fees of the books are those at equal prices, and so are the accounts, with the target forced. It ends where
+/// the tallies on its way show that there are none.
+pub(crate) fn seek(
+    books: Books<'_>,
+    flat: BothAccounts,
+    target: Option<Target>,
+) -> Option<PriceRow> {
+    let mut prices = PriceRow::flat();
+    let mut fees = *books.fees;
+    let mut accounts = flat;
     let mut weighing = Weighing::new();
     for _ in 0..ROUNDS {
-        let outcome = ascent.outcome(&weighing.needs());
-        if outcome.above > 0 {
-            return Some(ascent.prices);
+        if accounts.above() > 0 {
+            return Some(prices);
         }
-        weighing.add(&outcome.white, &outcome.black);
+        let now = Books {
+            fees: &fees,
+            ..books
+        };
+        let BothTallies { white, black } = tallies(now, &accounts, target, &weighing.needs());
+        weighing.add(&white, &black);
         if weighing.weigh() {
             return None;
         }
-        ascent
-            .prices
-            .climb(&outcome.white, &outcome.black, shortfall(outcome.above));
+        prices.climb(&white, &black, shortfall(accounts.above()));
+        fees = BothFees::new(books.terrain, &prices);
+        accounts = accounts.next(
+            Books {
+                fees: &fees,
+                ..books
+            },
+            target,
+        );
     }
     None
 }

@@ -1,8 +1,8 @@
 use crate::ascents::{Target, seek};
-use crate::both::BothAccounts;
+use crate::both::{Books, BothAccounts};
 use crate::kept::KeptTerrain;
 use arrayvec::ArrayVec;
-use board_base::{CastleSet, Memory, Odds, SquareSet};
+use board_base::{CastleSet, Colour, Memory, Odds, SquareSet};
 use figures::Sketch;
 use price_ascent::PriceRow;
 use sketch_costs::{Rows, Terrain, rows_of};
@@ -14,6 +14,9 @@ const MOST_TERRAINS: usize = 256;
 
 /// The number of a line is no higher.
 const MOST_LINES: usize = 1_000_000;
+
+/// From here on the men cost so little at equal prices that few marks are forced: four captures fewer than there may be.
+const FAR_BELOW: i32 = -96;
 
 /// How many lines behind one are tried in its place.
 const MOST_BEHIND: u32 = 64;
@@ -29,11 +32,13 @@ pub struct AccountDesk {
     terrains: Vec<KeptTerrain>,
 }
 
-/// What the account of a sketch stands on: the place of its terrain, and the rows of its figures.
+/// What the account of a sketch stands on: the place of its terrain, the rows of its figures, and what these cost at equal prices, if that
+/// was asked.
 #[derive(Drop)]
 pub struct Basis {
     terrain: usize,
     rows: Rows,
+    flat: Option<BothAccounts>,
 }
 
 /// What is known of a sketch before it is weighed.
@@ -48,11 +53,16 @@ pub enum Survey {
 }
 
 impl Basis {
-    /// Whether the target is a figure whose mark can be sought: an officer without one, or a pawn if pawns may be sought too.
-    pub fn can_seek(&self, target: Target, pawns: bool) -> bool {
-        match self.rows.of(target.side).get(target.row) {
-            Some(row) => !row.marked && (pawns || !row.is_pawn),
-            None => false,
+    /// The target for the mark of the figure with this number, counted from 0, if it can be sought: of an officer of this side without one,
+    /// or of a pawn if pawns may be sought too.
+    pub fn target_of(&self, side: Colour, figure: u8, pawns: bool) -> Option<Target> {
+        let rows = self.rows.of(side);
+        let row = rows.iter().position(|row| row.figure == figure)?;
+        let found = rows.get(row)?;
+        if !found.marked && (pawns || !found.is_pawn) {
+            Some(Target { side, row })
+        } else {
+            None
         }
     }
 }
@@ -94,7 +104,7 @@ impl AccountDesk {
             self.terrains.clear();
         }
         let terrain = Terrain::new(self.odds, wall, &zones);
-        let kept = KeptTerrain::new(wall, zones, terrain, Vec::new(self.alloc));
+        let kept = KeptTerrain::new(wall, zones, terrain, self.alloc);
         self.terrains.push(kept).map_err(|_| Memory)?;
         Ok(self.terrains.len().saturating_sub(1))
     }
@@ -110,7 +120,11 @@ impl AccountDesk {
             return Ok(Survey::Unknown);
         };
         match rows_of(&kept.terrain, sketch, wall) {
-            Some(rows) => Ok(Survey::Known(Basis { terrain, rows })),
+            Some(rows) => Ok(Survey::Known(Basis {
+                terrain,
+                rows,
+                flat: None,
+            })),
             None => Ok(Survey::Unknown),
         }
     }
@@ -126,11 +140,15 @@ impl AccountDesk {
         }
     }
 
-    /// The accounts of both sides at the fees in this place.
-    fn accounts(&self, basis: &Basis, place: usize) -> Option<BothAccounts<'_>> {
+    /// What the accounts of both sides are made of at the fees in this place.
+    fn books<'a>(&'a self, basis: &'a Basis, place: usize) -> Option<Books<'a>> {
         let kept = self.terrains.get(basis.terrain)?;
-        let fees = kept.fees.get(place)?;
-        Some(BothAccounts::new(&kept.terrain, fees, &basis.rows))
+        let fees = kept.fees_at(place)?;
+        Some(Books {
+            terrain: &kept.terrain,
+            fees,
+            rows: &basis.rows,
+        })
     }
 
     /// Whether the account at a line of prices is above 0.
@@ -138,8 +156,8 @@ impl AccountDesk {
         let Some(place) = self.fees_place(basis, line)? else {
             return Ok(false);
         };
-        match self.accounts(basis, place) {
-            Some(accounts) => Ok(accounts.above() > 0),
+        match self.books(basis, place) {
+            Some(books) => Ok(BothAccounts::new(books).above() > 0),
             None => Ok(false),
         }
     }
@@ -160,15 +178,31 @@ impl AccountDesk {
         let Some(place) = self.fees_place(basis, line)? else {
             return Ok(ArrayVec::new());
         };
-        match self.accounts(basis, place) {
-            Some(accounts) => Ok(accounts.forced(&basis.rows)),
+        match self.books(basis, place) {
+            Some(books) => Ok(BothAccounts::new(books).marks(books)),
             None => Ok(ArrayVec::new()),
         }
     }
 
-    /// Prices at which the account is above 0, or forces the target's mark, if some are found.
-    pub fn seek(&self, basis: &Basis, target: Option<Target>) -> Option<PriceRow> {
-        let kept = self.terrains.get(basis.terrain)?;
-        seek(&kept.terrain, &basis.rows, target)
+    /// Prices at which the account is above 0, or forces the target's mark, if some are found. What the men cost at equal prices is kept; a
+    /// target that costs no more then if its mark is false is given up if they cost far too little.
+    pub fn seek(&mut self, basis: &mut Basis, target: Option<Target>) -> Option<PriceRow> {
+        let kept = self.terrains.get_mut(basis.terrain)?;
+        let fees = kept.flat_fees();
+        let books = Books {
+            terrain: &kept.terrain,
+            fees: &fees,
+            rows: &basis.rows,
+        };
+        let flat = match basis.flat {
+            Some(flat) => flat,
+            None => BothAccounts::new(books),
+        };
+        basis.flat = Some(flat);
+        let accounts = flat.forced(books, target);
+        if target.is_some() && flat.above() < FAR_BELOW && accounts.above() <= flat.above() {
+            return None;
+        }
+        seek(books, accounts, target)
     }
 }

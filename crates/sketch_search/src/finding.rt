@@ -109,7 +109,8 @@ fn found_on_files(
 /// Looks for a sketch that shows that no game comes to the query: for prices that close its sketch, marks that they force, and trees over
 /// what was before its steps, as far as the limits allow. If no exact file is needed, none is given; otherwise one at a time is tried. The
 /// same query, limits and desk have the same answer. What is found proves that no game, of any length, leads to the query, and is within the
-/// limits. If the query's own sketch is void, that is found; if nothing is found otherwise, nothing is said of the query.
+/// limits; on each exact file less is spent. If the query's own sketch is void, that is found; if nothing is found otherwise, nothing is
+/// said of the query.
 pub fn find_sketch(
     alloc: Global,
     query: &Query,
@@ -133,5 +134,5 @@ pub fn find_sketch(
     if found.is_some() || !limits.files {
         return Ok(found);
     }
-    found_on_files(alloc, query, &sketch, limits, desk)
+    found_on_files(alloc, query, &sketch, limits.for_file(), desk)
 }

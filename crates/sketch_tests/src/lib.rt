@@ -1,8 +1,10 @@
-//! Tests of sketches: what never moved, accounts, marks that they force, nodes and steps, on written boards.
+//! Tests of sketches: what never moved, accounts, marks that they force, nodes and steps, and what searches find, on written boards.
 #![tactic(auto)]
 
 #[cfg(test)]
 mod accounts;
+#[cfg(test)]
+mod findings;
 #[cfg(test)]
 mod grounds;
 #[cfg(test)]

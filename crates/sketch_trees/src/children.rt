@@ -1,3 +1,8 @@
+ghost use Rattle.std.specs.Prelude.{◌≡◌, IsTrue, MatchOption, false};
+ghost use Rattle.past_sketches.specs.Figures.{Sketch as ASketch};
+ghost use Rattle.past_sketches.specs.Homes.{may_be_array};
+ghost use Rattle.sketch_node.specs.Nodes.{IsLeastAbove};
+
 use board_base::{CastleSet, Kind, Memory, Odds, Square};
 use figures::Sketch;
 use play_rules::is_end;
@@ -70,8 +75,10 @@ fn child_by(step: &Listed, sketch: Sketch) -> Child {
     }
 }
 
-/// The least closed sketch above a sketch, if it can't be the array.
-pub fn closed_above(sketch: &Sketch, setting: &Setting) -> Option<Sketch> {
+/// The least closed sketch above a sketch. None comes exactly where it may be the array.
+pub fn closed_above(sketch: &Sketch, setting: &Setting) -> Option<Sketch>
+    ensures { MatchOption result ((T : ASketch) × IsLeastAbove setting.now.held setting.now.exact sketch.now T × IsTrue (may_be_array setting.now.odds T)) (λ T. IsLeastAbove setting.now.held setting.now.exact sketch.now T × (may_be_array setting.now.odds T ≡ false)) }
+{
     before_steps(sketch, setting.held, &setting.exact, setting.odds)
 }
 

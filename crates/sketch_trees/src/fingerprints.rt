@@ -20,9 +20,34 @@ fn stirred(number: u64) -> u64 {
     twice ^ twice >> 31
 }
 
+/// The file of a pawn, by its lowest square.
+fn file_of(figure: &Figure) -> u32 {
+    figure.squares.bits().trailing_zeros() % 8
+}
+
+/// Whether the other figure is a pawn of the figure's file with a lower place.
+fn is_lower(figure: &Figure, other: &Figure) -> bool {
+    other.place < figure.place && other.may_be(Kind::Pawn) && file_of(other) == file_of(figure)
+}
+
+/// How many pawns of the figure's file have a lower place, if he is a pawn. No more of a place is said: men who stand elsewhere have places
+/// that depend on the steps by which the sketch came.
+fn place_on_file(sketch: &Sketch, figure: &Figure) -> u64 {
+    if !figure.may_be(Kind::Pawn) {
+        return 0;
+    }
+    let mut place = 0u64;
+    for other in sketch.figures() {
+        if is_lower(figure, other) {
+            place = place.wrapping_add(1);
+        }
+    }
+    place
+}
+
 /// A number for the figure but for its squares.
-fn tag_of(figure: &Figure) -> u64 {
-    let mut tag = u64::from(figure.place) << 8;
+fn tag_of(sketch: &Sketch, figure: &Figure) -> u64 {
+    let mut tag = place_on_file(sketch, figure) << 8;
     if figure.colour == Colour::White {
         tag |= 1;
     }
@@ -50,7 +75,7 @@ pub(crate) fn fingerprint_of(sketch: &Sketch) -> Fingerprint {
     let mut first = 0u64;
     let mut second = 0u64;
     for figure in sketch.figures() {
-        let number = stirred(figure.squares.bits()).wrapping_add(tag_of(figure));
+        let number = stirred(figure.squares.bits()).wrapping_add(tag_of(sketch, figure));
         let once = stirred(number);
         first = first.wrapping_add(once);
         second = second.wrapping_add(stirred(once ^ 0x9e37_79b9_7f4a_7c15));

@@ -1,3 +1,5 @@
+ghost use Rattle.std.specs.Prelude.{◌≡◌};
+
 /// How far a search for a sketch goes.
 #[derive(Clone, Copy)]
 pub struct Limits {
@@ -9,6 +11,20 @@ pub struct Limits {
     pub ascents: u32,
     /// Whether pawns' moves on one file are taken back one by one if nothing else is found.
     pub files: bool,
+}
+
+impl Limits {
+    /// What is spent on each file that is taken to be exact: an eighth, but no less than a search needs that is worth while.
+    pub fn for_file(self) -> Limits
+        ensures { result.steps ≡ self.steps }
+    {
+        Limits {
+            steps: self.steps,
+            states: (self.states / 8).max(20),
+            ascents: (self.ascents / 8).max(40),
+            files: false,
+        }
+    }
 }
 
 /// Enough for most trees that close at all.

@@ -24,7 +24,7 @@ impl Search {
     /// A line by which prices that are sought now close the sketch or force the target's mark.
     pub(crate) fn climb(
         &mut self,
-        basis: &Basis,
+        basis: &mut Basis,
         target: Option<Target>,
     ) -> Result<Option<u32>, Memory> {
         if self.ascents >= self.limits.ascents {
@@ -91,8 +91,13 @@ impl Search {
 
     /// The same if the sketch isn't void, and no line of the pool closes it. A sketch is given up that no prices close, and that can be the
     /// array: marks would seldom help.
-    fn look_closer(&mut self, sketch: &Sketch, basis: Basis, above: u8) -> Result<Look, Memory> {
-        if let Some(line) = self.climb(&basis, None)? {
+    fn look_closer(
+        &mut self,
+        sketch: &Sketch,
+        mut basis: Basis,
+        above: u8,
+    ) -> Result<Look, Memory> {
+        if let Some(line) = self.climb(&mut basis, None)? {
             self.note_refuted(sketch, Marking::new(), Close::Priced(line))?;
             return Ok(Look::Refuted);
         }

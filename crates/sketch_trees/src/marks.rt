@@ -2,7 +2,7 @@ use crate::marking::{Marking, with_marks};
 use crate::search::{Close, Search};
 use board_base::{Colour, Memory};
 use figures::Sketch;
-use sketch_prices::{Basis, Survey, Target};
+use sketch_prices::{Basis, Survey};
 
 /// With fewer nodes above, marks are sought by ascents of their own.
 const MOST_MARKED: u8 = 2;
@@ -59,17 +59,21 @@ impl Search {
         Ok(None)
     }
 
-    /// Seeks prices that force the mark of a figure, and marks whom they force.
+    /// Seeks prices that force the mark of the figure with this number, if it is of this side, and marks whom they force.
     fn mark_one(
         &mut self,
         marked: &mut Marked,
-        target: Target,
+        side: Colour,
+        figure: u8,
         pawns: bool,
     ) -> Result<Option<Close>, Memory> {
-        if marked.marking.is_full() || !marked.basis.can_seek(target, pawns) {
+        if marked.marking.is_full() {
             return Ok(None);
         }
-        match self.climb(&marked.basis, Some(target))? {
+        let Some(target) = marked.basis.target_of(side, figure, pawns) else {
+            return Ok(None);
+        };
+        match self.climb(&mut marked.basis, Some(target))? {
             Some(line) => self.try_line(marked, line),
             None => Ok(None),
         }
@@ -82,8 +86,8 @@ impl Search {
         side: Colour,
         pawns: bool,
     ) -> Result<Option<Close>, Memory> {
-        for row in 0..16usize {
-            let close = self.mark_one(marked, Target { side, row }, pawns)?;
+        for figure in 0..32u8 {
+            let close = self.mark_one(marked, side, figure, pawns)?;
             if close.is_some() {
                 return Ok(close);
             }
