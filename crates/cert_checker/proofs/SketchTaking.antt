@@ -148,9 +148,6 @@ line_placed old later line l is e =
     subst (λ (s : Sketched). may_come (opened_in s.nodes) (frames_in s s.nodes) l ≡ true) (sym (same_sketched old later line l is e))
     (due-comes old.reading.due later.due (opened_in old.sketched.nodes) (frames_in old.sketched old.sketched.nodes) l (stands_here old.sketched old.reading later l is.in_step on) on)
 
-pub line_setting : (old : SketchState) (later : Reading) → IsReading old → (read_on old later).setting ≡ setting_of (read_on old later).sketched.query (read_on old later).sketched.exact (read_on old later).sketched.prices
-line_setting old later is = is.setting
-
 module _ (old new : SketchState) (later : Reading) (n : ℕ) (line : List ℕ) (l : Line) (is : IsReading old) (e : said (step old.reading) line ≡ Some (of_line l, later)) where
   due : next old.reading.due (of_line l) ≡ Some later.due
   due = said_next old.reading later line (of_line l) e

@@ -69,7 +69,8 @@ fn end(walk: &Walk, gathered: &[u8], number: u32) -> Result<Accepted, Fault>
     }
 }
 
-/// A check of a certificate whose bytes come in pieces. It stands for the bytes that it was fed, and takes no memory.
+/// A check of a certificate whose bytes come in pieces, with the sketches in it. It stands for the bytes that it was fed, and takes no
+/// memory.
 #[derive(Drop)]
 pub struct Checker {
     walk: Walk,
@@ -78,7 +79,7 @@ pub struct Checker {
     fed: u32,
 }
 
-// A check stands on the stack: its frames take nearly all of it.
+// A check stands on the stack. Its frames take most of it, and a walk over a sketch the rest.
 const _: () = prove!(size_of::<Checker>() <= 262_144);
 
 impl Model for Checker {

@@ -2,14 +2,13 @@ ghost use Rattle.std.specs.Prelude.{◌≡◌, ◌==◌, true};
 ghost use Rattle.std.specs.List.{list_any};
 ghost use Rattle.sketch_body.specs.Seen.{line_of};
 ghost use Rattle.sketch_checker.specs.LineWalk.{OnLine};
-ghost use Rattle.sketch_checker.specs.Placed.{may_come, of_line};
+ghost use Rattle.sketch_checker.specs.Placed.{may_come};
 ghost use Rattle.cert_checker.specs.Sketches.{files_of};
 ghost use Rattle.cert_checker.specs.SketchLines.{IsAfter};
 
 use crate::refusals::Why;
 use sketch_body::SketchLine;
-use sketch_checker::{SketchFault, SketchLine as LineToWalk, SketchWalk};
-use sketch_text::MarkLine;
+use sketch_checker::{SketchFault, SketchWalk};
 
 /// The first fault of the walk over a sketch.
 #[derive(Clone, Copy, PartialEq, Eq, Debug)]
@@ -42,26 +41,6 @@ pub(crate) fn exact_files(files: &[u8]) -> [bool; 8]
     ]
 }
 
-/// A line of marks again.
-fn marks_again(marks: &MarkLine) -> MarkLine
-    ensures { result ≡ marks.now }
-{
-    let Some(again) = MarkLine::new(marks.by(), marks.figures()) else {
-        unreachable!()
-    };
-    again
-}
-
-/// The line as a walk takes it.
-fn line_to_walk(line: &SketchLine) -> LineToWalk
-    ensures { of_line result ≡ line_of line.now }
-{
-    match line {
-        SketchLine::Node(node) => LineToWalk::Node(*node),
-        SketchLine::Marks(marks) => LineToWalk::Marks(marks_again(marks)),
-    }
-}
-
 /// Takes the next line of a sketch, which has this number and is one that may come there.
 pub(crate) fn take_sketch_line(
     walk: &mut SketchWalk,
@@ -72,7 +51,7 @@ pub(crate) fn take_sketch_line(
     ensures walk { IsAfter result walk.new.opened walk.new.frames (OnLine walk.old.setting walk.old.opened walk.old.frames number (line_of line.now)) }
     ensures setting { walk.new.setting ≡ walk.old.setting }
 {
-    match walk.take(number, &line_to_walk(line)) {
+    match walk.take(number, line) {
         Ok(()) => Ok(()),
         Err(SketchFault::Stray { line }) => Err(LineFault {
             line,

@@ -10,3 +10,5 @@ pub mod Able
 pub mod Dues
 pub mod Steering
 pub use Rattle.sketch_proof.specs.Proofs
+pub use Rattle.sketch_body.specs.Seen
+pub use Rattle.sketch_body.specs.declared.lines.SketchLine

@@ -8,12 +8,6 @@ use Rattle.sketch_checker.specs.DueNodes.{Due}
 use Rattle.sketch_checker.specs.Walks.{Frame, Opened, Walk}
 use Rattle.sketch_checker.specs.declared.faults.SketchFault.{SketchFault}
 use Rattle.sketch_checker.specs.declared.faults.SketchFault.TheVariants.{Misplaced, Stray, Unsupported}
-use Rattle.sketch_checker.specs.declared.lines.SketchLine.{SketchLine}
-use Rattle.sketch_checker.specs.declared.lines.SketchLine.TheVariants as line
-
-abbrev pub of_line : SketchLine → Line
-of_line (line.Node n) = of_node n
-of_line (line.Marks m) = of_marks m
 
 -- how many nodes follow below one with this end
 abbrev pub announced_by : End → ℕ

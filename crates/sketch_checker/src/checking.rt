@@ -8,16 +8,16 @@ ghost use Rattle.sketch_text.specs.Trees.{Node, lines_of};
 ghost use Rattle.sketch_checker.specs.Beginning.{CanBegin};
 ghost use Rattle.sketch_checker.specs.DueNodes.{first_due};
 ghost use Rattle.sketch_checker.specs.LineWalk.{IsWalked, going};
-ghost use Rattle.sketch_checker.specs.Placed.{of_line};
+ghost use Rattle.sketch_body.specs.Seen.{line_of};
 ghost use Rattle.sketch_checker.specs.Steering.{IsAnswer};
 ghost use Rattle.sketch_checker.specs.TreeWalk.{Walks};
 ghost use Rattle.sketch_checker.specs.Walks.{Finishes};
 
 use crate::faults::SketchFault;
-use crate::lines::SketchLine;
 use crate::settings::SketchSetting;
 use crate::walks::SketchWalk;
 use figures::Sketch;
+use sketch_body::SketchLine;
 use sketch_proof::sketch_proofs_hold;
 
 /// The number of the next line, or the same if there is no higher one.
@@ -33,9 +33,9 @@ fn next_number(number: u32) -> u32
 
 /// Goes on over these lines, and says whether the walk is at its end.
 fn finish(start: SketchWalk, lines: &[SketchLine]) -> Result<bool, SketchFault>
-    ensures done { IfOk result (λ done. IsTrue done ↔ Finishes start (map of_line lines.now)) }
-    ensures refused { OnErr result (Finishes start (map of_line lines.now) → ⊥) }
-    ensures walked { length lines.now < 2 ^ 32 → IsAnswer result start.setting (going start.opened start.frames) 1 (map of_line lines.now) }
+    ensures done { IfOk result (λ done. IsTrue done ↔ Finishes start (map line_of lines.now)) }
+    ensures refused { OnErr result (Finishes start (map line_of lines.now) → ⊥) }
+    ensures walked { length lines.now < 2 ^ 32 → IsAnswer result start.setting (going start.opened start.frames) 1 (map line_of lines.now) }
 {
     let mut walk = start;
     let mut number: u32 = 0;
@@ -59,9 +59,9 @@ pub fn walk_lines(
     lines: &[SketchLine],
 ) -> Option<Result<bool, SketchFault>>
     ensures begun { IsSome result ↔ CanBegin setting.odds sketch }
-    ensures walked { IfSome result (λ r. MatchResult r (λ done. IsTrue done ↔ Proves setting sketch (map of_line lines.now)) (λ f. Proves setting sketch (map of_line lines.now) → ⊥)) }
+    ensures walked { IfSome result (λ r. MatchResult r (λ done. IsTrue done ↔ Proves setting sketch (map line_of lines.now)) (λ f. Proves setting sketch (map line_of lines.now) → ⊥)) }
     // If the lines are those of a tree, `Ok(true)` comes if the walk over it meets no fault, and else its first fault, lines counted from 1.
-    ensures first { length lines.now < 2 ^ 32 → (tree : Node) → lines_of tree ≡ map of_line lines.now → IfSome result (λ r. IsWalked r (Walks tree setting (first_due sketch) 1)) }
+    ensures first { length lines.now < 2 ^ 32 → (tree : Node) → lines_of tree ≡ map line_of lines.now → IfSome result (λ r. IsWalked r (Walks tree setting (first_due sketch) 1)) }
     ensures games { result ≡ Some (Ok true) → (q : Asked) → sketch ≡ sketch_of q.board → setting.held ≡ q.held → (m : List Move) → LeadsTo setting.odds m q → ⊥ }
 {
     setting.are_known();

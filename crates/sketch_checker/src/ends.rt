@@ -52,7 +52,7 @@ fn below_steps(
     };
     Ok(Frame {
         line,
-        announced: count,
+        announced: count as u32,
         left: Left::Steps(steps),
     })
 }

@@ -14,7 +14,7 @@ use std::marker::Model;
 #[derive(Drop)]
 pub(crate) struct Frame {
     pub(crate) line: u32,
-    pub(crate) announced: u16,
+    pub(crate) announced: u32,
     pub(crate) left: Left,
 }
 

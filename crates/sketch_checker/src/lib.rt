@@ -11,7 +11,6 @@ mod ends;
 mod faults;
 mod frames;
 mod laws;
-mod lines;
 mod marking;
 mod opening;
 mod roots;
@@ -25,7 +24,7 @@ pub use laws::{
     bodies_support, lines_walk_the_tree, one_line_walk, one_sketch_walk, sketch_walk_proves,
     sketches_support,
 };
-pub use lines::SketchLine;
 pub use roots::is_root;
 pub use settings::SketchSetting;
+pub use sketch_body::SketchLine;
 pub use walks::SketchWalk;

@@ -4,7 +4,8 @@ ghost use Rattle.sketch_proof.specs.Proofs.{Proves};
 ghost use Rattle.sketch_checker.specs.Able.{IsAble};
 ghost use Rattle.sketch_checker.specs.Beginning.{CanBegin};
 ghost use Rattle.sketch_checker.specs.LineWalk.{IsAfter, IsStop, OnLine, OnOpened, begun, going};
-ghost use Rattle.sketch_checker.specs.Placed.{IsPlaced, IsPlacedAt, IsWordAt, IsWordFor, announced_by, of_line};
+ghost use Rattle.sketch_body.specs.Seen.{line_of};
+ghost use Rattle.sketch_checker.specs.Placed.{IsPlaced, IsPlacedAt, IsWordAt, IsWordFor, announced_by};
 ghost use Rattle.sketch_checker.specs.Steering.{AllAble, IsOfEnd, IsReady, OpensAs, is_over};
 ghost use Rattle.sketch_checker.specs.Walks.{CompletesOpened, Finishes, FinishesAt};
 
@@ -13,13 +14,13 @@ use crate::dues::Left;
 use crate::ends::close;
 use crate::faults::SketchFault;
 use crate::frames::{Frame, Frames};
-use crate::lines::SketchLine;
 use crate::marking::mark;
 use crate::opening::{Opened, open};
 use crate::settings::SketchSetting;
 use board_base::{CastleSet, Odds};
 use capture_prices::Prices;
 use figures::Sketch;
+use sketch_body::SketchLine;
 use std::marker::Model;
 
 /// A walk over the lines of a proof that no game comes to a sketch, as far as it has come. It is seen as the node whose lines of marks are
@@ -52,14 +53,14 @@ fn opened_by(
     line: &SketchLine,
 ) -> Result<Opened, SketchFault>
     requires { IsReady setting.now.odds opened frames.old }
-    ensures opened { IfOk result (λ o. (lines : List ALine) → CompletesOpened setting.now o frames.new lines ↔ FinishesAt setting.now opened frames.old (of_line line.now ∷ lines)) }
+    ensures opened { IfOk result (λ o. (lines : List ALine) → CompletesOpened setting.now o frames.new lines ↔ FinishesAt setting.now opened frames.old (line_of line.now ∷ lines)) }
     ensures room { IfOk result (λ o. 0 < announced_by o.end → length frames.new < 65) }
     ensures able { IfOk result (λ o. IsAble setting.now.odds o.sketch × AllAble setting.now.odds frames.new) }
-    ensures placed { OnOk result (IsPlacedAt opened frames.old (of_line line.now)) }
-    ensures word { IfErr result (IsWordAt opened frames.old (of_line line.now)) }
-    ensures line { IfOk result (λ o. OpensAs setting.now o frames.new (OnLine setting.now opened frames.old number (of_line line.now))) }
-    ensures stopped { IfErr result (λ f. IsStop f (OnLine setting.now opened frames.old number (of_line line.now))) }
-    ensures refused { OnErr result ((lines : List ALine) → FinishesAt setting.now opened frames.old (of_line line.now ∷ lines) → ⊥) }
+    ensures placed { OnOk result (IsPlacedAt opened frames.old (line_of line.now)) }
+    ensures word { IfErr result (IsWordAt opened frames.old (line_of line.now)) }
+    ensures line { IfOk result (λ o. OpensAs setting.now o frames.new (OnLine setting.now opened frames.old number (line_of line.now))) }
+    ensures stopped { IfErr result (λ f. IsStop f (OnLine setting.now opened frames.old number (line_of line.now))) }
+    ensures refused { OnErr result ((lines : List ALine) → FinishesAt setting.now opened frames.old (line_of line.now ∷ lines) → ⊥) }
 {
     match opened {
         None => match line {
@@ -105,13 +106,13 @@ fn take_line(
     line: &SketchLine,
 ) -> Result<Option<Opened>, SketchFault>
     requires { IsReady setting.now.odds opened frames.old }
-    ensures done { IfOk result (λ next. (lines : List ALine) → FinishesAt setting.now next frames.new lines ↔ FinishesAt setting.now opened frames.old (of_line line.now ∷ lines)) }
+    ensures done { IfOk result (λ next. (lines : List ALine) → FinishesAt setting.now next frames.new lines ↔ FinishesAt setting.now opened frames.old (line_of line.now ∷ lines)) }
     ensures ready { IfOk result (λ next. IsReady setting.now.odds next frames.new) }
-    ensures line { IfOk result (λ next. OnLine setting.now opened frames.old number (of_line line.now) (going next frames.new)) }
-    ensures stopped { IfErr result (λ f. IsStop f (OnLine setting.now opened frames.old number (of_line line.now))) }
-    ensures placed { OnOk result (IsPlacedAt opened frames.old (of_line line.now)) }
-    ensures word { IfErr result (IsWordAt opened frames.old (of_line line.now)) }
-    ensures refused { OnErr result ((lines : List ALine) → FinishesAt setting.now opened frames.old (of_line line.now ∷ lines) → ⊥) }
+    ensures line { IfOk result (λ next. OnLine setting.now opened frames.old number (line_of line.now) (going next frames.new)) }
+    ensures stopped { IfErr result (λ f. IsStop f (OnLine setting.now opened frames.old number (line_of line.now))) }
+    ensures placed { OnOk result (IsPlacedAt opened frames.old (line_of line.now)) }
+    ensures word { IfErr result (IsWordAt opened frames.old (line_of line.now)) }
+    ensures refused { OnErr result ((lines : List ALine) → FinishesAt setting.now opened frames.old (line_of line.now ∷ lines) → ⊥) }
 {
     let next = opened_by(setting, opened, frames, number, line)?;
     go_on(setting, frames, next)
@@ -209,14 +210,14 @@ impl SketchWalk {
     /// Takes the next line, which has this number. If it is refused, the walk is over, and no line can follow.
     pub fn take(&mut self, number: u32, line: &SketchLine) -> Result<(), SketchFault>
         // What may follow is what may have followed behind this line.
-        ensures done { OnOk result ((lines : List ALine) → Finishes self.new lines ↔ Finishes self.old (of_line line.now ∷ lines)) }
-        ensures placed { OnOk result (IsPlaced self.old (of_line line.now)) }
-        ensures word { IfErr result (IsWordFor self.old (of_line line.now)) }
+        ensures done { OnOk result ((lines : List ALine) → Finishes self.new lines ↔ Finishes self.old (line_of line.now ∷ lines)) }
+        ensures placed { OnOk result (IsPlaced self.old (line_of line.now)) }
+        ensures word { IfErr result (IsWordFor self.old (line_of line.now)) }
         // It goes on as the walk over these lines does, or the fault is the one at which that walk stops.
-        ensures line { IsAfter result self.new.opened self.new.frames (OnLine self.old.setting self.old.opened self.old.frames number (of_line line.now)) }
+        ensures line { IsAfter result self.new.opened self.new.frames (OnLine self.old.setting self.old.opened self.old.frames number (line_of line.now)) }
         ensures setting { self.new.setting ≡ self.old.setting }
         // Nothing may follow behind a line that is refused.
-        ensures refused { OnErr result ((lines : List ALine) → Finishes self.old (of_line line.now ∷ lines) → ⊥) }
+        ensures refused { OnErr result ((lines : List ALine) → Finishes self.old (line_of line.now ∷ lines) → ⊥) }
         ensures over { OnErr result ((lines : List ALine) → Finishes self.new lines → ⊥) }
     {
         let opened = self.opened.take();

@@ -3,8 +3,8 @@
 use Rattle.std.specs.Prelude.{◌≡◌, [], ◌∷◌}
 use Rattle.sketch_text.specs.declared.labels.Label.TheVariants.{Now}
 use Rattle.sketch_text.specs.declared.nodes.End.TheVariants.{Void}
-use Rattle.sketch_checker.specs.declared.lines.SketchLine.{SketchLine}
-use Rattle.sketch_checker.specs.declared.lines.SketchLine.TheVariants.{Node}
+use Rattle.sketch_checker.specs.SketchLine.{SketchLine}
+use Rattle.sketch_checker.specs.SketchLine.TheVariants.{Node}
 use Rattle.sketch_found.specs.declared.found.FoundSketch.{FoundSketch}
 
 abbrev pub void_line : SketchLine

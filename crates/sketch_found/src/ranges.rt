@@ -1,6 +1,6 @@
 ghost use Rattle.std.specs.Prelude.{◌≡◌, ◌&&◌};
 ghost use Rattle.std.specs.List.{list_all};
-ghost use Rattle.sketch_checker.specs.Placed.{of_line};
+ghost use Rattle.sketch_checker.specs.Seen.{line_of};
 ghost use Rattle.sketch_text.specs.Labels.{is_label};
 ghost use Rattle.sketch_text.specs.Marks.{are_figures, is_mark};
 ghost use Rattle.sketch_text.specs.Nodes.{is_end, is_node};
@@ -68,7 +68,7 @@ fn is_mark(prices: usize, marks: &MarkLine) -> bool
 
 /// Whether the line can be written, if there are so many lines of prices, and no more steps than this follow it.
 fn is_line(prices: usize, most: usize, line: &SketchLine) -> bool
-    ensures { result ≡ is_line prices most (of_line line.now) }
+    ensures { result ≡ is_line prices most (line_of line.now) }
 {
     match line {
         SketchLine::Node(node) => is_node(prices, most, node),
@@ -78,7 +78,7 @@ fn is_line(prices: usize, most: usize, line: &SketchLine) -> bool
 
 /// Whether each of these lines is so.
 pub(crate) fn are_lines(prices: usize, most: usize, lines: &[SketchLine]) -> bool
-    ensures { result ≡ list_all (λ l. is_line prices most (of_line l)) lines.now }
+    ensures { result ≡ list_all (λ l. is_line prices most (line_of l)) lines.now }
 {
     lines.iter().all(|line| is_line(prices, most, line))
 }

@@ -6,3 +6,4 @@ pub mod Advancing
 pub mod Raising
 pub mod Fitting
 pub mod Making
+pub mod Thinning

@@ -39,8 +39,5 @@ pub sketch-made : (T : Sketch) (f : Figure) (y : Listed) (before counted left : 
 unfolding sketch_before
 sketch-made T f y before counted left a b d = d ∙ ap trimmed_out (b ∙ ap recounted a)
 
-pub not-both : (a b : Bool) → b ≡ false → (a && b) ≡ true → ⊥
-not-both a b none h = both_ways b none (and_parts a b h).1
-
 pub not-first : (a b : Bool) → a ≡ false → (a && b) ≡ true → ⊥
 not-first a b none h = both_ways a none (and_parts a b h).0

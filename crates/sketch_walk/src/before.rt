@@ -4,7 +4,8 @@ ghost use Rattle.board_base.specs.Play.{ahead};
 ghost use Rattle.figures.specs.Figures.{figure_at};
 ghost use Rattle.figures.specs.Steps.{is_step};
 ghost use Rattle.sketch_steps.specs.Cleared.{listed};
-ghost use Rattle.sketch_steps.specs.Places.{has_low_place};
+ghost use Rattle.sketch_sets.specs.TrimmedOut.{trimmed_out};
+ghost use Rattle.sketch_steps.specs.Places.{has_low_place, recounted};
 ghost use Rattle.sketch_list.specs.Listed.{figures_before, is_passed, is_sound, sketch_before, step_for, victims_as};
 
 use crate::listed::Listed;
@@ -75,6 +76,22 @@ fn is_sound(before: &Sketch, figure: &Figure) -> bool
     !side_checks(before, Some(*figure))
 }
 
+/// The sketch with its places counted anew, trimmed, if it is sound.
+// Trimmed, it is no sounder than it was, and most steps of crowded sketches aren't sound before.
+fn sound_left(whole: &Sketch, figure: &Figure) -> Option<Sketch>
+    ensures { SomeIff result (IsTrue (is_sound (trimmed_out (recounted whole.now)) figure.now)) (trimmed_out (recounted whole.now)) }
+{
+    if !is_sound(whole, figure) {
+        return None;
+    }
+    let before = trim(&recounted(whole));
+    if is_sound(&before, figure) {
+        Some(before)
+    } else {
+        None
+    }
+}
+
 /// The sketch before the listed step, if this is one of the sketch's and was sound.
 pub(crate) fn sound_before(
     exact: &[bool; 8],
@@ -91,9 +108,5 @@ pub(crate) fn sound_before(
     if !is_step(exact, sketch, &step) {
         return None;
     }
-    let before = trim(&recounted(&figures_before(sketch, figure, listed, &step)));
-    if !is_sound(&before, figure) {
-        return None;
-    }
-    Some(before)
+    sound_left(&figures_before(sketch, figure, listed, &step), figure)
 }

@@ -1,7 +1,7 @@
 use Rattle.std.proofs.Common.{◌≡◌, ℕ, ◌+◌, ap, refl, ◌∙◌, subst, arith}
 use Rattle.sketch_proof.specs.Proofs.{Setting}
 use Rattle.sketch_checker.specs.LineWalk.{IsStop, OnLine, going}
-use Rattle.sketch_checker.specs.Placed.{of_line}
+use Rattle.sketch_body.specs.Seen.{line_of}
 use Rattle.sketch_checker.proofs.Finishing.{finish-end, finish-not, finish-step, walk-ends, walk-step, walk-stops}
 use Rattle.sketch_checker.proofs.checking.finish.Goals as goal
 
@@ -25,7 +25,7 @@ loop-line-preserved c = record {
       let before = c.loop-line.invariant.count few in
       let inside = c.loop-line-test.true in
       let number : c.next_number-number.result ≡ c.loop-line.line-index + 1 = c.next_number-number.ensures (omega (arith, few, before, inside)) ∙ ap (λ (n : ℕ). n + 1) before in
-      let on = subst (λ (g : Setting). OnLine g c.loop-line.walk.opened c.loop-line.walk.frames c.next_number-number.result (of_line c.line-item.result) (going c.take.new.self.opened c.take.new.self.frames)) c.loop-line.invariant.setting c.in-Ok.ensures.line in
+      let on = subst (λ (g : Setting). OnLine g c.loop-line.walk.opened c.loop-line.walk.frames c.next_number-number.result (line_of c.line-item.result) (going c.take.new.self.opened c.take.new.self.frames)) c.loop-line.invariant.setting c.in-Ok.ensures.line in
       walk-step c.args.start.setting (going c.args.start.opened c.args.start.frames) c.args.lines.now c.loop-line.line-index c.next_number-number.result c.loop-line.walk.opened c.loop-line.walk.frames _ c.line-item.result c.loop-line-test.true c.line-item.is number on (λ end. c.loop-line.invariant.walked end few) last;
 }
 
@@ -37,7 +37,7 @@ returns-in-Err-clause-walked c = λ few.
     let before = c.loop-line.invariant.count few in
     let inside = c.loop-line-test.true in
     let number : c.next_number-number.result ≡ c.loop-line.line-index + 1 = c.next_number-number.ensures (omega (arith, few, before, inside)) ∙ ap (λ (n : ℕ). n + 1) before in
-    let on = subst (λ (g : Setting). IsStop c.in-Err.fault (OnLine g c.loop-line.walk.opened c.loop-line.walk.frames c.next_number-number.result (of_line c.line-item.result))) c.loop-line.invariant.setting c.in-Err.ensures.line in
+    let on = subst (λ (g : Setting). IsStop c.in-Err.fault (OnLine g c.loop-line.walk.opened c.loop-line.walk.frames c.next_number-number.result (line_of c.line-item.result))) c.loop-line.invariant.setting c.in-Err.ensures.line in
     walk-stops c.args.start.setting (going c.args.start.opened c.args.start.frames) c.args.lines.now c.loop-line.line-index c.next_number-number.result c.in-Err.fault c.loop-line.walk.opened c.loop-line.walk.frames c.line-item.result c.loop-line-test.true c.line-item.is number on (λ end. c.loop-line.invariant.walked end few)
 
 pub returns-clause-done : goal.returns-clause-done
