@@ -28,28 +28,12 @@ flat-same BlackAlone Both same = absurd (white-apart (flat_prices BlackAlone) (f
 flat-same BlackAlone WhiteAlone same = absurd (white-apart (flat_prices BlackAlone) (flat_prices WhiteAlone) refl same)
 flat-same BlackAlone BlackAlone same = refl
 
--- none of them has 1 for a capture
-once-apart : (a b : Payers) → once_prices a ≡ flat_prices b → ⊥
-once-apart Both Both same = white-apart (once_prices Both) (flat_prices Both) refl same
-once-apart Both WhiteAlone same = white-apart (once_prices Both) (flat_prices WhiteAlone) refl same
-once-apart Both BlackAlone same = white-apart (once_prices Both) (flat_prices BlackAlone) refl same
-once-apart WhiteAlone Both same = white-apart (once_prices WhiteAlone) (flat_prices Both) refl same
-once-apart WhiteAlone WhiteAlone same = white-apart (once_prices WhiteAlone) (flat_prices WhiteAlone) refl same
-once-apart WhiteAlone BlackAlone same = white-apart (once_prices WhiteAlone) (flat_prices BlackAlone) refl same
-once-apart BlackAlone Both same = white-apart (once_prices BlackAlone) (flat_prices Both) refl same
-once-apart BlackAlone WhiteAlone same = white-apart (once_prices BlackAlone) (flat_prices WhiteAlone) refl same
-once-apart BlackAlone BlackAlone same = black-apart (once_prices BlackAlone) (flat_prices BlackAlone) refl same
-
--- those with 1 are low
-pub once-low : (q : Asked) (set : List Bool) (p : PriceList) (a : Payers) → p ≡ once_prices a → AreLow q set p
-once-low q set p a is b same supports = once-apart a b (subst (λ (x : PriceList). x ≡ flat_prices b) is same)
-
--- so are those with 24 where those with 1 don't support the query
+-- flat prices are low where those with 1 in their place don't support the query
 pub flat-low : (q : Asked) (set : List Bool) (p : PriceList) (a : Payers) → p ≡ flat_prices a → (BalanceSupports q set (once_prices a) → ⊥) → AreLow q set p
 flat-low q set p a is none b same supports =
     none (subst (λ (x : Payers). BalanceSupports q set (once_prices x)) (sym (flat-same a b (subst (λ (x : PriceList). x ≡ flat_prices b) is same))) supports)
 
--- and prices that support it where no flat ones do
+-- so are prices that support it where no flat ones do
 pub found-low : (q : Asked) (set : List Bool) (p : PriceList) → BalanceSupports q set p → ((a : Payers) → BalanceSupports q set (flat_prices a) → ⊥) → AreLow q set p
 found-low q set p supports none b same once = none b (subst (λ (x : PriceList). BalanceSupports q set x) same supports)
 
