@@ -1,2 +1,3 @@
 pub mod HomesCosts
+pub mod LowPrices
 mod Examples

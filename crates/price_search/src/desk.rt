@@ -1,6 +1,6 @@
-ghost use Rattle.std.specs.Prelude.{IfSome, IsSome};
+ghost use Rattle.std.specs.Prelude.{◌≡◌, IfSome, IsSome};
 ghost use Rattle.balance_rule.specs.Balance.{BalanceSupports};
-ghost use Rattle.price_search.specs.FlatPrices.{FlatPricesSupport, flat_prices};
+ghost use Rattle.price_search.specs.FlatPrices.{AreLow, FlatPricesSupport, flat_prices};
 ghost use Rattle.price_search.specs.Standing.{AreStanding};
 ghost use Rattle.price_search.specs.declared.payers.Payers.{Payers as APayers};
 
@@ -10,7 +10,7 @@ use crate::flat_grounds::{FlatGround, FlatGrounds, FlatSide, Homes, flat_fails};
 use crate::keys::{Key, Order, placed_men, traces_on};
 use crate::lands::Land;
 use crate::outcomes::Men;
-use crate::payers::{Payers, flat_prices};
+use crate::payers::{Payers, flat_prices, once_prices};
 use crate::plain::seek_plain;
 use crate::standing::{StandingMen, standing_men};
 use balance_rule::{balances, is_whole};
@@ -197,6 +197,7 @@ fn sought(
 /// These prices, if they support the query with this set.
 fn if_balanced(query: &Query, set: SquareSet, prices: Prices) -> Option<Prices>
     ensures supports { IfSome result (λ found. BalanceSupports query.now set found) }
+    ensures same { IfSome result (λ found. found ≡ prices) }
     ensures all { BalanceSupports query.now set prices → IsSome result }
 {
     if balances(query, set, &prices) {
@@ -206,7 +207,8 @@ fn if_balanced(query: &Query, set: SquareSet, prices: Prices) -> Option<Prices>
     }
 }
 
-/// These flat prices, if they support the query with this set. They need not be tried where homes show that they don't.
+/// These flat prices, if they support the query with this set: with 1 for a capture if so they support it too, as they should. They need
+/// not be tried where homes show that they don't.
 fn flat_if_balanced(
     kept: &FlatGround,
     query: &Query,
@@ -218,13 +220,18 @@ fn flat_if_balanced(
     requires { IfSome standing.now (AreStanding query.now.board) }
     ensures supports { IfSome result (λ found. BalanceSupports query.now set found) }
     ensures all { BalanceSupports query.now set (flat_prices payers) → IsSome result }
+    ensures low { IfSome result (AreLow query.now set) }
 {
     if let Some(men) = standing {
         if flat_fails(kept, query, set, payers, men, homes) {
             return None;
         }
     }
-    if_balanced(query, set, flat_prices(payers))
+    let flat = flat_prices(payers);
+    match if_balanced(query, set, once_prices(payers)) {
+        Some(prices) => Some(prices),
+        None => if_balanced(query, set, flat),
+    }
 }
 
 /// Flat prices that support the query with this set, if some do.
@@ -238,6 +245,7 @@ fn find_flat(
     requires { IfSome standing.now (AreStanding query.now.board) }
     ensures supports { IfSome result (λ prices. BalanceSupports query.now set prices) }
     ensures flat { (payers : APayers) → BalanceSupports query.now set (flat_prices payers) → IsSome result }
+    ensures low { IfSome result (AreLow query.now set) }
 {
     let both = flat_if_balanced(&kept.both, query, set, Payers::Both, standing, &found.both);
     if both.is_some() {
@@ -268,6 +276,7 @@ fn find_flat(
 fn prices_by(kept: &FlatGrounds, tried: &mut Tried, query: &Query, set: SquareSet) -> Option<Prices>
     ensures supports { IfSome result (λ prices. BalanceSupports query.now set prices) }
     ensures flat { (payers : APayers) → BalanceSupports query.now set (flat_prices payers) → IsSome result }
+    ensures low { IfSome result (AreLow query.now set) }
 {
     let standing = standing_men(&query.board);
     let found = match &standing {
@@ -286,6 +295,7 @@ fn prices_by(kept: &FlatGrounds, tried: &mut Tried, query: &Query, set: SquareSe
 fn prices_anew(tried: &mut Tried, query: &Query, set: SquareSet) -> Option<Prices>
     ensures supports { IfSome result (λ prices. BalanceSupports query.now set prices) }
     ensures flat { (payers : APayers) → BalanceSupports query.now set (flat_prices payers) → IsSome result }
+    ensures low { IfSome result (AreLow query.now set) }
 {
     prices_by(&FlatGrounds::new(query, set), tried, query, set)
 }
@@ -294,6 +304,7 @@ fn prices_anew(tried: &mut Tried, query: &Query, set: SquareSet) -> Option<Price
 fn find_prices(query: &Query, set: SquareSet, desk: &mut PriceDesk) -> Option<Prices>
     ensures supports { IfSome result (λ prices. BalanceSupports query.now set prices) }
     ensures flat { (payers : APayers) → BalanceSupports query.now set (flat_prices payers) → IsSome result }
+    ensures low { IfSome result (AreLow query.now set) }
 {
     let place = desk.place_of(query, set);
     match desk.kept.get(place) {
@@ -303,11 +314,12 @@ fn find_prices(query: &Query, set: SquareSet, desk: &mut PriceDesk) -> Option<Pr
 }
 
 /// A set and prices that support the query, if they are found. They are where flat prices support it; elsewhere none need be, even
-/// where there are some. The set is the greatest one that is as in the array. What was found or sought in vain is kept on the desk for
-/// other positions where the men cost the same.
+/// where there are some. Flat ones have 24 for a capture only if those with 1 don't support it. The set is the greatest one that is as in
+/// the array. What was found or sought in vain is kept on the desk for other positions where the men cost the same.
 pub fn find_balance(query: &Query, desk: &mut PriceDesk) -> Option<(SquareSet, Prices)>
     ensures supports { IfSome result (λ found. BalanceSupports query.now found.0 found.1) }
     ensures flat { FlatPricesSupport query.now → IsSome result }
+    ensures low { IfSome result (λ found. AreLow query.now found.0 found.1) }
 {
     let set = greatest_as_array(query);
     is_whole(set);

@@ -1,5 +1,5 @@
 ghost use Rattle.std.specs.Prelude.{◌≡◌};
-ghost use Rattle.price_search.specs.FlatPrices.{flat_prices};
+ghost use Rattle.price_search.specs.FlatPrices.{flat_prices, once_prices};
 
 use capture_prices::Prices;
 
@@ -22,7 +22,18 @@ pub(crate) fn flat_prices(payers: Payers) -> Prices
     }
 }
 
-/// The same by their places.
+/// The same with 1 in the place of 24.
+pub(crate) fn once_prices(payers: Payers) -> Prices
+    ensures { result ≡ once_prices payers }
+{
+    match payers {
+        Payers::Both => Prices::known(&[1; 16], &[1; 16], &[]),
+        Payers::WhiteAlone => Prices::known(&[1; 16], &[0; 16], &[]),
+        Payers::BlackAlone => Prices::known(&[0; 16], &[1; 16], &[]),
+    }
+}
+
+/// The flat prices by their places.
 pub(crate) fn flat_places(payers: Payers) -> [u8; 96] {
     let (white, black) = match payers {
         Payers::Both => (24, 24),

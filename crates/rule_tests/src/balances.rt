@@ -120,7 +120,7 @@ fn finds_plain_prices(rt: HostRuntime) {
         toll: 1,
     };
     let rows: [(&str, Option<Prices>); 3] = [
-        (TWO_BISHOPS, Prices::new(&[24; 16], &[24; 16], &[])),
+        (TWO_BISHOPS, Prices::new(&[1; 16], &[1; 16], &[])),
         (A_KNIGHT, Prices::new(&[0; 16], &on_light, &[])),
         (IN_THE_WAY, Prices::new(&[1; 16], &but_on_e, &[on_e6])),
     ];
