@@ -4,3 +4,6 @@ pub mod Ends
 pub mod Told
 pub mod Rowed
 pub mod Uncounted
+pub mod TableCells
+pub mod Touching
+pub mod Counted

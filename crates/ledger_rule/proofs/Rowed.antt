@@ -47,3 +47,8 @@ side-told x o p set found c side board places rows begun n same_side same_set sa
       omega (arith, h.0, few, all),
       is ∙ ap (least_cost 16) (h.1 ∙ ap (λ (l : List Bool). cost_table_if x p l side (array_of o) places) same_set ∙ ap (λ (d : Colour). cost_table_if x p set d (array_of o) places) same_side ∙ ap (cost_table_if x p set c (array_of o)) same_board),
     )
+
+-- the table of a side
+pub table-told : (x : Supposition) (o : List Bool) (p : PriceList) (set found : List Bool) (c side : Colour) (board places : Places) (rows : List (List ℕ)) → side ≡ c → found ≡ set → places ≡ board → rows ≡ cost_table_if x p found side (array_of o) places → rows ≡ cost_table_if x p set c (array_of o) board
+table-told x o p set found c side board places rows same_side same_set same_board is =
+    is ∙ ap (λ (l : List Bool). cost_table_if x p l side (array_of o) places) same_set ∙ ap (λ (d : Colour). cost_table_if x p set d (array_of o) places) same_side ∙ ap (cost_table_if x p set c (array_of o)) same_board

@@ -39,11 +39,7 @@ uncounted-earned (Gone k promoted struck) other = refl
 uncounted-earned (AtMost side squares n) other = absurd (both_ways true other refl)
 uncounted-earned (AtLeast side squares n) other = absurd (both_ways true other refl)
 
--- what a side's men cost, told of its ground
-pub beside-is : (x : Supposition) (o : List Bool) (p : PriceList) (set found : List Bool) (c side : Colour) (board places : Places) (n : ℕ) → side ≡ c → found ≡ set → places ≡ board → n ≡ side_cost_if x o places p found side → n ≡ side_cost_if x o board p set c
-beside-is x o p set found c side board places n same_side same_set same_board is =
-    is ∙ ap (λ (d : Colour). side_cost_if x o places p found d) same_side ∙ ap (λ (l : List Bool). side_cost_if x o places p l c) same_set ∙ ap (λ (b : Places). side_cost_if x o b p set c) same_board
-
+-- what the men of both sides cost decides
 pub account-decides : (x : Supposition) (q : Asked) (a : Account) (white black : ℕ) → IsAccount q a → is_count x ≡ false → white ≡ side_cost_if x q.odds q.board a.prices a.set White → black ≡ side_cost_if x q.odds q.board a.prices a.set Black
     → IsTrue (nat_lt a.most (white + black)) ↔ IsRefuted x q a.set a.prices
 account-decides x q a white black kept other white_is black_is =
@@ -58,8 +54,8 @@ account-decides x q a white black kept other white_is black_is =
         settled = kept.settled;
         white_prices = subst (λ (p : PriceList). IsTrue (are_prices p)) (sym whites) kept.known;
         black_prices = subst (λ (p : PriceList). IsTrue (are_prices p)) (sym blacks) kept.known;
-        white = kept.white_few;
-        black = kept.black_few;
+        white = kept.white.few;
+        black = kept.black.few;
         above = omega (arith, most, paid, earned, white_is, black_is, white_same, black_same, ltb-true _ _ yes);
       },
       λ it. lt-ltb _ _ (omega (arith, most, paid, earned, white_is, black_is, white_same, black_same, it.above)),

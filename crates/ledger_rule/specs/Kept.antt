@@ -1,29 +1,71 @@
 -- What is reckoned once for all suppositions at the same prices.
-use Rattle.std.specs.Prelude.{◌≡◌, ◌≤◌, Bool, IsTrue, List}
-use Rattle.board_base.specs.Board.{array_of}
+use Rattle.std.specs.Prelude.{◌≡◌, ◌≤◌, ◌+◌, ℕ, Bool, IfSome, IsTrue, List, length}
+use Rattle.board_base.specs.Board.{Places, array_of, men_squares, opponent}
+use Rattle.board_base.specs.declared.men.Colour.{Colour}
 use Rattle.board_base.specs.declared.men.Colour.TheVariants.{White, Black}
 use Rattle.query_base.specs.Asked.{Asked}
 use Rattle.static_rules.specs.SetRules.{IsSettled}
+use Rattle.assignment.specs.Tables.{IsLimit}
 use Rattle.capture_prices.specs.Prices.{PriceList, are_prices}
 use Rattle.balance_rule.specs.Balance.{men_on, most_cost}
+use Rattle.balance_rule.specs.Costs.{never}
 use Rattle.balance_rule.specs.Grounds.{IsGround}
+use Rattle.ledger_facts.specs.Accounts.{cost_table_if, raised, side_cost_if}
+use Rattle.ledger_facts.specs.declared.suppositions.Squares.{Squares}
+use Rattle.ledger_facts.specs.declared.suppositions.Squares.TheVariants.{All}
+use Rattle.ledger_facts.specs.declared.suppositions.Supposition.{Supposition}
+use Rattle.ledger_facts.specs.declared.suppositions.Supposition.TheVariants.{AtMost}
+use Rattle.ledger_pairings.specs.Rests.{AreRests}
 use Rattle.ledger_rule.specs.declared.accounts.Account.{Account}
+use Rattle.ledger_rule.specs.declared.sides.Side.{Side}
+use Rattle.ledger_rule.specs.declared.sides.Table.{Table}
+
+-- a supposition that rules out nothing
+abbrev pub nothing : Supposition
+nothing = AtMost White All 0
+
+-- no cost is above `never`, and the rests are those of the rows
+pub record IsSound (t : Table) : Type 0 where
+  pub costs : IsLimit t.rows never
+  pub rests : AreRests t.rows t.rests
+
+-- these are sixteen rows, with their rests
+pub record IsTableOf (rows : List (List ℕ)) (t : Table) : Type 0 where
+  pub same : t.rows ≡ rows
+  pub size : length rows ≡ 16
+  pub sound : IsSound t
+
+-- At these odds and prices, beside this set, the side has no more men than it began with, and all that is kept of it is true.
+pub record IsSide (o : List Bool) (board : Places) (p : PriceList) (set : List Bool) (c : Colour) (s : Side) : Type 0 where
+  pub side : s.ground.side ≡ c
+  pub beside : s.ground.frozen ≡ set
+  pub ground : IsGround o p s.ground
+  pub begun : s.begun ≡ men_on c (array_of o)
+  pub sixteen : s.begun ≤ 16
+  pub few : men_on c board ≤ men_on c (array_of o)
+  pub men : s.men.items ≡ men_squares c board
+  pub cost : s.cost ≡ side_cost_if nothing o board p set c
+  pub table : IfSome s.table (IsTableOf (cost_table_if nothing p set c (array_of o) board))
+
+-- so at some odds and prices, beside some set
+pub record IsReckoned (board : Places) (s : Side) : Type 0 where
+  pub odds : List Bool
+  pub prices : PriceList
+  pub set : List Bool
+  pub side : Colour
+  pub is : IsSide odds board prices set side s
+
+-- what is kept of a side
+abbrev pub side_in : Account → Colour → Side
+side_in a White = a.white
+side_in a Black = a.black
 
 -- The set is frozen and as in the array at the query's odds, no side has more men than it began with, and all that is kept is true.
 pub record IsAccount (q : Asked) (a : Account) : Type 0 where
   pub settled : IsSettled q.odds q a.set
   pub known : IsTrue (are_prices a.prices)
-  pub white_side : a.white.side ≡ White
-  pub black_side : a.black.side ≡ Black
-  pub white_set : a.white.frozen ≡ a.set
-  pub black_set : a.black.frozen ≡ a.set
-  pub white : IsGround q.odds a.prices a.white
-  pub black : IsGround q.odds a.prices a.black
-  pub white_begun : a.white_begun ≡ men_on White (array_of q.odds)
-  pub black_begun : a.black_begun ≡ men_on Black (array_of q.odds)
-  pub white_few : men_on White q.board ≤ men_on White (array_of q.odds)
-  pub black_few : men_on Black q.board ≤ men_on Black (array_of q.odds)
-  pub sixteen : (a.white_begun ≤ 16) × (a.black_begun ≤ 16)
+  pub white : IsSide q.odds q.board a.prices a.set White a.white
+  pub black : IsSide q.odds q.board a.prices a.set Black a.black
   pub most : a.most ≡ most_cost q.odds a.prices
 
 -- It is an account beside this set, at these prices.

@@ -1,74 +1,50 @@
-ghost use Rattle.std.specs.Prelude.{◌≡◌, ◌↔◌, ◌≤◌, Bool, IfSome, IsTrue, List, false};
-ghost use Rattle.board_base.specs.Board.{array_of};
-ghost use Rattle.balance_rule.specs.Balance.{men_on};
-ghost use Rattle.balance_rule.specs.Grounds.{IsGround};
+ghost use Rattle.std.specs.Prelude.{◌≡◌, ◌↔◌, Bool, IfSome, IfNone, IsTrue, List, Some, false};
+ghost use Rattle.board_base.specs.declared.men.Colour.{Colour as AColour};
 ghost use Rattle.capture_prices.specs.Prices.{PriceList};
 ghost use Rattle.ledger_facts.specs.Accounts.{side_cost_if};
 ghost use Rattle.ledger_facts.specs.Refuted.{IsRefuted};
+ghost use Rattle.ledger_facts.specs.declared.suppositions.Supposition.{Supposition as ASupposition};
 ghost use Rattle.ledger_rule.specs.Counting.{is_count};
-ghost use Rattle.ledger_rule.specs.Kept.{IsAccount, IsAccountOf};
+ghost use Rattle.ledger_rule.specs.Kept.{IsAccount, IsAccountOf, IsReckoned, IsSide};
 
+use crate::changing::{by_home, by_homes, by_man};
 use crate::refuting::{is_settled, refutes};
+use crate::sides::{Side, Table, side_of};
 use crate::tables::cost_beside;
-use balance_rule::{Ground, begun_with, ground_of, most_cost};
+use balance_rule::most_cost;
 use board_base::{Board, Colour, SquareSet};
 use capture_prices::Prices;
-use ledger_facts::{Squares, Supposition};
+use ledger_facts::Supposition;
 use query_base::Query;
 
 /// What is reckoned once for all suppositions on a query, at the same prices and beside the same set.
-#[derive(Clone, Copy)]
+#[derive(Drop)]
 pub struct Account {
     pub set: SquareSet,
     pub prices: Prices,
-    pub white: Ground,
-    pub black: Ground,
-    /// With how many men each side begins.
-    pub white_begun: u8,
-    pub black_begun: u8,
+    pub white: Side,
+    pub black: Side,
     /// What the true homes of all men cost at most.
     pub most: u32,
 }
 
-/// A supposition that rules out nothing.
-const NOTHING: Supposition = Supposition::AtMost(Colour::White, Squares::All, 0);
-
-/// Whether the ground's side, which began with so many men, has no more.
-fn has_few(ground: &Ground, board: &Board, begun: u8) -> bool
-    requires { begun ≤ 16 }
-    ensures { (o : List Bool) (p : PriceList) → IsGround o p ground.now → begun ≡ men_on ground.now.side (array_of o) → IsTrue result → men_on ground.now.side board.now ≤ begun }
-{
-    let Some(_) = cost_beside(ground, &NOTHING, board, begun) else {
-        return false;
-    };
-    true
-}
-
-/// What is reckoned once; None if the set isn't frozen and as in the array, or a side has more men than it began with.
+/// What is reckoned once; None only if no supposition is refuted, since the set isn't frozen and as in the array, or a side has more men
+/// than it began with.
 pub fn account_of(query: &Query, set: SquareSet, prices: &Prices) -> Option<Account>
-    ensures { IfSome result (IsAccountOf query.now set prices.now) }
+    ensures kept { IfSome result (IsAccountOf query.now set prices.now) }
+    ensures none { IfNone result ((x : ASupposition) → IsRefuted x query.now set prices.now → ⊥) }
 {
     if !is_settled(query, set) {
         return None;
     }
-    let white = ground_of(query, set, prices, Colour::White);
-    let white_begun = begun_with(Colour::White, query.odds);
-    if !has_few(&white, &query.board, white_begun) {
-        return None;
-    }
-    let black = ground_of(query, set, prices, Colour::Black);
-    let black_begun = begun_with(Colour::Black, query.odds);
-    if !has_few(&black, &query.board, black_begun) {
-        return None;
-    }
+    let white = side_of(query, set, prices, Colour::White)?;
+    let black = side_of(query, set, prices, Colour::Black)?;
     let most = most_cost(query.odds, prices);
     Some(Account {
         set,
         prices: *prices,
         white,
         black,
-        white_begun,
-        black_begun,
         most,
     })
 }
@@ -87,15 +63,41 @@ fn is_count(supposition: &Supposition) -> bool
     }
 }
 
-/// The least that the men of the ground's side cost, where it has no more than the men with whom it began.
-fn cost_of(ground: &Ground, supposition: &Supposition, board: &Board, begun: u8) -> u32
-    requires { begun ≤ 16 }
-    ensures value { (o : List Bool) (p : PriceList) → IsGround o p ground.now → begun ≡ men_on ground.now.side (array_of o) → men_on ground.now.side board.now ≤ begun → result ≡ side_cost_if supposition.now o board.now p ground.now.frozen ground.now.side }
-    ensures small { result ≤ 80_000 }
+/// The same as `cost_if`, man by man.
+fn cost_anew(side: &Side, supposition: &Supposition, board: &Board) -> u32
+    requires { IsReckoned board.now side.now }
+    ensures { (o : List Bool) (p : PriceList) (set : List Bool) (c : AColour) → IsSide o board.now p set c side.now → result ≡ side_cost_if supposition.now o board.now p set c }
 {
-    match cost_beside(ground, supposition, board, begun) {
+    match cost_beside(&side.ground, supposition, board, side.begun) {
         Some(cost) => cost,
         None => 0,
+    }
+}
+
+/// The same, by what sixteen men cost if nothing is supposed.
+fn cost_by(side: &Side, table: &Table, supposition: &Supposition, board: &Board) -> u32
+    requires known { IsReckoned board.now side.now }
+    requires table { side.now.table ≡ Some table.now }
+    ensures { (o : List Bool) (p : PriceList) (set : List Bool) (c : AColour) → IsSide o board.now p set c side.now → result ≡ side_cost_if supposition.now o board.now p set c }
+{
+    match *supposition {
+        Supposition::Began(t, homes) => by_homes(side, table, board, t, homes),
+        Supposition::Went(t, _) => by_man(side, table, board, supposition, t),
+        Supposition::Stands(k, _) => by_home(side, table, board, supposition, k),
+        Supposition::Gone(k, _, _) => by_home(side, table, board, supposition, k),
+        Supposition::AtMost(_, _, _) => side.cost,
+        Supposition::AtLeast(_, _, _) => side.cost,
+    }
+}
+
+/// The least that the men of a side cost.
+fn cost_if(side: &Side, supposition: &Supposition, board: &Board) -> u32
+    requires { IsReckoned board.now side.now }
+    ensures { (o : List Bool) (p : PriceList) (set : List Bool) (c : AColour) → IsSide o board.now p set c side.now → result ≡ side_cost_if supposition.now o board.now p set c }
+{
+    match &side.table {
+        Some(table) => cost_by(side, table, supposition, board),
+        None => cost_anew(side, supposition, board),
     }
 }
 
@@ -105,19 +107,9 @@ fn costs_more(query: &Query, account: &Account, supposition: &Supposition) -> bo
     requires cells { is_count supposition.now ≡ false }
     ensures { IsTrue result ↔ IsRefuted supposition.now query.now account.now.set account.now.prices }
 {
-    let white = cost_of(
-        &account.white,
-        supposition,
-        &query.board,
-        account.white_begun,
-    );
-    let black = cost_of(
-        &account.black,
-        supposition,
-        &query.board,
-        account.black_begun,
-    );
-    account.most < white + black
+    let white = cost_if(&account.white, supposition, &query.board);
+    let black = cost_if(&account.black, supposition, &query.board);
+    u64::from(account.most) < u64::from(white) + u64::from(black)
 }
 
 /// Whether the prices of an account of the query refute a supposition, as `refutes` does.

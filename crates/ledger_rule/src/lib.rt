@@ -4,11 +4,17 @@
 #![tactic(auto)]
 
 mod accounts;
+mod changing;
+mod counting;
 mod lists;
 mod losses;
+mod men;
 mod refuting;
+mod sides;
 mod standing;
 mod tables;
 
 pub use accounts::{Account, account_of, refutes_in};
+pub use counting::{least_count, most_count};
 pub use refuting::refutes;
+pub use sides::{Side, Table};

@@ -50,7 +50,7 @@ fn dearer_takes(prices: &Prices, side: Colour, squares: Squares) -> [u8; 16]
 }
 
 /// The prices with those of a side's captures on these squares dearer; None exactly where one is above 96 then.
-fn raised(side: Colour, squares: Squares, prices: &Prices) -> Option<Prices>
+pub(crate) fn raised(side: Colour, squares: Squares, prices: &Prices) -> Option<Prices>
     ensures { SomeIff result (IsTrue (are_prices (raised side squares prices.now))) (raised side squares prices.now) }
 {
     let dear = dearer_takes(prices, side, squares);

@@ -124,7 +124,7 @@ pub(crate) fn same_square(a: Square, b: Square) -> bool
 }
 
 /// The cell of a man who is supposed to have begun on some homes: barred on others, if this is his square.
-fn began(n: u8, plain: u16, side: Colour, homes: SquareSet, here: bool) -> u16
+pub(crate) fn began(n: u8, plain: u16, side: Colour, homes: SquareSet, here: bool) -> u16
     requires few { n < 16 }
     requires small { plain ≤ never }
     ensures small { result ≤ never }

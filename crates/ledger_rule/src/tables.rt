@@ -22,7 +22,7 @@ use ledger_facts::Supposition;
 use query_base::Query;
 
 /// What it costs that the man on a square began on each of the side's homes, if the supposition is true.
-fn stand_row(ground: &Ground, supposition: &Supposition, board: &Board, s: Square) -> [u16; 16]
+pub(crate) fn stand_row(ground: &Ground, supposition: &Supposition, board: &Board, s: Square) -> [u16; 16]
     ensures small { All (λ cost. cost ≤ never) result }
     ensures value { (o : List Bool) (p : PriceList) → IsGround o p ground.now → result ≡ stand_row_if supposition.now p ground.now.frozen ground.now.side (array_of o) board.now s }
 {
@@ -55,7 +55,7 @@ fn gone_so(ground: &Ground, promoted: bool, struck: bool, n: u8, plain: u16, her
 }
 
 /// What it costs that the man of this number of the side is gone, if the supposition is true and this is what it costs otherwise.
-fn gone_if(ground: &Ground, supposition: &Supposition, n: u8, plain: u16) -> u16
+pub(crate) fn gone_if(ground: &Ground, supposition: &Supposition, n: u8, plain: u16) -> u16
     requires few { n < 16 }
     requires small { plain ≤ never }
     ensures small { result ≤ never }
@@ -132,7 +132,7 @@ fn fill_up(rows: &mut ArrayVec<[u16; 16], 16>, row: [u16; 16], begun: u8)
 }
 
 /// A row for each man of the side, and one for each who is missing of so many; None exactly where it has more.
-fn cost_table(
+pub(crate) fn cost_table(
     ground: &Ground,
     supposition: &Supposition,
     board: &Board,
@@ -150,7 +150,7 @@ fn cost_table(
 }
 
 /// The least cost of giving the rows columns of their own.
-fn least_cost(rows: &[[u16; 16]]) -> u32
+pub(crate) fn least_cost(rows: &[[u16; 16]]) -> u32
     requires { IsTable rows.now 16 never }
     ensures value { result ≡ least_cost 16 rows.now }
     ensures small { result ≤ 80_000 }

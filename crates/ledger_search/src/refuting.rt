@@ -1,21 +1,22 @@
-ghost use Rattle.std.specs.Prelude.{◌≡◌, ◌↔◌, IfSome, IsTrue, cond, slice_set, true};
+ghost use Rattle.std.specs.Prelude.{◌≡◌, ◌↔◌, Bool, IfSome, IsTrue, List, cond, slice_set, true};
 ghost use Rattle.board_base.specs.Board.{array_of};
 ghost use Rattle.ledger_facts.specs.Refuted.{IsRefuted};
 ghost use Rattle.price_search.specs.FlatPrices.{flat_prices};
-ghost use Rattle.ledger_rule.specs.Kept.{IsAccountOf};
-ghost use Rattle.ledger_search.specs.Desks.{IsDesk};
+ghost use Rattle.price_search.specs.declared.payers.Payers.{Payers as APayers};
+ghost use Rattle.ledger_rule.specs.Kept.{IsAccount};
+ghost use Rattle.ledger_search.specs.Desks.{IsDesk, IsKept};
 ghost use Rattle.ledger_search.specs.Questions.{AreAnswered, IsFlatlyRefuted, about, is_asked};
 
 use crate::questions::{Question, about, is_asked};
 use board_base::{Square, SquareSet};
 use capture_prices::Prices;
 use ledger_facts::Supposition;
-use ledger_rule::{Account, account_of, refutes, refutes_in};
+use ledger_rule::{Account, account_of, refutes_in};
 use price_search::Payers;
 use query_base::Query;
 
 /// What is reckoned once for all suppositions on a query, beside a set and at each of the flat prices.
-#[derive(Clone, Copy)]
+#[derive(Drop)]
 pub(crate) struct Desk {
     pub(crate) set: SquareSet,
     pub(crate) both: Option<Account>,
@@ -34,9 +35,9 @@ fn flat_prices(payers: Payers) -> Prices
     }
 }
 
-/// What is reckoned once at these flat prices; None as `account_of` says.
+/// What is reckoned once at these flat prices; None only if they refute nothing.
 fn account_at(query: &Query, set: SquareSet, payers: Payers) -> Option<Account>
-    ensures { IfSome result (IsAccountOf query.now set (flat_prices payers)) }
+    ensures { IsKept query.now set payers result }
 {
     account_of(query, set, &flat_prices(payers))
 }
@@ -54,20 +55,14 @@ pub(crate) fn desk_of(query: &Query, set: SquareSet) -> Desk
     }
 }
 
-/// Whether the flat prices at which these pay refute the supposition, by their account if there is one.
-fn refuted_at(
-    query: &Query,
-    set: SquareSet,
-    account: &Option<Account>,
-    payers: Payers,
-    supposition: &Supposition,
-) -> bool
-    requires { IfSome account.now (IsAccountOf query.now set (flat_prices payers)) }
-    ensures { IsTrue result ↔ IsRefuted supposition.now query.now set (flat_prices payers) }
+/// Whether the prices of an account refute the supposition, if there is one.
+fn refuted_at(query: &Query, account: &Option<Account>, supposition: &Supposition) -> bool
+    requires { IfSome account.now (IsAccount query.now) }
+    ensures { (set : List Bool) (p : APayers) → IsKept query.now set p account.now → IsTrue result ↔ IsRefuted supposition.now query.now set (flat_prices p) }
 {
     match account {
         Some(kept) => refutes_in(query, kept, supposition),
-        None => refutes(query, set, &flat_prices(payers), supposition),
+        None => false,
     }
 }
 
@@ -76,25 +71,13 @@ pub(crate) fn is_refuted(query: &Query, desk: &Desk, supposition: &Supposition) 
     requires { IsDesk query.now desk.now }
     ensures { IsTrue result ↔ IsFlatlyRefuted supposition.now query.now desk.now.set }
 {
-    if refuted_at(query, desk.set, &desk.both, Payers::Both, supposition) {
+    if refuted_at(query, &desk.both, supposition) {
         return true;
     }
-    if refuted_at(
-        query,
-        desk.set,
-        &desk.white_alone,
-        Payers::WhiteAlone,
-        supposition,
-    ) {
+    if refuted_at(query, &desk.white_alone, supposition) {
         return true;
     }
-    refuted_at(
-        query,
-        desk.set,
-        &desk.black_alone,
-        Payers::BlackAlone,
-        supposition,
-    )
+    refuted_at(query, &desk.black_alone, supposition)
 }
 
 /// Whether the question is asked of a square, and flat prices refute that its answer is yes.

@@ -1,26 +1,23 @@
-use Rattle.std.proofs.Common.{ℕ, arith}
-use Rattle.std.proofs.lemmas.Bool.{both_ways}
-use Rattle.ledger_facts.specs.declared.suppositions.Supposition.TheVariants.{AtMost}
-use Rattle.ledger_search.specs.Questions.{IsFlatlyRefuted}
-use Rattle.ledger_search.proofs.Found.{below-more}
+use Rattle.std.proofs.Common.{◌≡◌, arith}
+use Rattle.price_search.specs.declared.payers.Payers.TheVariants.{Both, WhiteAlone, BlackAlone}
+use Rattle.ledger_search.proofs.AtFlat.{kept-known}
+use Rattle.ledger_search.proofs.Counting.{greatest}
 use Rattle.ledger_search.proofs.counts.least.Goals as goal
 
-pub loop-n-init : goal.loop-n-init
-loop-n-init c = λ m low. absurd (omega (arith, low))
+pub least_at-both-requires : goal.least_at-both-requires
+least_at-both-requires c = kept-known c.args.query.now c.args.desk.now.set Both c.args.desk.now.both c.requires.both
 
-pub loop-n-preserved : goal.loop-n-preserved
-loop-n-preserved c = below-more (λ (m : ℕ). IsFlatlyRefuted (AtMost c.args.side c.args.squares m) c.args.query.now c.args.desk.now.set) c.loop-n.n c.loop-n.invariant (c.is_refuted.ensures.0 c.if-not-is_refuted.false)
+pub least_at-white_alone-requires : goal.least_at-white_alone-requires
+least_at-white_alone-requires c = kept-known c.args.query.now c.args.desk.now.set WhiteAlone c.args.desk.now.white_alone c.requires.white_alone
 
-pub returns-then-not-is_refuted : goal.returns-then-not-is_refuted
-returns-then-not-is_refuted c = record {
-  few = let inside = c.loop-n-test.true in omega (arith, inside);
-  refuted = c.loop-n.invariant;
-  last = λ low it. both_ways c.is_refuted.result c.if-not-is_refuted.true (c.is_refuted.ensures.1 it);
-}
+pub least_at-black_alone-requires : goal.least_at-black_alone-requires
+least_at-black_alone-requires c = kept-known c.args.query.now c.args.desk.now.set BlackAlone c.args.desk.now.black_alone c.requires.black_alone
 
 pub returns : goal.returns
-returns c = record {
-  few = omega arith;
-  refuted = λ m low. let past = c.loop-n.auto.n-end in c.loop-n.invariant m (omega (arith, low));
-  last = λ low it. absurd (omega (arith, low));
-}
+returns c =
+    let set = c.args.desk.now.set in
+    let both = c.least_at-both.ensures in
+    let white = c.least_at-white_alone.ensures in
+    let black = c.least_at-black_alone.ensures in
+    greatest c.args.side c.args.squares c.args.query.now set c.least_at-both.result c.least_at-white_alone.result c.least_at-black_alone.result c.max-2.result
+    (both.refuted set Both c.requires.both) (white.refuted set WhiteAlone c.requires.white_alone) (black.refuted set BlackAlone c.requires.black_alone) both.few white.few black.few (omega (arith, c.max.ensures, c.max-2.ensures))

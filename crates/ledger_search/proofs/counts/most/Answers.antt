@@ -1,28 +1,23 @@
-use Rattle.std.proofs.Common.{ℕ, ◌-◌, inl, inr, sym, subst, arith}
-use Rattle.std.proofs.lemmas.Bool.{both_ways, cases_eq}
-use Rattle.ledger_facts.specs.declared.suppositions.Supposition.TheVariants.{AtLeast}
-use Rattle.ledger_search.specs.Questions.{IsFlatlyRefuted}
+use Rattle.std.proofs.Common.{◌≡◌, arith}
+use Rattle.price_search.specs.declared.payers.Payers.TheVariants.{Both, WhiteAlone, BlackAlone}
+use Rattle.ledger_search.proofs.AtFlat.{kept-known}
+use Rattle.ledger_search.proofs.Counting.{smallest}
 use Rattle.ledger_search.proofs.counts.most.Goals as goal
 
-pub loop-k-init : goal.loop-k-init
-loop-k-init c = λ m high small. absurd (omega (arith, high, small))
+pub most_at-both-requires : goal.most_at-both-requires
+most_at-both-requires c = kept-known c.args.query.now c.args.desk.now.set Both c.args.desk.now.both c.requires.both
 
-pub loop-k-preserved : goal.loop-k-preserved
-loop-k-preserved c = λ m high small. elim (cases_eq m (16 - c.loop-k.k)) [
-  | inl same ↦ subst (λ (n : ℕ). IsFlatlyRefuted (AtLeast c.args.side c.args.squares n) c.args.query.now c.args.desk.now.set) (sym same) (c.is_refuted.ensures.0 c.if-not-is_refuted.false)
-  | inr other ↦ c.loop-k.invariant m (omega (arith, high, small, other)) small
-]
+pub most_at-white_alone-requires : goal.most_at-white_alone-requires
+most_at-white_alone-requires c = kept-known c.args.query.now c.args.desk.now.set WhiteAlone c.args.desk.now.white_alone c.requires.white_alone
 
-pub returns-then-not-is_refuted : goal.returns-then-not-is_refuted
-returns-then-not-is_refuted c = record {
-  few = omega arith;
-  refuted = λ m low small. let inside = c.loop-k-test.true in c.loop-k.invariant m (omega (arith, low, inside)) small;
-  last = λ some it. both_ways c.is_refuted.result c.if-not-is_refuted.true (c.is_refuted.ensures.1 it);
-}
+pub most_at-black_alone-requires : goal.most_at-black_alone-requires
+most_at-black_alone-requires c = kept-known c.args.query.now c.args.desk.now.set BlackAlone c.args.desk.now.black_alone c.requires.black_alone
 
 pub returns : goal.returns
-returns c = record {
-  few = omega arith;
-  refuted = λ m low small. let past = c.loop-k.auto.k-end in c.loop-k.invariant m (omega (arith, low)) small;
-  last = λ low it. absurd (omega (arith, low));
-}
+returns c =
+    let set = c.args.desk.now.set in
+    let both = c.most_at-both.ensures in
+    let white = c.most_at-white_alone.ensures in
+    let black = c.most_at-black_alone.ensures in
+    smallest c.args.side c.args.squares c.args.query.now set c.most_at-both.result c.most_at-white_alone.result c.most_at-black_alone.result c.min-2.result
+    (both.refuted set Both c.requires.both) (white.refuted set WhiteAlone c.requires.white_alone) (black.refuted set BlackAlone c.requires.black_alone) both.few white.few black.few (omega (arith, c.min.ensures, c.min-2.ensures))

@@ -1,19 +1,20 @@
-use Rattle.std.proofs.Common.{List, Bool, subst}
-use Rattle.std.specs.Prelude.{IfSome, IsTrue, Option, ◌↔◌}
-use Rattle.capture_prices.specs.Prices.{PriceList}
-use Rattle.price_search.specs.FlatPrices.{flat_prices}
-use Rattle.ledger_facts.specs.Refuted.{IsRefuted}
-use Rattle.ledger_rule.specs.Kept.{IsAccountOf}
-use Rattle.ledger_rule.specs.declared.accounts.Account.{Account}
+use Rattle.std.proofs.Common.{refl}
+use Rattle.std.proofs.lemmas.Bool.{both_ways}
+use Rattle.ledger_search.proofs.AtFlat.{back, kept-none, kept-some, there}
 use Rattle.ledger_search.proofs.refuting.refuted_at.Goals as goal
 
-pub refutes_in-requires : goal.refutes_in-requires
-refutes_in-requires c =
-    let of = subst (λ (r : Option Account). IfSome r (IsAccountOf c.args.query.now c.args.set (flat_prices c.args.payers))) c.in-Some.is c.requires in
-    of.account
-
 pub returns-in-Some : goal.returns-in-Some
-returns-in-Some c =
-    let of = subst (λ (r : Option Account). IfSome r (IsAccountOf c.args.query.now c.args.set (flat_prices c.args.payers))) c.in-Some.is c.requires in
-    let there = subst (λ (s : List Bool). IsTrue c.refutes_in.result ↔ IsRefuted c.args.supposition.now c.args.query.now s c.in-Some.kept.prices) of.beside c.refutes_in.ensures in
-    subst (λ (p : PriceList). IsTrue c.refutes_in.result ↔ IsRefuted c.args.supposition.now c.args.query.now c.args.set p) of.at_prices there
+returns-in-Some c = λ set p kept.
+    let q = c.args.query.now in
+    let a = c.in-Some.kept in
+    let is = kept-some q set p c.args.account.now a kept c.in-Some.is in
+    let both = c.refutes_in.ensures in (
+      λ yes. there q set p a c.args.supposition.now is (both.0 yes),
+      λ it. both.1 (back q set p a c.args.supposition.now is it),
+    )
+
+pub returns-in-None : goal.returns-in-None
+returns-in-None c = λ set p kept. (
+  λ yes. absurd (both_ways _ refl yes),
+  λ it. absurd (kept-none c.args.query.now set p c.args.account.now kept c.in-None.is c.args.supposition.now it),
+)
