@@ -1,0 +1,9 @@
+pub mod Adding
+pub mod Ending
+pub mod Strangers
+pub mod Leaving
+pub mod Marking
+pub mod Nodes
+pub mod Rests
+pub mod Siblings
+pub mod Starting
