@@ -6,7 +6,7 @@ ghost use Rattle.sketch_prose.specs.Dues.{IsNext, due_by};
 
 use board_base::Kind;
 use figures::Sketch;
-use sketch_node::known_at;
+use sketch_proof::known_at;
 use sketch_text::Officer;
 use sketch_walk::StepsBack;
 

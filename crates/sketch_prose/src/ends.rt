@@ -22,7 +22,7 @@ use board_base::Square;
 use figures::{Sketch, fixed_squares};
 use prose_words::say;
 use sketch_grounds::greatest_frozen;
-use sketch_node::{before_steps, first_unknown};
+use sketch_proof::{before_steps, first_unknown};
 use sketch_text::{End, Officer};
 use sketch_walk::StepsBack;
 use sketch_words::{

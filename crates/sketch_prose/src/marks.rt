@@ -18,7 +18,7 @@ use capture_prices::Prices;
 use figures::Sketch;
 use sketch_body::SketchLine;
 use sketch_grounds::greatest_frozen;
-use sketch_node::marked;
+use sketch_proof::marked;
 use sketch_text::MarkLine;
 use sketch_words::{figures_list, push_fresh, push_marked, without};
 use std::alloc::{AllocError, Global};
