@@ -1,7 +1,7 @@
+pub mod Foreigners
 pub mod Sentences
 pub mod Telling
 pub mod Bases
-pub mod Foreigners
 pub mod Dues
 pub mod Levels
 pub mod Ending

@@ -1,16 +1,16 @@
 -- The sentences that tell why no game comes to a sketch: what each says, and its words.
-use Rattle.std.specs.Prelude.{ℕ, ◌≡◌, Bool, true, false, IsTrue, List, [], ◌∷◌, ◌++◌, codes, Some}
-use Rattle.board_base.specs.Board.{is_in}
+use Rattle.std.specs.Prelude.{ℕ, ◌≡◌, Bool, true, false, List, [], ◌∷◌, ◌++◌, codes}
 use Rattle.board_base.specs.declared.moves.Move.{Move}
-use Rattle.figures.specs.Figures.{Figure, Sketch, figure_at, fixed_squares, is_fixed_on}
+use Rattle.figures.specs.Figures.{Sketch, fixed_squares}
 use Rattle.figures.specs.Homes.{may_be_array}
 use Rattle.past_sketches.specs.Moments.{FitsGame}
 use Rattle.sketch_account.specs.Basis.{IsClosedAt}
 use Rattle.sketch_checker.specs.DueNodes.{Due}
-use Rattle.sketch_grounds.specs.Frozen.{IsBegun, IsFrozenIn}
+use Rattle.sketch_grounds.specs.Frozen.{IsFrozenIn}
 use Rattle.sketch_grounds.specs.FrozenSets.{greatest_frozen}
 use Rattle.sketch_proof.specs.Nodes.{IsFirstUnknown, IsLeastAbove}
 use Rattle.sketch_proof.specs.Proofs.{AreForced, AtLine, Setting}
+use Rattle.sketch_prose.specs.Foreigners.{IsForeignIn}
 use Rattle.sketch_text.specs.Marks.{Marks}
 use Rattle.sketch_words.specs.Phrases.{Spot, astray_words, foreign_words, fresh_words, heading_words, marked_words, settled_words, shut_words, stepped_words, unknown_words}
 use Rattle.sketch_words.specs.Words.{figures_words, set_words, without}
@@ -34,14 +34,9 @@ pub data Sentence : Type 0 where
 abbrev pub FitsNone : Setting → Sketch → Type 0
 FitsNone g S = (m : List Move) → FitsGame g.odds m g.held S → ⊥
 
--- s is a square of men who never moved, and its figure can't stand for the man whom the array has there
-pub record IsForeign (g : Setting) (S : Sketch) (s : ℕ) : Type 0 where
-  pub frozen : IsTrue (is_in (greatest_frozen g.held S) s)
-  pub number : ℕ
-  pub figure : Figure
-  pub there : figure_at S number ≡ Some figure
-  pub fixed : IsTrue (is_fixed_on s figure)
-  pub other : IsBegun g.odds s figure → ⊥
+-- s is a square of men who never moved, and its figure, the first such one, can't stand for the man whom the array has there
+abbrev pub IsForeign : Setting → Sketch → ℕ → Type 0
+IsForeign g S s = IsForeignIn g.odds S (greatest_frozen g.held S) s
 
 -- at a line of prices the account of the sketch is above 0
 abbrev pub Unbalances : Setting → ℕ → Sketch → Type 0

@@ -1,11 +1,9 @@
 //! Men who never moved, but aren't the array's.
 
-ghost use Rattle.std.specs.Prelude.{◌≡◌, IfSome, IsSome, None, length, true};
-ghost use Rattle.board_base.specs.Board.{array_of, at, is_in};
-ghost use Rattle.sketch_grounds.specs.Begun.{begins_on, is_begun};
+ghost use Rattle.std.specs.Prelude.{◌≡◌, IfSome, IsSome, None};
+ghost use Rattle.sketch_grounds.specs.Begun.{begins_on};
 ghost use Rattle.sketch_grounds.specs.Frozen.{AreBegun};
-ghost use Rattle.figures.specs.Figures.{is_fixed_on};
-ghost use Rattle.sketch_prose.specs.Foreigners.{IsForeignIn, IsForeignOn};
+ghost use Rattle.sketch_prose.specs.Foreigners.{IsBegunOn, IsForeignIn, IsForeignOn};
 
 use board_base::{Board, Man, Odds, Square, SquareSet, array_of};
 use figures::{Figure, Sketch};
@@ -23,8 +21,7 @@ fn begins_on(place: Option<Man>, figure: &Figure) -> bool
 /// The figure's square, if he is fixed on one of the set and can't stand for the man whom the array has there.
 fn foreign_square(first: &Board, set: SquareSet, figure: &Figure) -> Option<Square>
     ensures foreign { IfSome result (IsForeignOn first.now set figure.now) }
-    ensures none { result ≡ None → is_begun first.now set figure.now ≡ true }
-    ensures size { length figure.now.squares ≡ 64 }
+    ensures none { result ≡ None → IsBegunOn first.now set figure.now }
 {
     match figure.fixed_square() {
         Some(s) => {
