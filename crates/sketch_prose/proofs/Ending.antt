@@ -1,5 +1,5 @@
 -- The ends of nodes, as they are told.
-use Rattle.std.proofs.Common.{◌≡◌, ℕ, false, true, Bool, List, [], ◌∷◌, ◌++◌, append_assoc, append-nil, length, map, refl, ap, sym, ◌∙◌, subst}
+use Rattle.std.proofs.Common.{◌≡◌, ℕ, false, true, Bool, List, [], ◌∷◌, ◌++◌, append_assoc, append-nil, arith, length, map, refl, ap, sym, ◌∙◌, subst}
 use Rattle.std.specs.Prelude.{Option, Some, None, codes}
 use Rattle.std.specs.List.{Contains}
 use Rattle.general_lemmas.proofs.Lists.{contains-first, contains-later}
@@ -95,6 +95,12 @@ each-fit o (e ∷ es) able whole = (
   each-fit o es able.1 (λ x there. whole x (contains-later e es x there)),
 )
 
+each-count : (ns : Nodes) (g : Setting) (es : List Earlier) → HoldEach ns g es → count ns ≡ length es
+each-count none g [] it = refl
+each-count none g (e ∷ es) it = absurd it
+each-count (more n ns) g [] it = absurd it
+each-count (more n ns) g (e ∷ es) it = let many : count ns ≡ length es = each-count ns g es it.1 in omega (arith, many)
+
 steps-told : (ns : Nodes) (g : Setting) (D : Sketch) (at : Spot) (S : Sketch) (o p : List ℕ) (T : Sketch) → IsLeastAbove g.held g.exact S T → HoldEach ns g (earlier g.odds g.exact T) → IsFit g.odds S → (told : StepsTold g at S (count ns) (Some (level_of at (count ns) (map due_of (earlier g.odds g.exact T)))) o p) → told.wide ≡ T → EndsTold (steps ns) g D at S (Some (level_of at (count ns) (map due_of (earlier g.odds g.exact T)))) o p
 steps-told ns g D at S o p T least each fit told same =
     let ways : List Sentence = settled S T ∷ stepped T (count ns) ∷ [] in
@@ -103,7 +109,7 @@ steps-told ns g D at S o p T least each fit told same =
     let second : List ℕ = stepped_words g.exact (count ns) in
     record {
       said = ways;
-      so = (least, (no_array, tt));
+      so = (least, ((no_array, each-count ns g (earlier g.odds g.exact T) each), tt));
       opens = (
         ns,
         refl,

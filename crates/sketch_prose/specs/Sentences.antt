@@ -1,5 +1,5 @@
 -- The sentences that tell why no game comes to a sketch: what each says, and its words.
-use Rattle.std.specs.Prelude.{ℕ, ◌≡◌, Bool, true, false, List, [], ◌∷◌, ◌++◌, codes}
+use Rattle.std.specs.Prelude.{ℕ, ◌≡◌, Bool, true, false, List, [], ◌∷◌, ◌++◌, codes, length}
 use Rattle.board_base.specs.declared.moves.Move.{Move}
 use Rattle.figures.specs.Figures.{Sketch, fixed_squares}
 use Rattle.figures.specs.Homes.{may_be_array}
@@ -8,6 +8,7 @@ use Rattle.sketch_account.specs.Basis.{IsClosedAt}
 use Rattle.sketch_checker.specs.DueNodes.{Due}
 use Rattle.sketch_grounds.specs.Frozen.{IsFrozenIn}
 use Rattle.sketch_grounds.specs.FrozenSets.{greatest_frozen}
+use Rattle.sketch_list.specs.Listed.{earlier}
 use Rattle.sketch_proof.specs.Nodes.{IsFirstUnknown, IsLeastAbove}
 use Rattle.sketch_proof.specs.Proofs.{AreForced, AtLine, Setting}
 use Rattle.sketch_prose.specs.Foreigners.{IsForeignIn}
@@ -44,7 +45,8 @@ Unbalances g k S = AtLine g k (λ p. IsClosedAt g.odds g.held S p)
 
 -- What a sentence says. No game comes to what was before a step, or to a case. Each man on the greatest frozen set can't have come there
 -- while the others stood, or his home it is in a right that is held. The account forces each mark. T is the least closed sketch above S: who
--- has one square in it can't have moved since the last step. T can't be the array, so there was one. A man is one of whom it isn't known
+-- has one square in it can't have moved since the last step. T can't be the array, so there was one,
+-- and so many are listed. A man is one of whom it isn't known
 -- whether he is a knight, a rook or a queen. The account is above 0. A man who never moved isn't the array's. And the same of what was
 -- before a step, or of a case.
 abbrev pub Says : Setting → Sentence → Type 0
@@ -52,7 +54,7 @@ Says g (numbered at n d) = FitsNone g d.sketch
 Says g (unmoved known S) = IsFrozenIn g.held S (greatest_frozen g.held S)
 Says g (marked m S) = AreForced g S m
 Says g (settled S T) = IsLeastAbove g.held g.exact S T
-Says g (stepped T count) = may_be_array g.odds T ≡ false
+Says g (stepped T count) = (may_be_array g.odds T ≡ false) × (count ≡ length (earlier g.odds g.exact T))
 Says g (unknown s S) = (i : ℕ) × IsFirstUnknown S s i
 Says g (unbalanced k S) = Unbalances g k S
 Says g (foreign s S) = IsForeign g S s

@@ -22,7 +22,7 @@ number_words at n label = at.lead ++ at.prefix ++ decimal n ++ codes ". " ++ lea
 
 -- what is told of a node begins so
 abbrev pub heading_words : Spot → ℕ → Label → List ℕ
-heading_words at n Now = codes "No game leads to these men, whoever is to move."
+heading_words at n Now = codes "No game leads to this position, whoever is to move."
 heading_words at n (Step x) = number_words at n (Step x)
 heading_words at n (Case k) = number_words at n (Case k)
 
@@ -53,7 +53,7 @@ said_of list words = cond (length list == 0) [] (words ++ list ++ codes ".")
 -- whose marks are forced
 abbrev pub marked_words : List ℕ → List ℕ → List ℕ
 marked_words officers pawns =
-    said_of officers (codes " Of these officers none was promoted:") ++ said_of pawns (codes " Of these pawns none captured:") ++ codes " Otherwise the captures by pawns wouldn't balance."
+    said_of officers (codes " These officers aren't promoted pawns:") ++ said_of pawns (codes " These pawns never captured:") ++ codes " Otherwise the captures by pawns wouldn't balance."
 
 -- the letter of a file, if it is exact
 abbrev pub file_words : List Bool → ℕ → List ℕ
@@ -78,7 +78,7 @@ settled_words exact list = cond (length list == 0) [] (codes " Since the last " 
 -- that there was a last step
 abbrev pub stepped_words : List Bool → ℕ → List ℕ
 stepped_words exact count =
-    codes " Without a " ++ deed_words exact ++ codes " not all men can have come from home" ++ cond (count == 0) (codes ", but nothing of the kind can have been the last.") (codes ", so there was a last one.")
+    codes " Without a " ++ deed_words exact ++ codes " not all men can have come from home" ++ cond (count == 0) (codes ", but no such move can have been the last.") (codes ", so there was a last one.")
 
 -- of whom it isn't known what he was
 abbrev pub unknown_words : ℕ → List ℕ

@@ -45,7 +45,7 @@ taken_words taken.Officer = codes " with promotion (a knight, rook or queen fell
 
 -- that other pawns of the file that the pawn left stood above it
 abbrev pub above_words : ℕ → List ℕ
-above_words n = cond (n == 0) [] (codes " below " ++ decimal n ++ codes " of the file's pawns")
+above_words n = cond (n == 0) [] (codes " from below " ++ decimal n ++ codes " of the file's pawns")
 
 -- what stands behind the squares of a step
 abbrev pub way_words : Way → List ℕ

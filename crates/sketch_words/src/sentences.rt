@@ -47,7 +47,7 @@ pub fn push_heading(
     ensures { IfOk result (λ _. out.new.items ≡ out.old.items ++ heading_words spot.now number label.now) }
 {
     match label {
-        Label::Now => say(b"No game leads to these men, whoever is to move.", out),
+        Label::Now => say(b"No game leads to this position, whoever is to move.", out),
         Label::Step(_) | Label::Case(_) => push_numbered(spot, number, label, out),
     }
 }
@@ -153,8 +153,8 @@ pub fn push_marked(
 ) -> Result<(), AllocError>
     ensures { IfOk result (λ _. out.new.items ≡ out.old.items ++ marked_words officers.now pawns.now) }
 {
-    push_said_of(officers, b" Of these officers none was promoted:", out)?;
-    push_said_of(pawns, b" Of these pawns none captured:", out)?;
+    push_said_of(officers, b" These officers aren't promoted pawns:", out)?;
+    push_said_of(pawns, b" These pawns never captured:", out)?;
     say(b" Otherwise the captures by pawns wouldn't balance.", out)?;
     Ok(())
 }
@@ -256,7 +256,7 @@ pub fn push_stepped(
     say(b" not all men can have come from home", out)?;
     push_either(
         count == 0,
-        b", but nothing of the kind can have been the last.",
+        b", but no such move can have been the last.",
         b", so there was a last one.",
         out,
     )?;

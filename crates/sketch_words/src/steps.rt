@@ -58,9 +58,9 @@ fn lead_word(label: &Label) -> &'static [u8]
 }
 
 fn push_below(above: u8, out: &mut Vec<u8>) -> Result<(), AllocError>
-    ensures { IfOk result (λ _. out.new.items ≡ out.old.items ++ (codes " below " ++ decimal above ++ codes " of the file's pawns")) }
+    ensures { IfOk result (λ _. out.new.items ≡ out.old.items ++ (codes " from below " ++ decimal above ++ codes " of the file's pawns")) }
 {
-    say(b" below ", out)?;
+    say(b" from below ", out)?;
     push_number(usize::from(above), out)?;
     say(b" of the file's pawns", out)?;
     Ok(())

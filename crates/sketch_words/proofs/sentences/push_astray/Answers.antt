@@ -9,7 +9,7 @@ use Rattle.sketch_words.proofs.sentences.push_astray.Goals as goal
 
 pub returns : goal.returns
 returns c =
-    let h0 = c.in_ok-say.ensures in
+    let h0 = rw c.as_slice.ensures.value at c.in_ok-say.ensures in
     let h1 = thence c.args.out.now.items _ _ (c.args.spot.now.lead) (codes "It wasn't ") h0 (c.in_ok-say-2.ensures) in
     let h2 = thence c.args.out.now.items _ _ ((c.args.spot.now.lead) ++ (codes "It wasn't ")) (name_words c.args.label.now) h1 (c.in_ok-push_name.ensures) in
     let h3 = thence c.args.out.now.items _ _ (((c.args.spot.now.lead) ++ (codes "It wasn't ")) ++ (name_words c.args.label.now)) (codes ": whoever stood on ") h2 (c.in_ok-say-3.ensures) in

@@ -5,6 +5,6 @@ use Rattle.sketch_words.proofs.sentences.push_beginning.Goals as goal
 
 pub returns : goal.returns
 returns c =
-    let h0 = c.in_ok-say.ensures in
+    let h0 = rw c.as_slice.ensures.value at c.in_ok-say.ensures in
     let h1 = thence c.args.out.now.items _ _ (c.args.spot.now.lead) (codes "It wasn't ") h0 (c.in_ok-say-2.ensures) in
     h1

@@ -7,8 +7,8 @@ use Rattle.sketch_words.proofs.sentences.push_numbered.Goals as goal
 
 pub returns : goal.returns
 returns c =
-    let h0 = c.in_ok-say.ensures in
-    let h1 = thence c.args.out.now.items _ _ (c.args.spot.now.lead) (c.args.spot.now.prefix) h0 (c.in_ok-say-2.ensures) in
+    let h0 = rw c.as_slice.ensures.value at c.in_ok-say.ensures in
+    let h1 = thence c.args.out.now.items _ _ (c.args.spot.now.lead) (c.args.spot.now.prefix) h0 (rw c.as_slice-2.ensures.value at c.in_ok-say-2.ensures) in
     let h2 = thence c.args.out.now.items _ _ ((c.args.spot.now.lead) ++ (c.args.spot.now.prefix)) (decimal c.args.number) h1 (c.in_ok-push_number.ensures) in
     let h3 = thence c.args.out.now.items _ _ (((c.args.spot.now.lead) ++ (c.args.spot.now.prefix)) ++ (decimal c.args.number)) (codes ". ") h2 (c.in_ok-say-3.ensures) in
     let h4 = thence c.args.out.now.items _ _ ((((c.args.spot.now.lead) ++ (c.args.spot.now.prefix)) ++ (decimal c.args.number)) ++ (codes ". ")) (lead_word c.args.label.now) h3 (c.in_ok-push_lead.ensures) in
