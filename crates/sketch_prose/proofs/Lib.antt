@@ -7,3 +7,4 @@ pub mod Nodes
 pub mod Rests
 pub mod Siblings
 pub mod Starting
+pub mod OneText

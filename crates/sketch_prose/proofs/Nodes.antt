@@ -1,16 +1,18 @@
 -- A node among those that are left.
-use Rattle.std.proofs.Common.{◌≡◌, ℕ, ◌+◌, ◌-◌, ◌<◌, Bool, List, [], ◌∷◌, ◌++◌, append_assoc, append-nil, drop, length, map, refl, ap, sym, ◌∙◌, subst, arith}
+use Rattle.std.proofs.Common.{◌≡◌, ℕ, ◌+◌, ◌-◌, ◌<◌, Bool, false, List, [], ◌∷◌, ◌++◌, append_assoc, drop, get_or, length, map, refl, ap, sym, ◌∙◌, subst, arith}
 use Rattle.std.specs.Prelude.{Option, Some, None}
 use Rattle.std.proofs.lemmas.List.{drop_at, length-map}
 use Rattle.general_lemmas.proofs.Lists.{same_first, same_rest}
 use Rattle.figures.specs.Figures.{Sketch}
+use Rattle.sketch_body.specs.Seen.{line_of}
+use Rattle.sketch_body.specs.declared.lines.SketchLine.{SketchLine}
 use Rattle.sketch_checker.specs.DueNodes.{Due}
 use Rattle.sketch_checker.specs.Walks.{AreDue}
 use Rattle.sketch_proof.specs.Proofs.{Setting}
 use Rattle.sketch_prose.specs.Levels.{AreFit, AreLeft, GoesOn, IsHere, Level, NodeTold, TellsAll, back, behind, lines_under, marks_of}
 use Rattle.sketch_prose.specs.Sentences.{Sentence}
 use Rattle.sketch_words.specs.Phrases.{Spot}
-use Rattle.sketch_prose.specs.Telling.{TellsEach, is_shut, leaf_of, next_number, own_line}
+use Rattle.sketch_prose.specs.Telling.{TellsEach, begins_shut, is_shut, leaf_of, next_number, own_line}
 use Rattle.sketch_text.specs.Marks.{Marks}
 use Rattle.sketch_text.specs.Trees.{Line, Node, Nodes, count, lines_each, lines_of, more, node, none, of_marks, of_node}
 use Rattle.sketch_text.specs.declared.nodes.SketchNode.{SketchNode}
@@ -145,3 +147,41 @@ marks-never g v vs (more (node label marks reason) ns ∷ fs) m lines some (rest
 pub lines-never : (g : Setting) (fs : List Nodes) (l : Line) (lines : List Line) → AreLeft g [] fs (l ∷ lines) → ⊥
 lines-never g [] l lines it = cc
 lines-never g (ns ∷ fs) l lines it = it
+
+-- nothing is left at no level
+pub lines-never : (g : Setting) (fs : List Nodes) (l : Line) (ls : List Line) → AreLeft g [] fs (l ∷ ls) → ⊥
+lines-never g [] l ls it = none-are it
+  where
+    none-are : l ∷ ls ≡ [] → ⊥
+    none-are h = cc
+lines-never g (ns ∷ fs) l ls it = it
+
+-- THE NEXT SIBLING
+
+pub begins-none : (ns : Nodes) → count ns ≡ 0 → false ≡ begins_shut ns
+begins-none none e = refl
+begins-none (more x ns) e = absurd (let never : ⊥ = omega (arith, e) in never)
+
+pub begins-nowhere : (ns : Nodes) (rest : List Line) (lines : List SketchLine) → length lines ≡ 0 → map line_of lines ≡ lines_each ns ++ rest → false ≡ begins_shut ns
+begins-nowhere none rest lines few e = refl
+begins-nowhere (more (node label marks reason) ns) rest [] few e = absurd (let never : [] ≡ lines_each (more (node label marks reason) ns) ++ rest → ⊥ = λ h. cc in never e)
+begins-nowhere (more (node label marks reason) ns) rest (y ∷ ys) few e = absurd (let never : ⊥ = omega (arith, few) in never)
+
+-- the first of the lines is that of the first node
+first-own : (ns : Nodes) (rest : List Line) (lines : List SketchLine) (y : SketchLine) → (count ns ≡ 0 → ⊥) → 0 < length lines → y ≡ get_or lines 0 y → map line_of lines ≡ lines_each ns ++ rest → (own : SketchNode) × (line_of y ≡ of_node own) × (is_shut (leaf_of own) ≡ begins_shut ns)
+first-own none rest lines y some low is e = absurd (some refl)
+first-own (more x ns) rest [] y some low is e = absurd (let never : ⊥ = omega (arith, low) in never)
+first-own (more (node label marks reason) ns) rest (z ∷ zs) y some low is e = (own_line (node label marks reason), ap line_of is ∙ same_first e, refl)
+
+pub begins-node : (ns : Nodes) (rest : List Line) (lines : List SketchLine) (y : SketchLine) (x : SketchNode) → (count ns ≡ 0 → ⊥) → 0 < length lines → y ≡ get_or lines 0 y → line_of y ≡ of_node x → map line_of lines ≡ lines_each ns ++ rest → is_shut (leaf_of x) ≡ begins_shut ns
+begins-node ns rest lines y x some low is line e =
+    let first = first-own ns rest lines y some low is e in
+    ap (λ (z : SketchNode). is_shut (leaf_of z)) (same-node x first.0 (sym line ∙ first.1)) ∙ first.2
+
+pub begins-marks : (ns : Nodes) (rest : List Line) (lines : List SketchLine) (y : SketchLine) (m : Marks) → (count ns ≡ 0 → ⊥) → 0 < length lines → y ≡ get_or lines 0 y → line_of y ≡ of_marks m → map line_of lines ≡ lines_each ns ++ rest → ⊥
+begins-marks ns rest lines y m some low is line e =
+    let first = first-own ns rest lines y some low is e in
+    other first.0 (sym line ∙ first.1)
+  where
+    other : (x : SketchNode) → of_marks m ≡ of_node x → ⊥
+    other x h = cc

@@ -3,7 +3,6 @@
 ghost use Rattle.std.specs.Prelude.{◌≡◌, ◌==◌, IfOk};
 ghost use Rattle.std.specs.List.{list_any};
 ghost use Rattle.sketch_checker.specs.Supports.{BodySupports};
-ghost use Rattle.sketch_prose.specs.Bases.{AreKnown};
 ghost use Rattle.sketch_prose.specs.Telling.{AddsSketch, exact_files, first_spot};
 ghost use Rattle.sketch_prose.specs.Levels.{first_level};
 ghost use Rattle.sketch_words.specs.Words.{nowhere};
@@ -13,8 +12,7 @@ use crate::dues::Left;
 use crate::levels::{Level, Levels};
 use crate::telling::push_all;
 use board_base::SquareSet;
-use capture_prices::Prices;
-use figures::{Sketch, sketch_of};
+use figures::{Sketch, sketch_of, squares_that};
 use prose_words::say;
 use query_base::Query;
 use sketch_body::SketchBody;
@@ -43,20 +41,11 @@ fn exact_files(files: &[u8]) -> [bool; 8]
     ]
 }
 
-/// Tells the caller that each of these is a line of prices.
-fn are_known(prices: &[Prices])
-    ensures { AreKnown prices.now }
-{
-    for line in prices {
-        let _ = line.gates();
-    }
-}
-
 /// No square.
 fn nowhere() -> SquareSet
     ensures { result ≡ nowhere }
 {
-    SquareSet::from_bits(0)
+    squares_that(|_| false)
 }
 
 /// Where the first node is told.
@@ -107,7 +96,6 @@ pub fn push_sketch(
         exact: exact_files(body.files()),
         diagram,
     };
-    are_known(body.prices());
     push_all(alloc, &base, body.prices(), &mut levels, body.lines(), out)?;
     Ok(())
 }
