@@ -146,11 +146,7 @@ fn push_said_of(list: &[u8], words: &[u8], out: &mut Vec<u8>) -> Result<(), Allo
 }
 
 /// Whose marks are forced.
-pub fn push_marked(
-    officers: &[u8],
-    pawns: &[u8],
-    out: &mut Vec<u8>,
-) -> Result<(), AllocError>
+pub fn push_marked(officers: &[u8], pawns: &[u8], out: &mut Vec<u8>) -> Result<(), AllocError>
     ensures { IfOk result (λ _. out.new.items ≡ out.old.items ++ marked_words officers.now pawns.now) }
 {
     push_said_of(officers, b" These officers aren't promoted pawns:", out)?;

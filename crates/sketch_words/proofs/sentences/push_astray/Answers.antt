@@ -1,7 +1,8 @@
-use Rattle.std.proofs.Common.{◌++◌, ◌∷◌, [], ◌==◌, cond, length}
+use Rattle.std.proofs.Common.{◌++◌, ◌∙◌, ap}
 use Rattle.std.specs.Prelude.{codes}
 use Rattle.prose_words.proofs.Squares.{thence}
-use Rattle.sketch_words.specs.Words.{above_words, lead_word, men_words, name_words, sign_of, squares_of, victim_words, way_words}
+use Rattle.sketch_words.specs.Phrases.{Spot}
+use Rattle.sketch_words.specs.Words.{name_words}
 use Rattle.board_base.specs.Texts.{square_text}
 use Rattle.prose_words.specs.Words.{man_words}
 use Rattle.board_base.specs.Board.{array_of, at}
@@ -9,7 +10,7 @@ use Rattle.sketch_words.proofs.sentences.push_astray.Goals as goal
 
 pub returns : goal.returns
 returns c =
-    let h0 = rw c.as_slice.ensures.value at c.in_ok-say.ensures in
+    let h0 = rw c.as_slice.ensures.value at c.in_ok-say.ensures ∙ ap (λ (p : Spot). c.args.out.now.items ++ p.lead) c.spot.view_is in
     let h1 = thence c.args.out.now.items _ _ (c.args.spot.now.lead) (codes "It wasn't ") h0 (c.in_ok-say-2.ensures) in
     let h2 = thence c.args.out.now.items _ _ ((c.args.spot.now.lead) ++ (codes "It wasn't ")) (name_words c.args.label.now) h1 (c.in_ok-push_name.ensures) in
     let h3 = thence c.args.out.now.items _ _ (((c.args.spot.now.lead) ++ (codes "It wasn't ")) ++ (name_words c.args.label.now)) (codes ": whoever stood on ") h2 (c.in_ok-say-3.ensures) in

@@ -1,8 +1,8 @@
-use Rattle.std.proofs.Common.{◌++◌, ◌∷◌, [], ◌==◌, cond, length}
+use Rattle.std.proofs.Common.{◌++◌, [], cond}
 use Rattle.std.specs.Prelude.{codes}
 use Rattle.prose_words.proofs.Squares.{thence}
-use Rattle.sketch_words.specs.Words.{above_words, lead_word, men_words, name_words, sign_of, squares_of, victim_words, way_words}
-use Rattle.sketch_words.specs.Phrases.{deed_words, neither_words, opening_words, or_words, said_of}
+use Rattle.sketch_words.specs.Words.{name_words}
+use Rattle.sketch_words.specs.Phrases.{opening_words}
 use Rattle.sketch_words.proofs.sentences.push_shut.Goals as goal
 
 pub returns : goal.returns

@@ -1,7 +1,6 @@
-use Rattle.std.proofs.Common.{◌++◌, ◌∷◌, [], ◌==◌, cond, length}
-use Rattle.std.specs.Prelude.{codes}
+use Rattle.std.proofs.Common.{◌++◌}
 use Rattle.prose_words.proofs.Squares.{thence}
-use Rattle.sketch_words.specs.Words.{above_words, lead_word, men_words, name_words, sign_of, squares_of, victim_words, way_words}
+use Rattle.sketch_words.specs.Words.{men_words}
 use Rattle.sketch_words.proofs.sentences.push_the.Goals as goal
 
 pub returns : goal.returns

@@ -1,7 +1,6 @@
-use Rattle.std.proofs.Common.{◌++◌, ◌∷◌, [], ◌==◌, cond, length}
-use Rattle.std.specs.Prelude.{codes}
+use Rattle.std.proofs.Common.{◌++◌, ◌∷◌, []}
 use Rattle.prose_words.proofs.Squares.{thence}
-use Rattle.sketch_words.specs.Words.{above_words, lead_word, men_words, name_words, sign_of, squares_of, victim_words, way_words}
+use Rattle.sketch_words.specs.Words.{sign_of}
 use Rattle.board_base.specs.Texts.{square_text}
 use Rattle.sketch_words.proofs.steps.push_between.Goals as goal
 

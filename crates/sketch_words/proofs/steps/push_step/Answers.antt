@@ -1,7 +1,5 @@
-use Rattle.std.proofs.Common.{◌++◌, ◌∷◌, [], ◌==◌, cond, length}
-use Rattle.std.specs.Prelude.{codes}
 use Rattle.prose_words.proofs.Squares.{thence}
-use Rattle.sketch_words.specs.Words.{above_words, lead_word, men_words, name_words, sign_of, squares_of, victim_words, way_words}
+use Rattle.sketch_words.specs.Words.{squares_of, way_words}
 use Rattle.sketch_words.proofs.steps.push_step.Goals as goal
 
 pub returns : goal.returns
