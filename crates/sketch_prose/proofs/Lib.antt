@@ -6,5 +6,6 @@ pub mod Marking
 pub mod Nodes
 pub mod Rests
 pub mod Siblings
+pub mod Nexts
 pub mod Starting
 pub mod OneText

@@ -1,28 +1,27 @@
 -- A node among those that are left.
-use Rattle.std.proofs.Common.{◌≡◌, ℕ, ◌+◌, ◌-◌, ◌<◌, Bool, false, List, [], ◌∷◌, ◌++◌, append_assoc, drop, get_or, length, map, refl, ap, sym, ◌∙◌, subst, arith}
+use Rattle.std.proofs.Common.{◌≡◌, ℕ, ◌+◌, ◌-◌, ◌<◌, List, [], ◌∷◌, ◌++◌, append_assoc, drop, length, map, refl, ap, sym, ◌∙◌, subst, arith}
 use Rattle.std.specs.Prelude.{Option, Some, None}
 use Rattle.std.proofs.lemmas.List.{drop_at, length-map}
 use Rattle.general_lemmas.proofs.Lists.{same_first, same_rest}
 use Rattle.figures.specs.Figures.{Sketch}
-use Rattle.sketch_body.specs.Seen.{line_of}
-use Rattle.sketch_body.specs.declared.lines.SketchLine.{SketchLine}
 use Rattle.sketch_checker.specs.DueNodes.{Due}
 use Rattle.sketch_checker.specs.Walks.{AreDue}
 use Rattle.sketch_proof.specs.Proofs.{Setting}
 use Rattle.sketch_prose.specs.Levels.{AreFit, AreLeft, GoesOn, IsHere, Level, NodeTold, TellsAll, back, behind, lines_under, marks_of}
 use Rattle.sketch_prose.specs.Sentences.{Sentence}
 use Rattle.sketch_words.specs.Phrases.{Spot}
-use Rattle.sketch_prose.specs.Telling.{TellsEach, begins_shut, is_shut, leaf_of, next_number, own_line}
+use Rattle.sketch_prose.specs.Telling.{TellsEach, last_with, leaf_of, next_number, own_line}
 use Rattle.sketch_text.specs.Marks.{Marks}
 use Rattle.sketch_text.specs.Trees.{Line, Node, Nodes, count, lines_each, lines_of, more, node, none, of_marks, of_node}
 use Rattle.sketch_text.specs.declared.nodes.SketchNode.{SketchNode}
+use Rattle.sketch_words.specs.declared.spots.Last.{Last}
 
-abbrev pub level : Spot → Bool → ℕ → ℕ → List Due → Level
-level at f n c ds = record { spot = at; follows = f; number = n; count = c; due = ds }
+abbrev pub level : Spot → Option Last → ℕ → ℕ → List Due → Level
+level at f n c ds = record { spot = at; last = f; number = n; count = c; due = ds }
 
 -- A NODE THAT IS DUE
 
-same-node : (x y : SketchNode) → of_node x ≡ of_node y → x ≡ y
+pub same-node : (x y : SketchNode) → of_node x ≡ of_node y → x ≡ y
 same-node x y e = cc
 
 own-first : (y : Node) (x : SketchNode) (lines rest : List Line) → of_node x ∷ lines ≡ lines_of y ++ rest → (x ≡ own_line y) × (lines ≡ map (λ m. of_marks m) (marks_of y) ++ (lines_under y ++ rest))
@@ -43,7 +42,7 @@ pub record FirstLeft (g : Setting) (c : ℕ) (d : Due) (ds : List Due) (vs : Lis
   pub fit : AreFit g.odds ds
   pub left : AreLeft g vs others rest
 
-pub first-left : (g : Setting) (at : Spot) (f : Bool) (n c : ℕ) (d : Due) (ds : List Due) (vs : List Level) (fs : List Nodes) (x : SketchNode) (lines : List Line) → 0 < c → AreLeft g (level at f n c (d ∷ ds) ∷ vs) fs (of_node x ∷ lines) → FirstLeft g c d ds vs fs x lines
+pub first-left : (g : Setting) (at : Spot) (f : Option Last) (n c : ℕ) (d : Due) (ds : List Due) (vs : List Level) (fs : List Nodes) (x : SketchNode) (lines : List Line) → 0 < c → AreLeft g (level at f n c (d ∷ ds) ∷ vs) fs (of_node x ∷ lines) → FirstLeft g c d ds vs fs x lines
 first-left g at f n c d ds vs [] x lines some it = absurd it
 first-left g at f n c d ds vs (none ∷ fs) x lines some (rest, many, due, fit, e, later) = absurd due
 first-left g at f n c d ds vs (more y ns ∷ fs) x lines some (rest, many, due, fit, e, later) =
@@ -61,7 +60,7 @@ first-left g at f n c d ds vs (more y ns ∷ fs) x lines some (rest, many, due, 
     }
 
 -- none is left where none is due
-pub none-left : (g : Setting) (at : Spot) (f : Bool) (n c : ℕ) (vs : List Level) (fs : List Nodes) (lines : List Line) → 0 < c → AreLeft g (level at f n c [] ∷ vs) fs lines → ⊥
+pub none-left : (g : Setting) (at : Spot) (f : Option Last) (n c : ℕ) (vs : List Level) (fs : List Nodes) (lines : List Line) → 0 < c → AreLeft g (level at f n c [] ∷ vs) fs lines → ⊥
 none-left g at f n c vs [] lines some it = it
 none-left g at f n c vs (none ∷ fs) lines some (rest, many, due, fit, e, later) = omega (arith, many, some)
 none-left g at f n c vs (more y ns ∷ fs) lines some (rest, many, due, fit, e, later) = due
@@ -73,9 +72,13 @@ under-left (node label marks reason) x lines rest own e =
     ap (λ (l : List Line). drop x.marks l) e
     ∙ drop_at (map (λ m. of_marks m) marks) (lines_under (node label marks reason) ++ rest) x.marks (length-map marks (λ m. of_marks m) ∙ sym (ap (λ (z : SketchNode). z.marks) own))
 
+each-behind : (g : Setting) (at : Spot) (f : Option Last) (n : ℕ) (ds : List Due) (ns : Nodes) (x : SketchNode) (this : Last) (own : SketchNode) (ss : List Sentence) → x ≡ own → this ≡ last_with f x ns → TellsEach ns g at (Some this) (next_number (leaf_of x) n) ds ss → TellsEach ns g at (Some (last_with f own ns)) (next_number (leaf_of own) n) ds ss
+each-behind g at f n ds ns x this own ss same is each =
+    subst (λ (z : SketchNode). TellsEach ns g at (Some (last_with f z ns)) (next_number (leaf_of z) n) ds ss) same (subst (λ (t : Last). TellsEach ns g at (Some t) (next_number (leaf_of x) n) ds ss) is each)
+
 -- what goes on behind a node that was told
-pub node-goes : (g : Setting) (D : Sketch) (at : Spot) (f : Bool) (n c : ℕ) (d : Due) (ds : List Due) (vs : List Level) (y : Node) (ns : Nodes) (fs : List Nodes) (x : SketchNode) (lines rest : List Line) (below : Option Level) (o r : List ℕ) → IsHere y ns d g (c - 1) x lines rest → AreDue ns g ds → AreFit g.odds ds → AreLeft g vs fs rest → NodeTold y ns g D at f n d below o r → GoesOn g D (level at f n c (d ∷ ds) ∷ vs) (more y ns ∷ fs) (back below (behind at n c ds (leaf_of x) ∷ vs)) (drop x.marks lines) o r
-node-goes g D at f n c d ds vs y ns fs x lines rest None o r here due fit later told = record {
+pub node-goes : (g : Setting) (D : Sketch) (at : Spot) (f : Option Last) (n c : ℕ) (d : Due) (ds : List Due) (vs : List Level) (y : Node) (ns : Nodes) (fs : List Nodes) (x : SketchNode) (this : Last) (lines rest : List Line) (below : Option Level) (o r : List ℕ) → IsHere y ns d g (c - 1) x lines rest → this ≡ last_with f x ns → AreDue ns g ds → AreFit g.odds ds → AreLeft g vs fs rest → NodeTold y ns g D at f n d below o r → GoesOn g D (level at f n c (d ∷ ds) ∷ vs) (more y ns ∷ fs) (back below (behind at this n c ds (leaf_of x) ∷ vs)) (drop x.marks lines) o r
+node-goes g D at f n c d ds vs y ns fs x this lines rest None o r here is due fit later told = record {
   forests = ns ∷ fs;
   left = (rest, here.siblings, due, fit, under-left y x lines (lines_each ns ++ rest) here.own here.lines_are ∙ ap (λ (l : List Line). l ++ (lines_each ns ++ rest)) told.opens.0, later);
   said = told.said;
@@ -84,12 +87,12 @@ node-goes g D at f n c d ds vs y ns fs x lines rest None o r here due fit later 
     told.said ++ a,
     b,
     ap (λ (l : List Sentence). told.said ++ l) e ∙ sym (append_assoc told.said a b),
-    (told.said, a, refl, told.opens.1, subst (λ (z : SketchNode). TellsEach ns g at (is_shut (leaf_of z)) (next_number (leaf_of z) n) ds a) here.own each),
+    (told.said, a, refl, told.opens.1, each-behind g at f n ds ns x this (own_line y) a here.own is each),
     all,
   );
   text = told.text;
 }
-node-goes g D at f n c d ds vs y ns fs x lines rest (Some v) o r here due fit later told =
+node-goes g D at f n c d ds vs y ns fs x this lines rest (Some v) o r here is due fit later told =
     let opens = told.opens in
     record {
       forests = opens.0 ∷ ns ∷ fs;
@@ -107,7 +110,7 @@ node-goes g D at f n c d ds vs y ns fs x lines rest (Some v) o r here due fit la
         (told.said ++ a) ++ p,
         q,
         ap (λ (l : List Sentence). told.said ++ l) (e ∙ ap (λ (l : List Sentence). a ++ l) e') ∙ sym (append_assoc told.said a (p ++ q)) ∙ sym (append_assoc (told.said ++ a) p q),
-        (told.said ++ a, p, refl, opens.5 a each, subst (λ (z : SketchNode). TellsEach ns g at (is_shut (leaf_of z)) (next_number (leaf_of z) n) ds p) here.own each'),
+        (told.said ++ a, p, refl, opens.5 a each, each-behind g at f n ds ns x this (own_line y) p here.own is each'),
         all,
       );
       text = told.text;
@@ -116,8 +119,8 @@ node-goes g D at f n c d ds vs y ns fs x lines rest (Some v) o r here due fit la
 -- ONE STEP
 
 -- what goes on behind the first node of a level, which was told
-pub node-step : (g : Setting) (D : Sketch) (at : Spot) (f : Bool) (n c : ℕ) (old : List Due) (d : Due) (ds : List Due) (v : Level) (vs : List Level) (fs : List Nodes) (x : SketchNode) (lines : List Line) (below : Option Level) (next : Level) (new : List Level) (o r : List ℕ) → level at f n c old ≡ v → 0 < c → old ≡ d ∷ ds → next ≡ behind at n c ds (leaf_of x) → new ≡ back below (next ∷ vs) → ((y : Node) (ns : Nodes) (rest : List Line) → IsHere y ns d g (c - 1) x lines rest → NodeTold y ns g D at f n d below o r) → AreLeft g (v ∷ vs) fs (of_node x ∷ lines) → GoesOn g D (v ∷ vs) fs new (drop x.marks lines) o r
-node-step g D at f n c old d ds v vs fs x lines below next new o r view some first next_is new_is told left =
+pub node-step : (g : Setting) (D : Sketch) (at : Spot) (f : Option Last) (n c : ℕ) (old : List Due) (d : Due) (ds : List Due) (v : Level) (vs : List Level) (fs : List Nodes) (x : SketchNode) (this : Last) (lines : List Line) (below : Option Level) (next : Level) (new : List Level) (o r : List ℕ) → level at f n c old ≡ v → 0 < c → old ≡ d ∷ ds → next ≡ behind at this n c ds (leaf_of x) → new ≡ back below (next ∷ vs) → ((y : Node) (ns : Nodes) (rest : List Line) → IsHere y ns d g (c - 1) x lines rest → this ≡ last_with f x ns) → ((y : Node) (ns : Nodes) (rest : List Line) → IsHere y ns d g (c - 1) x lines rest → NodeTold y ns g D at f n d below o r) → AreLeft g (v ∷ vs) fs (of_node x ∷ lines) → GoesOn g D (v ∷ vs) fs new (drop x.marks lines) o r
+node-step g D at f n c old d ds v vs fs x this lines below next new o r view some first next_is new_is is told left =
     subst (λ (w : Level). AreLeft g (w ∷ vs) fs (of_node x ∷ lines) → GoesOn g D (w ∷ vs) fs new (drop x.marks lines) o r) view
     (subst (λ (l : List Due). AreLeft g (level at f n c l ∷ vs) fs (of_node x ∷ lines) → GoesOn g D (level at f n c l ∷ vs) fs new (drop x.marks lines) o r) (sym first) by-first)
     left
@@ -125,12 +128,12 @@ node-step g D at f n c old d ds v vs fs x lines below next new o r view some fir
     by-first : AreLeft g (level at f n c (d ∷ ds) ∷ vs) fs (of_node x ∷ lines) → GoesOn g D (level at f n c (d ∷ ds) ∷ vs) fs new (drop x.marks lines) o r
     by-first it =
         let l = first-left g at f n c d ds vs fs x lines some it in
-        let goes = node-goes g D at f n c d ds vs l.node l.nodes l.others x lines l.rest below o r l.here l.due l.fit l.left (told l.node l.nodes l.rest l.here) in
+        let goes = node-goes g D at f n c d ds vs l.node l.nodes l.others x this lines l.rest below o r l.here (is l.node l.nodes l.rest l.here) l.due l.fit l.left (told l.node l.nodes l.rest l.here) in
         subst (λ (z : List Nodes). GoesOn g D (level at f n c (d ∷ ds) ∷ vs) z new (drop x.marks lines) o r) (sym l.forests)
         (subst (λ (z : List Level). GoesOn g D (level at f n c (d ∷ ds) ∷ vs) (more l.node l.nodes ∷ l.others) z (drop x.marks lines) o r) (sym (new_is ∙ ap (λ (w : Level). back below (w ∷ vs)) next_is)) goes)
 
 -- if none is due, none is left
-pub node-none : (g : Setting) (at : Spot) (f : Bool) (n c : ℕ) (old : List Due) (v : Level) (vs : List Level) (fs : List Nodes) (lines : List Line) → level at f n c old ≡ v → 0 < c → old ≡ [] → AreLeft g (v ∷ vs) fs lines → ⊥
+pub node-none : (g : Setting) (at : Spot) (f : Option Last) (n c : ℕ) (old : List Due) (v : Level) (vs : List Level) (fs : List Nodes) (lines : List Line) → level at f n c old ≡ v → 0 < c → old ≡ [] → AreLeft g (v ∷ vs) fs lines → ⊥
 node-none g at f n c old v vs fs lines view some none_ left =
     none-left g at f n c vs fs lines some
     (subst (λ (l : List Due). AreLeft g (level at f n c l ∷ vs) fs lines) none_ (subst (λ (w : Level). AreLeft g (w ∷ vs) fs lines) (sym view) left))
@@ -155,33 +158,3 @@ lines-never g [] l ls it = none-are it
     none-are : l ∷ ls ≡ [] → ⊥
     none-are h = cc
 lines-never g (ns ∷ fs) l ls it = it
-
--- THE NEXT SIBLING
-
-pub begins-none : (ns : Nodes) → count ns ≡ 0 → false ≡ begins_shut ns
-begins-none none e = refl
-begins-none (more x ns) e = absurd (let never : ⊥ = omega (arith, e) in never)
-
-pub begins-nowhere : (ns : Nodes) (rest : List Line) (lines : List SketchLine) → length lines ≡ 0 → map line_of lines ≡ lines_each ns ++ rest → false ≡ begins_shut ns
-begins-nowhere none rest lines few e = refl
-begins-nowhere (more (node label marks reason) ns) rest [] few e = absurd (let never : [] ≡ lines_each (more (node label marks reason) ns) ++ rest → ⊥ = λ h. cc in never e)
-begins-nowhere (more (node label marks reason) ns) rest (y ∷ ys) few e = absurd (let never : ⊥ = omega (arith, few) in never)
-
--- the first of the lines is that of the first node
-first-own : (ns : Nodes) (rest : List Line) (lines : List SketchLine) (y : SketchLine) → (count ns ≡ 0 → ⊥) → 0 < length lines → y ≡ get_or lines 0 y → map line_of lines ≡ lines_each ns ++ rest → (own : SketchNode) × (line_of y ≡ of_node own) × (is_shut (leaf_of own) ≡ begins_shut ns)
-first-own none rest lines y some low is e = absurd (some refl)
-first-own (more x ns) rest [] y some low is e = absurd (let never : ⊥ = omega (arith, low) in never)
-first-own (more (node label marks reason) ns) rest (z ∷ zs) y some low is e = (own_line (node label marks reason), ap line_of is ∙ same_first e, refl)
-
-pub begins-node : (ns : Nodes) (rest : List Line) (lines : List SketchLine) (y : SketchLine) (x : SketchNode) → (count ns ≡ 0 → ⊥) → 0 < length lines → y ≡ get_or lines 0 y → line_of y ≡ of_node x → map line_of lines ≡ lines_each ns ++ rest → is_shut (leaf_of x) ≡ begins_shut ns
-begins-node ns rest lines y x some low is line e =
-    let first = first-own ns rest lines y some low is e in
-    ap (λ (z : SketchNode). is_shut (leaf_of z)) (same-node x first.0 (sym line ∙ first.1)) ∙ first.2
-
-pub begins-marks : (ns : Nodes) (rest : List Line) (lines : List SketchLine) (y : SketchLine) (m : Marks) → (count ns ≡ 0 → ⊥) → 0 < length lines → y ≡ get_or lines 0 y → line_of y ≡ of_marks m → map line_of lines ≡ lines_each ns ++ rest → ⊥
-begins-marks ns rest lines y m some low is line e =
-    let first = first-own ns rest lines y some low is e in
-    other first.0 (sym line ∙ first.1)
-  where
-    other : (x : SketchNode) → of_marks m ≡ of_node x → ⊥
-    other x h = cc

@@ -1,7 +1,7 @@
 -- A sketch has one text: the same sentences tell it.
 use Rattle.std.proofs.Common.{◌≡◌, ℕ, ◌<◌, inl, inr, Bool, false, List, [], ◌∷◌, ◌++◌, length, map, refl, ap, sym, ◌∙◌, subst, arith}
 use Rattle.std.proofs.lemmas.Bool.{cases_Bool, ltb-false, ltb-true}
-use Rattle.std.specs.Prelude.{Some, nat_lt}
+use Rattle.std.specs.Prelude.{None, Option, Some, nat_lt}
 use Rattle.std.specs.List.{Contains, list_any}
 use Rattle.general_lemmas.proofs.Lists.{contains-first, contains-later}
 use Rattle.board_base.specs.declared.men.Kind.{Kind}
@@ -23,7 +23,7 @@ use Rattle.sketch_proof.specs.Nodes.{marked_with}
 use Rattle.sketch_proof.specs.Proofs.{Setting, with_lines}
 use Rattle.sketch_prose.specs.Foreigners.{IsForeignIn}
 use Rattle.sketch_prose.specs.Sentences.{IsForeign, Sentence, all_words, astray, foreign, settled, stepped, unknown}
-use Rattle.sketch_prose.specs.Telling.{AddsSketch, TellsAs, TellsBelow, TellsEach, TellsOne, begins_shut, first_spot, head_told, is_shut, known_with, leaf_of, next_number, own_line, setting_by, spot_below}
+use Rattle.sketch_prose.specs.Telling.{AddsSketch, TellsAs, TellsBelow, TellsEach, TellsOne, begins_shut, first_spot, head_told, known_with, last_with, leaf_of, next_number, own_line, setting_by, spot_below}
 use Rattle.sketch_prose.specs.declared.leaves.Leaf.{Leaf}
 use Rattle.sketch_prose.specs.declared.leaves.Leaf.TheVariants.{Shut, Astray, Open}
 use Rattle.sketch_text.specs.Marks.{Marks}
@@ -31,6 +31,7 @@ use Rattle.sketch_text.specs.Trees.{Node, Nodes, Reason, closed, count, end_of, 
 use Rattle.sketch_text.specs.declared.labels.Officer.{Officer}
 use Rattle.sketch_text.specs.declared.labels.Officer.TheVariants.{Knight, Rook, Queen}
 use Rattle.sketch_words.specs.Phrases.{Spot}
+use Rattle.sketch_words.specs.declared.spots.Last.{Last}
 
 -- SKETCHES WITH SQUARES
 
@@ -86,16 +87,16 @@ one-foreign o S set s t whole a b = elim (cases_Bool (nat_lt a.number b.number))
 -- ONE LIST OF SENTENCES
 
 -- as a leaf or by itself
-one-as : (leaf : Leaf) (g : Setting) (at : Spot) (follows next : Bool) (d : Due) (A B : Type 0) (ss ts : List Sentence) → AreWhole d.sketch → (A → B → ss ≡ ts) → TellsAs leaf g at follows next d A ss → TellsAs leaf g at follows next d B ts → ss ≡ ts
-one-as (Shut k) g at follows next d A B ss ts whole alone x y = x ∙ sym y
-one-as Astray g at follows next d A B ss ts whole alone (s, f, e) (t, h, e') =
+one-as : (leaf : Leaf) (g : Setting) (at : Spot) (p : Option Last) (this : Last) (next : Bool) (d : Due) (A B : Type 0) (ss ts : List Sentence) → AreWhole d.sketch → (A → B → ss ≡ ts) → TellsAs leaf g at p this next d A ss → TellsAs leaf g at p this next d B ts → ss ≡ ts
+one-as (Shut k) g at p this next d A B ss ts whole alone x y = x ∙ sym y
+one-as Astray g at p this next d A B ss ts whole alone (s, f, e) (t, h, e') =
     e ∙ ap (λ (u : ℕ). astray at u d ∷ []) (one-foreign g.odds d.sketch _ s t whole f h) ∙ sym e'
-one-as Open g at follows next d A B ss ts whole alone x y = alone x y
+one-as Open g at p this next d A B ss ts whole alone x y = alone x y
 
 mutual
-  one-node : (x : Node) (g : Setting) (at : Spot) (follows next : Bool) (n : ℕ) (d : Due) (ss ts : List Sentence) → HasSquares d.sketch → TellsOne x g at follows next n d ss → TellsOne x g at follows next n d ts → ss ≡ ts
-  one-node (node label marks reason) g at follows next n d ss ts has =
-      one-as (leaf_of (own_line (node label marks reason))) g at follows next d _ _ ss ts has.whole
+  one-node : (x : Node) (ns : Nodes) (g : Setting) (at : Spot) (p : Option Last) (n : ℕ) (d : Due) (ss ts : List Sentence) → HasSquares d.sketch → TellsOne x g at p ns n d ss → TellsOne x g at p ns n d ts → ss ≡ ts
+  one-node (node label marks reason) ns g at p n d ss ts has =
+      one-as (leaf_of (own_line (node label marks reason))) g at p (last_with p (own_line (node label marks reason)) ns) (begins_shut ns) d _ _ ss ts has.whole
       (λ (below, e, told) (below', e', told').
       e
       ∙ ap (λ (l : List Sentence). head_told g at n d marks ++ l) (one-end reason g (spot_below label at n (known_with g marks d.sketch)) (with_lines marks d.sketch) below below' (lines-have marks d.sketch has) told told')
@@ -106,29 +107,33 @@ mutual
   one-end (closed k) g at S ss ts has x y = x ∙ sym y
   one-end (steps ns) g at S ss ts has (T, rest, least, e, each) (U, rest', least', e', each') =
       let same : U ≡ T = least-one g.held g.exact S U T has.somewhere least' least in
-      let told : TellsEach ns g at false 1 (map due_of (earlier g.odds g.exact T)) rest' = subst (λ (V : Sketch). TellsEach ns g at false 1 (map due_of (earlier g.odds g.exact V)) rest') same each' in
+      let told : TellsEach ns g at None 1 (map due_of (earlier g.odds g.exact T)) rest' = subst (λ (V : Sketch). TellsEach ns g at None 1 (map due_of (earlier g.odds g.exact V)) rest') same each' in
       e
-      ∙ ap (λ (l : List Sentence). settled S T ∷ stepped T (count ns) ∷ l) (one-each ns g at false 1 (map due_of (earlier g.odds g.exact T)) rest rest' (steps-have g.odds g.exact T) each told)
+      ∙ ap (λ (l : List Sentence). settled S T ∷ stepped T (count ns) ∷ l) (one-each ns g at None 1 (map due_of (earlier g.odds g.exact T)) rest rest' (steps-have g.odds g.exact T) each told)
       ∙ ap (λ (V : Sketch). settled S V ∷ stepped V (count ns) ∷ rest') (sym same)
       ∙ sym e'
   one-end (split s knight rook queen) g at S ss ts has (i, a, b, c, first, e, ta, tb, tc) (j, a', b', c', first', e', ta', tb', tc') =
       let same : j ≡ i = first-one S s j i first' first in
-      let x : a ≡ a' = one-node knight g at _ _ _ (case_due Knight i S) a a' (known-have i (kind_of Knight) S has) ta (subst (λ (m : ℕ). TellsOne knight g at false (is_shut (leaf_of (own_line rook))) 1 (case_due Knight m S) a') same ta') in
-      let y : b ≡ b' = one-node rook g at _ _ _ (case_due Rook i S) b b' (known-have i (kind_of Rook) S has) tb (subst (λ (m : ℕ). TellsOne rook g at (is_shut (leaf_of (own_line knight))) (is_shut (leaf_of (own_line queen))) (next_number (leaf_of (own_line knight)) 1) (case_due Rook m S) b') same tb') in
-      let z : c ≡ c' = one-node queen g at _ _ _ (case_due Queen i S) c c' (known-have i (kind_of Queen) S has) tc (subst (λ (m : ℕ). TellsOne queen g at (is_shut (leaf_of (own_line rook))) false (next_number (leaf_of (own_line rook)) (next_number (leaf_of (own_line knight)) 1)) (case_due Queen m S) c') same tc') in
+      let p : Option Last = Some (last_with None (own_line knight) (more rook (more queen none))) in
+      let q : Option Last = Some (last_with p (own_line rook) (more queen none)) in
+      let m : ℕ = next_number (leaf_of (own_line knight)) 1 in
+      let n : ℕ = next_number (leaf_of (own_line rook)) m in
+      let x : a ≡ a' = one-node knight (more rook (more queen none)) g at None 1 (case_due Knight i S) a a' (known-have i (kind_of Knight) S has) ta (subst (λ (k : ℕ). TellsOne knight g at None (more rook (more queen none)) 1 (case_due Knight k S) a') same ta') in
+      let y : b ≡ b' = one-node rook (more queen none) g at p m (case_due Rook i S) b b' (known-have i (kind_of Rook) S has) tb (subst (λ (k : ℕ). TellsOne rook g at p (more queen none) m (case_due Rook k S) b') same tb') in
+      let z : c ≡ c' = one-node queen none g at q n (case_due Queen i S) c c' (known-have i (kind_of Queen) S has) tc (subst (λ (k : ℕ). TellsOne queen g at q none n (case_due Queen k S) c') same tc') in
       e
       ∙ ap (λ (l : List Sentence). unknown s S ∷ (l ++ (b ++ c))) x
       ∙ ap (λ (l : List Sentence). unknown s S ∷ (a' ++ (l ++ c))) y
       ∙ ap (λ (l : List Sentence). unknown s S ∷ (a' ++ (b' ++ l))) z
       ∙ sym e'
 
-  one-each : (ns : Nodes) (g : Setting) (at : Spot) (follows : Bool) (n : ℕ) (ds : List Due) (ss ts : List Sentence) → AllHave ds → TellsEach ns g at follows n ds ss → TellsEach ns g at follows n ds ts → ss ≡ ts
-  one-each none g at follows n ds ss ts has x y = x ∙ sym y
-  one-each (more x ns) g at follows n [] ss ts has told other = absurd told
-  one-each (more x ns) g at follows n (d ∷ ds) ss ts has (own, rest, e, one, each) (own', rest', e', one', each') =
+  one-each : (ns : Nodes) (g : Setting) (at : Spot) (p : Option Last) (n : ℕ) (ds : List Due) (ss ts : List Sentence) → AllHave ds → TellsEach ns g at p n ds ss → TellsEach ns g at p n ds ts → ss ≡ ts
+  one-each none g at p n ds ss ts has x y = x ∙ sym y
+  one-each (more x ns) g at p n [] ss ts has told other = absurd told
+  one-each (more x ns) g at p n (d ∷ ds) ss ts has (own, rest, e, one, each) (own', rest', e', one', each') =
       e
-      ∙ ap (λ (l : List Sentence). l ++ rest) (one-node x g at follows (begins_shut ns) n d own own' has.0 one one')
-      ∙ ap (λ (l : List Sentence). own' ++ l) (one-each ns g at (is_shut (leaf_of (own_line x))) (next_number (leaf_of (own_line x)) n) ds rest rest' has.1 each each')
+      ∙ ap (λ (l : List Sentence). l ++ rest) (one-node x ns g at p n d own own' has.0 one one')
+      ∙ ap (λ (l : List Sentence). own' ++ l) (one-each ns g at (Some (last_with p (own_line x) ns)) (next_number (leaf_of (own_line x)) n) ds rest rest' has.1 each each')
       ∙ sym e'
 
 -- ONE TEXT
@@ -138,5 +143,5 @@ one-sketch-text q b o r s (tree, ss, written, told, adds) (other, ts, written', 
     let S : Sketch = sketch_of q.board in
     let g : Setting = setting_by q b in
     let same : other ≡ tree = one-tree other tree (written' ∙ sym written) in
-    let sentences : ss ≡ ts = one-node tree g first_spot false false 1 (first_due S) ss ts (record { whole = board-whole q.board; somewhere = board-somewhere q.board }) told (subst (λ (x : Node). TellsOne x g first_spot false false 1 (first_due S) ts) same told') in
+    let sentences : ss ≡ ts = one-node tree none g first_spot None 1 (first_due S) ss ts (record { whole = board-whole q.board; somewhere = board-somewhere q.board }) told (subst (λ (x : Node). TellsOne x g first_spot None none 1 (first_due S) ts) same told') in
     adds.1 ∙ ap (λ (l : List Sentence). o ++ all_words g S l) sentences ∙ sym adds'.1

@@ -16,7 +16,7 @@ use Rattle.sketch_text.specs.declared.labels.Officer.TheVariants.{Knight}
 
 -- the level of so many nodes that are due, before the first
 abbrev pub level_of : Spot → ℕ → List Due → Level
-level_of at count due = record { spot = at; follows = false; number = 1; count = count; due = due }
+level_of at count due = record { spot = at; last = None; number = 1; count = count; due = due }
 
 -- the square of a man who never moved, but isn't the array's
 pub record VoidTold (g : Setting) (S : Sketch) (before after : List ℕ) : Type 0 where

@@ -1,5 +1,5 @@
 -- The sentences that tell why no game comes to a sketch: what each says, and its words.
-use Rattle.std.specs.Prelude.{ℕ, ◌≡◌, Bool, true, false, List, [], ◌∷◌, ◌++◌, codes, length}
+use Rattle.std.specs.Prelude.{ℕ, ◌≡◌, Bool, true, false, List, [], ◌∷◌, ◌++◌, codes, length, Option}
 use Rattle.board_base.specs.declared.moves.Move.{Move}
 use Rattle.figures.specs.Figures.{Sketch, fixed_squares}
 use Rattle.figures.specs.Homes.{may_be_array}
@@ -15,6 +15,7 @@ use Rattle.sketch_prose.specs.Foreigners.{IsForeignIn}
 use Rattle.sketch_text.specs.Marks.{Marks}
 use Rattle.sketch_words.specs.Phrases.{Spot, astray_words, foreign_words, fresh_words, heading_words, marked_words, settled_words, shut_words, stepped_words, unknown_words}
 use Rattle.sketch_words.specs.Words.{figures_words, set_words, without}
+use Rattle.sketch_words.specs.declared.spots.Last.{Last}
 
 -- A sentence: what is told of a node, the first or one with this number; who never moved; which marks are forced; who can't have moved
 -- since the last step; that there was a last step, and whether there are any; what ends a node; and what shuts one that is told in a line
@@ -28,7 +29,7 @@ pub data Sentence : Type 0 where
   unknown : ℕ → Sketch → Sentence
   unbalanced : ℕ → Sketch → Sentence
   foreign : ℕ → Sketch → Sentence
-  shut : Spot → Bool → Bool → ℕ → Due → Sentence
+  shut : Spot → Option Last → Last → Bool → ℕ → Due → Sentence
   astray : Spot → ℕ → Due → Sentence
 
 -- no game in which these rights are held comes to a moment that the sketch fits
@@ -58,7 +59,7 @@ Says g (stepped T count) = (may_be_array g.odds T ≡ false) × (count ≡ lengt
 Says g (unknown s S) = (i : ℕ) × IsFirstUnknown S s i
 Says g (unbalanced k S) = Unbalances g k S
 Says g (foreign s S) = IsForeign g S s
-Says g (shut at follows more k d) = Unbalances g k d.sketch
+Says g (shut at p this more k d) = Unbalances g k d.sketch
 Says g (astray at s d) = IsForeign g d.sketch s
 
 -- the words of a sentence; the diagram's sketch tells where men stand now
@@ -71,7 +72,7 @@ words_of g diagram (stepped T count) = stepped_words g.exact count
 words_of g diagram (unknown s S) = unknown_words s
 words_of g diagram (unbalanced k S) = codes " But the captures by pawns don't balance."
 words_of g diagram (foreign s S) = foreign_words g.odds s
-words_of g diagram (shut at follows more k d) = shut_words at follows more d.label
+words_of g diagram (shut at p this more k d) = shut_words at p this more
 words_of g diagram (astray at s d) = astray_words g.odds at s d.label
 
 -- each of the sentences holds

@@ -82,7 +82,7 @@ fn push_steps(
     push_before(alloc, base, sketch, &wide, count, out)?;
     Ok(Some(Level {
         spot,
-        follows: false,
+        last: None,
         number: 1,
         count,
         left: Left::Steps(steps),
@@ -104,7 +104,7 @@ fn push_split(
     push_unknown(s, out)?;
     Ok(Some(Level {
         spot,
-        follows: false,
+        last: None,
         number: 1,
         count: 3,
         left: Left::Cases(Cases {

@@ -11,6 +11,7 @@ mod leaves;
 mod levels;
 mod marks;
 mod opening;
+mod siblings;
 mod telling;
 mod whole;
 

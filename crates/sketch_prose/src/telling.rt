@@ -7,10 +7,10 @@ ghost use Rattle.sketch_prose.specs.Dues.{due_by};
 ghost use Rattle.sketch_prose.specs.Levels.{AreLeft, GoesOn, IsHere, NodeTold, ToldWhole, back, behind, due_with};
 ghost use Rattle.sketch_prose.specs.Sentences.{IsForeign};
 ghost use Rattle.sketch_words.specs.Phrases.{astray_words};
-ghost use Rattle.sketch_prose.specs.Telling.{begins_shut, next_number};
+ghost use Rattle.sketch_prose.specs.Telling.{last_with, next_number};
 ghost use Rattle.sketch_proof.specs.Nodes.{IsVoid};
 ghost use Rattle.capture_prices.specs.Prices.{PriceList};
-ghost use Rattle.sketch_text.specs.Trees.{Line as ALine, Node as ANode, Nodes, count, lines_each, of_node};
+ghost use Rattle.sketch_text.specs.Trees.{Line as ALine, Node as ANode, Nodes, of_node};
 ghost use Rattle.sketch_text.specs.declared.labels.Label.{Label as ALabel};
 
 use crate::bases::Base;
@@ -19,26 +19,14 @@ use crate::foreigners::first_foreign;
 use crate::leaves::{Leaf, is_shut, leaf_of};
 use crate::levels::{Level, Levels, next_level};
 use crate::opening::push_open;
+use crate::siblings::{begins_shut, last_with};
 use capture_prices::Prices;
 use figures::Sketch;
 use sketch_body::SketchLine;
 use sketch_grounds::greatest_frozen;
 use sketch_text::{Label, SketchNode};
-use sketch_words::{Spot, push_astray, push_heading, push_shut};
+use sketch_words::{Last, Spot, push_astray, push_heading, push_shut};
 use std::alloc::{AllocError, Global};
-
-/// Whether some nodes are left, and an account shuts the first of them.
-fn begins_shut(left: u16, lines: &[SketchLine]) -> bool
-    ensures { (ns : Nodes) (rest : List ALine) → count ns ≡ left → map line_of lines.now ≡ lines_each ns ++ rest → result ≡ begins_shut ns }
-{
-    if left == 0 || lines.len() == 0 {
-        return false;
-    }
-    match &lines[0] {
-        SketchLine::Node(node) => is_shut(leaf_of(node)),
-        SketchLine::Marks(_) => false,
-    }
-}
 
 /// The number of the next sibling that is told by itself.
 fn next_number(leaf: Leaf, number: usize) -> usize
@@ -53,14 +41,14 @@ fn next_number(leaf: Leaf, number: usize) -> usize
 }
 
 /// The level behind a node of so many, which was told so.
-fn behind(spot: Spot, number: usize, count: u16, left: Left, leaf: Leaf) -> Level
+fn behind(spot: Spot, this: Last, number: usize, count: u16, left: Left, leaf: Leaf) -> Level
     requires some { 0 < count }
     requires low { number + count ≤ 65536 }
-    ensures { result ≡ behind spot number count (due_by left) leaf }
+    ensures { result ≡ behind spot this number count (due_by left) leaf }
 {
     Level {
         spot,
-        follows: is_shut(leaf),
+        last: Some(this),
         number: next_number(leaf, number),
         count: count - 1,
         left,
@@ -93,7 +81,8 @@ fn push_sibling(
     base: &Base,
     prices: &[Prices],
     spot: &Spot,
-    follows: bool,
+    last: &Option<Last>,
+    this: &Last,
     number: usize,
     left: u16,
     sketch: Sketch,
@@ -101,12 +90,12 @@ fn push_sibling(
     lines: &[SketchLine],
     out: &mut Vec<u8>,
 ) -> Result<Option<Level>, AllocError>
-    ensures { IfOk result (λ below. AreKnown prices.now → (x : ANode) (ns : Nodes) (label : ALabel) (rest : List ALine) → IsHere x ns (due_with label sketch) (setting_with base.now prices.now) left node.now (map line_of lines.now) rest → NodeTold x ns (setting_with base.now prices.now) base.now.diagram spot.now follows number (due_with label sketch) below out.old.items out.new.items) }
+    ensures { IfOk result (λ below. AreKnown prices.now → (x : ANode) (ns : Nodes) (label : ALabel) (rest : List ALine) → IsHere x ns (due_with label sketch) (setting_with base.now prices.now) left node.now (map line_of lines.now) rest → this.now ≡ last_with last.now node.now ns → NodeTold x ns (setting_with base.now prices.now) base.now.diagram spot.now last.now number (due_with label sketch) below out.old.items out.new.items) }
 {
     match leaf_of(node) {
         Leaf::Shut(_) => {
             let more = begins_shut(left, lines);
-            push_shut(spot, follows, more, &node.label, out)?;
+            push_shut(spot, last, this, more, out)?;
             Ok(None)
         }
         Leaf::Astray => {
@@ -151,7 +140,7 @@ fn push_node(
 {
     let Level {
         spot,
-        follows,
+        last,
         number,
         count,
         left,
@@ -160,12 +149,14 @@ fn push_node(
     let Some(sketch) = first else {
         return Ok(());
     };
+    let this = last_with(&last, node, count - 1, lines);
     let below = push_sibling(
         alloc,
         base,
         prices,
         &spot,
-        follows,
+        &last,
+        &this,
         number,
         count - 1,
         sketch,
@@ -173,7 +164,7 @@ fn push_node(
         lines,
         out,
     )?;
-    let next = behind(spot, number, count, left, leaf_of(node));
+    let next = behind(spot, this, number, count, left, leaf_of(node));
     push_levels(levels, next, below)?;
     Ok(())
 }

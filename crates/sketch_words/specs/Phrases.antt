@@ -1,5 +1,5 @@
 -- The words of the sentences that tell why no game comes to a sketch.
-use Rattle.std.specs.Prelude.{ℕ, ◌+◌, ◌==◌, Bool, cond, length, List, [], ◌∷◌, ◌++◌, codes}
+use Rattle.std.specs.Prelude.{ℕ, ◌+◌, ◌==◌, Bool, false, cond, ◌&&◌, length, List, [], ◌∷◌, ◌++◌, codes, Option, Some, None}
 use Rattle.std.specs.List.{flat_map, range_with_len}
 use Rattle.std.specs.Fmt.{decimal}
 use Rattle.board_base.specs.Board.{array_of, at as man_at, is_in}
@@ -8,7 +8,8 @@ use Rattle.board_base.specs.Texts.{square_text}
 use Rattle.prose_words.specs.Words.{man_words}
 use Rattle.sketch_text.specs.declared.labels.Label.{Label}
 use Rattle.sketch_text.specs.declared.labels.Label.TheVariants.{Now, Step, Case}
-use Rattle.sketch_words.specs.Words.{common, held_homes, lead_word, men_words, name_words, set_words, without}
+use Rattle.sketch_words.specs.Words.{common, held_homes, is_same_move, lead_word, men_words, name_words, set_words, shown_words, without}
+use Rattle.sketch_words.specs.declared.spots.Last.{Last}
 
 -- where a node is told: what begins a line there, what the numbers of its siblings begin with, and whose men are said never to have moved
 pub record Spot : Type 0 where
@@ -88,14 +89,28 @@ unknown_words s = codes " The man on " ++ square_text s ++ codes " was a knight,
 abbrev pub foreign_words : List Bool → ℕ → List ℕ
 foreign_words odds s = codes " But at the beginning " ++ man_words (man_at (array_of odds) s) ++ codes " stood on " ++ square_text s ++ codes "."
 
--- how the line of shut siblings goes on, or begins
-abbrev pub opening_words : Spot → Bool → Bool → List ℕ
-opening_words at follows more = cond follows (cond more (codes ", ") (codes " or ")) (at.lead ++ codes "It wasn't ")
+-- an account shuts the sibling that was told last, if there is one
+abbrev pub follows_shut : Option Last → Bool
+follows_shut None = false
+follows_shut (Some p) = p.shut
 
--- a sibling that an account shuts
-abbrev pub shut_words : Spot → Bool → Bool → Label → List ℕ
-shut_words at follows more label =
-    opening_words at follows more ++ name_words label ++ cond more [] (codes ": the captures by pawns wouldn't balance.")
+-- and the same move was named there, whoever fell
+abbrev pub is_named : Option Last → Last → Bool
+is_named None this = false
+is_named (Some p) this = p.shut && this.whole && is_same_move p.label this.label
+
+-- how the line of shut siblings goes on, or begins
+abbrev pub opening_words : Spot → Bool → List ℕ
+opening_words at follows = cond follows (codes ", nor ") (at.lead ++ codes "It wasn't ")
+
+-- that it wasn't this one
+abbrev pub denied_words : Spot → Bool → Last → List ℕ
+denied_words at follows this = opening_words at follows ++ shown_words this.whole this.label
+
+-- A sibling that an account shuts, behind the one that was told last. If accounts shut all to which a move leads, it is named once.
+abbrev pub shut_words : Spot → Option Last → Last → Bool → List ℕ
+shut_words at p this more =
+    cond (is_named p this) [] (denied_words at (follows_shut p) this) ++ cond more [] (codes ": the captures by pawns wouldn't balance.")
 
 -- a sibling that is void
 abbrev pub astray_words : List Bool → Spot → ℕ → Label → List ℕ

@@ -62,6 +62,17 @@ squares_of x = square_text x.from ++ sign_of x.way ∷ [] ++ square_text x.to
 abbrev pub step_words : StepLabel → List ℕ
 step_words x = squares_of x ++ way_words x.way
 
+-- that a man was promoted, whoever fell
+abbrev pub bare_way : Way → List ℕ
+bare_way Straight = []
+bare_way (Capture v n) = []
+bare_way Promotion = codes " with promotion"
+bare_way (CapturePromotion t) = codes " with promotion"
+
+-- a step, whoever fell
+abbrev pub bare_step : StepLabel → List ℕ
+bare_step x = squares_of x ++ bare_way x.way
+
 -- a kind of which a man may be
 abbrev pub case_words : Officer → List ℕ
 case_words Knight = codes "a knight"
@@ -73,6 +84,24 @@ abbrev pub name_words : Label → List ℕ
 name_words Now = []
 name_words (Step x) = step_words x
 name_words (Case k) = case_words k
+
+-- the same, whoever fell
+abbrev pub bare_words : Label → List ℕ
+bare_words Now = []
+bare_words (Step x) = bare_step x
+bare_words (Case k) = case_words k
+
+-- with who fell, or whoever fell
+abbrev pub shown_words : Bool → Label → List ℕ
+shown_words whole label = cond whole (bare_words label) (name_words label)
+
+-- both are steps from one square to another
+abbrev pub is_same_move : Label → Label → Bool
+is_same_move Now b = false
+is_same_move (Case k) b = false
+is_same_move (Step x) Now = false
+is_same_move (Step x) (Case k) = false
+is_same_move (Step x) (Step y) = (x.from == y.from) && (x.to == y.to)
 
 -- how what follows from it begins
 abbrev pub lead_word : Label → List ℕ

@@ -15,4 +15,5 @@ pub use sentences::{
     push_stepped, push_unknown,
 };
 pub use sets::{list_of, without};
-pub use spots::Spot;
+pub use spots::{Last, Spot};
+pub use steps::is_same_move;

@@ -6,12 +6,12 @@ ghost use Rattle.std.specs.Fmt.{decimal};
 ghost use Rattle.board_base.specs.Board.{array_of, at};
 ghost use Rattle.board_base.specs.Texts.{square_text};
 ghost use Rattle.prose_words.specs.Words.{man_words};
-ghost use Rattle.sketch_words.specs.Phrases.{astray_words, deed_words, file_words, files_words, foreign_words, fresh_words, heading_words, kept_words, marked_words, neither_words, number_words, opening_words, or_words, said_of, settled_words, shut_words, stayed_words, stepped_words, unknown_words, unmoved_words};
+ghost use Rattle.sketch_words.specs.Phrases.{astray_words, deed_words, denied_words, file_words, files_words, follows_shut, foreign_words, fresh_words, heading_words, is_named, kept_words, marked_words, neither_words, number_words, opening_words, or_words, said_of, settled_words, shut_words, stayed_words, stepped_words, unknown_words, unmoved_words};
 ghost use Rattle.sketch_words.specs.Words.{common, held_homes, men_words, name_words, without};
 
 use crate::sets::{held_homes, list_of, push_either, push_men, without};
-use crate::spots::Spot;
-use crate::steps::{push_lead, push_name};
+use crate::spots::{Last, Spot};
+use crate::steps::{is_same_move, push_lead, push_name, push_shown};
 use board_base::{CastleSet, Odds, Square, SquareSet, array_of};
 use figures::both;
 use prose_words::{push_man, push_number, push_square, say};
@@ -290,28 +290,75 @@ fn push_beginning(spot: &Spot, out: &mut Vec<u8>) -> Result<(), AllocError>
 }
 
 /// How the line of shut siblings goes on, or begins.
-fn push_opening(spot: &Spot, follows: bool, more: bool, out: &mut Vec<u8>) -> Result<(), AllocError>
-    ensures { IfOk result (λ _. out.new.items ≡ out.old.items ++ opening_words spot.now follows more) }
+fn push_opening(spot: &Spot, follows: bool, out: &mut Vec<u8>) -> Result<(), AllocError>
+    ensures { IfOk result (λ _. out.new.items ≡ out.old.items ++ opening_words spot.now follows) }
 {
     if follows {
-        push_either(more, b", ", b" or ", out)
+        say(b", nor ", out)
     } else {
         push_beginning(spot, out)
     }
 }
 
-/// A sibling that an account shuts.
-pub fn push_shut(
+/// That it wasn't this one.
+fn push_denied(
     spot: &Spot,
     follows: bool,
-    more: bool,
-    label: &Label,
+    this: &Last,
     out: &mut Vec<u8>,
 ) -> Result<(), AllocError>
-    ensures { IfOk result (λ _. out.new.items ≡ out.old.items ++ shut_words spot.now follows more label.now) }
+    ensures { IfOk result (λ _. out.new.items ≡ out.old.items ++ denied_words spot.now follows this.now) }
 {
-    push_opening(spot, follows, more, out)?;
-    push_name(label, out)?;
+    push_opening(spot, follows, out)?;
+    push_shown(this.whole, &this.label, out)?;
+    Ok(())
+}
+
+fn follows_shut(last: &Option<Last>) -> bool
+    ensures { result ≡ follows_shut last.now }
+{
+    match last {
+        None => false,
+        Some(sibling) => sibling.shut,
+    }
+}
+
+/// Whether the same move was named there, whoever fell.
+fn is_named(last: &Option<Last>, this: &Last) -> bool
+    ensures { result ≡ is_named last.now this.now }
+{
+    match last {
+        None => false,
+        Some(sibling) => sibling.shut && this.whole && is_same_move(&sibling.label, &this.label),
+    }
+}
+
+fn push_denied_once(
+    spot: &Spot,
+    last: &Option<Last>,
+    this: &Last,
+    out: &mut Vec<u8>,
+) -> Result<(), AllocError>
+    ensures { IfOk result (λ _. out.new.items ≡ out.old.items ++ cond (is_named last.now this.now) [] (denied_words spot.now (follows_shut last.now) this.now)) }
+{
+    if is_named(last, this) {
+        Ok(())
+    } else {
+        push_denied(spot, follows_shut(last), this, out)
+    }
+}
+
+/// A sibling that an account shuts, behind the one that was told last; and what shuts it, if the next one isn't shut.
+pub fn push_shut(
+    spot: &Spot,
+    last: &Option<Last>,
+    this: &Last,
+    more: bool,
+    out: &mut Vec<u8>,
+) -> Result<(), AllocError>
+    ensures { IfOk result (λ _. out.new.items ≡ out.old.items ++ shut_words spot.now last.now this.now more) }
+{
+    push_denied_once(spot, last, this, out)?;
     push_either(more, b"", b": the captures by pawns wouldn't balance.", out)?;
     Ok(())
 }

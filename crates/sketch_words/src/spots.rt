@@ -1,4 +1,5 @@
 use board_base::SquareSet;
+use sketch_text::Label;
 use std::marker::Model;
 
 /// Where a node is told: what begins a line there, what the numbers of its siblings begin with, and whose men are said never to have moved.
@@ -15,4 +16,12 @@ impl Model for Spot {
     ghost Value = { ASpot };
 
     ghost view = { λ s. record { lead = s.lead.items; prefix = s.prefix.items; known = s.known } };
+}
+
+/// A node that was told: what leads to it, whether an account shuts it, and whether accounts shut all siblings to which the same move leads.
+#[derive(Clone, Copy)]
+pub struct Last {
+    pub label: Label,
+    pub shut: bool,
+    pub whole: bool,
 }

@@ -2,7 +2,7 @@
 
 ghost use Rattle.std.specs.Prelude.{◌≡◌, ◌++◌, IfOk, codes};
 ghost use Rattle.std.specs.Fmt.{decimal};
-ghost use Rattle.sketch_words.specs.Words.{above_words, case_words, lead_word, name_words, sign_of, squares_of, step_words, taken_words, victim_words, way_words};
+ghost use Rattle.sketch_words.specs.Words.{above_words, bare_step, bare_way, bare_words, case_words, is_same_move, lead_word, name_words, shown_words, sign_of, squares_of, step_words, taken_words, victim_words, way_words};
 
 use prose_words::{push_number, push_square, say};
 use sketch_text::{Label, Officer, StepLabel, Taken, Victim, Way};
@@ -120,6 +120,58 @@ pub(crate) fn push_name(label: &Label, out: &mut Vec<u8>) -> Result<(), AllocErr
         Label::Now => Ok(()),
         Label::Step(step) => push_step(step, out),
         Label::Case(officer) => say(case_words(*officer), out),
+    }
+}
+
+fn push_bare_way(way: Way, out: &mut Vec<u8>) -> Result<(), AllocError>
+    ensures { IfOk result (λ _. out.new.items ≡ out.old.items ++ bare_way way) }
+{
+    match way {
+        Way::Straight | Way::Capture(_, _) => Ok(()),
+        Way::Promotion | Way::CapturePromotion(_) => say(b" with promotion", out),
+    }
+}
+
+fn push_bare_step(step: &StepLabel, out: &mut Vec<u8>) -> Result<(), AllocError>
+    ensures { IfOk result (λ _. out.new.items ≡ out.old.items ++ bare_step step.now) }
+{
+    push_between(step, out)?;
+    push_bare_way(step.way, out)?;
+    Ok(())
+}
+
+fn push_bare(label: &Label, out: &mut Vec<u8>) -> Result<(), AllocError>
+    ensures { IfOk result (λ _. out.new.items ≡ out.old.items ++ bare_words label.now) }
+{
+    match label {
+        Label::Now => Ok(()),
+        Label::Step(step) => push_bare_step(step, out),
+        Label::Case(officer) => say(case_words(*officer), out),
+    }
+}
+
+/// What leads to a node, whoever fell, or with who fell.
+pub(crate) fn push_shown(
+    whole: bool,
+    label: &Label,
+    out: &mut Vec<u8>,
+) -> Result<(), AllocError>
+    ensures { IfOk result (λ _. out.new.items ≡ out.old.items ++ shown_words whole label.now) }
+{
+    if whole {
+        push_bare(label, out)
+    } else {
+        push_name(label, out)
+    }
+}
+
+/// Whether both are steps from one square to another.
+pub fn is_same_move(a: &Label, b: &Label) -> bool
+    ensures { result ≡ is_same_move a.now b.now }
+{
+    match (a, b) {
+        (Label::Step(x), Label::Step(y)) => x.from == y.from && x.to == y.to,
+        _ => false,
     }
 }
 

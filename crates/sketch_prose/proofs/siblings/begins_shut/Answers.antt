@@ -1,0 +1,2 @@
+use Rattle.sketch_prose.proofs.Nexts.{begins-marks, begins-node, begins-none, begins-nowhere}
+use Rattle.sketch_prose.proofs.siblings.begins_shut.Goals as goal
