@@ -7,7 +7,7 @@ use Rattle.sketch_body.specs.Seen.{line_of}
 use Rattle.sketch_body.specs.declared.lines.SketchLine.{SketchLine}
 use Rattle.sketch_prose.proofs.Nodes.{same-node}
 use Rattle.sketch_prose.proofs.Siblings.{shut-is}
-use Rattle.sketch_prose.specs.Siblings.{decided_by}
+use Rattle.sketch_prose.specs.Neighbours.{decided_by}
 use Rattle.sketch_prose.specs.Telling.{all_shut_by, begins_shut, is_shut, leaf_of, own_line}
 use Rattle.sketch_prose.specs.declared.leaves.Leaf.{Leaf}
 use Rattle.sketch_prose.specs.declared.leaves.Leaf.TheVariants.{Shut, Astray, Open}

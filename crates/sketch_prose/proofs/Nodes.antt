@@ -147,14 +147,7 @@ marks-never g v vs (more (node label marks reason) ns ∷ fs) m lines some (rest
     other : of_marks m ≡ of_node (own_line (node label marks reason)) → ⊥
     other h = cc
 
+-- nothing is left at no level
 pub lines-never : (g : Setting) (fs : List Nodes) (l : Line) (lines : List Line) → AreLeft g [] fs (l ∷ lines) → ⊥
 lines-never g [] l lines it = cc
 lines-never g (ns ∷ fs) l lines it = it
-
--- nothing is left at no level
-pub lines-never : (g : Setting) (fs : List Nodes) (l : Line) (ls : List Line) → AreLeft g [] fs (l ∷ ls) → ⊥
-lines-never g [] l ls it = none-are it
-  where
-    none-are : l ∷ ls ≡ [] → ⊥
-    none-are h = cc
-lines-never g (ns ∷ fs) l ls it = it

@@ -14,7 +14,7 @@ use Rattle.sketch_prose.specs.Bases.{AreKnown}
 use Rattle.sketch_prose.specs.Levels.{AreLeft, IsFit, Level, TellsAll, ToldWhole, first_level}
 use Rattle.sketch_prose.specs.Sentences.{Sentence}
 use Rattle.sketch_prose.specs.Telling.{AddsSketch, TellsOne, exact_files, first_spot, setting_by}
-use Rattle.sketch_text.specs.Trees.{Line, Node, lines_of, more, none}
+use Rattle.sketch_text.specs.Trees.{Line, Node, Nodes, lines_of, more, none}
 use Rattle.sketch_text.specs.declared.labels.Label.TheVariants.{Now}
 
 pub root-fit : (q : Asked) (b : Body) → BodySupports q (exact_files b.files) b.prices b.lines → IsFit q.odds (sketch_of q.board)

@@ -1,6 +1,6 @@
 -- Inner: no public clause cites this file.
 -- What is told of the end of a node, by its kind.
-use Rattle.std.specs.Prelude.{ℕ, ◌≡◌, false, List, ◌++◌, map, Option, Some}
+use Rattle.std.specs.Prelude.{ℕ, ◌≡◌, false, List, ◌++◌, map, Option, Some, None}
 use Rattle.figures.specs.Figures.{Sketch, fixed_squares}
 use Rattle.figures.specs.Homes.{may_be_array}
 use Rattle.sketch_checker.specs.DueNodes.{Due, cases_from, due_of}

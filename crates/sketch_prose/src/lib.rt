@@ -11,7 +11,7 @@ mod leaves;
 mod levels;
 mod marks;
 mod opening;
-mod siblings;
+mod neighbours;
 mod telling;
 mod whole;
 

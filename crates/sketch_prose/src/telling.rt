@@ -19,7 +19,7 @@ use crate::foreigners::first_foreign;
 use crate::leaves::{Leaf, is_shut, leaf_of};
 use crate::levels::{Level, Levels, next_level};
 use crate::opening::push_open;
-use crate::siblings::{begins_shut, last_with};
+use crate::neighbours::{begins_shut, last_with};
 use capture_prices::Prices;
 use figures::Sketch;
 use sketch_body::SketchLine;

@@ -19,8 +19,8 @@ returns-in-Marks c = λ known fs left.
     let p = c.in-Some.ensures.passes g fs _ left in
     absurd (marks-never g c.in-Some.level c.next_level.new.levels p.forests _ (map line_of c.args.lines.now) c.in-Some.ensures.some p.left)
 
-pub returns-in-Node : goal.returns-in-Node
-returns-in-Node c = λ known fs left.
+pub returns-in_ok-push_node-in-Node : goal.returns-in_ok-push_node-in-Node
+returns-in_ok-push_node-in-Node c = λ known fs left.
     let g : Setting = setting_with c.args.base.now c.args.prices.now in
     let p = c.in-Some.ensures.passes g fs _ left in
     goes-passed g c.args.base.now.diagram c.args.levels.now (c.in-Some.level ∷ c.next_level.new.levels) c.push_node.new.levels fs _ _ c.args.out.now.items c.push_node.new.out.items p (c.in_ok-push_node.ensures known p.forests p.left)

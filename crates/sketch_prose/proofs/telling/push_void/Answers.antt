@@ -6,8 +6,8 @@ use Rattle.sketch_prose.proofs.Strangers.{foreign-there}
 use Rattle.sketch_prose.proofs.telling.push_void.Goals as goal
 use Rattle.sketch_prose.specs.Bases.{setting_with}
 
-pub returns-in-Some : goal.returns-in-Some
-returns-in-Some c = λ prices void. (
+pub returns-in_ok-push_astray-in-Some : goal.returns-in_ok-push_astray-in-Some
+returns-in_ok-push_astray-in-Some c = λ prices void. (
   c.in-Some.s,
   foreign-there (setting_with c.args.base.now prices) c.args.sketch.now c.greatest_frozen-set.result c.in-Some.s c.greatest_frozen-set.ensures.value c.in-Some.ensures.foreign,
   c.in_ok-push_astray.ensures,

@@ -1,7 +1,7 @@
 use Rattle.std.proofs.Common.{◌≡◌, ◌++◌, List, drop, map}
 use Rattle.sketch_body.specs.Seen.{line_of}
 use Rattle.sketch_prose.proofs.Nexts.{LeftBy}
-use Rattle.sketch_prose.proofs.siblings.all_shut_by.Given as goal
+use Rattle.sketch_prose.proofs.neighbours.all_shut_by.Given as goal
 use Rattle.sketch_text.specs.Trees.{Line, Nodes, count, lines_each}
 
 abbrev pub invariant-loop-i : goal.invariant-loop-i

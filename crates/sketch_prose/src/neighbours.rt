@@ -2,7 +2,7 @@
 
 ghost use Rattle.std.specs.Prelude.{◌≡◌, ◌++◌, List, map, true};
 ghost use Rattle.sketch_body.specs.Seen.{line_of};
-ghost use Rattle.sketch_prose.specs.Siblings.{decided_by};
+ghost use Rattle.sketch_prose.specs.Neighbours.{decided_by};
 ghost use Rattle.sketch_prose.specs.Telling.{all_shut_by, are_all_shut, begins_shut, is_shut, last_with, leaf_of};
 ghost use Rattle.sketch_text.specs.Trees.{Line as ALine, Nodes, count, lines_each};
 
