@@ -1,5 +1,5 @@
 -- Figures who aren't the array's men.
-use Rattle.std.proofs.Common.{◌≡◌, ℕ, ◌<◌, ◌+◌, Bool, true, false, ◌&&◌, not, List, below_more, get_or, length, refl, ap, sym, ◌∙◌, subst}
+use Rattle.std.proofs.Common.{◌≡◌, ℕ, zero, suc, ◌<◌, ◌≤◌, ◌+◌, Bool, true, false, ◌&&◌, not, List, [], ◌∷◌, arith, below_more, get_or, length, refl, ap, sym, ◌∙◌, subst}
 use Rattle.std.proofs.lemmas.Bool.{and_from, and_parts, both_ways}
 use Rattle.std.specs.Prelude.{Option, Some, None}
 use Rattle.board_base.proofs.KindsOfMen.{colour_is, same_colour-self}
@@ -55,6 +55,17 @@ begun-more o S set i f first same found before on =
     (λ g at_it s member fixed.
     let figure : f ≡ g = cc in
     subst (λ (x : Figure). IsBegun o s x) figure (begins-told o s f (at (array_of o) s) refl (ap (λ (b : Places). begins_on (at b s) f) (sym same) ∙ on s member (ap (is_fixed_on s) figure ∙ fixed))))
+
+number-low : (S : Sketch) (i : ℕ) (f : Figure) → figure_at S i ≡ Some f → i < length S
+number-low [] i f e = cc
+number-low (g ∷ S) zero f e = omega arith
+number-low (g ∷ S) (suc i) f e = let low : i < length S = number-low S i f e in omega (arith, low)
+
+pub all-begun : (o : List Bool) (S items : Sketch) (set : List Bool) (n : ℕ) → items ≡ S → length items ≤ n → AreBegunBefore o S set n → AreBegun o S set
+all-begun o S items set n same past before s i f member there fixed =
+    let low : i < length S = number-low S i f there in
+    let size : length items ≡ length S = ap (λ (l : Sketch). length l) same in
+    before i (omega (arith, low, size, past)) f there s member fixed
 
 pub foreign-in : (o : List Bool) (S : Sketch) (set : List Bool) (i : ℕ) (f : Figure) (s : ℕ) (first : Places) → first ≡ array_of o → figure_at S i ≡ Some f → AreBegunBefore o S set i → IsForeignOn first set f s → IsForeignIn o S set s
 foreign-in o S set i f s first same found before on = record {

@@ -1,8 +1,5 @@
-use Rattle.std.proofs.Common.{◌≡◌, ◌<◌, length, refl, arith}
-use Rattle.std.specs.Prelude.{Some}
-use Rattle.figures.specs.Figures.{figure_at}
-use Rattle.sketch_grounds.specs.Frozen.{AreBegun}
-use Rattle.sketch_prose.proofs.Strangers.{at-number, begun-more, foreign-in}
+use Rattle.std.proofs.Common.{refl}
+use Rattle.sketch_prose.proofs.Strangers.{all-begun, at-number, begun-more, foreign-in}
 use Rattle.sketch_prose.proofs.foreigners.first_foreign.Goals as goal
 
 pub returns-in-Some-clause-foreign : goal.returns-in-Some-clause-foreign
@@ -16,4 +13,4 @@ loop-figure-preserved c =
     (at-number c.args.sketch.now c.figures-figure-items.result.now c.loop-figure.figure-index c.figure-item.result c.figures-figure-items.ensures.value c.loop-figure-test.true c.figure-item.is) c.loop-figure.invariant (c.in-None.ensures.none refl)
 
 pub returns-clause-some : goal.returns-clause-some
-returns-clause-some c = λ bad. absurd (bad ?)
+returns-clause-some c = λ bad. absurd (bad (all-begun c.args.odds c.args.sketch.now c.figures-figure-items.result.now c.args.set c.loop-figure.figure-index c.figures-figure-items.ensures.value c.loop-figure-test.false c.loop-figure.invariant))
