@@ -7,6 +7,7 @@ use Rattle.sketch_checker.specs.Supports.{setting_of}
 use Rattle.sketch_prose.proofs.Starting.{root-fit, sketch-told}
 use Rattle.sketch_prose.proofs.whole.push_sketch.Goals as goal
 use Rattle.sketch_prose.specs.Levels.{Level, first_level}
+use Rattle.sketch_prose.specs.Telling.{exact_files}
 
 pub unreachable-requires : goal.unreachable-requires
 unreachable-requires c =
@@ -18,7 +19,7 @@ returns c =
     let exact : List Bool = c.exact_files.result in
     let prices : List PriceList = c.prices.result.now in
     sketch-told c.args.query.now c.args.body.now _ c.in-Some.diagram _ _ c.args.out.now.items c.push_all.new.out.items c.requires
-    (ap (λ (q : Asked). setting_of q exact prices) c.query.view_is ∙ ap (λ (e : List Bool). setting_of c.args.query.now e prices) c.exact_files.ensures ∙ ap (λ (p : List PriceList). setting_of c.args.query.now _ p) c.prices.ensures)
+    (ap (λ (q : Asked). setting_of q exact prices) c.query.view_is ∙ ap (λ (e : List Bool). setting_of c.args.query.now e prices) (c.exact_files.ensures ∙ ap exact_files c.files.ensures) ∙ ap (λ (p : List PriceList). setting_of c.args.query.now (exact_files c.args.body.now.files) p) c.prices.ensures)
     (c.in-Some.ensures.1 ∙ ap (λ (q : Asked). sketch_of q.board) c.query.view_is)
     (c.in_ok-push.ensures
     ∙ ap (λ (v : Level). v ∷ c.new-levels.result) (c.in_ok-first_level.ensures ∙ ap first_level c.copied.ensures)
