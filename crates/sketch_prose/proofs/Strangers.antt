@@ -36,14 +36,6 @@ begun-on first set f s there begins size fixed is_there is_begun so t member on 
     by_begins true e = refl
     by_begins false e = absurd (both_ways _ e refl)
 
-pub foreign-on : (first : Places) (set : List Bool) (f : Figure) (s : ℕ) (there begins : Bool) → is_fixed_on s f ≡ true → there ≡ is_in set s → begins ≡ begins_on (at first s) f → (there && not begins) ≡ true → IsForeignOn first set f s
-foreign-on first set f s there begins fixed is_there is_begun so =
-    let parts = and_parts there (not begins) so in (sym is_there ∙ parts.0, fixed, sym is_begun ∙ by_begins begins parts.1)
-  where
-    by_begins : (b : Bool) → not b ≡ true → b ≡ false
-    by_begins true e = absurd (both_ways _ refl e)
-    by_begins false e = refl
-
 -- ALL
 
 pub at-number : (S items : Sketch) (i : ℕ) (f : Figure) → items ≡ S → i < length items → f ≡ get_or items i f → figure_at S i ≡ Some f

@@ -6,11 +6,11 @@ use Rattle.sketch_prose.proofs.Strangers.{foreign-there}
 use Rattle.sketch_prose.proofs.ends.push_void.Goals as goal
 use Rattle.sketch_prose.specs.Bases.{setting_with}
 
-pub returns-in-Some : goal.returns-in-Some
-returns-in-Some c = λ prices void. record {
+pub returns-in_ok-push_foreign-in-Some : goal.returns-in_ok-push_foreign-in-Some
+returns-in_ok-push_foreign-in-Some c = λ prices void. record {
   square = c.in-Some.s;
   foreign = foreign-there (setting_with c.args.base.now prices) c.args.sketch.now c.greatest_frozen-set.result c.in-Some.s c.greatest_frozen-set.ensures.value c.in-Some.ensures.foreign;
-  text = c.in_ok-push_foreign.ensures;
+  text = c.in_ok-push_foreign-in-Some.ensures;
 }
 
 pub returns-in-None : goal.returns-in-None
