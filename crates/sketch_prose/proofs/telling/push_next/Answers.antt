@@ -1,5 +1,6 @@
 use Rattle.std.proofs.Common.{◌∷◌, List, map, refl, subst}
 use Rattle.sketch_body.specs.Seen.{line_of}
+use Rattle.sketch_body.specs.declared.lines.SketchLine.{SketchLine}
 use Rattle.sketch_proof.specs.Proofs.{Setting}
 use Rattle.sketch_prose.proofs.Leaving.{goes-passed}
 use Rattle.sketch_prose.proofs.Nodes.{lines-never, marks-never}
@@ -17,10 +18,11 @@ pub returns-in-Marks : goal.returns-in-Marks
 returns-in-Marks c = λ known fs left.
     let g : Setting = setting_with c.args.base.now c.args.prices.now in
     let p = c.in-Some.ensures.passes g fs _ left in
-    absurd (marks-never g c.in-Some.level c.next_level.new.levels p.forests _ (map line_of c.args.lines.now) c.in-Some.ensures.some p.left)
+    absurd (marks-never g c.in-Some.level c.next_level.new.levels p.forests _ (map line_of c.args.lines.now) c.in-Some.ensures.some (subst (λ (l : SketchLine). AreLeft g (c.in-Some.level ∷ c.next_level.new.levels) p.forests (line_of l ∷ map line_of c.args.lines.now)) c.in-Marks.is p.left))
 
 pub returns-in_ok-push_node-in-Node : goal.returns-in_ok-push_node-in-Node
 returns-in_ok-push_node-in-Node c = λ known fs left.
     let g : Setting = setting_with c.args.base.now c.args.prices.now in
     let p = c.in-Some.ensures.passes g fs _ left in
-    goes-passed g c.args.base.now.diagram c.args.levels.now (c.in-Some.level ∷ c.next_level.new.levels) c.push_node.new.levels fs _ _ c.args.out.now.items c.push_node.new.out.items p (c.in_ok-push_node.ensures known p.forests p.left)
+    let here = subst (λ (l : SketchLine). AreLeft g (c.in-Some.level ∷ c.next_level.new.levels) p.forests (line_of l ∷ map line_of c.args.lines.now)) c.in-Node.is p.left in
+    goes-passed g c.args.base.now.diagram c.args.levels.now (c.in-Some.level ∷ c.next_level.new.levels) c.push_node.new.levels fs _ _ c.args.out.now.items c.push_node.new.out.items p (c.in_ok-push_node-in-Node.ensures known p.forests here)

@@ -10,7 +10,7 @@ pub returns-in_ok-push_astray-in-Some : goal.returns-in_ok-push_astray-in-Some
 returns-in_ok-push_astray-in-Some c = λ prices void. (
   c.in-Some.s,
   foreign-there (setting_with c.args.base.now prices) c.args.sketch.now c.greatest_frozen-set.result c.in-Some.s c.greatest_frozen-set.ensures.value c.in-Some.ensures.foreign,
-  c.in_ok-push_astray.ensures,
+  c.in_ok-push_astray-in-Some.ensures,
 )
 
 pub returns-in-None : goal.returns-in-None
