@@ -1,5 +1,5 @@
 -- A sketch has one text: the same sentences tell it.
-use Rattle.std.proofs.Common.{◌≡◌, ℕ, ◌<◌, inl, inr, Bool, false, List, [], ◌∷◌, ◌++◌, length, map, refl, ap, sym, ◌∙◌, subst, arith}
+use Rattle.std.proofs.Common.{◌≡◌, ℕ, ◌<◌, inl, inr, Bool, false, List, [], ◌∷◌, ◌++◌, map, refl, ap, sym, ◌∙◌, subst, arith}
 use Rattle.std.proofs.lemmas.Bool.{cases_Bool, ltb-false, ltb-true}
 use Rattle.std.specs.Prelude.{None, Option, Some, nat_lt}
 use Rattle.std.specs.List.{Contains, list_any}
@@ -22,13 +22,12 @@ use Rattle.sketch_proof.proofs.Whole.{AreWhole, board-whole, earlier-whole, know
 use Rattle.sketch_proof.specs.Nodes.{marked_with}
 use Rattle.sketch_proof.specs.Proofs.{Setting, with_lines}
 use Rattle.sketch_prose.specs.Foreigners.{IsForeignIn}
-use Rattle.sketch_prose.specs.Sentences.{IsForeign, Sentence, all_words, astray, foreign, settled, stepped, unknown}
+use Rattle.sketch_prose.specs.Sentences.{Sentence, all_words, astray, foreign, settled, stepped, unknown}
 use Rattle.sketch_prose.specs.Telling.{AddsSketch, TellsAs, TellsBelow, TellsEach, TellsOne, begins_shut, first_spot, head_told, known_with, last_with, leaf_of, next_number, own_line, setting_by, spot_below}
 use Rattle.sketch_prose.specs.declared.leaves.Leaf.{Leaf}
 use Rattle.sketch_prose.specs.declared.leaves.Leaf.TheVariants.{Shut, Astray, Open}
 use Rattle.sketch_text.specs.Marks.{Marks}
-use Rattle.sketch_text.specs.Trees.{Node, Nodes, Reason, closed, count, end_of, more, node, none, split, steps, void}
-use Rattle.sketch_text.specs.declared.labels.Officer.{Officer}
+use Rattle.sketch_text.specs.Trees.{Node, Nodes, Reason, closed, count, more, node, none, split, steps, void}
 use Rattle.sketch_text.specs.declared.labels.Officer.TheVariants.{Knight, Rook, Queen}
 use Rattle.sketch_words.specs.Phrases.{Spot}
 use Rattle.sketch_words.specs.declared.spots.Last.{Last}
@@ -109,8 +108,8 @@ mutual
       let same : U ≡ T = least-one g.held g.exact S U T has.somewhere least' least in
       let told : TellsEach ns g at None 1 (map due_of (earlier g.odds g.exact T)) rest' = subst (λ (V : Sketch). TellsEach ns g at None 1 (map due_of (earlier g.odds g.exact V)) rest') same each' in
       e
-      ∙ ap (λ (l : List Sentence). settled S T ∷ stepped T (count ns) ∷ l) (one-each ns g at None 1 (map due_of (earlier g.odds g.exact T)) rest rest' (steps-have g.odds g.exact T) each told)
-      ∙ ap (λ (V : Sketch). settled S V ∷ stepped V (count ns) ∷ rest') (sym same)
+      ∙ ap (λ (l : List Sentence). settled S T ∷ stepped S T (count ns) ∷ l) (one-each ns g at None 1 (map due_of (earlier g.odds g.exact T)) rest rest' (steps-have g.odds g.exact T) each told)
+      ∙ ap (λ (V : Sketch). settled S V ∷ stepped S V (count ns) ∷ rest') (sym same)
       ∙ sym e'
   one-end (split s knight rook queen) g at S ss ts has (i, a, b, c, first, e, ta, tb, tc) (j, a', b', c', first', e', ta', tb', tc') =
       let same : j ≡ i = first-one S s j i first' first in
