@@ -31,7 +31,7 @@ pub record StepsTold (g : Setting) (diagram : Sketch) (at : Spot) (S : Sketch) (
   pub least : IsLeastAbove g.held g.exact S wide
   pub no_array : may_be_array g.odds wide ≡ false
   pub level : below ≡ Some (level_of at count (map due_of (earlier g.odds g.exact wide)))
-  pub text : after ≡ before ++ (settled_words g.exact (set_words (without (fixed_squares wide) (greatest_frozen g.held S))) ++ stepped_words g.exact (why_words g.odds diagram S wide (first_crowded g.odds wide wide)) count)
+  pub text : after ≡ before ++ (settled_words g.exact (set_words (without (fixed_squares wide) (greatest_frozen g.held S))) ++ stepped_words g.exact (why_words g.odds diagram S wide (first_crowded g.odds wide)) count)
 
 -- of whom it isn't known what he was, and the level of his cases
 pub record SplitTold (at : Spot) (S : Sketch) (s : ℕ) (below : Option Level) (before after : List ℕ) : Type 0 where

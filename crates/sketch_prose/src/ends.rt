@@ -54,7 +54,7 @@ fn push_before(
     count: u16,
     out: &mut Vec<u8>,
 ) -> Result<(), AllocError>
-    ensures { IfOk result (λ _. out.new.items ≡ out.old.items ++ (settled_words base.now.exact (set_words (without (fixed_squares wide.now) (greatest_frozen base.now.held sketch.now))) ++ stepped_words base.now.exact (why_words base.now.odds base.now.diagram sketch.now wide.now (first_crowded base.now.odds wide.now wide.now)) count)) }
+    ensures { IfOk result (λ _. out.new.items ≡ out.old.items ++ (settled_words base.now.exact (set_words (without (fixed_squares wide.now) (greatest_frozen base.now.held sketch.now))) ++ stepped_words base.now.exact (why_words base.now.odds base.now.diagram sketch.now wide.now (first_crowded base.now.odds wide.now)) count)) }
 {
     let still = without(fixed_squares(wide), greatest_frozen(sketch, base.held));
     let list = list_of(alloc, still)?;

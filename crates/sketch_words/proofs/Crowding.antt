@@ -7,12 +7,12 @@ use Rattle.std.specs.List.{range_with_len}
 use Rattle.board_base.specs.Board.{Places, array_of, is_in}
 use Rattle.figures.proofs.Filling.{is_in-that}
 use Rattle.figures.specs.Figures.{Figure, Sketch, figure_at}
-use Rattle.figures.specs.Homes.{has_homes, is_home, lives_within}
+use Rattle.figures.specs.Homes.{is_home, lives_within}
 use Rattle.figures.specs.Sets.{squares_that}
 use Rattle.sketch_sets.proofs.Sets.{all-same, inside-told}
 use Rattle.sketch_sets.specs.Homes.{has_like, home_count, homes_on}
-use Rattle.sketch_words.specs.Crowds.{came_words, first_crowded, is_lodger, lodgers_words, why_words}
-use Rattle.sketch_words.specs.Lodging.{is_crowded_on, lives_on, lodges_on}
+use Rattle.sketch_words.specs.Crowds.{came_words, first_lacking, is_lodger, lacks_homes, lodgers_words, why_words}
+use Rattle.sketch_words.specs.Lodging.{lacks_on, lives_on, lodges_on}
 use Rattle.sketch_words.specs.Words.{set_words}
 
 -- HOMES
@@ -61,14 +61,12 @@ not-not : (b : Bool) → b ≡ not (not b)
 not-not true = refl
 not-not false = refl
 
-crowded-told : (o : List Bool) (T : Sketch) (f : Figure) → is_crowded_on (array_of o) T f ≡ not (has_homes o T f)
-crowded-told o T f =
+pub lacks-told : (all_ : Bool) (o : List Bool) (T : Sketch) (f : Figure) → lacks_on all_ (array_of o) T f ≡ lacks_homes all_ o T f
+lacks-told true o T f = ap (λ (n : ℕ). n == 0) (beds-told o f)
+lacks-told false o T f =
     ap (λ (n : ℕ). nat_lt n (count_by (lives_on (array_of o) (homes_on (array_of o) f)) T)) (beds-told o f)
     ∙ ap (λ (n : ℕ). nat_lt (count_by (is_home o f) (range_with_len 0 64)) n) (lodgers-told o T f)
     ∙ not-not (nat_lt (count_by (is_home o f) (range_with_len 0 64)) (count_by (lives_within o f) T))
-
-has-homes : (o : List Bool) (T : Sketch) (f : Figure) (first : Places) (b : Bool) → first ≡ array_of o → is_crowded_on first T f ≡ b → has_homes o T f ≡ not b
-has-homes o T f first b same is = not-not (has_homes o T f) ∙ ap not (sym (crowded-told o T f) ∙ ap (λ (p : Places). is_crowded_on p T f) (sym same) ∙ is)
 
 -- ONE AFTER ANOTHER
 
@@ -82,18 +80,19 @@ none-past [] i e = omega arith
 none-past (f ∷ S) zero e = cc
 none-past (f ∷ S) (suc i) e = let past : length S ≤ i = none-past S i e in omega (arith, past)
 
-crowd-at : (o : List Bool) (T : Sketch) (i : ℕ) (f : Figure) (first : Places) (b : Bool) → first ≡ array_of o → figure_at T i ≡ Some f → is_crowded_on first T f ≡ b → first_crowded o T (drop i T) ≡ cond (not b) (first_crowded o T (drop (i + 1) T)) (Some f)
-crowd-at o T i f first b same found is =
-    ap (first_crowded o T) (drop-at T i f found) ∙ ap (λ (h : Bool). cond h (first_crowded o T (drop (i + 1) T)) (Some f)) (has-homes o T f first b same is)
+crowd-at : (all_ : Bool) (o : List Bool) (T : Sketch) (i : ℕ) (f : Figure) (first : Places) (b : Bool) → first ≡ array_of o → figure_at T i ≡ Some f → lacks_on all_ first T f ≡ b → first_lacking all_ o T (drop i T) ≡ cond b (Some f) (first_lacking all_ o T (drop (i + 1) T))
+crowd-at all_ o T i f first b same found is =
+    ap (first_lacking all_ o T) (drop-at T i f found)
+    ∙ ap (λ (h : Bool). cond h (Some f) (first_lacking all_ o T (drop (i + 1) T))) (sym (lacks-told all_ o T f) ∙ ap (λ (p : Places). lacks_on all_ p T f) (sym same) ∙ is)
 
-pub crowd-on : (o : List Bool) (T : Sketch) (i : ℕ) (f : Figure) (first : Places) → first ≡ array_of o → figure_at T i ≡ Some f → is_crowded_on first T f ≡ false → first_crowded o T (drop i T) ≡ first_crowded o T T → first_crowded o T (drop (i + 1) T) ≡ first_crowded o T T
-crowd-on o T i f first same found is before = sym (crowd-at o T i f first false same found is) ∙ before
+pub crowd-on : (all_ : Bool) (o : List Bool) (T : Sketch) (i : ℕ) (f : Figure) (first : Places) → first ≡ array_of o → figure_at T i ≡ Some f → lacks_on all_ first T f ≡ false → first_lacking all_ o T (drop i T) ≡ first_lacking all_ o T T → first_lacking all_ o T (drop (i + 1) T) ≡ first_lacking all_ o T T
+crowd-on all_ o T i f first same found is before = sym (crowd-at all_ o T i f first false same found is) ∙ before
 
-pub crowd-here : (o : List Bool) (T : Sketch) (i : ℕ) (f : Figure) (first : Places) → first ≡ array_of o → figure_at T i ≡ Some f → is_crowded_on first T f ≡ true → first_crowded o T (drop i T) ≡ first_crowded o T T → Some f ≡ first_crowded o T T
-crowd-here o T i f first same found is before = sym (crowd-at o T i f first true same found is) ∙ before
+pub crowd-here : (all_ : Bool) (o : List Bool) (T : Sketch) (i : ℕ) (f : Figure) (first : Places) → first ≡ array_of o → figure_at T i ≡ Some f → lacks_on all_ first T f ≡ true → first_lacking all_ o T (drop i T) ≡ first_lacking all_ o T T → Some f ≡ first_lacking all_ o T T
+crowd-here all_ o T i f first same found is before = sym (crowd-at all_ o T i f first true same found is) ∙ before
 
-pub crowd-end : (o : List Bool) (T : Sketch) (i : ℕ) → length T ≤ i → first_crowded o T (drop i T) ≡ first_crowded o T T → None ≡ first_crowded o T T
-crowd-end o T i past before = sym (ap (first_crowded o T) (drop_all i T past)) ∙ before
+pub crowd-end : (all_ : Bool) (o : List Bool) (T : Sketch) (i : ℕ) → length T ≤ i → first_lacking all_ o T (drop i T) ≡ first_lacking all_ o T T → None ≡ first_lacking all_ o T T
+crowd-end all_ o T i past before = sym (ap (first_lacking all_ o T) (drop_all i T past)) ∙ before
 
 -- IN WORDS
 

@@ -1,15 +1,29 @@
 -- Why not all men of a sketch can have come from home, in words.
-use Rattle.std.specs.Prelude.{ℕ, ◌==◌, Bool, false, cond, length, List, [], ◌∷◌, ◌++◌, codes, count_by, nat_lt, Option, Some, None}
+use Rattle.std.specs.Prelude.{ℕ, ◌==◌, Bool, false, cond, length, List, [], ◌∷◌, ◌++◌, codes, count_by, nat_lt, Option, Some, None, true, not}
 use Rattle.std.specs.List.{flat_map, range_with_len}
 use Rattle.figures.specs.Figures.{Figure, Sketch, figure_at}
 use Rattle.figures.specs.Homes.{has_homes, is_home, lives_within}
 use Rattle.figures.specs.Sets.{squares_that}
 use Rattle.sketch_words.specs.Words.{figure_words, set_words}
 
--- the first of these figures of T who has fewer homes than there are figures whose homes all lie within his
-abbrev pub first_crowded : List Bool → Sketch → List Figure → Option Figure
-first_crowded o T [] = None
-first_crowded o T (f ∷ fs) = cond (has_homes o T f) (first_crowded o T fs) (Some f)
+-- the figure has no home; or he has fewer homes than there are figures of T whose homes all lie within his
+abbrev pub lacks_homes : Bool → List Bool → Sketch → Figure → Bool
+lacks_homes true o T f = count_by (is_home o f) (range_with_len 0 64) == 0
+lacks_homes false o T f = not (has_homes o T f)
+
+-- the first of these figures for whom it is so
+abbrev pub first_lacking : Bool → List Bool → Sketch → List Figure → Option Figure
+first_lacking all o T [] = None
+first_lacking all o T (f ∷ fs) = cond (lacks_homes all o T f) (Some f) (first_lacking all o T fs)
+
+-- one of two figures, the first if there is one
+abbrev pub either_of : Option Figure → Option Figure → Option Figure
+either_of None x = x
+either_of (Some f) x = Some f
+
+-- the first figure without a home; if there is none, the first with too few
+abbrev pub first_crowded : List Bool → Sketch → Option Figure
+first_crowded o T = either_of (first_lacking true o T T) (first_lacking false o T T)
 
 -- the name of a figure with this number, if there is one
 abbrev pub named : Sketch → ℕ → Option Figure → List ℕ

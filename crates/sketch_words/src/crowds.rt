@@ -3,8 +3,8 @@
 ghost use Rattle.std.specs.Prelude.{◌≡◌, ◌++◌, IfOk, [], cond, count_by, Some};
 ghost use Rattle.sketch_sets.specs.Homes.{has_like, home_count, homes_on};
 ghost use Rattle.sketch_sets.specs.Tests.{is_inside};
-ghost use Rattle.sketch_words.specs.Crowds.{came_words, first_crowded, homeless_words, lodgers_words, named, one_words, why_words};
-ghost use Rattle.sketch_words.specs.Lodging.{is_crowded_on, lives_on, lodges_on};
+ghost use Rattle.sketch_words.specs.Crowds.{came_words, first_crowded, first_lacking, homeless_words, lodgers_words, named, one_words, why_words};
+ghost use Rattle.sketch_words.specs.Lodging.{lacks_on, lives_on, lodges_on};
 
 use crate::names::push_figure;
 use crate::sets::list_of;
@@ -78,30 +78,40 @@ fn lodgers(first: &Board, homes: SquareSet, sketch: &Sketch) -> usize
         .count()
 }
 
-/// Whether more figures have all their homes among the figure's than there are.
-fn is_crowded(first: &Board, sketch: &Sketch, figure: &Figure) -> bool
-    ensures { result ≡ is_crowded_on first.now sketch.now figure.now }
+/// Whether the figure has no home if `all` says so, and otherwise whether more figures have all their homes among his than there are.
+fn lacks_homes(all: bool, first: &Board, sketch: &Sketch, figure: &Figure) -> bool
+    ensures { result ≡ lacks_on all first.now sketch.now figure.now }
 {
     let homes = homes_on(first, figure);
     let beds = count(homes);
     let wanted = lodgers(first, homes, sketch);
-    beds < wanted
+    if all { beds == 0 } else { beds < wanted }
 }
 
 /// The first figure for whom it is so.
-fn first_crowded(odds: Odds, sketch: &Sketch) -> Option<Figure>
-    ensures { result ≡ first_crowded odds sketch.now sketch.now }
+fn first_lacking(all: bool, odds: Odds, sketch: &Sketch) -> Option<Figure>
+    ensures { result ≡ first_lacking all odds sketch.now sketch.now }
 {
     let first = array_of(odds);
     for i in 0..sketch.len() {
         let Some(figure) = sketch.get(i) else {
             return None;
         };
-        if is_crowded(&first, sketch, &figure) {
+        if lacks_homes(all, &first, sketch, &figure) {
             return Some(figure);
         }
     }
     None
+}
+
+/// The first figure without a home; if there is none, the first with too few.
+fn first_crowded(odds: Odds, sketch: &Sketch) -> Option<Figure>
+    ensures { result ≡ first_crowded odds sketch.now }
+{
+    match first_lacking(true, odds, sketch) {
+        Some(figure) => Some(figure),
+        None => first_lacking(false, odds, sketch),
+    }
 }
 
 /// The name of a figure with this number, counted from 0, if there is one and he is wanted.
@@ -254,7 +264,7 @@ fn push_why(
     wide: &Sketch,
     out: &mut Vec<u8>,
 ) -> Result<(), AllocError>
-    ensures { IfOk result (λ _. out.new.items ≡ out.old.items ++ why_words odds diagram.now sketch.now wide.now (first_crowded odds wide.now wide.now)) }
+    ensures { IfOk result (λ _. out.new.items ≡ out.old.items ++ why_words odds diagram.now sketch.now wide.now (first_crowded odds wide.now)) }
 {
     match first_crowded(odds, wide) {
         None => say(b" not all men can have come from home", out),
@@ -270,7 +280,7 @@ pub fn why_list(
     sketch: &Sketch,
     wide: &Sketch,
 ) -> Result<Vec<u8>, AllocError>
-    ensures { IfOk result (λ v. v.items ≡ why_words odds diagram.now sketch.now wide.now (first_crowded odds wide.now wide.now)) }
+    ensures { IfOk result (λ v. v.items ≡ why_words odds diagram.now sketch.now wide.now (first_crowded odds wide.now)) }
 {
     let mut list = Vec::new(alloc);
     push_why(alloc, odds, diagram, sketch, wide, &mut list)?;
