@@ -1,16 +1,15 @@
 -- The ends of nodes, as they are told.
-use Rattle.std.proofs.Common.{◌≡◌, ℕ, false, true, Bool, List, [], ◌∷◌, ◌++◌, append_assoc, append-nil, arith, length, map, refl, ap, sym, ◌∙◌, subst}
+use Rattle.std.proofs.Common.{◌≡◌, ℕ, false, true, Bool, List, [], ◌∷◌, ◌++◌, append-nil, arith, length, map, refl, ap, sym, ◌∙◌, subst}
 use Rattle.std.specs.Prelude.{Option, Some, None, codes}
 use Rattle.std.specs.List.{Contains}
 use Rattle.general_lemmas.proofs.Lists.{contains-first, contains-later}
 use Rattle.std.proofs.lemmas.Bool.{both_ways}
 use Rattle.board_base.specs.Rights.{Rights}
 use Rattle.board_base.specs.declared.men.Kind.TheVariants as kind
-use Rattle.figures.specs.Figures.{Figure, Sketch, fixed_squares}
+use Rattle.figures.specs.Figures.{Sketch, fixed_squares}
 use Rattle.figures.specs.Homes.{may_be_array}
 use Rattle.sketch_checker.proofs.Below.{cases-able, first-one, steps-able}
-use Rattle.sketch_checker.specs.Able.{IsAble}
-use Rattle.sketch_checker.specs.DueNodes.{Due, case_due, cases_from, due_of}
+use Rattle.sketch_checker.specs.DueNodes.{cases_from, due_of}
 use Rattle.sketch_checker.specs.Steering.{AreAble}
 use Rattle.sketch_checker.specs.Walks.{AreDue}
 use Rattle.sketch_grounds.specs.FrozenSets.{greatest_frozen}
@@ -20,14 +19,13 @@ use Rattle.sketch_proof.specs.Nodes.{IsFirstUnknown, IsLeastAbove, IsVoid}
 use Rattle.sketch_proof.proofs.Whole.{AreWhole, earlier-whole, known-whole}
 use Rattle.sketch_proof.specs.Proofs.{Ends, HoldEach, Holds, Setting}
 use Rattle.figures.specs.Known.{known_at}
-use Rattle.sketch_prose.proofs.Adding.{text-append, text-one}
+use Rattle.sketch_prose.proofs.Adding.{text-one}
 use Rattle.sketch_prose.specs.Ending.{SplitTold, StepsTold, VoidTold, level_of}
-use Rattle.sketch_prose.specs.Levels.{AreFit, EndsTold, IsFit, Level, OpensBelow}
+use Rattle.sketch_prose.specs.Levels.{AreFit, EndsTold, IsFit, Level}
 use Rattle.sketch_prose.specs.Sentences.{Sentence, foreign, settled, stepped, unbalanced, unknown}
 use Rattle.sketch_words.specs.Phrases.{Spot, settled_words, stepped_words, unknown_words}
-use Rattle.sketch_prose.specs.Telling.{TellsBelow, TellsEach}
 use Rattle.sketch_words.specs.Words.{set_words, without}
-use Rattle.sketch_text.specs.Trees.{Line, Node, Nodes, Reason, closed, count, end_of, lines_below, lines_each, lines_of, more, node, none, split, steps, void}
+use Rattle.sketch_text.specs.Trees.{Line, Node, Nodes, Reason, closed, count, end_of, lines_each, lines_of, more, none, split, steps, void}
 use Rattle.sketch_text.specs.declared.labels.Label.TheVariants.{Case}
 use Rattle.sketch_text.specs.declared.labels.Officer.TheVariants.{Knight, Rook, Queen}
 use Rattle.sketch_text.specs.declared.nodes.End.TheVariants.{Void, Closed, Steps, Split}

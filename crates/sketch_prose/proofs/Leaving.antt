@@ -6,7 +6,6 @@ use Rattle.sketch_body.specs.Seen.{line_of}
 use Rattle.sketch_body.specs.declared.lines.SketchLine.{SketchLine}
 use Rattle.sketch_prose.proofs.Adding.{say-append, text-append}
 use Rattle.sketch_prose.specs.Levels.{AreLeft, GoesOn, Level, Passes, TellsAll, ToldWhole}
-use Rattle.sketch_prose.specs.Sentences.{Sentence, all_words}
 use Rattle.sketch_text.specs.Trees.{Line, Nodes, more, node, none}
 
 nothing-left : (l : Line) (ls : List Line) → [] ≡ l ∷ ls → ⊥

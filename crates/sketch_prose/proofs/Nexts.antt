@@ -1,7 +1,7 @@
 -- The siblings behind a node.
-use Rattle.std.proofs.Common.{◌≡◌, ℕ, ◌+◌, ◌<◌, ◌≤◌, Bool, true, false, cond, ◌&&◌, List, [], ◌∷◌, ◌++◌, append_assoc, get_or, length, map, refl, ap, sym, ◌∙◌, subst, arith}
+use Rattle.std.proofs.Common.{◌≡◌, ℕ, ◌+◌, ◌<◌, ◌≤◌, Bool, true, false, cond, ◌&&◌, List, [], ◌∷◌, ◌++◌, append_assoc, get_or, length, map, refl, ap, sym, ◌∙◌, arith}
 use Rattle.std.proofs.lemmas.Bool.{both_ways}
-use Rattle.std.specs.Prelude.{None, Option, Some}
+use Rattle.std.specs.Prelude.{None, Some}
 use Rattle.general_lemmas.proofs.Lists.{same_first, same_rest}
 use Rattle.sketch_body.specs.Seen.{line_of}
 use Rattle.sketch_body.specs.declared.lines.SketchLine.{SketchLine}
@@ -12,7 +12,7 @@ use Rattle.sketch_prose.specs.Telling.{all_shut_by, begins_shut, is_shut, leaf_o
 use Rattle.sketch_prose.specs.declared.leaves.Leaf.{Leaf}
 use Rattle.sketch_prose.specs.declared.leaves.Leaf.TheVariants.{Shut, Astray, Open}
 use Rattle.sketch_text.specs.Marks.{Marks}
-use Rattle.sketch_text.specs.Trees.{Line, Node, Nodes, closed, count, lines_each, lines_of, more, node, none, of_marks, of_node}
+use Rattle.sketch_text.specs.Trees.{Line, Node, Nodes, count, lines_each, lines_of, more, node, none, of_marks, of_node}
 use Rattle.sketch_text.specs.declared.labels.Label.{Label}
 use Rattle.sketch_text.specs.declared.nodes.SketchNode.{SketchNode}
 use Rattle.sketch_words.specs.Words.{is_same_move}
@@ -75,6 +75,7 @@ shut-behind x rest lines y shut_ e = by_leaf (leaf_of (own_line x)) refl shut_
   where
     by_number : (k : ℕ) → leaf_of (own_line x) ≡ Shut k → lines ≡ rest
     by_number k leaf = let is = shut-is x k leaf in same_rest (e ∙ ap (λ (z : Node). lines_of z ++ rest) is.1)
+
     by_leaf : (leaf : Leaf) → leaf_of (own_line x) ≡ leaf → is_shut leaf ≡ true → lines ≡ rest
     by_leaf (Shut k) is h = by_number k is
     by_leaf Astray is h = absurd (both_ways false refl h)

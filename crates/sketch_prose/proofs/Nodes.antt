@@ -1,5 +1,5 @@
 -- A node among those that are left.
-use Rattle.std.proofs.Common.{◌≡◌, ℕ, ◌+◌, ◌-◌, ◌<◌, List, [], ◌∷◌, ◌++◌, append_assoc, drop, length, map, refl, ap, sym, ◌∙◌, subst, arith}
+use Rattle.std.proofs.Common.{◌≡◌, ℕ, ◌-◌, ◌<◌, List, [], ◌∷◌, ◌++◌, append_assoc, drop, map, refl, ap, sym, ◌∙◌, subst, arith}
 use Rattle.std.specs.Prelude.{Option, Some, None}
 use Rattle.std.proofs.lemmas.List.{drop_at, length-map}
 use Rattle.general_lemmas.proofs.Lists.{same_first, same_rest}
@@ -7,12 +7,12 @@ use Rattle.figures.specs.Figures.{Sketch}
 use Rattle.sketch_checker.specs.DueNodes.{Due}
 use Rattle.sketch_checker.specs.Walks.{AreDue}
 use Rattle.sketch_proof.specs.Proofs.{Setting}
-use Rattle.sketch_prose.specs.Levels.{AreFit, AreLeft, GoesOn, IsHere, Level, NodeTold, TellsAll, back, behind, lines_under, marks_of}
+use Rattle.sketch_prose.specs.Levels.{AreFit, AreLeft, GoesOn, IsHere, Level, NodeTold, back, behind, lines_under, marks_of}
 use Rattle.sketch_prose.specs.Sentences.{Sentence}
 use Rattle.sketch_words.specs.Phrases.{Spot}
 use Rattle.sketch_prose.specs.Telling.{TellsEach, last_with, leaf_of, next_number, own_line}
 use Rattle.sketch_text.specs.Marks.{Marks}
-use Rattle.sketch_text.specs.Trees.{Line, Node, Nodes, count, lines_each, lines_of, more, node, none, of_marks, of_node}
+use Rattle.sketch_text.specs.Trees.{Line, Node, Nodes, lines_each, lines_of, more, node, none, of_marks, of_node}
 use Rattle.sketch_text.specs.declared.nodes.SketchNode.{SketchNode}
 use Rattle.sketch_words.specs.declared.spots.Last.{Last}
 

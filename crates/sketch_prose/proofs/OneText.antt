@@ -1,5 +1,5 @@
 -- A sketch has one text: the same sentences tell it.
-use Rattle.std.proofs.Common.{◌≡◌, ℕ, ◌<◌, inl, inr, Bool, false, List, [], ◌∷◌, ◌++◌, length, map, refl, ap, sym, ◌∙◌, subst, arith}
+use Rattle.std.proofs.Common.{◌≡◌, ℕ, ◌<◌, inl, inr, Bool, false, List, [], ◌∷◌, ◌++◌, map, refl, ap, sym, ◌∙◌, subst, arith}
 use Rattle.std.proofs.lemmas.Bool.{cases_Bool, ltb-false, ltb-true}
 use Rattle.std.specs.Prelude.{None, Option, Some, nat_lt}
 use Rattle.std.specs.List.{Contains, list_any}
@@ -22,13 +22,12 @@ use Rattle.sketch_proof.proofs.Whole.{AreWhole, board-whole, earlier-whole, know
 use Rattle.sketch_proof.specs.Nodes.{marked_with}
 use Rattle.sketch_proof.specs.Proofs.{Setting, with_lines}
 use Rattle.sketch_prose.specs.Foreigners.{IsForeignIn}
-use Rattle.sketch_prose.specs.Sentences.{IsForeign, Sentence, all_words, astray, foreign, settled, stepped, unknown}
+use Rattle.sketch_prose.specs.Sentences.{Sentence, all_words, astray, foreign, settled, stepped, unknown}
 use Rattle.sketch_prose.specs.Telling.{AddsSketch, TellsAs, TellsBelow, TellsEach, TellsOne, begins_shut, first_spot, head_told, known_with, last_with, leaf_of, next_number, own_line, setting_by, spot_below}
 use Rattle.sketch_prose.specs.declared.leaves.Leaf.{Leaf}
 use Rattle.sketch_prose.specs.declared.leaves.Leaf.TheVariants.{Shut, Astray, Open}
 use Rattle.sketch_text.specs.Marks.{Marks}
-use Rattle.sketch_text.specs.Trees.{Node, Nodes, Reason, closed, count, end_of, more, node, none, split, steps, void}
-use Rattle.sketch_text.specs.declared.labels.Officer.{Officer}
+use Rattle.sketch_text.specs.Trees.{Node, Nodes, Reason, closed, count, more, node, none, split, steps, void}
 use Rattle.sketch_text.specs.declared.labels.Officer.TheVariants.{Knight, Rook, Queen}
 use Rattle.sketch_words.specs.Phrases.{Spot}
 use Rattle.sketch_words.specs.declared.spots.Last.{Last}

@@ -11,17 +11,16 @@ use Rattle.sketch_proof.proofs.Sound.{node-refutes}
 use Rattle.sketch_proof.specs.Proofs.{AreAllForced, Ends, Holds, Setting, with_lines}
 use Rattle.sketch_prose.proofs.Adding.{say-append, text-append, text-one}
 use Rattle.sketch_prose.specs.Bases.{AreKnown}
-use Rattle.sketch_prose.specs.Levels.{EndsTold, IsFit, IsHere, Level, NodeTold, OpenTold, OpensBelow, OpensNode, lines_under, marks_of}
-use Rattle.sketch_prose.specs.Sentences.{FitsNone, IsForeign, Sentence, Unbalances, all_words, astray, numbered, shut, unmoved}
+use Rattle.sketch_prose.specs.Levels.{IsFit, IsHere, Level, NodeTold, OpenTold, OpensBelow, OpensNode, lines_under}
+use Rattle.sketch_prose.specs.Sentences.{FitsNone, IsForeign, Sentence, astray, numbered, shut, unmoved}
 use Rattle.sketch_words.specs.Phrases.{Spot, astray_words, heading_words, shut_words}
-use Rattle.sketch_prose.specs.Telling.{TellsAs, TellsBelow, TellsEach, TellsOne, begins_shut, end_leaf, head_told, is_shut, known_with, last_with, leaf_of, marks_told, own_line, spot_below}
+use Rattle.sketch_prose.specs.Telling.{TellsAs, TellsBelow, TellsOne, begins_shut, end_leaf, head_told, is_shut, known_with, last_with, leaf_of, marks_told, own_line, spot_below}
 use Rattle.sketch_prose.specs.declared.leaves.Leaf.{Leaf}
 use Rattle.sketch_prose.specs.declared.leaves.Leaf.TheVariants.{Shut, Astray, Open}
 use Rattle.sketch_proof.proofs.Refuting.{tree-refutes}
 use Rattle.sketch_text.specs.Marks.{Marks}
-use Rattle.sketch_text.specs.Trees.{Line, Node, Nodes, Reason, closed, count, end_of, lines_below, lines_each, more, node, none, of_marks, split, steps, void}
+use Rattle.sketch_text.specs.Trees.{Line, Node, Nodes, Reason, closed, end_of, lines_each, node, of_marks, split, steps, void}
 use Rattle.sketch_text.specs.declared.labels.Label.{Label}
-use Rattle.sketch_text.specs.declared.labels.Label.TheVariants.{Now, Step, Case}
 use Rattle.sketch_text.specs.declared.nodes.SketchNode.{SketchNode}
 use Rattle.sketch_words.specs.declared.spots.Last.{Last}
 
@@ -121,6 +120,7 @@ shut-lines x ns g c d line lines rest here shut_ = by_leaf (leaf_of line) refl s
     by_number k leaf =
         let is = shut-is x k (ap leaf_of (sym here.own) ∙ leaf) in
         subst (λ (y : Node). IsHere y ns d g c line lines rest → lines ≡ lines_each ns ++ rest) (sym is.1) (λ it. it.lines_are) here
+
     by_leaf : (leaf : Leaf) → leaf_of line ≡ leaf → is_shut leaf ≡ true → lines ≡ lines_each ns ++ rest
     by_leaf (Shut k) e h = by_number k e
     by_leaf Astray e h = absurd (both_ways false refl h)

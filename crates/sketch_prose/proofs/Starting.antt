@@ -4,10 +4,10 @@ use Rattle.std.specs.Prelude.{None}
 use Rattle.figures.specs.Figures.{Sketch, sketch_of}
 use Rattle.query_base.specs.Asked.{Asked}
 use Rattle.sketch_body.specs.Bodies.{Body}
-use Rattle.sketch_checker.proofs.Going.{begins-able, size-low}
+use Rattle.sketch_checker.proofs.Going.{begins-able}
 use Rattle.sketch_checker.proofs.Rooted.{root-begins}
 use Rattle.sketch_checker.specs.DueNodes.{first_due}
-use Rattle.sketch_checker.specs.Supports.{BodySupports, SketchSupports}
+use Rattle.sketch_checker.specs.Supports.{BodySupports}
 use Rattle.sketch_proof.proofs.Whole.{board-whole}
 use Rattle.sketch_proof.specs.Proofs.{Holds, Setting}
 use Rattle.sketch_prose.specs.Bases.{AreKnown}

@@ -1,6 +1,6 @@
 -- Inner: no public clause cites this file.
 -- How far a tree is told, and what is left of it.
-use Rattle.std.specs.Prelude.{ℕ, ◌≡◌, ◌-◌, Bool, false, List, [], ◌∷◌, ◌++◌, length, map, Option, Some, None}
+use Rattle.std.specs.Prelude.{ℕ, ◌≡◌, ◌-◌, Bool, List, [], ◌∷◌, ◌++◌, length, map, Option, Some, None}
 use Rattle.std.specs.List.{Contains}
 use Rattle.figures.specs.Figures.{Figure, Sketch}
 use Rattle.sketch_checker.specs.Able.{IsAble}

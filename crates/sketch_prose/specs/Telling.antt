@@ -2,7 +2,6 @@
 use Rattle.std.specs.Prelude.{ℕ, ◌≡◌, ◌+◌, ◌==◌, Bool, true, false, cond, ◌&&◌, not, List, [], ◌∷◌, ◌++◌, codes, length, map, Option, Some, None}
 use Rattle.std.specs.List.{list_any, range_with_len}
 use Rattle.std.specs.Fmt.{decimal}
-use Rattle.capture_prices.specs.Prices.{PriceList}
 use Rattle.figures.specs.Figures.{Sketch, sketch_of}
 use Rattle.query_base.specs.Asked.{Asked}
 use Rattle.sketch_body.specs.Bodies.{Body, is_now}
@@ -33,6 +32,7 @@ use Rattle.sketch_text.specs.declared.nodes.SketchNode.{SketchNode}
 abbrev pub own_line : Node → SketchNode
 own_line (node label marks reason) = record { label = label; marks = length marks; end = end_of reason }
 
+-- how a node that ends so is told, if it has no marks and isn't the first of all
 abbrev pub end_leaf : End → Leaf
 end_leaf Void = Astray
 end_leaf (Closed k) = Shut k

@@ -10,8 +10,8 @@ mod foreigners;
 mod leaves;
 mod levels;
 mod marks;
-mod opening;
 mod neighbours;
+mod opening;
 mod telling;
 mod whole;
 

@@ -74,7 +74,12 @@ fn are_all_shut(last: &Option<Last>, label: &Label, left: u16, lines: &[SketchLi
 }
 
 /// A node as one that is told, behind its last sibling and before so many.
-pub(crate) fn last_with(last: &Option<Last>, node: &SketchNode, left: u16, lines: &[SketchLine]) -> Last
+pub(crate) fn last_with(
+    last: &Option<Last>,
+    node: &SketchNode,
+    left: u16,
+    lines: &[SketchLine],
+) -> Last
     ensures { (ns : Nodes) (rest : List ALine) → count ns ≡ left → (is_shut (leaf_of node.now) ≡ true → map line_of lines.now ≡ lines_each ns ++ rest) → result ≡ last_with last.now node.now ns }
 {
     let shut = is_shut(leaf_of(node));

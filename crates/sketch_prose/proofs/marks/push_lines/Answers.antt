@@ -1,5 +1,5 @@
 use Rattle.std.proofs.Common.{◌<◌, ◌≤◌, length, arith}
-use Rattle.sketch_prose.proofs.Marking.{lines-many, marks-begin, marks-end, marks-on}
+use Rattle.sketch_prose.proofs.Marking.{marks-begin, marks-end, marks-on}
 use Rattle.sketch_prose.proofs.marks.push_lines.Goals as goal
 use Rattle.sketch_prose.specs.Bases.{setting_with}
 

@@ -1,4 +1,4 @@
-use Rattle.std.proofs.Common.{◌≡◌, ◌++◌, ◌∷◌, ◌∙◌, [], ℕ, Bool, List, ap, subst, sym}
+use Rattle.std.proofs.Common.{◌≡◌, ◌∷◌, [], Bool, List, subst}
 use Rattle.std.specs.Prelude.{None, Some}
 use Rattle.figures.specs.Figures.{Sketch}
 use Rattle.sketch_grounds.specs.FrozenSets.{greatest_frozen}
@@ -8,10 +8,7 @@ use Rattle.sketch_prose.proofs.Adding.{adds-append, adds-one}
 use Rattle.sketch_prose.proofs.marks.push_marks.Goals as goal
 use Rattle.sketch_prose.specs.Bases.{setting_with}
 use Rattle.sketch_prose.specs.Sentences.{marked, unmoved}
-use Rattle.sketch_words.specs.Phrases.{marked_words}
 use Rattle.sketch_prose.specs.Telling.{Adds}
-use Rattle.sketch_words.specs.Words.{figures_words}
-use Rattle.std.specs.Prelude.{false, true}
 
 same-some : (S T : Sketch) → Some S ≡ Some T → S ≡ T
 same-some S T e = cc

@@ -1,4 +1,4 @@
-use Rattle.std.proofs.Common.{◌≡◌, ◌∙◌, ◌+◌, ◌∷◌, [], List, ap, drop, length, map, subst, sym, arith}
+use Rattle.std.proofs.Common.{◌≡◌, ◌+◌, ◌∷◌, List, drop, length, map, subst, sym, arith}
 use Rattle.std.proofs.lemmas.List.{drop_all, length-map, take_rest}
 use Rattle.sketch_body.specs.Seen.{line_of}
 use Rattle.sketch_body.specs.declared.lines.SketchLine.{SketchLine}

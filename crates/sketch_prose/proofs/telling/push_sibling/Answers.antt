@@ -1,4 +1,4 @@
-use Rattle.std.proofs.Common.{List, map, sym}
+use Rattle.std.proofs.Common.{map, sym}
 use Rattle.sketch_body.specs.Seen.{line_of}
 use Rattle.sketch_prose.proofs.Siblings.{astray-told, open-told, shut-told}
 use Rattle.sketch_prose.proofs.telling.push_sibling.Goals as goal

@@ -1,4 +1,4 @@
-use Rattle.std.proofs.Common.{◌≡◌, Bool, List, refl, subst, sym}
+use Rattle.std.proofs.Common.{Bool, List, refl, subst, sym}
 use Rattle.std.proofs.lemmas.Bool.{both_ways}
 use Rattle.std.specs.Prelude.{false}
 use Rattle.sketch_grounds.specs.Frozen.{AreBegun}

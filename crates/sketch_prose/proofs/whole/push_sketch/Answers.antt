@@ -1,6 +1,6 @@
-use Rattle.std.proofs.Common.{◌≡◌, ◌∙◌, ◌≤◌, ◌∷◌, Bool, List, ap, length, subst, sym}
+use Rattle.std.proofs.Common.{◌∙◌, ◌≤◌, ◌∷◌, Bool, List, ap, length, subst, sym}
 use Rattle.capture_prices.specs.Prices.{PriceList}
-use Rattle.figures.specs.Figures.{Sketch, sketch_of}
+use Rattle.figures.specs.Figures.{sketch_of}
 use Rattle.query_base.specs.Asked.{Asked}
 use Rattle.sketch_checker.proofs.Going.{size-low}
 use Rattle.sketch_checker.specs.Supports.{setting_of}
