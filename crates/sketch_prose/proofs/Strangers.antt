@@ -12,7 +12,8 @@ use Rattle.sketch_grounds.specs.Begun.{begins_on}
 use Rattle.sketch_grounds.specs.Frozen.{AreBegun, IsBegun}
 use Rattle.sketch_grounds.specs.FrozenSets.{greatest_frozen}
 use Rattle.sketch_proof.specs.Proofs.{Setting}
-use Rattle.sketch_prose.specs.Foreigners.{AreBegunBefore, IsBegunOn, IsForeignIn, IsForeignOn}
+use Rattle.sketch_prose.specs.Fixed.{IsBegunOn, IsForeignOn}
+use Rattle.sketch_prose.specs.Foreigners.{AreBegunBefore, IsForeignIn}
 use Rattle.sketch_prose.specs.Sentences.{IsForeign}
 
 -- what is tested is that the figure's man began there

@@ -1,8 +1,7 @@
 -- The first figure of a sketch who stands on a set of squares, but isn't the array's man there.
-use Rattle.std.specs.Prelude.{ℕ, ◌≡◌, ◌<◌, Bool, true, false, List, Some}
-use Rattle.board_base.specs.Board.{Places, at, is_in}
+use Rattle.std.specs.Prelude.{ℕ, ◌≡◌, ◌<◌, Bool, true, List, Some}
+use Rattle.board_base.specs.Board.{is_in}
 use Rattle.figures.specs.Figures.{Figure, Sketch, figure_at, is_fixed_on}
-use Rattle.sketch_grounds.specs.Begun.{begins_on}
 use Rattle.sketch_grounds.specs.Frozen.{IsBegun}
 
 -- the figures with a number below n who are fixed on the set are of men who began there
@@ -18,13 +17,3 @@ pub record IsForeignIn (o : List Bool) (S : Sketch) (set : List Bool) (s : ℕ) 
   pub fixed : is_fixed_on s figure ≡ true
   pub other : IsBegun o s figure → ⊥
   pub first : AreBegunBefore o S set number
-
--- Inner: no public clause cites what follows.
-
--- the figure is fixed on s, which is in the set, and can't stand for what stands there
-abbrev pub IsForeignOn : Places → List Bool → Figure → ℕ → Type 0
-IsForeignOn first set f s = (is_in set s ≡ true) × (is_fixed_on s f ≡ true) × (begins_on (at first s) f ≡ false)
-
--- the figure can stand for what stands where he is fixed, if that is in the set
-abbrev pub IsBegunOn : Places → List Bool → Figure → Type 0
-IsBegunOn first set f = (s : ℕ) → is_in set s ≡ true → is_fixed_on s f ≡ true → begins_on (at first s) f ≡ true

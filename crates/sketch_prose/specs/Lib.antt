@@ -1,6 +1,7 @@
 pub mod Foreigners
 pub mod Sentences
 pub mod Telling
+pub mod Fixed
 pub mod Bases
 pub mod Neighbours
 pub mod Dues

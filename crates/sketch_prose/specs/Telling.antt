@@ -32,6 +32,7 @@ use Rattle.sketch_text.specs.declared.nodes.SketchNode.{SketchNode}
 abbrev pub own_line : Node → SketchNode
 own_line (node label marks reason) = record { label = label; marks = length marks; end = end_of reason }
 
+-- how a node that ends so is told, if it has no marks and isn't the first of all
 abbrev pub end_leaf : End → Leaf
 end_leaf Void = Astray
 end_leaf (Closed k) = Shut k

@@ -3,7 +3,8 @@
 ghost use Rattle.std.specs.Prelude.{◌≡◌, IfSome, IsSome, None};
 ghost use Rattle.sketch_grounds.specs.Begun.{begins_on};
 ghost use Rattle.sketch_grounds.specs.Frozen.{AreBegun};
-ghost use Rattle.sketch_prose.specs.Foreigners.{IsBegunOn, IsForeignIn, IsForeignOn};
+ghost use Rattle.sketch_prose.specs.Fixed.{IsBegunOn, IsForeignOn};
+ghost use Rattle.sketch_prose.specs.Foreigners.{IsForeignIn};
 
 use board_base::{Board, Man, Odds, Square, SquareSet, array_of};
 use figures::{Figure, Sketch};
