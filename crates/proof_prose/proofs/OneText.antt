@@ -8,6 +8,7 @@ use Rattle.cert_text.specs.Certificate.{Certificate}
 use Rattle.general_lemmas.proofs.Lists.{same_first, same_rest}
 use Rattle.query_base.specs.Asked.{Asked}
 use Rattle.proof_sentences.proofs.OneReason.{one-least-reason}
+use Rattle.sketch_prose.proofs.OneText.{one-sketch-text}
 use Rattle.proof_prose.specs.Bodies.{AddsLine, IsBody, IsSpoken}
 use Rattle.proof_prose.specs.Heads.{closing_text, opening_text}
 use Rattle.proof_prose.specs.Paragraphs.{told_text}
@@ -19,7 +20,7 @@ use Rattle.proof_prose.specs.declared.nodes.Told.{Told}
 
 one-line : (label : Option Unmove) (l : Line) (q : Asked) (o a b : List ℕ) → AddsLine label l q o a → AddsLine label l q o b → a ≡ b
 one-line label (Because r) q o a b h k = one-least-reason (is_none label) q r o a b h k
-one-line label Sketched q o a b h k = h.1 ∙ sym k.1
+one-line label (Sketched s) q o a b h k = one-sketch-text q s o a b h k
 one-line label (Back n above) q o a b h k = h.1 ∙ sym k.1
 one-line label (Moves n) q o a b h k = h.1 ∙ sym k.1
 

@@ -10,7 +10,6 @@ use Rattle.query_base.specs.Ancestors.{ancestor}
 use Rattle.query_base.specs.Asked.{Asked}
 use Rattle.query_base.specs.Targets.{Covers}
 use Rattle.cert_checker.specs.Proving.{Proves, ProvesEach}
-use Rattle.cert_checker.proofs.Sound.{sound}
 use Rattle.cert_text.specs.Tree.{Tree, Forest, rule, back, expand, sketch, none, more, count, kid_at}
 use Rattle.cert_text.specs.Sizes.{rest_of}
 use Rattle.cert_text.proofs.Forests.{rest-more}
@@ -73,7 +72,7 @@ covers-earlier q (Some a) h = h
 line_stands : (q : Asked) (t : Tree) (above : List Asked) → Proves t q above → LineStands q (line_of q above t)
 line_stands q (rule r) above p = p
 line_stands q (back k) above p = covers-earlier q (ancestor above k) p
-line_stands q (sketch b) above p = sound (sketch b) q p
+line_stands q (sketch b) above p = p
 line_stands q (expand kids) above p = as_many kids q (unmoves q) above p.1
 
 mutual

@@ -6,6 +6,7 @@ use Rattle.query_base.specs.Asked.{Asked}
 use Rattle.proof_sentences.specs.Reasons.{Adds, AddsReason}
 use Rattle.proof_sentences.specs.declared.sentences.Sentence.{Sentence}
 use Rattle.proof_sentences.specs.declared.sentences.Sentence.TheVariants as sentence
+use Rattle.sketch_prose.specs.Telling.{AddsSketch}
 use Rattle.proof_prose.specs.declared.bodies.Spoken.{Spoken}
 use Rattle.proof_prose.specs.declared.nodes.Line.{Line}
 use Rattle.proof_prose.specs.declared.nodes.Line.TheVariants.{Because, Sketched, Back, Moves}
@@ -15,10 +16,10 @@ use Rattle.proof_prose.specs.declared.nodes.Told.{Told}
 abbrev pub moves_sentence : ℕ → Bool → Sentence
 moves_sentence n first = cond (n == 0) (sentence.Still first) (sentence.Moved first)
 
--- the own line of a node is told: its reason; that the position stands later again; or whether there are retractions
+-- the own line of a node is told: its reason; its sketch; that the position stands later again; or whether there are retractions
 abbrev pub AddsLine : Option Unmove → Line → Asked → List ℕ → List ℕ → Type 0
 AddsLine label (Because r) q old new = AddsReason (is_none label) q r old new
-AddsLine label Sketched q old new = Adds q (sentence.Sketched ∷ []) old new
+AddsLine label (Sketched b) q old new = AddsSketch q b old new
 AddsLine label (Back k above) q old new = Adds q (sentence.Back k above ∷ []) old new
 AddsLine label (Moves n) q old new = Adds q (moves_sentence n (is_none label) ∷ []) old new
 

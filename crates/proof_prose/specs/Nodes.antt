@@ -20,7 +20,7 @@ earlier q above k = elim (ancestor above k) [ None ↦ q | Some a ↦ a ]
 abbrev pub line_of : Asked → List Asked → Tree → Line
 line_of q above (rule r) = Because r
 line_of q above (back k) = Back k (earlier q above k)
-line_of q above (sketch b) = Sketched
+line_of q above (sketch b) = Sketched b
 line_of q above (expand kids) = Moves (count kids)
 
 -- what stands before the numbers of the children of the node with this number: `1.2.` for those of the second child of the first

@@ -24,7 +24,7 @@ pub record Paragraph : Type 0 where
 -- the node has no children
 abbrev pub is_leaf : Line → Bool
 is_leaf (Because r) = true
-is_leaf Sketched = true
+is_leaf (Sketched b) = true
 is_leaf (Back k above) = true
 is_leaf (Moves n) = n == 0
 

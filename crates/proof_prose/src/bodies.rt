@@ -12,6 +12,7 @@ use crate::nodes::{Line, Told};
 use proof_sentences::{Sentence, push_one, push_reason};
 use query_base::Query;
 use retraction_bars::{bars_hold, pairs_hold, ways_are_told};
+use sketch_prose::push_sketch;
 use std::alloc::{AllocError, Global};
 
 /// A node of a certificate's tree, and what is said of it.
@@ -58,7 +59,7 @@ fn push_line(alloc: Global, node: &Told, out: &mut Vec<u8>) -> Result<(), AllocE
     let first = node.label.is_none();
     match &node.line {
         Line::Because(reason) => push_reason(alloc, &node.query, first, reason, out),
-        Line::Sketched => push_one(alloc, &node.query, &Sentence::Sketched, out),
+        Line::Sketched(body) => push_sketch(alloc, &node.query, body, out),
         Line::Back(steps, above) => {
             push_one(alloc, &node.query, &Sentence::Back(*steps, *above), out)
         }

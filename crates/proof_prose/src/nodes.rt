@@ -9,6 +9,7 @@ ghost use Rattle.query_base.specs.Asked.{Asked};
 ghost use Rattle.query_base.specs.Targets.{target};
 ghost use Rattle.proof_prose.specs.Nodes.{below, earlier, kid_nodes, line_of, nodes_from, nodes_of, own_node, prefix_below};
 ghost use Rattle.proof_prose.specs.Standing.{Stands};
+ghost use Rattle.proof_prose.specs.declared.nodes.Line.TheVariants.{Sketched};
 ghost use Rattle.unmove_gen.specs.Listed.{unmoves};
 
 use crate::letters::{Letters, copied};
@@ -17,16 +18,17 @@ use cert_text::{Body, Cert, Kids, Node, Reason};
 use ep_history::{double_of, ep_fits};
 use prose_words::{push_number, say};
 use query_base::{Claim, Query};
+use sketch_body::SketchBody;
 use std::alloc::{AllocError, Global};
 use unmove_gen::pred;
 
 /// Why no game reaches the query of a node, without its children.
-#[derive(Clone, Copy)]
+#[derive(Drop)]
 pub enum Line {
     /// The reason supports it.
     Because(Reason),
-    /// A sketch of the past shows it.
-    Sketched,
+    /// This sketch shows it.
+    Sketched(SketchBody),
     /// The query so many nodes above, which is this one, asks no more.
     Back(u8, Query),
     /// It has so many retractions.
@@ -61,14 +63,28 @@ fn earlier(query: &Query, ancestors: &[Query], steps: u8) -> Query
     ancestors[ancestors.len() - steps]
 }
 
-fn line_of(query: &Query, ancestors: &[Query], node: &Node) -> Line
-    ensures { result ≡ line_of query.now (reverse ancestors.now) (tree_of node.now) }
+fn sketched(alloc: Global, body: &SketchBody) -> Result<Line, AllocError>
+    ensures { IfOk result (λ line. line ≡ Sketched body.now) }
+{
+    match body.copied(alloc) {
+        Ok(copy) => Ok(Line::Sketched(copy)),
+        Err(_) => Err(AllocError),
+    }
+}
+
+fn line_of(
+    alloc: Global,
+    query: &Query,
+    ancestors: &[Query],
+    node: &Node,
+) -> Result<Line, AllocError>
+    ensures { IfOk result (λ line. line ≡ line_of query.now (reverse ancestors.now) (tree_of node.now)) }
 {
     match &node.body {
-        Body::Rule(reason) => Line::Because(*reason),
-        Body::Back(steps) => Line::Back(*steps, earlier(query, ancestors, *steps)),
-        Body::Sketch(_) => Line::Sketched,
-        Body::Expand(kids) => Line::Moves(kids.len()),
+        Body::Rule(reason) => Ok(Line::Because(*reason)),
+        Body::Back(steps) => Ok(Line::Back(*steps, earlier(query, ancestors, *steps))),
+        Body::Sketch(body) => sketched(alloc, body),
+        Body::Expand(kids) => Ok(Line::Moves(kids.len())),
     }
 }
 
@@ -103,7 +119,7 @@ fn push_own(
         label: Some(*label),
         whence: *whence,
         query: *query,
-        line: line_of(query, ancestors, node),
+        line: line_of(alloc, query, ancestors, node)?,
     };
     out.push(told)?;
     Ok(())
@@ -195,7 +211,7 @@ fn listed(alloc: Global, query: &Query, root: &Node) -> Result<Vec<Told>, AllocE
         label: None,
         whence: *query,
         query: *query,
-        line: line_of(query, &[], root),
+        line: line_of(alloc, query, &[], root)?,
     };
     nodes.push(told)?;
     let mut ancestors = Vec::new(alloc);

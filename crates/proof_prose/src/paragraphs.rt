@@ -19,7 +19,7 @@ fn is_leaf(line: &Line) -> bool
     ensures { result ≡ is_leaf line.now }
 {
     match line {
-        Line::Because(_) | Line::Sketched | Line::Back(_, _) => true,
+        Line::Because(_) | Line::Sketched(_) | Line::Back(_, _) => true,
         Line::Moves(count) => *count == 0,
     }
 }

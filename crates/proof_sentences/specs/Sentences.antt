@@ -11,7 +11,6 @@ use Rattle.board_base.specs.declared.castles.Castle.{Castle}
 use Rattle.board_base.specs.declared.men.Colour.{Colour}
 use Rattle.board_base.specs.declared.men.Colour.TheVariants.{White, Black}
 use Rattle.board_base.specs.declared.men.Kind.TheVariants.{King, Pawn}
-use Rattle.board_base.specs.declared.moves.Move.{Move}
 use Rattle.assignment.specs.Assignments.{IsInjection, assignment_cost, least_cost}
 use Rattle.assignment.specs.Tables.{cost_at}
 use Rattle.balance_prose.specs.AccountWords.{best_words}
@@ -28,7 +27,6 @@ use Rattle.men_account.specs.Homes.{men_of}
 use Rattle.play_rules.specs.Kings.{HasOneKingEach}
 use Rattle.play_rules.specs.Laws.{is_end}
 use Rattle.query_base.specs.Asked.{Asked}
-use Rattle.query_base.specs.Reach.{Reaches}
 use Rattle.query_base.specs.Targets.{Covers}
 use Rattle.cage_rules.specs.Frozen.{IsAsArray, IsFrozen, is_held_home}
 use Rattle.cage_rules.specs.Refuted.{HasTooMany, NeedTooMany, is_spent}
@@ -40,7 +38,7 @@ use Rattle.prose_words.specs.Words.{man_words, side_word, squares_words}
 use Rattle.proof_sentences.specs.Firsts.{is_astray}
 use Rattle.proof_sentences.specs.Phrases.{unmoved_words}
 use Rattle.proof_sentences.specs.declared.sentences.Sentence.{Sentence}
-use Rattle.proof_sentences.specs.declared.sentences.Sentence.TheVariants.{Kings, Ranks, Check, Rights, Count, Caged, Changed, Settled, Gone, Promoted, Way, Lacks, Priced, Balanced, Counted, Best, Homeless, Sketched, Back, Still, Moved}
+use Rattle.proof_sentences.specs.declared.sentences.Sentence.TheVariants.{Kings, Ranks, Check, Rights, Count, Caged, Changed, Settled, Gone, Promoted, Way, Lacks, Priced, Balanced, Counted, Best, Homeless, Back, Still, Moved}
 
 -- an officer's home of this side, on which somebody began of whom nobody is left
 abbrev pub is_gone : Asked → Colour → List Bool → ℕ → Bool
@@ -98,7 +96,6 @@ Says (Balanced set p white black) q =
 Says (Counted set p) q = NeverMoved q set × IsTrue (is_plain p) × ((s : ℕ) → OneTreads q.odds s)
 Says (Best set p white black first) q = NeverMoved q set × CountTooMany q p set white.items black.items
 Says (Homeless c set) q = NeverMoved q set × HasNoMore q c × IsTrue (is_homeless q set c)
-Says Sketched q = (g : List Move) → Reaches g q → ⊥
 Says (Back k above) q = Covers above q
 Says (Still first) q = NobodyMoved q
 Says (Moved first) q = 0 < length (unmoves q)
@@ -267,7 +264,6 @@ words_of (Balanced set p white black) q = account_words q.odds (all_gates p) whi
 words_of (Counted set p) q = counting_words p
 words_of (Best set p white black first) q = best_words first q p set white.items black.items
 words_of (Homeless c set) q = homeless_words c
-words_of Sketched q = codes "Going back over captures by pawns and promotions, each way ends in what can't be."
 words_of (Back k above) q = back_words k
 words_of (Still first) q = barred_words q first
 words_of (Moved first) q = moved_words (opponent q.turn) first

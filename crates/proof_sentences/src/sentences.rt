@@ -43,8 +43,6 @@ pub enum Sentence {
     Best(SquareSet, Prices, ArrayVec<u8, 16>, ArrayVec<u8, 16>, bool),
     /// The men of this side can't all have begun on homes of their own, while the men on these squares stood.
     Homeless(Colour, SquareSet),
-    /// Going back over captures by pawns and promotions, each way ends in what can't be.
-    Sketched,
     /// The position stood so many half-moves later too, where this query asks no more.
     Back(u8, Query),
     /// The side that moved last has no move that can have been the last; whether the query is the first that is told.

@@ -688,10 +688,6 @@ pub(crate) fn push_sentence(
             out,
         ),
         Sentence::Homeless(side, _) => push_homeless(*side, out),
-        Sentence::Sketched => say(
-            b"Going back over captures by pawns and promotions, each way ends in what can't be.",
-            out,
-        ),
         Sentence::Back(steps, _) => push_back(*steps, out),
         Sentence::Still(first) => push_barred(alloc, query, *first, out),
         Sentence::Moved(first) => push_moved(query.turn.other(), *first, out),

@@ -1,0 +1,11 @@
+pub mod Adding
+pub mod Ending
+pub mod Strangers
+pub mod Leaving
+pub mod Marking
+pub mod Nodes
+pub mod Rests
+pub mod Siblings
+pub mod Nexts
+pub mod Starting
+pub mod OneText

@@ -1,0 +1,56 @@
+ghost use Rattle.std.specs.Prelude.{◌≡◌};
+ghost use Rattle.sketch_body.specs.Bodies.{is_now};
+ghost use Rattle.sketch_prose.specs.Telling.{end_leaf, is_shut, leaf_of};
+
+use sketch_text::{End, Label, SketchNode};
+
+/// How a node is told among its siblings.
+#[derive(Clone, Copy)]
+pub enum Leaf {
+    /// In a line with them: the line of prices with this number closes it.
+    Shut(u8),
+    /// In a line of its own: it is void.
+    Astray,
+    /// By itself, with what is below it.
+    Open,
+}
+
+fn is_now(label: &Label) -> bool
+    ensures { result ≡ is_now label.now }
+{
+    match label {
+        Label::Now => true,
+        Label::Step(_) | Label::Case(_) => false,
+    }
+}
+
+fn end_leaf(end: End) -> Leaf
+    ensures { result ≡ end_leaf end }
+{
+    match end {
+        End::Void => Leaf::Astray,
+        End::Closed(number) => Leaf::Shut(number),
+        End::Steps(_) | End::Split(_) => Leaf::Open,
+    }
+}
+
+/// How a node with this line is told.
+pub(crate) fn leaf_of(node: &SketchNode) -> Leaf
+    ensures { result ≡ leaf_of node.now }
+{
+    if node.marks == 0 && !is_now(&node.label) {
+        end_leaf(node.end)
+    } else {
+        Leaf::Open
+    }
+}
+
+/// Whether an account shuts it.
+pub(crate) fn is_shut(leaf: Leaf) -> bool
+    ensures { result ≡ is_shut leaf }
+{
+    match leaf {
+        Leaf::Shut(_) => true,
+        Leaf::Astray | Leaf::Open => false,
+    }
+}

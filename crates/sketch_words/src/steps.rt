@@ -1,0 +1,179 @@
+//! Words for steps.
+
+ghost use Rattle.std.specs.Prelude.{◌≡◌, ◌++◌, IfOk, codes};
+ghost use Rattle.std.specs.Fmt.{decimal};
+ghost use Rattle.sketch_words.specs.Words.{above_words, bare_step, bare_way, bare_words, case_words, is_same_move, lead_word, name_words, shown_words, sign_of, squares_of, step_words, taken_words, victim_words, way_words};
+
+use prose_words::{push_number, push_square, say};
+use sketch_text::{Label, Officer, StepLabel, Taken, Victim, Way};
+use std::alloc::AllocError;
+
+fn sign_of(way: Way) -> u8
+    ensures { result ≡ sign_of way }
+{
+    match way {
+        Way::Straight | Way::Promotion => b'-',
+        Way::Capture(_, _) | Way::CapturePromotion(_) => b'x',
+    }
+}
+
+fn victim_words(victim: Victim) -> &'static [u8]
+    ensures { result.now ≡ victim_words victim }
+{
+    match victim {
+        Victim::Pawn => b" (a pawn fell)",
+        Victim::Bishop => b" (a bishop fell)",
+        Victim::Officer => b" (a knight, rook or queen fell)",
+        Victim::EnPassant => b" en passant",
+    }
+}
+
+fn taken_words(taken: Taken) -> &'static [u8]
+    ensures { result.now ≡ taken_words taken }
+{
+    match taken {
+        Taken::Bishop => b" with promotion (a bishop fell)",
+        Taken::Officer => b" with promotion (a knight, rook or queen fell)",
+    }
+}
+
+fn case_words(officer: Officer) -> &'static [u8]
+    ensures { result.now ≡ case_words officer }
+{
+    match officer {
+        Officer::Knight => b"a knight",
+        Officer::Rook => b"a rook",
+        Officer::Queen => b"a queen",
+    }
+}
+
+fn lead_word(label: &Label) -> &'static [u8]
+    ensures { result.now ≡ lead_word label.now }
+{
+    match label {
+        Label::Now => b"",
+        Label::Step(_) => b"Before ",
+        Label::Case(_) => b"If it was ",
+    }
+}
+
+fn push_below(above: u8, out: &mut Vec<u8>) -> Result<(), AllocError>
+    ensures { IfOk result (λ _. out.new.items ≡ out.old.items ++ (codes " from below " ++ decimal above ++ codes " of the file's pawns")) }
+{
+    say(b" from below ", out)?;
+    push_number(usize::from(above), out)?;
+    say(b" of the file's pawns", out)?;
+    Ok(())
+}
+
+/// How many other pawns of the file that a pawn left stood above it, if any did.
+fn push_above(above: u8, out: &mut Vec<u8>) -> Result<(), AllocError>
+    ensures { IfOk result (λ _. out.new.items ≡ out.old.items ++ above_words above) }
+{
+    if above == 0 {
+        return Ok(());
+    }
+    push_below(above, out)
+}
+
+fn push_capture(victim: Victim, above: u8, out: &mut Vec<u8>) -> Result<(), AllocError>
+    ensures { IfOk result (λ _. out.new.items ≡ out.old.items ++ (victim_words victim ++ above_words above)) }
+{
+    say(victim_words(victim), out)?;
+    push_above(above, out)?;
+    Ok(())
+}
+
+fn push_way(way: Way, out: &mut Vec<u8>) -> Result<(), AllocError>
+    ensures { IfOk result (λ _. out.new.items ≡ out.old.items ++ way_words way) }
+{
+    match way {
+        Way::Straight => Ok(()),
+        Way::Capture(victim, above) => push_capture(victim, above, out),
+        Way::Promotion => say(b" with promotion", out),
+        Way::CapturePromotion(taken) => say(taken_words(taken), out),
+    }
+}
+
+fn push_between(step: &StepLabel, out: &mut Vec<u8>) -> Result<(), AllocError>
+    ensures { IfOk result (λ _. out.new.items ≡ out.old.items ++ squares_of step.now) }
+{
+    push_square(step.from, out)?;
+    out.push(sign_of(step.way))?;
+    push_square(step.to, out)?;
+    Ok(())
+}
+
+fn push_step(step: &StepLabel, out: &mut Vec<u8>) -> Result<(), AllocError>
+    ensures { IfOk result (λ _. out.new.items ≡ out.old.items ++ step_words step.now) }
+{
+    push_between(step, out)?;
+    push_way(step.way, out)?;
+    Ok(())
+}
+
+/// What leads to a node, as in `h3xg4 (a bishop fell)`.
+pub(crate) fn push_name(label: &Label, out: &mut Vec<u8>) -> Result<(), AllocError>
+    ensures { IfOk result (λ _. out.new.items ≡ out.old.items ++ name_words label.now) }
+{
+    match label {
+        Label::Now => Ok(()),
+        Label::Step(step) => push_step(step, out),
+        Label::Case(officer) => say(case_words(*officer), out),
+    }
+}
+
+fn push_bare_way(way: Way, out: &mut Vec<u8>) -> Result<(), AllocError>
+    ensures { IfOk result (λ _. out.new.items ≡ out.old.items ++ bare_way way) }
+{
+    match way {
+        Way::Straight | Way::Capture(_, _) => Ok(()),
+        Way::Promotion | Way::CapturePromotion(_) => say(b" with promotion", out),
+    }
+}
+
+fn push_bare_step(step: &StepLabel, out: &mut Vec<u8>) -> Result<(), AllocError>
+    ensures { IfOk result (λ _. out.new.items ≡ out.old.items ++ bare_step step.now) }
+{
+    push_between(step, out)?;
+    push_bare_way(step.way, out)?;
+    Ok(())
+}
+
+fn push_bare(label: &Label, out: &mut Vec<u8>) -> Result<(), AllocError>
+    ensures { IfOk result (λ _. out.new.items ≡ out.old.items ++ bare_words label.now) }
+{
+    match label {
+        Label::Now => Ok(()),
+        Label::Step(step) => push_bare_step(step, out),
+        Label::Case(officer) => say(case_words(*officer), out),
+    }
+}
+
+/// What leads to a node, whoever fell, or with who fell.
+pub(crate) fn push_shown(whole: bool, label: &Label, out: &mut Vec<u8>) -> Result<(), AllocError>
+    ensures { IfOk result (λ _. out.new.items ≡ out.old.items ++ shown_words whole label.now) }
+{
+    if whole {
+        push_bare(label, out)
+    } else {
+        push_name(label, out)
+    }
+}
+
+/// Whether both are steps from one square to another.
+pub fn is_same_move(a: &Label, b: &Label) -> bool
+    ensures { result ≡ is_same_move a.now b.now }
+{
+    match (a, b) {
+        (Label::Step(x), Label::Step(y)) => x.from == y.from && x.to == y.to,
+        _ => false,
+    }
+}
+
+/// How what follows from it begins.
+pub(crate) fn push_lead(label: &Label, out: &mut Vec<u8>) -> Result<(), AllocError>
+    ensures { IfOk result (λ _. out.new.items ≡ out.old.items ++ lead_word label.now) }
+{
+    say(lead_word(label), out)
+}
