@@ -1,5 +1,5 @@
 -- The proof of one node that says that a sketch is void.
-use Rattle.std.proofs.Common.{ℕ, ◌≡◌, ◌≤◌, List, [], ◌∷◌, length, map, refl, ap, sym, subst, arith}
+use Rattle.std.proofs.Common.{ℕ, ◌≡◌, List, [], ◌∷◌, length, map, refl, ap, sym, subst, arith}
 use Rattle.std.specs.List.{list_all}
 use Rattle.query_base.specs.Asked.{Asked}
 use Rattle.past_sketches.specs.Figures.{Sketch, sketch_of}
