@@ -1,6 +1,6 @@
-ghost use Rattle.std.specs.Prelude.{[], ◌≡◌, IfOk, IsTrue, map, string_bytes};
+ghost use Rattle.std.specs.Prelude.{[], ◌≡◌, ◌↔◌, IfOk, IsTrue, map, string_bytes};
 ghost use Rattle.retro_top.specs.Statuses.{IsAnswer, IsSilent};
-ghost use Rattle.run_driver.specs.Runs.{Runs};
+ghost use Rattle.run_driver.specs.Runs.{CallNothing, Runs, RunsInPart};
 
 use retro_ports::{MemSink, MemSource};
 use retro_top::{Status, run};
@@ -55,16 +55,18 @@ fn at_most_one(alloc: Global, number: Option<u32>) -> Result<Vec<u32>, AllocErro
     Ok(numbers)
 }
 
-/// The status and the sink of a run with these words on this input. The sink took the text that answers the input; at a status without an
-/// answer it took nothing, and at a failed write a part of the text.
+/// The status and the sink of a run with these words on this input. The words are bad if and only if they call no command. The sink took
+/// the text that answers the input; at a status without an answer it took nothing, and at a failed write a part of the text.
 pub fn run_on(
     alloc: Global,
     words: &[&str],
     input: &[u8],
     ports: Ports,
 ) -> Result<(Status, MemSink), AllocError>
+    ensures bad_words { IfOk result (λ ran. (ran.0 ≡ Status.BadWords) ↔ CallNothing (map (λ w. w.now) words.now)) }
     ensures silent { IfOk result (λ ran. IsSilent ran.0 → ran.1.taken ≡ []) }
     ensures answer { IfOk result (λ ran. IsAnswer ran.0 → Runs (map (λ w. w.now) words.now) input.now ran.0 ran.1.taken) }
+    ensures cut_short { IfOk result (λ ran. ran.0 ≡ Status.WriteFault → RunsInPart (map (λ w. w.now) words.now) input.now ran.1.taken) }
 {
     let words = words_of(alloc, words)?;
     let bytes = Vec::from_slice(alloc, input)?;
@@ -79,9 +81,12 @@ pub fn run_on(
     Ok((status, sink))
 }
 
-/// Whether the row's words on its input end with its status and its text. If its status is an answer, the text is one then.
+/// Whether the row's words on its input end with its status and its text. If so, the text answers the input if its status is an answer, and
+/// is empty if nothing is written with its status; and the words call no command if it says that they are bad.
 pub fn is_answered(alloc: Global, row: &Row, ports: Ports) -> Result<bool, AllocError>
-    ensures { IfOk result (λ yes. IsTrue yes → IsAnswer row.now.status → Runs (map (λ w. w.now) row.now.words.now) row.now.input.now row.now.status row.now.text.now) }
+    ensures bad_words { IfOk result (λ yes. IsTrue yes → (row.now.status ≡ Status.BadWords) ↔ CallNothing (map (λ w. w.now) row.now.words.now)) }
+    ensures silent { IfOk result (λ yes. IsTrue yes → IsSilent row.now.status → row.now.text.now ≡ []) }
+    ensures answer { IfOk result (λ yes. IsTrue yes → IsAnswer row.now.status → Runs (map (λ w. w.now) row.now.words.now) row.now.input.now row.now.status row.now.text.now) }
 {
     let (status, sink) = run_on(alloc, row.words, row.input, ports)?;
     if status != row.status {
