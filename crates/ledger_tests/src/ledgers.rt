@@ -2,7 +2,10 @@
 //! the last says what it shows.
 
 use board_base::{Board, Square, SquareSet, array_of, is_of, read_square};
+use cage_rules::greatest_as_array;
+use capture_prices::Prices;
 use fen_text::read_four_fields;
+use ledger_rule::account_of;
 use ledger_search::{Fates, Ledger, Range, is_contradictory, ledger_of};
 use query_base::Query;
 
@@ -135,6 +138,22 @@ fn has_answer(row: &str) -> Option<bool> {
     let query = query(cells.next())?;
     let told = cells.next()? == "yes";
     Some(is_contradictory(&query, &ledger_of(&query)) == told)
+}
+
+/// Whether what each side's men cost is kept, so that suppositions need no assignments of their own.
+fn has_tables(row: &str) -> Option<bool> {
+    let mut cells = row.split('|');
+    let query = query(cells.next())?;
+    let prices = Prices::new(&[24; 16], &[24; 16], &[])?;
+    let account = account_of(&query, greatest_as_array(&query), &prices)?;
+    Some(account.white.table.is_some() && account.black.table.is_some())
+}
+
+#[test]
+fn keeps_tables(rt: HostRuntime) {
+    for row in COUNTS.lines() {
+        assert!(rt; has_tables(row) == Some(true), "{row}");
+    }
 }
 
 #[test]

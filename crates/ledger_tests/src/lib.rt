@@ -3,5 +3,3 @@
 
 #[cfg(test)]
 mod ledgers;
-#[cfg(test)]
-mod rests;
