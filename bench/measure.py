@@ -17,6 +17,7 @@ measure.py games FENS       the search for games to the positions of a file, a F
 measure.py sketch           closures of sketches, their trims, homes and steps, likewise: builds sketch.program
 measure.py accounts         accounts of sketches at equal prices, anew, at other prices and again, likewise: builds accounts.program
 measure.py trees            searches for sketches, found and not, likewise: builds trees.program
+measure.py ledger           ledgers of problems and of middle-game positions, likewise: builds ledger.program
 measure.py balance          the balance of captures at equal prices, and the search for prices, likewise: builds balance.program
 """
 import argparse
@@ -328,6 +329,13 @@ def trees():
             print(f"{once - none:,} instructions, {found} found, {states} sketches looked at: {fen}")
 
 
+def ledger():
+    with built("ledger", "board_base fen_text query_base ledger_search", ["--", "0"]) as program:
+        for fen in [*SKETCHED, *CHAINS, RETRACTED[4], RETRACTED[6], *ORDINARY]:
+            none, once = (instructions([program, times], fen.encode() + b"\n") for times in ("0", "1"))
+            print(f"{once - none:,} instructions: {fen}")
+
+
 def games(path):
     fens = [" ".join(line.split()[:4]) for line in pathlib.Path(path).read_text().splitlines() if line.strip()]
     with built("games", "board_base fen_text query_base unmove_gen game_search", ["--", "0"]) as program:
@@ -383,6 +391,8 @@ def main():
         accounts()
     elif sys.argv[1:] == ["trees"]:
         trees()
+    elif sys.argv[1:] == ["ledger"]:
+        ledger()
     elif sys.argv[1:] == ["sketch"]:
         sketch()
     elif sys.argv[1:2] == ["games"] and len(sys.argv) == 3:

@@ -22,6 +22,7 @@ WORDS = {
     "balance": [CASTLED, "1", "0"],
     "cages": [CASTLED, "1"],
     "games": ["100"],
+    "ledger": ["1"],
     "legal_moves": ["1"],
     "pawns": ["least", "a2b2c2d2e2f2g2h2", "1"],
     "sketch": [CASTLED, "1", "1", "1", "1"],
@@ -29,7 +30,7 @@ WORDS = {
     "unmoves": [CASTLED, "1"],
 }
 # What some read.
-INPUTS = {"games": f"{CASTLED}\n"}
+INPUTS = {"games": f"{CASTLED}\n", "ledger": f"{CASTLED}\n"}
 
 
 def copied(top):

@@ -9,7 +9,7 @@ use Rattle.general_lemmas.proofs.SumsAmong.{sum-among, sum-ones}
 use Rattle.assignment.specs.Tables.{cost_at}
 use Rattle.assignment.specs.Assignments.{IsInjection, assignment_cost, least_cost}
 use Rattle.assignment.proofs.Injections.{IsInjection-range, least_cost-is, least_cost-le}
-use Rattle.ledger_pairings.specs.Rests.{AreRests, IsColumnChanged, IsRest, IsRowChanged}
+use Rattle.ledger_pairings.specs.Rests.{AreRests, IsColumnChanged, IsRowChanged}
 use Rattle.ledger_pairings.proofs.Injected.{columns-among, columns-differ, has-place}
 
 -- the least of some numbers, and one more

@@ -1,11 +1,10 @@
 -- Assignments of sixteen rows to sixteen columns.
-use Rattle.std.proofs.Common.{◌≡◌, ◌≢◌, ℕ, zero, suc, ◌+◌, ◌<◌, ◌≤◌, ◌⊎◌, inl, inr, List, [], ◌∷◌, length, slice_index, get_or, refl, ap, sym, ◌∙◌, subst, arith}
+use Rattle.std.proofs.Common.{◌≡◌, ◌≢◌, ℕ, suc, ◌<◌, inl, inr, List, [], ◌∷◌, length, slice_index, refl, ap, sym, ◌∙◌, arith}
 use Rattle.std.proofs.lemmas.Bool.{cases_eq}
 use Rattle.std.proofs.lemmas.List.Edits.{length-swap, swapped_from_swap}
 use Rattle.std.proofs.lemmas.List.Elements.{All-from_get_or, All-get_or}
-use Rattle.std.specs.List.{All, swap, range_with_len}
-use Rattle.general_lemmas.proofs.Differing.{Differ, Has, differ-range, has-range}
-use Rattle.general_lemmas.proofs.SumsAmong.{sum-among}
+use Rattle.std.specs.List.{swap, range_with_len}
+use Rattle.general_lemmas.proofs.Differing.{Differ, Has, has-range}
 use Rattle.assignment.specs.Assignments.{IsInjection}
 
 -- the same columns, read one by one

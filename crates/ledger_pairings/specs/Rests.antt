@@ -1,5 +1,5 @@
 -- What other rows cost beside a row that has a column, and tables of which one row or one column is changed.
-use Rattle.std.specs.Prelude.{ℕ, ◌≡◌, ◌≢◌, ◌+◌, ◌<◌, ◌≤◌, List, [], length, slice_index, slice_index_or}
+use Rattle.std.specs.Prelude.{ℕ, ◌≡◌, ◌≢◌, ◌+◌, ◌<◌, ◌≤◌, List, length, slice_index}
 use Rattle.assignment.specs.Tables.{cost_at}
 use Rattle.assignment.specs.Assignments.{IsInjection, assignment_cost}
 

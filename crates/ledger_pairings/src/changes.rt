@@ -3,7 +3,12 @@ ghost use Rattle.assignment.specs.Assignments.{least_cost};
 ghost use Rattle.ledger_pairings.specs.Rests.{AreRests, IsColumnChanged, IsRowChanged};
 
 /// What the rows cost at least if this one costs so much in each column. The rests are theirs.
-pub fn cost_with_row(rows: &[[u16; 16]; 16], rests: &[[u32; 16]; 16], i: usize, row: &[u16; 16]) -> u32
+pub fn cost_with_row(
+    rows: &[[u16; 16]; 16],
+    rests: &[[u32; 16]; 16],
+    i: usize,
+    row: &[u16; 16],
+) -> u32
     requires row { i < 16 }
     requires rests { AreRests rows.now rests.now }
     ensures { (changed : List (List ℕ)) → IsRowChanged i row.now rows.now changed → result ≡ least_cost 16 changed }
@@ -16,7 +21,12 @@ pub fn cost_with_row(rows: &[[u16; 16]; 16], rests: &[[u32; 16]; 16], i: usize, 
 }
 
 /// What the rows cost at least if each costs so much in this column.
-pub fn cost_with_column(rows: &[[u16; 16]; 16], rests: &[[u32; 16]; 16], j: usize, column: &[u16; 16]) -> u32
+pub fn cost_with_column(
+    rows: &[[u16; 16]; 16],
+    rests: &[[u32; 16]; 16],
+    j: usize,
+    column: &[u16; 16],
+) -> u32
     requires column { j < 16 }
     requires rests { AreRests rows.now rests.now }
     ensures { (changed : List (List ℕ)) → IsColumnChanged j column.now rows.now changed → result ≡ least_cost 16 changed }

@@ -3,7 +3,7 @@ ghost use Rattle.assignment.specs.Assignments.{IsInjection};
 
 use assignment::LargeSolution;
 
-/// An assignment of sixteen rows to sixteen columns, with potentials. Nothing that is told of it rests on the potentials.
+/// An assignment of sixteen rows to sixteen columns, with potentials. No clause rests on the potentials.
 #[derive(Clone, Copy)]
 pub(crate) struct Pairs {
     /// For each row its column.

@@ -21,7 +21,12 @@ fn cost_of(rows: &[[u16; 16]; 16], columns: &[u8; 16]) -> u32
 }
 
 /// For each row but one what it pays for its column: the cost and the price; nothing for this one.
-fn dues_of(rows: &[[u16; 16]; 16], columns: &[u8; 16], prices: &[u32; 16], without: usize) -> [u32; 16]
+fn dues_of(
+    rows: &[[u16; 16]; 16],
+    columns: &[u8; 16],
+    prices: &[u32; 16],
+    without: usize,
+) -> [u32; 16]
     requires { without < 16 }
     ensures size { length result ≡ 16 }
     ensures nothing { slice_index result without ≡ 0 }
@@ -35,7 +40,7 @@ fn dues_of(rows: &[[u16; 16]; 16], columns: &[u8; 16], prices: &[u32; 16], witho
     dues
 }
 
-/// Whether no due of a row is above what a column would cost it, with its price.
+/// Whether the due of a row is nowhere above what a column costs it, with the column's price.
 fn row_is_fair(row: &[u16; 16], due: u32, prices: &[u32; 16]) -> bool
     ensures { IsTrue result → (c : ℕ) → c < 16 → due ≤ slice_index row.now c + slice_index prices.now c }
 {
@@ -72,7 +77,14 @@ fn total(numbers: &[u32; 16]) -> u64
 }
 
 /// What the other rows cost beside this row with this column, if `columns` is shown to be a least assignment in which it has it.
-fn rest_by(rows: &[[u16; 16]; 16], i: usize, j: usize, columns: &[u8; 16], least: u64, above: u64) -> Option<u32>
+fn rest_by(
+    rows: &[[u16; 16]; 16],
+    i: usize,
+    j: usize,
+    columns: &[u8; 16],
+    least: u64,
+    above: u64,
+) -> Option<u32>
     requires row { i < 16 }
     requires column { j < 16 }
     requires injection { IsInjection 16 16 columns.now }
@@ -112,8 +124,8 @@ fn rests_of_row(rows: &[[u16; 16]; 16], pairs: &Pairs, i: usize) -> Option<[u32;
     Some(rests)
 }
 
-/// For each row and each column what the other rows cost at least with the other columns; None if it isn't shown, which is nowhere
-/// known to be so.
+/// For each row and each column what the other rows cost at least with the other columns; None if potentials and assignments at hand don't
+/// show it. They are looked for by the nearest ways from one assignment to the next, on which no clause rests.
 pub fn rests_of(rows: &[[u16; 16]; 16]) -> Option<[[u32; 16]; 16]>
     requires { IsTable rows.now 16 32767 }
     ensures { IfSome result (AreRests rows.now) }

@@ -1,5 +1,5 @@
 -- What refutes a count of captures.
-use Rattle.std.proofs.Common.{◌≡◌, ℕ, ◌+◌, ◌*◌, ◌<◌, Bool, List, refl, ap, arith}
+use Rattle.std.proofs.Common.{◌≡◌, ℕ, ◌+◌, ◌*◌, ◌<◌, Bool, List, refl, arith}
 use Rattle.std.specs.Prelude.{◌↔◌, IsTrue}
 use Rattle.board_base.specs.Board.{Places, opponent}
 use Rattle.board_base.specs.declared.men.Colour.{Colour}

@@ -1,5 +1,5 @@
 -- The cells of what a side's men cost.
-use Rattle.std.proofs.Common.{◌≡◌, ◌≢◌, ℕ, ◌+◌, ◌-◌, ◌<◌, ◌≤◌, inl, inr, Bool, List, [], ◌∷◌, length, map, slice_index, slice_index_or, refl, ap, sym, ◌∙◌, arith, length-append}
+use Rattle.std.proofs.Common.{◌≡◌, ℕ, ◌-◌, ◌<◌, ◌≤◌, inl, inr, Bool, List, [], ◌∷◌, length, map, slice_index, slice_index_or, refl, ap, sym, ◌∙◌, arith, length-append}
 use Rattle.std.specs.Prelude.{replicate}
 use Rattle.std.proofs.lemmas.Bool.{cases_lt}
 use Rattle.std.proofs.lemmas.List.{get_or-append_right, get_or_append_left, get_or-map, length-map, get_or-replicate, length-replicate}
@@ -10,7 +10,6 @@ use Rattle.board_base.specs.Board.{Places, at, home_of, men_squares}
 use Rattle.board_base.specs.declared.men.Colour.{Colour}
 use Rattle.board_base.specs.declared.men.Colour.TheVariants.{White, Black}
 use Rattle.assignment.specs.Tables.{cost_at}
-use Rattle.assignment.specs.Assignments.{least_cost}
 use Rattle.capture_prices.specs.Prices.{PriceList}
 use Rattle.balance_rule.specs.Balance.{men_on}
 use Rattle.balance_rule.specs.Costs.{gone, stands}
@@ -68,7 +67,6 @@ module _ (x : Supposition) (p : PriceList) (set : List Bool) (c : Colour) (first
       let row : slice_index_or (cost_table_if x p set c first board) i [] ≡ gone_row_if x p set c first =
       get_or-append_right (map (stand_row_if x p set c first board) men) rest (length men) i [] standing past ∙ get_or-replicate (men_on c first - men_on c board) (i - length men) (gone_row_if x p set c first) [] (omega arith) in
       ap (λ (r : List ℕ). slice_index r j) row ∙ get_or-map-range_with_len (λ (j : ℕ). gone_if x p set c (at first (home_of c j)) (home_of c j)) 0 16 j j 0 home (omega arith)
-
 
 module _ (x : Supposition) (p : PriceList) (set : List Bool) (c : Colour) (first board : Places) where
   -- it has the cells of the table of no supposition where these are the same

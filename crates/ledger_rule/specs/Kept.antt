@@ -1,6 +1,6 @@
 -- What is reckoned once for all suppositions at the same prices.
-use Rattle.std.specs.Prelude.{◌≡◌, ◌≤◌, ◌+◌, ℕ, Bool, IfSome, IsTrue, List, length}
-use Rattle.board_base.specs.Board.{Places, array_of, men_squares, opponent}
+use Rattle.std.specs.Prelude.{◌≡◌, ◌≤◌, ℕ, Bool, IfSome, IsTrue, List, length}
+use Rattle.board_base.specs.Board.{Places, array_of, men_squares}
 use Rattle.board_base.specs.declared.men.Colour.{Colour}
 use Rattle.board_base.specs.declared.men.Colour.TheVariants.{White, Black}
 use Rattle.query_base.specs.Asked.{Asked}
@@ -10,8 +10,7 @@ use Rattle.capture_prices.specs.Prices.{PriceList, are_prices}
 use Rattle.balance_rule.specs.Balance.{men_on, most_cost}
 use Rattle.balance_rule.specs.Costs.{never}
 use Rattle.balance_rule.specs.Grounds.{IsGround}
-use Rattle.ledger_facts.specs.Accounts.{cost_table_if, raised, side_cost_if}
-use Rattle.ledger_facts.specs.declared.suppositions.Squares.{Squares}
+use Rattle.ledger_facts.specs.Accounts.{cost_table_if, side_cost_if}
 use Rattle.ledger_facts.specs.declared.suppositions.Squares.TheVariants.{All}
 use Rattle.ledger_facts.specs.declared.suppositions.Supposition.{Supposition}
 use Rattle.ledger_facts.specs.declared.suppositions.Supposition.TheVariants.{AtMost}

@@ -42,7 +42,13 @@ fn began_row(side: Colour, homes: SquareSet, plain: &[u16; 16]) -> [u16; 16]
 }
 
 /// What the men of a side cost if the man on a square is supposed to have begun on some homes.
-pub(crate) fn by_homes(side: &Side, table: &Table, board: &Board, t: Square, homes: SquareSet) -> u32
+pub(crate) fn by_homes(
+    side: &Side,
+    table: &Table,
+    board: &Board,
+    t: Square,
+    homes: SquareSet,
+) -> u32
     requires known { IsReckoned board.now side.now }
     requires table { side.now.table ≡ Some table.now }
     ensures { (o : List Bool) (p : PriceList) (set : List Bool) (c : AColour) → IsSide o board.now p set c side.now → result ≡ side_cost_if (Began t homes) o board.now p set c }
@@ -57,7 +63,13 @@ pub(crate) fn by_homes(side: &Side, table: &Table, board: &Board, t: Square, hom
 }
 
 /// The same if something else is supposed of him.
-pub(crate) fn by_man(side: &Side, table: &Table, board: &Board, supposition: &Supposition, t: Square) -> u32
+pub(crate) fn by_man(
+    side: &Side,
+    table: &Table,
+    board: &Board,
+    supposition: &Supposition,
+    t: Square,
+) -> u32
     requires known { IsReckoned board.now side.now }
     requires table { side.now.table ≡ Some table.now }
     ensures { (o : List Bool) (p : PriceList) (set : List Bool) (c : AColour) → IsSide o board.now p set c side.now → IsOfMan supposition.now t → result ≡ side_cost_if supposition.now o board.now p set c }
@@ -72,7 +84,14 @@ pub(crate) fn by_man(side: &Side, table: &Table, board: &Board, supposition: &Su
 }
 
 /// What the man in a row costs from a home.
-fn cell_if(side: &Side, table: &Table, board: &Board, supposition: &Supposition, r: usize, j: u8) -> u16
+fn cell_if(
+    side: &Side,
+    table: &Table,
+    board: &Board,
+    supposition: &Supposition,
+    r: usize,
+    j: u8,
+) -> u16
     requires row { r < 16 }
     requires column { j < 16 }
     requires known { IsReckoned board.now side.now }
@@ -90,7 +109,13 @@ fn cell_if(side: &Side, table: &Table, board: &Board, supposition: &Supposition,
 }
 
 /// What each row costs from a home.
-fn column_if(side: &Side, table: &Table, board: &Board, supposition: &Supposition, j: u8) -> [u16; 16]
+fn column_if(
+    side: &Side,
+    table: &Table,
+    board: &Board,
+    supposition: &Supposition,
+    j: u8,
+) -> [u16; 16]
     requires column { j < 16 }
     requires known { IsReckoned board.now side.now }
     requires table { side.now.table ≡ Some table.now }
@@ -104,7 +129,13 @@ fn column_if(side: &Side, table: &Table, board: &Board, supposition: &Suppositio
 }
 
 /// What the men of a side cost if something is supposed of who began on a home.
-pub(crate) fn by_home(side: &Side, table: &Table, board: &Board, supposition: &Supposition, k: Square) -> u32
+pub(crate) fn by_home(
+    side: &Side,
+    table: &Table,
+    board: &Board,
+    supposition: &Supposition,
+    k: Square,
+) -> u32
     requires known { IsReckoned board.now side.now }
     requires table { side.now.table ≡ Some table.now }
     ensures { (o : List Bool) (p : PriceList) (set : List Bool) (c : AColour) → IsSide o board.now p set c side.now → IsOfHome supposition.now k → result ≡ side_cost_if supposition.now o board.now p set c }

@@ -45,7 +45,13 @@ fn cost_at(query: &Query, account: &Account, side: Colour, prices: &Prices) -> u
 
 /// What the men of both sides cost, those of this one with a side's captures on some squares dearer; None exactly where a price is
 /// above 96 then.
-fn cost_dearer(query: &Query, account: &Account, reckoned: Colour, payer: Colour, squares: Squares) -> Option<u64>
+fn cost_dearer(
+    query: &Query,
+    account: &Account,
+    reckoned: Colour,
+    payer: Colour,
+    squares: Squares,
+) -> Option<u64>
     requires { IsAccount query.now account.now }
     ensures { SomeIff result (IsTrue (are_prices (raised payer squares account.now.prices))) (dear_cost query.now account.now reckoned payer squares) }
 {

@@ -22,7 +22,12 @@ use ledger_facts::Supposition;
 use query_base::Query;
 
 /// What it costs that the man on a square began on each of the side's homes, if the supposition is true.
-pub(crate) fn stand_row(ground: &Ground, supposition: &Supposition, board: &Board, s: Square) -> [u16; 16]
+pub(crate) fn stand_row(
+    ground: &Ground,
+    supposition: &Supposition,
+    board: &Board,
+    s: Square,
+) -> [u16; 16]
     ensures small { All (λ cost. cost ≤ never) result }
     ensures value { (o : List Bool) (p : PriceList) → IsGround o p ground.now → result ≡ stand_row_if supposition.now p ground.now.frozen ground.now.side (array_of o) board.now s }
 {

@@ -1,5 +1,5 @@
 -- What an account at flat prices refutes.
-use Rattle.std.proofs.Common.{◌≡◌, ℕ, Bool, List, sym, subst}
+use Rattle.std.proofs.Common.{◌≡◌, Bool, List, sym, subst}
 use Rattle.std.specs.Prelude.{IfNone, IfSome, Option, None, Some}
 use Rattle.query_base.specs.Asked.{Asked}
 use Rattle.capture_prices.specs.Prices.{PriceList}

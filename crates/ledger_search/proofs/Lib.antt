@@ -1,3 +1,4 @@
 pub mod Found
 pub mod AtFlat
 pub mod Counting
+pub mod Closing

@@ -4,13 +4,15 @@
 //! Articles are those of the FIDE Laws of Chess, in force from 1 January 2023.
 #![tactic(auto)]
 
+mod contradictions;
 mod counts;
 mod laws;
 mod ledgers;
 mod questions;
 mod refuting;
 
+pub use contradictions::is_contradictory;
 pub use counts::{Counts, Range};
-pub use laws::flat_prices_rule_out;
+pub use laws::{contradictions_close, flat_prices_rule_out};
 pub use ledgers::{Fates, Ledger, ledger_of};
 pub use questions::Question;

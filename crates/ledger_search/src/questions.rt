@@ -40,7 +40,7 @@ pub(crate) fn about(question: &Question, s: Square) -> Supposition
 }
 
 /// Whether the place has a man.
-fn is_man(place: Option<Man>) -> bool
+pub(crate) fn is_man(place: Option<Man>) -> bool
     ensures { result ≡ is_man place }
 {
     match place {

@@ -1,4 +1,4 @@
-use Rattle.std.proofs.Common.{◌≡◌, ◌+◌, ◌<◌, ◌≤◌, ℕ, slice_index, arith}
+use Rattle.std.proofs.Common.{◌+◌, slice_index, arith}
 use Rattle.assignment.specs.Tables.{cost_at}
 use Rattle.ledger_pairings.proofs.Changed.{column-least, still-least}
 use Rattle.ledger_pairings.proofs.changes.cost_with_column.Goals as goal

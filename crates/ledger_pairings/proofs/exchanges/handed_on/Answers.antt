@@ -1,4 +1,4 @@
-use Rattle.std.proofs.Common.{◌≡◌, ◌<◌, ℕ, subst, sym, arith, ◌∙◌}
+use Rattle.std.proofs.Common.{subst, sym, arith, ◌∙◌}
 use Rattle.assignment.specs.Assignments.{IsInjection}
 use Rattle.ledger_pairings.proofs.Injected.{injection-swap}
 use Rattle.ledger_pairings.proofs.exchanges.handed_on.Goals as goal

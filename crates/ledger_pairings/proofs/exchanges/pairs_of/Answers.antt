@@ -1,4 +1,4 @@
-use Rattle.std.proofs.Common.{◌≡◌, ℕ, List, length, slice_index, ap, ◌∙◌}
+use Rattle.std.proofs.Common.{ℕ, List, length, slice_index, ap, ◌∙◌}
 use Rattle.ledger_pairings.proofs.Injected.{injection-same}
 use Rattle.ledger_pairings.proofs.exchanges.pairs_of.Goals as goal
 

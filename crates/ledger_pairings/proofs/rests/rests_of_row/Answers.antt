@@ -1,4 +1,4 @@
-use Rattle.std.proofs.Common.{◌≡◌, ◌+◌, ◌<◌, ◌≤◌, ℕ, arith}
+use Rattle.std.proofs.Common.{◌≡◌, arith}
 use Rattle.assignment.specs.Tables.{cost_at}
 use Rattle.ledger_pairings.proofs.Bounds.{bounded}
 use Rattle.ledger_pairings.proofs.rests.rests_of_row.Goals as goal

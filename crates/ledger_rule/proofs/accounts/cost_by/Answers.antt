@@ -1,4 +1,4 @@
-use Rattle.std.proofs.Common.{◌≡◌, ap, sym, ◌∙◌}
+use Rattle.std.proofs.Common.{ap, sym, ◌∙◌}
 use Rattle.ledger_facts.specs.Accounts.{side_cost_if}
 use Rattle.ledger_facts.specs.declared.suppositions.Supposition.{Supposition}
 use Rattle.ledger_rule.proofs.Counted.{least-cost, most-cost}

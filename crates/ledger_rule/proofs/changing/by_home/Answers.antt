@@ -1,4 +1,4 @@
-use Rattle.std.proofs.Common.{◌≡◌, ℕ, ap, sym, ◌∙◌}
+use Rattle.std.proofs.Common.{◌≡◌, ap, sym, ◌∙◌}
 use Rattle.board_base.specs.Board.{array_of, home_of}
 use Rattle.board_base.specs.declared.men.Colour.{Colour}
 use Rattle.ledger_facts.specs.Accounts.{cost_table_if}

@@ -1,5 +1,4 @@
-use Rattle.std.proofs.Common.{◌≡◌, ◌<◌, ℕ, List, length, slice_index, refl, ap, sym, ◌∙◌, arith, subst, cond, not}
-use Rattle.std.specs.Prelude.{Option}
+use Rattle.std.proofs.Common.{◌≡◌, ◌<◌, ℕ, List, length, slice_index, refl, ap, sym, ◌∙◌, arith, cond, not}
 use Rattle.board_base.specs.Board.{array_of, at, home_of, is_in}
 use Rattle.board_base.specs.declared.men.Colour.{Colour}
 use Rattle.balance_rule.specs.Costs.{never}

@@ -1,4 +1,4 @@
-use Rattle.std.proofs.Common.{◌≡◌, ℕ, ◌<◌, sym, arith}
+use Rattle.std.proofs.Common.{sym, arith}
 use Rattle.ledger_rule.proofs.changing.column_if.Goals as goal
 
 pub returns : goal.returns

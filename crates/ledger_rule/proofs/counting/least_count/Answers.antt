@@ -1,4 +1,4 @@
-use Rattle.std.proofs.Common.{◌≡◌, ℕ, ◌+◌, ◌*◌, ◌<◌, ◌≤◌, arith}
+use Rattle.std.proofs.Common.{arith}
 use Rattle.ledger_rule.proofs.Counted.{counts-most}
 use Rattle.ledger_rule.proofs.counting.least_count.Goals as goal
 

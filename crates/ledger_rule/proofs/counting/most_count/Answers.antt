@@ -1,4 +1,4 @@
-use Rattle.std.proofs.Common.{◌≡◌, ℕ, ◌+◌, ◌*◌, ◌<◌, ◌≤◌, ap, ◌∙◌, arith}
+use Rattle.std.proofs.Common.{ap, ◌∙◌, arith}
 use Rattle.board_base.specs.declared.men.Colour.{Colour}
 use Rattle.ledger_rule.specs.Touched.{dear_cost}
 use Rattle.ledger_rule.proofs.Counted.{counts-least}

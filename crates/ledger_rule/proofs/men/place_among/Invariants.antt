@@ -1,4 +1,4 @@
-use Rattle.std.proofs.Common.{◌≡◌, ◌≢◌, ◌<◌, ℕ, slice_index}
+use Rattle.std.proofs.Common.{◌≢◌, ◌<◌, ℕ, slice_index}
 use Rattle.ledger_rule.proofs.men.place_among.Given as goal
 
 abbrev pub invariant-loop-i : goal.invariant-loop-i

@@ -1,6 +1,6 @@
-use Rattle.std.proofs.Common.{◌≡◌, ◌≤◌, List, ℕ, ap, sym, subst, ◌∙◌, arith}
+use Rattle.std.proofs.Common.{◌≡◌, List, ℕ, ap, sym, subst, ◌∙◌}
 use Rattle.std.specs.Prelude.{IfSome}
-use Rattle.board_base.specs.Board.{Places, array_of, men_squares}
+use Rattle.board_base.specs.Board.{array_of, men_squares}
 use Rattle.board_base.specs.declared.men.Colour.{Colour}
 use Rattle.query_base.specs.Asked.{Asked}
 use Rattle.assignment.specs.Assignments.{least_cost}

@@ -1,4 +1,4 @@
-use Rattle.std.proofs.Common.{ℕ, ◌<◌, ◌≤◌, arith}
+use Rattle.std.proofs.Common.{arith}
 use Rattle.ledger_facts.specs.declared.suppositions.Supposition.TheVariants.{AtMost}
 use Rattle.ledger_search.proofs.AtFlat.{back, kept-none, kept-some, there}
 use Rattle.ledger_search.proofs.counts.least_at.Goals as goal

@@ -1,4 +1,4 @@
-use Rattle.std.proofs.Common.{◌≡◌, arith}
+use Rattle.std.proofs.Common.{arith}
 use Rattle.price_search.specs.declared.payers.Payers.TheVariants.{Both, WhiteAlone, BlackAlone}
 use Rattle.ledger_search.proofs.AtFlat.{kept-known}
 use Rattle.ledger_search.proofs.Counting.{smallest}

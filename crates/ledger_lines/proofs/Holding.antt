@@ -1,0 +1,168 @@
+-- What a ledger knows holds of every game.
+use Rattle.std.proofs.Common.{◌≡◌, ℕ, ◌+◌, ◌-◌, ◌<◌, ◌≤◌, inl, inr, Bool, true, false, ◌&&◌, not, List, [], slice_index_or, zero, suc, refl, ap, sym, subst, ◌∙◌, arith}
+use Rattle.std.specs.Prelude.{IsTrue, Option, None, Some, nat_le, nat_lt}
+use Rattle.std.specs.Bool.{beq}
+use Rattle.std.proofs.lemmas.Bool.{and_parts, both_ways, cases_Bool, cases_eq, leb-true, ltb-true, not_from_false}
+use Rattle.std.proofs.lemmas.List.{get_or-set_same}
+use Rattle.board_base.specs.Board.{Places, array_of, at, is_a, is_in, is_of, same_colour}
+use Rattle.board_base.specs.Game.{board_after}
+use Rattle.board_base.specs.SquareNumbers.{length-squares_of}
+use Rattle.board_base.specs.declared.men.Colour.{Colour}
+use Rattle.board_base.specs.declared.men.Colour.TheVariants.{White, Black}
+use Rattle.board_base.specs.declared.men.Kind.TheVariants.{Pawn}
+use Rattle.board_base.specs.declared.men.Man.{Man}
+use Rattle.board_base.specs.declared.moves.Move.{Move}
+use Rattle.men_account.specs.Labels.{label_at, labels_after}
+use Rattle.men_account.proofs.FilesLeft.{array-inside}
+use Rattle.men_account.proofs.Labelled.{labels-colours}
+use Rattle.query_base.specs.Asked.{Asked}
+use Rattle.query_base.specs.Reach.{Reaches}
+use Rattle.cage_rules.specs.Reach.{LeadsTo}
+use Rattle.cage_rules.proofs.Histories.{reaches-leads}
+use Rattle.price_search.specs.FlatPrices.{flat_prices}
+use Rattle.ledger_facts.specs.Refuted.{IsRuledOut}
+use Rattle.ledger_facts.specs.Supposed.{captures}
+use Rattle.ledger_facts.specs.declared.suppositions.Squares.{Squares}
+use Rattle.ledger_facts.specs.declared.suppositions.Squares.TheVariants.{All, Dark, Light, Class}
+use Rattle.ledger_facts.specs.declared.suppositions.Supposition.{Supposition}
+use Rattle.ledger_facts.specs.declared.suppositions.Supposition.TheVariants.{Began as BeganAt, Went, Stands, Gone, AtMost as Most, AtLeast as Least}
+use Rattle.ledger_facts.proofs.Known.{gone-so, has-captured, kept-file, less-than, more-than, never-promoted, struck-so, unstruck-so, was-promoted}
+use Rattle.ledger_facts.proofs.Sound.{refuted}
+use Rattle.ledger_search.specs.Ledgers.{AreCounts, IsLeast, IsLedger, IsLedgerOf, IsMost}
+use Rattle.ledger_search.specs.Questions.{IsFlatlyRefuted, is_asked, is_man, only, shares_side}
+use Rattle.ledger_search.specs.declared.counts.Counts.{Counts}
+use Rattle.ledger_search.specs.declared.ledgers.Ledger.{Ledger}
+use Rattle.ledger_search.specs.declared.questions.Question.TheVariants.{Home}
+use Rattle.ledger_lines.specs.Facts.{Says}
+use Rattle.ledger_lines.specs.Known.{AreRuledOut, IsKnown, IsOnBoard, counts_of, is_class, is_fallen, is_most, least_of}
+use Rattle.ledger_lines.specs.declared.facts.Fact.{Fact}
+use Rattle.ledger_lines.specs.declared.facts.Fact.TheVariants.{Began, Original, Promoted, Captured, Straight, Fell, FellToPawn, EscapedPawns, Became, NeverBecame, AtLeast, AtMost}
+
+man-on : (place : Option Man) → is_man place ≡ true → (m : Man) × (place ≡ Some m)
+man-on None h = absurd (both_ways false refl h)
+man-on (Some m) h = (m, refl)
+
+in-only : (h : ℕ) → h < 64 → is_in (only h) h ≡ true
+in-only h inside = get_or-set_same _ h true false (omega (arith, inside, length-squares_of 0))
+
+colour-self : (c : Colour) → same_colour c c ≡ true
+colour-self White = refl
+colour-self Black = refl
+
+from-not : (b : Bool) → not b ≡ false → b ≡ true
+from-not true h = refl
+from-not false h = absurd (both_ways true h refl)
+
+not-not : (a b : Bool) → not (beq a b) ≡ false → b ≡ a
+not-not true true h = refl
+not-not true false h = absurd (both_ways true h refl)
+not-not false true h = absurd (both_ways true h refl)
+not-not false false h = refl
+
+module _ (q : Asked) (l : Ledger) (set : List Bool) (is : IsLedger q set l) (g : List Move) (leads : LeadsTo q.odds g q) where
+  out : (x : Supposition) → IsFlatlyRefuted x q set → IsRuledOut x q
+  out x it = (set, flat_prices it.0, it.1)
+
+  -- whoever stands on a square didn't begin on a home that is ruled out
+  not-ruled-out : (s h : ℕ) (test : ℕ → Bool) → s < 64 → AreRuledOut q l s test → label_at (labels_after q.odds g) s ≡ Some h → test h ≡ false
+  not-ruled-out s h test inside (here, all) label = elim (cases_Bool (test h)) [
+    | inl passes ↦
+        let m = man-on (at q.board s) here in
+        let on : at (board_after q.odds g) s ≡ Some m.0 = ap (λ (b : Places). at b s) leads.board ∙ m.1 in
+        let home = labels-colours q.odds g leads.game s h m.0 label on in
+        let low : h < 64 = array-inside q.odds (is_of m.0.colour) h refl home in
+        let asked : is_asked (Home s) q.board (array_of q.odds) h ≡ true = ap (λ (p : Option Man). shares_side p (at (array_of q.odds) h)) m.1 ∙ home in
+        let found = ((is.homes s inside h low).0 (all h low asked passes)).1 in
+        absurd (refuted (BeganAt s (only h)) q set (flat_prices found.0) found.1 g leads (h, label, in-only h low))
+    | inr fails ↦ fails
+  ]
+
+  least-holds : (c : Colour) (squares : Squares) (n m : ℕ) → IsLeast c squares q set m → n ≤ m → n ≤ captures q.odds g c squares
+  least-holds c squares zero m least low = omega arith
+  least-holds c squares (suc n) m least low =
+      let more = more-than q c squares n (out (Most c squares n) (least.refuted n (omega arith))) g leads in
+      omega arith
+
+  most-holds : (c : Colour) (squares : Squares) (n m : ℕ) → IsMost c squares q set m → m ≤ n → n < 16 → captures q.odds g c squares ≤ n
+  most-holds c squares n m most low few =
+      let less = less-than q c squares (n + 1) (out (Least c squares (n + 1)) (most.refuted (n + 1) (omega arith) (omega arith))) g leads in
+      omega arith
+
+  in-counts : (c : Colour) → AreCounts c q set (counts_of l c)
+  in-counts White = is.white
+  in-counts Black = is.black
+
+  least-known : (c : Colour) (squares : Squares) → is_class squares ≡ true → IsLeast c squares q set (least_of (counts_of l c) squares)
+  least-known c All k = (in-counts c).all.least
+  least-known c Dark k = (in-counts c).dark.least
+  least-known c Light k = (in-counts c).light.least
+  least-known c (Class n) k = (in-counts c).least_on n (ltb-true n 16 k)
+
+  most-known : (c : Colour) (squares : Squares) (n : ℕ) → is_most (counts_of l c) squares n ≡ true → captures q.odds g c squares ≤ n
+  most-known c All n k = let both = and_parts _ (nat_lt n 16) k in most-holds c All n _ (in-counts c).all.most (leb-true _ n both.0) (ltb-true n 16 both.1)
+  most-known c Dark n k = let both = and_parts _ (nat_lt n 16) k in most-holds c Dark n _ (in-counts c).dark.most (leb-true _ n both.0) (ltb-true n 16 both.1)
+  most-known c Light n k = let both = and_parts _ (nat_lt n 16) k in most-holds c Light n _ (in-counts c).light.most (leb-true _ n both.0) (ltb-true n 16 both.1)
+  most-known c (Class j) n k = absurd (both_ways false refl k)
+
+  module _ (h : ℕ) (inside : h < 64) where
+    up : is_in l.fates.stands_promoted h ≡ true → IsRuledOut (Stands h true) q
+    up it = out (Stands h true) ((is.fates.stands_promoted h inside).0 it).1
+
+    down : is_in l.fates.stands h ≡ true → IsRuledOut (Stands h false) q
+    down it = out (Stands h false) ((is.fates.stands h inside).0 it).1
+
+    taken : is_in l.fates.taken h ≡ true → IsRuledOut (Gone h false false) q
+    taken it = out (Gone h false false) ((is.fates.taken h inside).0 it).1
+
+    struck : is_in l.fates.struck h ≡ true → IsRuledOut (Gone h false true) q
+    struck it = out (Gone h false true) ((is.fates.struck h inside).0 it).1
+
+    taken-later : is_in l.fates.taken_promoted h ≡ true → IsRuledOut (Gone h true false) q
+    taken-later it = out (Gone h true false) ((is.fates.taken_promoted h inside).0 it).1
+
+    struck-later : is_in l.fates.struck_promoted h ≡ true → IsRuledOut (Gone h true true) q
+    struck-later it = out (Gone h true true) ((is.fates.struck_promoted h inside).0 it).1
+
+    -- a man of a side began there
+    owner : is_man (at (array_of q.odds) h) ≡ true → (c : Colour) × (is_of c (at (array_of q.odds) h) ≡ true)
+    owner here = let m = man-on (at (array_of q.odds) h) here in (m.0.colour, ap (is_of m.0.colour) m.1 ∙ colour-self m.0.colour)
+
+  pub holds : (x : Fact) → IsOnBoard x → IsKnown x q l → Says x q.odds g
+  holds (Began s homes) on known = λ h label. from-not (is_in homes h) (not-ruled-out s h (λ k. not (is_in homes k)) on known label)
+  holds (Original s) on known = λ h label. not-not false (is_a Pawn (at (array_of q.odds) h)) (not-ruled-out s h (λ k. not (beq false (is_a Pawn (at (array_of q.odds) k)))) on known label)
+  holds (Promoted s) on known = λ h label. not-not true (is_a Pawn (at (array_of q.odds) h)) (not-ruled-out s h (λ k. not (beq true (is_a Pawn (at (array_of q.odds) k)))) on known label)
+  holds (Captured s) on known = let it = (is.captured s on).0 known in has-captured q s (out (Went s true) it.1) it.0 g leads
+  holds (Straight s) on known = let it = (is.straight s on).0 known in kept-file q s (out (Went s false) it.1) it.0 g leads
+  holds (Fell h) on known =
+      let b = and_parts _ (is_in l.fates.stands_promoted h) known in
+      let a = and_parts (is_man (at (array_of q.odds) h)) (is_in l.fates.stands h) b.0 in
+      let c = owner h on a.0 in
+      gone-so q c.0 h c.1 g leads (up h on b.1) (down h on a.1)
+  holds (FellToPawn h) on known = λ c home.
+      let e = and_parts _ (is_in l.fates.taken_promoted h) known in
+      let d = and_parts (is_fallen (array_of q.odds) l.fates h) (is_in l.fates.taken h) e.0 in
+      let b = and_parts _ (is_in l.fates.stands_promoted h) d.0 in
+      let a = and_parts (is_man (at (array_of q.odds) h)) (is_in l.fates.stands h) b.0 in
+      struck-so q c h home g leads (up h on b.1) (down h on a.1) (taken-later h on e.1) (taken h on d.1)
+  holds (EscapedPawns h) on known = λ c home.
+      let b = and_parts _ (is_in l.fates.struck_promoted h) known in
+      let a = and_parts (is_man (at (array_of q.odds) h)) (is_in l.fates.struck h) b.0 in
+      unstruck-so q c h home g leads (struck-later h on b.1) (struck h on a.1)
+  holds (Became h) on known = λ c home.
+      let e = and_parts _ (is_in l.fates.struck h) known in
+      let b = and_parts _ (is_in l.fates.taken h) e.0 in
+      let a = and_parts (is_man (at (array_of q.odds) h)) (is_in l.fates.stands h) b.0 in
+      was-promoted q c h home g leads (down h on a.1) (struck h on e.1) (taken h on b.1)
+  holds (NeverBecame h) on known = λ c home.
+      let e = and_parts _ (is_in l.fates.struck_promoted h) known in
+      let b = and_parts _ (is_in l.fates.taken_promoted h) e.0 in
+      let a = and_parts (is_man (at (array_of q.odds) h)) (is_in l.fates.stands_promoted h) b.0 in
+      never-promoted q c h home g leads (up h on a.1) (struck-later h on e.1) (taken-later h on b.1)
+  holds (AtLeast c squares n) on known = least-holds c squares n (least_of (counts_of l c) squares) (least-known c squares on) (leb-true n _ known)
+  holds (AtMost c squares n) on known = most-known c squares n known
+
+pub known-holds : (x : Fact) (q : Asked) (l : Ledger) → IsOnBoard x → IsLedgerOf q l → IsKnown x q l → (g : List Move) → LeadsTo q.odds g q → Says x q.odds g
+known-holds x q l on is known g leads = holds q l is.set is.ledger g leads x on known
+
+pub known-reached : (x : Fact) (q : Asked) (l : Ledger) → IsOnBoard x → IsLedgerOf q l → IsKnown x q l → (g : List Move) → Reaches g q → Says x q.odds g
+known-reached x q l on is known g reaches = known-holds x q l on is known g (reaches-leads g q reaches)

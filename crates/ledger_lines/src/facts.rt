@@ -1,0 +1,31 @@
+use board_base::{Colour, Square, SquareSet};
+use ledger_facts::Squares;
+
+/// What may be known of every game that leads to a position.
+#[derive(Clone, Copy, PartialEq, Eq, Debug)]
+pub enum Fact {
+    /// The man on this square began on one of these.
+    Began(Square, SquareSet),
+    /// The man on this square began as no pawn.
+    Original(Square),
+    /// The man on this square, who is no pawn, began as a pawn.
+    Promoted(Square),
+    /// The pawn on this square has captured.
+    Captured(Square),
+    /// The pawn on this square has never left his file.
+    Straight(Square),
+    /// The man who began on this square was taken.
+    Fell(Square),
+    /// A pawn took him.
+    FellToPawn(Square),
+    /// No pawn took him.
+    EscapedPawns(Square),
+    /// He was a pawn and was promoted.
+    Became(Square),
+    /// He never was promoted.
+    NeverBecame(Square),
+    /// This side's pawns made at least so many captures on these squares.
+    AtLeast(Colour, Squares, u8),
+    /// They made at most so many there.
+    AtMost(Colour, Squares, u8),
+}

@@ -1,0 +1,180 @@
+ghost use Rattle.std.specs.Prelude.{◌≡◌, ◌<◌, ◌↔◌, ℕ, IsTrue, cond, not, slice_set, true};
+ghost use Rattle.std.specs.Bool.{beq};
+ghost use Rattle.board_base.specs.Board.{array_of, at, is_a, is_in};
+ghost use Rattle.board_base.specs.declared.men.Kind.TheVariants.{Pawn};
+ghost use Rattle.ledger_search.specs.Questions.{is_asked, is_man};
+ghost use Rattle.ledger_search.specs.declared.questions.Question.TheVariants.{Home};
+ghost use Rattle.ledger_lines.specs.Known.{AreRuledOut, IsKnown, IsOnBoard, counts_of, is_class, is_fallen, is_most, is_promoted, is_struck, is_unpromoted, is_unstruck, least_of};
+
+use crate::facts::Fact;
+use board_base::{Board, Colour, Kind, Man, Square, SquareSet, array_of, is_a, is_of};
+use ledger_facts::Squares;
+use ledger_search::{Counts, Fates, Ledger};
+use query_base::Query;
+
+/// Whether the place has a man.
+fn is_man(place: Option<Man>) -> bool
+    ensures { result ≡ is_man place }
+{
+    match place {
+        Some(_) => true,
+        None => false,
+    }
+}
+
+/// Whether the home is one of the side of the man on a square.
+fn is_asked(board: &Board, first: &Board, s: Square, h: Square) -> bool
+    ensures { result ≡ is_asked (Home s) board.now first.now h }
+{
+    match board.at(s) {
+        Some(man) => is_of(man.colour, first.at(h)),
+        None => false,
+    }
+}
+
+/// The set, with this square if `more` says so.
+fn with_if(set: SquareSet, s: Square, more: bool) -> SquareSet
+    ensures { result ≡ cond more (slice_set set s true) set }
+{
+    if more { set.with(s) } else { set }
+}
+
+/// The squares on which pawns begin, or all others.
+fn first_squares(first: &Board, pawns: bool) -> SquareSet
+    ensures { (h : ℕ) → h < 64 → IsTrue (is_in result h) ↔ (is_a Pawn (at first.now h) ≡ pawns) }
+{
+    let mut squares = SquareSet::from_bits(0);
+    for i in 0..64 {
+        let h = Square::known(i);
+        let more = is_a(Kind::Pawn, first.at(h)) == pawns;
+        squares = with_if(squares, h, more);
+    }
+    squares
+}
+
+/// Whether a man stands on the square, and each home of his side that isn't among these is ruled out for him.
+fn has_begun_among(query: &Query, ledger: &Ledger, s: Square, homes: SquareSet) -> bool
+    ensures { IsTrue result ↔ AreRuledOut query.now ledger.now s (λ h. not (is_in homes h)) }
+{
+    let first = array_of(query.odds);
+    let ruled_out = ledger.homes[s.index() as usize];
+    for i in 0..64 {
+        let h = Square::known(i);
+        if is_asked(&query.board, &first, s, h) && !homes.has(h) && !ruled_out.has(h) {
+            return false;
+        }
+    }
+    is_man(query.board.at(s))
+}
+
+/// Whether he began as a pawn, or as none.
+fn has_begun_as(query: &Query, ledger: &Ledger, s: Square, pawn: bool) -> bool
+    ensures { IsTrue result ↔ AreRuledOut query.now ledger.now s (λ h. not (beq pawn (is_a Pawn (at (array_of query.now.odds) h)))) }
+{
+    let homes = first_squares(&array_of(query.odds), pawn);
+    has_begun_among(query, ledger, s, homes)
+}
+
+/// Whether the man who began on the square doesn't stand.
+fn is_fallen(first: &Board, fates: &Fates, h: Square) -> bool
+    ensures { result ≡ is_fallen first.now fates.now h }
+{
+    is_man(first.at(h)) && fates.stands.has(h) && fates.stands_promoted.has(h)
+}
+
+/// Whether a pawn took him.
+fn is_struck(first: &Board, fates: &Fates, h: Square) -> bool
+    ensures { result ≡ is_struck first.now fates.now h }
+{
+    is_fallen(first, fates, h) && fates.taken.has(h) && fates.taken_promoted.has(h)
+}
+
+/// Whether no pawn did.
+fn is_unstruck(first: &Board, fates: &Fates, h: Square) -> bool
+    ensures { result ≡ is_unstruck first.now fates.now h }
+{
+    is_man(first.at(h)) && fates.struck.has(h) && fates.struck_promoted.has(h)
+}
+
+/// Whether he was promoted.
+fn is_promoted(first: &Board, fates: &Fates, h: Square) -> bool
+    ensures { result ≡ is_promoted first.now fates.now h }
+{
+    is_man(first.at(h)) && fates.stands.has(h) && fates.taken.has(h) && fates.struck.has(h)
+}
+
+/// Whether he never was.
+fn is_unpromoted(first: &Board, fates: &Fates, h: Square) -> bool
+    ensures { result ≡ is_unpromoted first.now fates.now h }
+{
+    is_man(first.at(h))
+        && fates.stands_promoted.has(h)
+        && fates.taken_promoted.has(h)
+        && fates.struck_promoted.has(h)
+}
+
+/// The numbers of captures of a side.
+fn counts_of(ledger: &Ledger, side: Colour) -> Counts
+    ensures { result ≡ counts_of ledger.now side }
+{
+    match side {
+        Colour::White => ledger.white,
+        Colour::Black => ledger.black,
+    }
+}
+
+/// How many captures a side's pawns made at least on some squares; nothing is known of classes that there aren't.
+fn least_of(counts: &Counts, squares: Squares) -> u8
+    ensures { IsTrue (is_class squares) → result ≡ least_of counts.now squares }
+{
+    match squares {
+        Squares::All => counts.all.least,
+        Squares::Dark => counts.dark.least,
+        Squares::Light => counts.light.least,
+        Squares::Class(k) => {
+            if k < 16 {
+                counts.least_on[k as usize]
+            } else {
+                0
+            }
+        }
+    }
+}
+
+/// Whether they made at most so many there, fewer than 16.
+fn is_most(counts: &Counts, squares: Squares, number: u8) -> bool
+    ensures { result ≡ is_most counts.now squares number }
+{
+    match squares {
+        Squares::All => counts.all.most <= number && number < 16,
+        Squares::Dark => counts.dark.most <= number && number < 16,
+        Squares::Light => counts.light.most <= number && number < 16,
+        Squares::Class(_) => false,
+    }
+}
+
+/// Whether the ledger of the query knows the fact.
+pub fn is_known(query: &Query, ledger: &Ledger, fact: &Fact) -> bool
+    requires { IsOnBoard fact.now }
+    ensures { IsTrue result ↔ IsKnown fact.now query.now ledger.now }
+{
+    let first = array_of(query.odds);
+    match *fact {
+        Fact::Began(s, homes) => has_begun_among(query, ledger, s, homes),
+        Fact::Original(s) => has_begun_as(query, ledger, s, false),
+        Fact::Promoted(s) => has_begun_as(query, ledger, s, true),
+        Fact::Captured(s) => ledger.captured.has(s),
+        Fact::Straight(s) => ledger.straight.has(s),
+        Fact::Fell(h) => is_fallen(&first, &ledger.fates, h),
+        Fact::FellToPawn(h) => is_struck(&first, &ledger.fates, h),
+        Fact::EscapedPawns(h) => is_unstruck(&first, &ledger.fates, h),
+        Fact::Became(h) => is_promoted(&first, &ledger.fates, h),
+        Fact::NeverBecame(h) => is_unpromoted(&first, &ledger.fates, h),
+        Fact::AtLeast(side, squares, number) => {
+            number <= least_of(&counts_of(ledger, side), squares)
+        }
+        Fact::AtMost(side, squares, number) => {
+            is_most(&counts_of(ledger, side), squares, number)
+        }
+    }
+}
