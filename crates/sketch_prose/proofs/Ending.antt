@@ -1,13 +1,13 @@
 -- The ends of nodes, as they are told.
-use Rattle.std.proofs.Common.{◌≡◌, ℕ, false, true, Bool, List, [], ◌∷◌, ◌++◌, append-nil, arith, length, map, refl, ap, sym, ◌∙◌, subst}
-use Rattle.std.specs.Prelude.{Option, Some, None, codes}
-use Rattle.std.specs.List.{Contains}
+use Rattle.std.proofs.Common.{◌≡◌, ℕ, false, true, Bool, List, [], ◌∷◌, ◌++◌, append-nil, arith, length, map, refl, ap, sym, ◌∙◌, subst, inl, inr}
+use Rattle.std.specs.Prelude.{Option, Some, None, codes, ◌&&◌, cond, not}
+use Rattle.std.specs.List.{Contains, list_all}
 use Rattle.general_lemmas.proofs.Lists.{contains-first, contains-later}
-use Rattle.std.proofs.lemmas.Bool.{both_ways}
+use Rattle.std.proofs.lemmas.Bool.{both_ways, cases_Bool}
 use Rattle.board_base.specs.Rights.{Rights}
 use Rattle.board_base.specs.declared.men.Kind.TheVariants as kind
-use Rattle.figures.specs.Figures.{Sketch, fixed_squares}
-use Rattle.figures.specs.Homes.{may_be_array}
+use Rattle.figures.specs.Figures.{Figure, Sketch, fixed_squares}
+use Rattle.figures.specs.Homes.{may_be_array, has_homes}
 use Rattle.sketch_checker.proofs.Below.{cases-able, first-one, steps-able}
 use Rattle.sketch_checker.specs.DueNodes.{cases_from, due_of}
 use Rattle.sketch_checker.specs.Steering.{AreAble}
@@ -22,7 +22,8 @@ use Rattle.figures.specs.Known.{known_at}
 use Rattle.sketch_prose.proofs.Adding.{text-one}
 use Rattle.sketch_prose.specs.Ending.{SplitTold, StepsTold, VoidTold, level_of}
 use Rattle.sketch_prose.specs.Levels.{AreFit, EndsTold, IsFit, Level}
-use Rattle.sketch_prose.specs.Sentences.{Sentence, foreign, settled, stepped, unbalanced, unknown}
+use Rattle.sketch_prose.specs.Sentences.{Sentence, foreign, settled, stepped, unbalanced, unknown, IsTooFew}
+use Rattle.sketch_words.specs.Crowds.{either_of, first_crowded, first_lacking, lacks_homes, why_words}
 use Rattle.sketch_words.specs.Phrases.{Spot, settled_words, stepped_words, unknown_words}
 use Rattle.sketch_words.specs.Words.{set_words, without}
 use Rattle.sketch_text.specs.Trees.{Line, Node, Nodes, Reason, closed, count, end_of, lines_each, lines_of, more, none, split, steps, void}
@@ -99,15 +100,40 @@ each-count none g (e ∷ es) it = absurd it
 each-count (more n ns) g [] it = absurd it
 each-count (more n ns) g (e ∷ es) it = let many : count ns ≡ length es = each-count ns g es it.1 in omega (arith, many)
 
-steps-told : (ns : Nodes) (g : Setting) (D : Sketch) (at : Spot) (S : Sketch) (o p : List ℕ) (T : Sketch) → IsLeastAbove g.held g.exact S T → HoldEach ns g (earlier g.odds g.exact T) → IsFit g.odds S → (told : StepsTold g at S (count ns) (Some (level_of at (count ns) (map due_of (earlier g.odds g.exact T)))) o p) → told.wide ≡ T → EndsTold (steps ns) g D at S (Some (level_of at (count ns) (map due_of (earlier g.odds g.exact T)))) o p
+first-found : (o : List Bool) (T fs : Sketch) → list_all (has_homes o T) fs ≡ false → (f : Figure) × (first_lacking false o T fs ≡ Some f) × (lacks_homes false o T f ≡ true)
+first-found o T [] e = absurd (both_ways true e refl)
+first-found o T (f ∷ fs) e = elim (cases_Bool (has_homes o T f)) [
+  | inl yes_ ↦ let later = first-found o T fs (ap (λ (b : Bool). b && list_all (has_homes o T) fs) (sym yes_) ∙ e) in (later.0, ap (λ (b : Bool). cond (not b) (Some f) (first_lacking false o T fs)) yes_ ∙ later.1, later.2)
+  | inr no_ ↦ (f, ap (λ (b : Bool). cond (not b) (Some f) (first_lacking false o T fs)) no_, ap not no_)
+]
+
+found-lacks : (o : List Bool) (T fs : Sketch) (f : Figure) → first_lacking true o T fs ≡ Some f → lacks_homes true o T f ≡ true
+found-lacks o T [] f e = cc
+found-lacks o T (g ∷ fs) f e = elim (cases_Bool (lacks_homes true o T g)) [
+  | inl yes_ ↦ let same : g ≡ f = same-some g f (sym (ap (λ (b : Bool). cond b (Some g) (first_lacking true o T fs)) yes_) ∙ e) in ap (lacks_homes true o T) (sym same) ∙ yes_
+  | inr no_ ↦ found-lacks o T fs f (sym (ap (λ (b : Bool). cond b (Some g) (first_lacking true o T fs)) no_) ∙ e)
+]
+  where
+    same-some : (g f : Figure) → Some g ≡ Some f → g ≡ f
+    same-some g f e = cc
+
+either-lacks : (o : List Bool) (T : Sketch) (x : Option Figure) → first_lacking true o T T ≡ x → may_be_array o T ≡ false → (f : Figure) × (all_ : Bool) × (either_of x (first_lacking false o T T) ≡ Some f) × (lacks_homes all_ o T f ≡ true)
+unfolding may_be_array
+either-lacks o T None is e = let found = first-found o T T e in (found.0, false, found.1, found.2)
+either-lacks o T (Some f) is e = (f, true, refl, found-lacks o T T f is)
+
+too-few : (o : List Bool) (T : Sketch) → may_be_array o T ≡ false → IsTooFew o T
+too-few o T e = either-lacks o T (first_lacking true o T T) refl e
+
+steps-told : (ns : Nodes) (g : Setting) (D : Sketch) (at : Spot) (S : Sketch) (o p : List ℕ) (T : Sketch) → IsLeastAbove g.held g.exact S T → HoldEach ns g (earlier g.odds g.exact T) → IsFit g.odds S → (told : StepsTold g D at S (count ns) (Some (level_of at (count ns) (map due_of (earlier g.odds g.exact T)))) o p) → told.wide ≡ T → EndsTold (steps ns) g D at S (Some (level_of at (count ns) (map due_of (earlier g.odds g.exact T)))) o p
 steps-told ns g D at S o p T least each fit told same =
-    let ways : List Sentence = settled S T ∷ stepped T (count ns) ∷ [] in
+    let ways : List Sentence = settled S T ∷ stepped S T (count ns) ∷ [] in
     let no_array : may_be_array g.odds T ≡ false = ap (λ (U : Sketch). may_be_array g.odds U) (sym same) ∙ told.no_array in
     let first : List ℕ = settled_words g.exact (set_words (without (fixed_squares T) (greatest_frozen g.held S))) in
-    let second : List ℕ = stepped_words g.exact (count ns) in
+    let second : Sketch → List ℕ = λ U. stepped_words g.exact (why_words g.odds D S U (first_crowded g.odds U)) (count ns) in
     record {
       said = ways;
-      so = (least, ((no_array, each-count ns g (earlier g.odds g.exact T) each), tt));
+      so = (least, ((no_array, too-few g.odds T no_array, each-count ns g (earlier g.odds g.exact T) each), tt));
       opens = (
         ns,
         refl,
@@ -116,22 +142,22 @@ steps-told ns g D at S o p T least each fit told same =
         each-fit g.odds (earlier g.odds g.exact T) (steps-able g S T (earlier g.odds g.exact T) refl fit.able least) (earlier-whole g.odds g.exact T),
         λ ss tells. (T, ss, least, refl, tells),
       );
-      text = told.text ∙ ap (λ (U : Sketch). o ++ (settled_words g.exact (set_words (without (fixed_squares U) (greatest_frozen g.held S))) ++ second)) same ∙ ap (λ (l : List ℕ). o ++ (first ++ l)) (sym (append-nil second));
+      text = told.text ∙ ap (λ (U : Sketch). o ++ (settled_words g.exact (set_words (without (fixed_squares U) (greatest_frozen g.held S))) ++ second U)) same ∙ ap (λ (l : List ℕ). o ++ (first ++ l)) (sym (append-nil (second T)));
     }
 
-pub steps-ends : (r : Reason) (m : ℕ) (g : Setting) (D : Sketch) (at : Spot) (S : Sketch) (below : Option Level) (o p : List ℕ) → Steps m ≡ end_of r → Ends r g S → IsFit g.odds S → ((T : Sketch) → IsLeastAbove g.held g.exact S T → may_be_array g.odds T ≡ false → IsFit g.odds S → StepsTold g at S m below o p) → EndsTold r g D at S below o p
+pub steps-ends : (r : Reason) (m : ℕ) (g : Setting) (D : Sketch) (at : Spot) (S : Sketch) (below : Option Level) (o p : List ℕ) → Steps m ≡ end_of r → Ends r g S → IsFit g.odds S → ((T : Sketch) → IsLeastAbove g.held g.exact S T → may_be_array g.odds T ≡ false → IsFit g.odds S → StepsTold g D at S m below o p) → EndsTold r g D at S below o p
 steps-ends r m g D at S below o p e holds fit told =
     let is = steps-is r m e in
     subst (λ (z : Reason). Ends z g S → EndsTold z g D at S below o p) (sym is.1)
     (λ it.
-    let so : StepsTold g at S (count is.0) below o p = subst (λ (n : ℕ). StepsTold g at S n below o p) (sym is.2) (told it.0 it.1 it.2 fit) in
+    let so : StepsTold g D at S (count is.0) below o p = subst (λ (n : ℕ). StepsTold g D at S n below o p) (sym is.2) (told it.0 it.1 it.2 fit) in
     let same : so.wide ≡ it.0 = least-one g.held g.exact S so.wide it.0 fit.able.somewhere so.least it.1 in
     let level : below ≡ Some (level_of at (count is.0) (map due_of (earlier g.odds g.exact it.0))) = so.level ∙ ap (λ (U : Sketch). Some (level_of at (count is.0) (map due_of (earlier g.odds g.exact U)))) same in
     by-level is.0 it below so same level it.3) holds
   where
-    by-level : (ns : Nodes) (it : Ends (steps ns) g S) (b : Option Level) (so : StepsTold g at S (count ns) b o p) → so.wide ≡ it.0 → b ≡ Some (level_of at (count ns) (map due_of (earlier g.odds g.exact it.0))) → HoldEach ns g (earlier g.odds g.exact it.0) → EndsTold (steps ns) g D at S b o p
+    by-level : (ns : Nodes) (it : Ends (steps ns) g S) (b : Option Level) (so : StepsTold g D at S (count ns) b o p) → so.wide ≡ it.0 → b ≡ Some (level_of at (count ns) (map due_of (earlier g.odds g.exact it.0))) → HoldEach ns g (earlier g.odds g.exact it.0) → EndsTold (steps ns) g D at S b o p
     by-level ns it b so same level each =
-        let again : StepsTold g at S (count ns) (Some (level_of at (count ns) (map due_of (earlier g.odds g.exact it.0)))) o p = record { wide = so.wide; least = so.least; no_array = so.no_array; level = sym level ∙ so.level; text = so.text } in
+        let again : StepsTold g D at S (count ns) (Some (level_of at (count ns) (map due_of (earlier g.odds g.exact it.0)))) o p = record { wide = so.wide; least = so.least; no_array = so.no_array; level = sym level ∙ so.level; text = so.text } in
         subst (λ (c : Option Level). EndsTold (steps ns) g D at S c o p) (sym level) (steps-told ns g D at S o p it.0 it.1 each fit again same)
 
 -- CASES

@@ -108,8 +108,8 @@ mutual
       let same : U ≡ T = least-one g.held g.exact S U T has.somewhere least' least in
       let told : TellsEach ns g at None 1 (map due_of (earlier g.odds g.exact T)) rest' = subst (λ (V : Sketch). TellsEach ns g at None 1 (map due_of (earlier g.odds g.exact V)) rest') same each' in
       e
-      ∙ ap (λ (l : List Sentence). settled S T ∷ stepped T (count ns) ∷ l) (one-each ns g at None 1 (map due_of (earlier g.odds g.exact T)) rest rest' (steps-have g.odds g.exact T) each told)
-      ∙ ap (λ (V : Sketch). settled S V ∷ stepped V (count ns) ∷ rest') (sym same)
+      ∙ ap (λ (l : List Sentence). settled S T ∷ stepped S T (count ns) ∷ l) (one-each ns g at None 1 (map due_of (earlier g.odds g.exact T)) rest rest' (steps-have g.odds g.exact T) each told)
+      ∙ ap (λ (V : Sketch). settled S V ∷ stepped S V (count ns) ∷ rest') (sym same)
       ∙ sym e'
   one-end (split s knight rook queen) g at S ss ts has (i, a, b, c, first, e, ta, tb, tc) (j, a', b', c', first', e', ta', tb', tc') =
       let same : j ≡ i = first-one S s j i first' first in

@@ -1,7 +1,7 @@
 -- The sentences that tell why no game comes to a sketch: what each says, and its words.
-use Rattle.std.specs.Prelude.{ℕ, ◌≡◌, Bool, true, false, List, [], ◌∷◌, ◌++◌, codes, length, Option}
+use Rattle.std.specs.Prelude.{ℕ, ◌≡◌, Bool, true, false, List, [], ◌∷◌, ◌++◌, codes, length, Option, Some}
 use Rattle.board_base.specs.declared.moves.Move.{Move}
-use Rattle.figures.specs.Figures.{Sketch, fixed_squares}
+use Rattle.figures.specs.Figures.{Figure, Sketch, fixed_squares}
 use Rattle.figures.specs.Homes.{may_be_array}
 use Rattle.past_sketches.specs.Moments.{FitsGame}
 use Rattle.sketch_account.specs.Basis.{IsClosedAt}
@@ -13,6 +13,7 @@ use Rattle.sketch_proof.specs.Nodes.{IsFirstUnknown, IsLeastAbove}
 use Rattle.sketch_proof.specs.Proofs.{AreForced, AtLine, Setting}
 use Rattle.sketch_prose.specs.Foreigners.{IsForeignIn}
 use Rattle.sketch_text.specs.Marks.{Marks}
+use Rattle.sketch_words.specs.Crowds.{first_crowded, lacks_homes, why_words}
 use Rattle.sketch_words.specs.Phrases.{Spot, astray_words, foreign_words, fresh_words, heading_words, marked_words, settled_words, shut_words, stepped_words, unknown_words}
 use Rattle.sketch_words.specs.Words.{figures_words, set_words, without}
 use Rattle.sketch_words.specs.declared.spots.Last.{Last}
@@ -25,7 +26,7 @@ pub data Sentence : Type 0 where
   unmoved : List Bool → Sketch → Sentence
   marked : Marks → Sketch → Sentence
   settled : Sketch → Sketch → Sentence
-  stepped : Sketch → ℕ → Sentence
+  stepped : Sketch → Sketch → ℕ → Sentence
   unknown : ℕ → Sketch → Sentence
   unbalanced : ℕ → Sketch → Sentence
   foreign : ℕ → Sketch → Sentence
@@ -44,18 +45,21 @@ IsForeign g S s = IsForeignIn g.odds S (greatest_frozen g.held S) s
 abbrev pub Unbalances : Setting → ℕ → Sketch → Type 0
 Unbalances g k S = AtLine g k (λ p. IsClosedAt g.odds g.held S p)
 
+-- a figure of T has no home, or too few homes, and is the first one who is told
+abbrev pub IsTooFew : List Bool → Sketch → Type 0
+IsTooFew o T = (f : Figure) × (all : Bool) × (first_crowded o T ≡ Some f) × (lacks_homes all o T f ≡ true)
+
 -- What a sentence says. No game comes to what was before a step, or to a case. Each man on the greatest frozen set can't have come there
 -- while the others stood, or his home it is in a right that is held. The account forces each mark. T is the least closed sketch above S: who
--- has one square in it can't have moved since the last step. T can't be the array, so there was one,
--- and so many are listed. A man is one of whom it isn't known
--- whether he is a knight, a rook or a queen. The account is above 0. A man who never moved isn't the array's. And the same of what was
--- before a step, or of a case.
+-- has one square in it can't have moved since the last step. T can't be the array, since some men of it have too few homes, so there was a
+-- step; and so many are listed. A man is one of whom it isn't known whether he is a knight, a rook or a queen. The account is above 0. A man
+-- who never moved isn't the array's. And the same of what was before a step, or of a case.
 abbrev pub Says : Setting → Sentence → Type 0
 Says g (numbered at n d) = FitsNone g d.sketch
 Says g (unmoved known S) = IsFrozenIn g.held S (greatest_frozen g.held S)
 Says g (marked m S) = AreForced g S m
 Says g (settled S T) = IsLeastAbove g.held g.exact S T
-Says g (stepped T count) = (may_be_array g.odds T ≡ false) × (count ≡ length (earlier g.odds g.exact T))
+Says g (stepped S T count) = (may_be_array g.odds T ≡ false) × IsTooFew g.odds T × (count ≡ length (earlier g.odds g.exact T))
 Says g (unknown s S) = (i : ℕ) × IsFirstUnknown S s i
 Says g (unbalanced k S) = Unbalances g k S
 Says g (foreign s S) = IsForeign g S s
@@ -68,7 +72,7 @@ words_of g diagram (numbered at n d) = heading_words at n d.label
 words_of g diagram (unmoved known S) = fresh_words g.held (without (greatest_frozen g.held S) known)
 words_of g diagram (marked m S) = marked_words (figures_words false diagram S m.figures) (figures_words true diagram S m.figures)
 words_of g diagram (settled S T) = settled_words g.exact (set_words (without (fixed_squares T) (greatest_frozen g.held S)))
-words_of g diagram (stepped T count) = stepped_words g.exact count
+words_of g diagram (stepped S T count) = stepped_words g.exact (why_words g.odds diagram S T (first_crowded g.odds T)) count
 words_of g diagram (unknown s S) = unknown_words s
 words_of g diagram (unbalanced k S) = codes " But the captures by pawns don't balance."
 words_of g diagram (foreign s S) = foreign_words g.odds s

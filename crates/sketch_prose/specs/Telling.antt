@@ -124,7 +124,7 @@ abbrev mutual
   TellsBelow void g at S ss = (s : ℕ) × IsForeign g S s × (ss ≡ foreign s S ∷ [])
   TellsBelow (closed k) g at S ss = ss ≡ unbalanced k S ∷ []
   TellsBelow (steps ns) g at S ss =
-      (T : Sketch) × (rest : List Sentence) × IsLeastAbove g.held g.exact S T × (ss ≡ settled S T ∷ stepped T (count ns) ∷ rest) × TellsEach ns g at None 1 (map due_of (earlier g.odds g.exact T)) rest
+      (T : Sketch) × (rest : List Sentence) × IsLeastAbove g.held g.exact S T × (ss ≡ settled S T ∷ stepped S T (count ns) ∷ rest) × TellsEach ns g at None 1 (map due_of (earlier g.odds g.exact T)) rest
   TellsBelow (split s knight rook queen) g at S ss =
       (i : ℕ) × (a : List Sentence) × (b : List Sentence) × (c : List Sentence) × IsFirstUnknown S s i × (ss ≡ unknown s S ∷ (a ++ (b ++ c))) × TellsOne knight g at None (more rook (more queen none)) 1 (case_due Knight i S) a × TellsOne rook g at (Some (last_with None (own_line knight) (more rook (more queen none)))) (more queen none) (next_number (leaf_of (own_line knight)) 1) (case_due Rook i S) b × TellsOne queen g at (Some (last_with (Some (last_with None (own_line knight) (more rook (more queen none)))) (own_line rook) (more queen none))) none (next_number (leaf_of (own_line rook)) (next_number (leaf_of (own_line knight)) 1)) (case_due Queen i S) c
 

@@ -8,6 +8,7 @@ ghost use Rattle.sketch_proof.specs.Proofs.{Ends};
 ghost use Rattle.sketch_prose.specs.Bases.{setting_with};
 ghost use Rattle.sketch_prose.specs.Ending.{SplitTold, StepsTold, VoidTold};
 ghost use Rattle.sketch_prose.specs.Levels.{EndsTold, IsFit};
+ghost use Rattle.sketch_words.specs.Crowds.{first_crowded, why_words};
 ghost use Rattle.sketch_words.specs.Phrases.{settled_words, stepped_words};
 ghost use Rattle.sketch_words.specs.Words.{set_words, without};
 ghost use Rattle.sketch_grounds.specs.FrozenSets.{greatest_frozen};
@@ -26,7 +27,7 @@ use sketch_proof::{before_steps, first_unknown};
 use sketch_text::{End, Officer};
 use sketch_walk::StepsBack;
 use sketch_words::{
-    Spot, list_of, push_foreign, push_settled, push_stepped, push_unknown, without,
+    Spot, list_of, push_foreign, push_settled, push_stepped, push_unknown, why_list, without,
 };
 use std::alloc::{AllocError, Global};
 
@@ -44,7 +45,7 @@ fn push_void(base: &Base, sketch: &Sketch, out: &mut Vec<u8>) -> Result<(), Allo
     }
 }
 
-/// Who can't have moved since the last step, and that there was one.
+/// Who can't have moved since the last step, and why there was one.
 fn push_before(
     alloc: Global,
     base: &Base,
@@ -53,12 +54,13 @@ fn push_before(
     count: u16,
     out: &mut Vec<u8>,
 ) -> Result<(), AllocError>
-    ensures { IfOk result (λ _. out.new.items ≡ out.old.items ++ (settled_words base.now.exact (set_words (without (fixed_squares wide.now) (greatest_frozen base.now.held sketch.now))) ++ stepped_words base.now.exact count)) }
+    ensures { IfOk result (λ _. out.new.items ≡ out.old.items ++ (settled_words base.now.exact (set_words (without (fixed_squares wide.now) (greatest_frozen base.now.held sketch.now))) ++ stepped_words base.now.exact (why_words base.now.odds base.now.diagram sketch.now wide.now (first_crowded base.now.odds wide.now)) count)) }
 {
     let still = without(fixed_squares(wide), greatest_frozen(sketch, base.held));
     let list = list_of(alloc, still)?;
     push_settled(alloc, &base.exact, list.as_slice(), out)?;
-    push_stepped(alloc, &base.exact, count, out)?;
+    let why = why_list(alloc, base.odds, &base.diagram, sketch, wide)?;
+    push_stepped(alloc, &base.exact, why.as_slice(), count, out)?;
     Ok(())
 }
 
@@ -71,7 +73,7 @@ fn push_steps(
     count: u16,
     out: &mut Vec<u8>,
 ) -> Result<Option<Level>, AllocError>
-    ensures { IfOk result (λ below. (prices : List PriceList) (T : ASketch) → IsLeastAbove base.now.held base.now.exact sketch.now T → may_be_array base.now.odds T ≡ false → IsFit base.now.odds sketch.now → StepsTold (setting_with base.now prices) spot sketch.now count below out.old.items out.new.items) }
+    ensures { IfOk result (λ below. (prices : List PriceList) (T : ASketch) → IsLeastAbove base.now.held base.now.exact sketch.now T → may_be_array base.now.odds T ≡ false → IsFit base.now.odds sketch.now → StepsTold (setting_with base.now prices) base.now.diagram spot sketch.now count below out.old.items out.new.items) }
 {
     let Some(wide) = before_steps(sketch, base.held, &base.exact, base.odds) else {
         return Ok(None);

@@ -1,2 +1,4 @@
 pub mod Words
 pub mod Phrases
+pub mod Crowds
+pub mod Lodging

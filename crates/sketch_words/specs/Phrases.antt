@@ -76,10 +76,10 @@ deed_words exact = codes "capture by a pawn or promotion" ++ or_words (files_wor
 abbrev pub settled_words : List Bool → List ℕ → List ℕ
 settled_words exact list = cond (length list == 0) [] (codes " Since the last " ++ deed_words exact ++ codes " the" ++ men_words list ++ codes " can't have moved.")
 
--- that there was a last step
-abbrev pub stepped_words : List Bool → ℕ → List ℕ
-stepped_words exact count =
-    codes " Without a " ++ deed_words exact ++ codes " not all men can have come from home" ++ cond (count == 0) (codes ", but no such move can have been the last.") (codes ", so there was a last one.")
+-- why not all men can have come from home without a step, that there was a last one, and whether there are any
+abbrev pub stepped_words : List Bool → List ℕ → ℕ → List ℕ
+stepped_words exact why count =
+    codes " Without a " ++ deed_words exact ++ why ++ cond (count == 0) (codes ". But no such move can have been the last.") (codes ". So there was a last one.")
 
 -- of whom it isn't known what he was
 abbrev pub unknown_words : ℕ → List ℕ

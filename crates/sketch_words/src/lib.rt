@@ -3,12 +3,14 @@
 //! Articles are those of the FIDE Laws of Chess, in force from 1 January 2023.
 #![tactic(auto)]
 
+mod crowds;
 mod names;
 mod sentences;
 mod sets;
 mod spots;
 mod steps;
 
+pub use crowds::why_list;
 pub use names::figures_list;
 pub use sentences::{
     push_astray, push_foreign, push_fresh, push_heading, push_marked, push_settled, push_shut,

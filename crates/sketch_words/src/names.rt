@@ -44,7 +44,7 @@ fn push_now(alloc: Global, figure: Option<Figure>, out: &mut Vec<u8>) -> Result<
 }
 
 /// The figure with this number, counted from 0: his square, if he has one alone, and otherwise where he stands in the diagram.
-fn push_figure(
+pub(crate) fn push_figure(
     alloc: Global,
     diagram: &Sketch,
     i: usize,

@@ -238,22 +238,23 @@ pub fn push_settled(
     push_since(alloc, exact, list, out)
 }
 
-/// That there was a last step, and whether there are any.
+/// Why not all men can have come from home without a step, that there was a last one, and whether there are any.
 pub fn push_stepped(
     alloc: Global,
     exact: &[bool; 8],
+    why: &[u8],
     count: u16,
     out: &mut Vec<u8>,
 ) -> Result<(), AllocError>
-    ensures { IfOk result (λ _. out.new.items ≡ out.old.items ++ stepped_words exact.now count) }
+    ensures { IfOk result (λ _. out.new.items ≡ out.old.items ++ stepped_words exact.now why.now count) }
 {
     say(b" Without a ", out)?;
     push_deed(alloc, exact, out)?;
-    say(b" not all men can have come from home", out)?;
+    say(why, out)?;
     push_either(
         count == 0,
-        b", but no such move can have been the last.",
-        b", so there was a last one.",
+        b". But no such move can have been the last.",
+        b". So there was a last one.",
         out,
     )?;
     Ok(())
@@ -301,12 +302,7 @@ fn push_opening(spot: &Spot, follows: bool, out: &mut Vec<u8>) -> Result<(), All
 }
 
 /// That it wasn't this one.
-fn push_denied(
-    spot: &Spot,
-    follows: bool,
-    this: &Last,
-    out: &mut Vec<u8>,
-) -> Result<(), AllocError>
+fn push_denied(spot: &Spot, follows: bool, this: &Last, out: &mut Vec<u8>) -> Result<(), AllocError>
     ensures { IfOk result (λ _. out.new.items ≡ out.old.items ++ denied_words spot.now follows this.now) }
 {
     push_opening(spot, follows, out)?;

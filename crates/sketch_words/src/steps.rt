@@ -151,11 +151,7 @@ fn push_bare(label: &Label, out: &mut Vec<u8>) -> Result<(), AllocError>
 }
 
 /// What leads to a node, whoever fell, or with who fell.
-pub(crate) fn push_shown(
-    whole: bool,
-    label: &Label,
-    out: &mut Vec<u8>,
-) -> Result<(), AllocError>
+pub(crate) fn push_shown(whole: bool, label: &Label, out: &mut Vec<u8>) -> Result<(), AllocError>
     ensures { IfOk result (λ _. out.new.items ≡ out.old.items ++ shown_words whole label.now) }
 {
     if whole {

@@ -1,4 +1,4 @@
-use Rattle.std.proofs.Common.{◌++◌, ◌∷◌, [], ◌==◌, cond, length}
+use Rattle.std.proofs.Common.{[], cond}
 use Rattle.std.specs.Prelude.{codes}
 use Rattle.prose_words.proofs.Squares.{thence}
 use Rattle.sketch_words.specs.Phrases.{denied_words, follows_shut, is_named}

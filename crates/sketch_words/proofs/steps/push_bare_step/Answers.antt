@@ -1,5 +1,3 @@
-use Rattle.std.proofs.Common.{◌++◌, ◌∷◌, [], ◌==◌, cond, length}
-use Rattle.std.specs.Prelude.{codes}
 use Rattle.prose_words.proofs.Squares.{thence}
 use Rattle.sketch_words.specs.Words.{bare_way, squares_of}
 use Rattle.sketch_words.proofs.steps.push_bare_step.Goals as goal

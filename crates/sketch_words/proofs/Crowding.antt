@@ -1,0 +1,107 @@
+-- Figures for whom there are too few homes.
+use Rattle.std.proofs.Common.{◌≡◌, ℕ, zero, suc, ◌+◌, ◌<◌, ◌≤◌, ◌==◌, Bool, true, false, cond, ◌||◌, not, List, [], ◌∷◌, ◌++◌, drop, length, refl, ap, sym, ◌∙◌, arith}
+use Rattle.std.specs.Prelude.{None, Option, Some, count_by, nat_lt}
+use Rattle.std.proofs.lemmas.List.{drop_all}
+use Rattle.std.proofs.lemmas.List.Sums.{sum_by-cons}
+use Rattle.std.specs.List.{range_with_len}
+use Rattle.board_base.specs.Board.{Places, array_of, is_in}
+use Rattle.figures.proofs.Filling.{is_in-that}
+use Rattle.figures.specs.Figures.{Figure, Sketch, figure_at}
+use Rattle.figures.specs.Homes.{is_home, lives_within}
+use Rattle.figures.specs.Sets.{squares_that}
+use Rattle.sketch_sets.proofs.Sets.{all-same, inside-told}
+use Rattle.sketch_sets.specs.Homes.{has_like, home_count, homes_on}
+use Rattle.sketch_words.specs.Crowds.{came_words, first_lacking, is_lodger, lacks_homes, lodgers_words, why_words}
+use Rattle.sketch_words.specs.Lodging.{lacks_on, lives_on, lodges_on}
+use Rattle.sketch_words.specs.Words.{set_words}
+
+-- HOMES
+
+homes-are : (o : List Bool) (f : Figure) → homes_on (array_of o) f ≡ squares_that (is_home o f)
+unfolding homes_on has_like
+homes-are o f = refl
+
+lives-told : (o : List Bool) (f g : Figure) → lives_on (array_of o) (homes_on (array_of o) f) g ≡ lives_within o f g
+unfolding homes_on has_like
+lives-told o f g =
+    inside-told (squares_that (is_home o g)) (is_home o f)
+    ∙ all-same (λ q. not (is_in (squares_that (is_home o g)) q) || is_home o f q) (λ q. not (is_home o g q) || is_home o f q) 0 64 (λ q low. ap (λ (b : Bool). not b || is_home o f q) (is_in-that (is_home o g) q (omega arith)))
+
+pub lodges-told : (o : List Bool) (f : Figure) (first : Places) (homes : List Bool) (g : Option Figure) → first ≡ array_of o → homes ≡ homes_on first f → lodges_on first homes g ≡ is_lodger o f g
+lodges-told o f first homes None same is = refl
+lodges-told o f first homes (Some g) same is =
+    ap (λ (l : List Bool). lives_on first l g) is ∙ ap (λ (b : Places). lives_on b (homes_on b f) g) same ∙ lives-told o f g
+
+-- COUNTS
+
+count-same : (p r : ℕ → Bool) (k n : ℕ) → ((q : ℕ) → q < k + n → p q ≡ r q) → count_by p (range_with_len k n) ≡ count_by r (range_with_len k n)
+count-same p r k zero same = refl
+count-same p r k (suc n) same =
+    sum_by-cons (λ x. cond (p x) 1 0) k (range_with_len (k + 1) n)
+    ∙ ap (λ (b : Bool). cond b 1 0 + count_by p (range_with_len (k + 1) n)) (same k (omega arith))
+    ∙ ap (λ (m : ℕ). cond (r k) 1 0 + m) (count-same p r (k + 1) n (λ q low. same q (omega arith)))
+    ∙ sym (sum_by-cons (λ x. cond (r x) 1 0) k (range_with_len (k + 1) n))
+
+count-each : (p r : Figure → Bool) (l : List Figure) → ((x : Figure) → p x ≡ r x) → count_by p l ≡ count_by r l
+count-each p r [] same = refl
+count-each p r (x ∷ l) same =
+    sum_by-cons (λ y. cond (p y) 1 0) x l
+    ∙ ap (λ (b : Bool). cond b 1 0 + count_by p l) (same x)
+    ∙ ap (λ (m : ℕ). cond (r x) 1 0 + m) (count-each p r l same)
+    ∙ sym (sum_by-cons (λ y. cond (r y) 1 0) x l)
+
+lodgers-told : (o : List Bool) (T : Sketch) (f : Figure) → count_by (lives_on (array_of o) (homes_on (array_of o) f)) T ≡ count_by (lives_within o f) T
+lodgers-told o T f = count-each (lives_on (array_of o) (homes_on (array_of o) f)) (lives_within o f) T (lives-told o f)
+
+beds-told : (o : List Bool) (f : Figure) → home_count (homes_on (array_of o) f) ≡ count_by (is_home o f) (range_with_len 0 64)
+unfolding home_count homes_on has_like
+beds-told o f = count-same (is_in (squares_that (is_home o f))) (is_home o f) 0 64 (λ q low. is_in-that (is_home o f) q (omega arith))
+
+not-not : (b : Bool) → b ≡ not (not b)
+not-not true = refl
+not-not false = refl
+
+pub lacks-told : (all_ : Bool) (o : List Bool) (T : Sketch) (f : Figure) → lacks_on all_ (array_of o) T f ≡ lacks_homes all_ o T f
+lacks-told true o T f = ap (λ (n : ℕ). n == 0) (beds-told o f)
+lacks-told false o T f =
+    ap (λ (n : ℕ). nat_lt n (count_by (lives_on (array_of o) (homes_on (array_of o) f)) T)) (beds-told o f)
+    ∙ ap (λ (n : ℕ). nat_lt (count_by (is_home o f) (range_with_len 0 64)) n) (lodgers-told o T f)
+    ∙ not-not (nat_lt (count_by (is_home o f) (range_with_len 0 64)) (count_by (lives_within o f) T))
+
+-- ONE AFTER ANOTHER
+
+drop-at : (S : Sketch) (i : ℕ) (f : Figure) → figure_at S i ≡ Some f → drop i S ≡ f ∷ drop (i + 1) S
+drop-at [] i f e = cc
+drop-at (g ∷ S) zero f e = let same : g ≡ f = cc in ap (λ (x : Figure). x ∷ S) same
+drop-at (g ∷ S) (suc i) f e = let later : suc i + 1 ≡ suc (i + 1) = omega arith in drop-at S i f e ∙ ap (λ (n : ℕ). f ∷ drop n (g ∷ S)) (sym later)
+
+pub none-past : (S : Sketch) (i : ℕ) → figure_at S i ≡ None → length S ≤ i
+none-past [] i e = omega arith
+none-past (f ∷ S) zero e = cc
+none-past (f ∷ S) (suc i) e = let past : length S ≤ i = none-past S i e in omega (arith, past)
+
+crowd-at : (all_ : Bool) (o : List Bool) (T : Sketch) (i : ℕ) (f : Figure) (first : Places) (b : Bool) → first ≡ array_of o → figure_at T i ≡ Some f → lacks_on all_ first T f ≡ b → first_lacking all_ o T (drop i T) ≡ cond b (Some f) (first_lacking all_ o T (drop (i + 1) T))
+crowd-at all_ o T i f first b same found is =
+    ap (first_lacking all_ o T) (drop-at T i f found)
+    ∙ ap (λ (h : Bool). cond h (Some f) (first_lacking all_ o T (drop (i + 1) T))) (sym (lacks-told all_ o T f) ∙ ap (λ (p : Places). lacks_on all_ p T f) (sym same) ∙ is)
+
+pub crowd-on : (all_ : Bool) (o : List Bool) (T : Sketch) (i : ℕ) (f : Figure) (first : Places) → first ≡ array_of o → figure_at T i ≡ Some f → lacks_on all_ first T f ≡ false → first_lacking all_ o T (drop i T) ≡ first_lacking all_ o T T → first_lacking all_ o T (drop (i + 1) T) ≡ first_lacking all_ o T T
+crowd-on all_ o T i f first same found is before = sym (crowd-at all_ o T i f first false same found is) ∙ before
+
+pub crowd-here : (all_ : Bool) (o : List Bool) (T : Sketch) (i : ℕ) (f : Figure) (first : Places) → first ≡ array_of o → figure_at T i ≡ Some f → lacks_on all_ first T f ≡ true → first_lacking all_ o T (drop i T) ≡ first_lacking all_ o T T → Some f ≡ first_lacking all_ o T T
+crowd-here all_ o T i f first same found is before = sym (crowd-at all_ o T i f first true same found is) ∙ before
+
+pub crowd-end : (all_ : Bool) (o : List Bool) (T : Sketch) (i : ℕ) → length T ≤ i → first_lacking all_ o T (drop i T) ≡ first_lacking all_ o T T → None ≡ first_lacking all_ o T T
+crowd-end all_ o T i past before = sym (ap (first_lacking all_ o T) (drop_all i T past)) ∙ before
+
+-- IN WORDS
+
+pub crowd-words : (o : List Bool) (D S T : Sketch) (f : Figure) (first : Places) (homes : List Bool) (wanted : ℕ) (names home_list squares : List ℕ) (old new : List ℕ) → first ≡ array_of o → homes ≡ homes_on first f → wanted ≡ count_by (lives_on first homes) T → names ≡ lodgers_words o D S T f → home_list ≡ set_words homes → squares ≡ set_words f.squares → new ≡ old ++ came_words (wanted == 1) names home_list squares → new ≡ old ++ why_words o D S T (Some f)
+crowd-words o D S T f first homes wanted names home_list squares old new same is many named listed seen text =
+    let own : homes ≡ homes_on (array_of o) f = is ∙ ap (λ (p : Places). homes_on p f) same in
+    let count : wanted ≡ count_by (lives_within o f) T = many ∙ ap (λ (p : Places). count_by (lives_on p homes) T) same ∙ ap (λ (l : List Bool). count_by (lives_on (array_of o) l) T) own ∙ lodgers-told o T f in
+    text
+    ∙ ap (λ (n : ℕ). old ++ came_words (n == 1) names home_list squares) count
+    ∙ ap (λ (l : List ℕ). old ++ came_words (count_by (lives_within o f) T == 1) l home_list squares) named
+    ∙ ap (λ (l : List ℕ). old ++ came_words (count_by (lives_within o f) T == 1) (lodgers_words o D S T f) l squares) (listed ∙ ap set_words (own ∙ homes-are o f))
+    ∙ ap (λ (l : List ℕ). old ++ came_words (count_by (lives_within o f) T == 1) (lodgers_words o D S T f) (set_words (squares_that (is_home o f))) l) seen

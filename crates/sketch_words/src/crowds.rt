@@ -1,0 +1,288 @@
+//! Why not all men can have come from home, in words.
+
+ghost use Rattle.std.specs.Prelude.{◌≡◌, ◌++◌, IfOk, [], cond, count_by, Some};
+ghost use Rattle.sketch_sets.specs.Homes.{has_like, home_count, homes_on};
+ghost use Rattle.sketch_sets.specs.Tests.{is_inside};
+ghost use Rattle.sketch_words.specs.Crowds.{came_words, first_crowded, first_lacking, homeless_words, lodgers_words, named, one_words, why_words};
+ghost use Rattle.sketch_words.specs.Lodging.{lacks_on, lives_on, lodges_on};
+
+use crate::names::push_figure;
+use crate::sets::list_of;
+use board_base::{Board, Odds, Square, SquareSet, array_of, is_the};
+use figures::{Figure, Sketch, both, outside};
+use prose_words::say;
+use sketch_sets::those_that;
+use std::alloc::{AllocError, Global};
+
+/// Whether the board has a man of the figure's colour and of one of his kinds on `h`.
+fn has_like(first: &Board, figure: &Figure, h: Square) -> bool
+    ensures { result ≡ has_like first.now figure.now h }
+{
+    let colour = figure.colour;
+    let place = first.at(h);
+    figure.kinds.any(|kind| is_the(colour, kind, place))
+}
+
+/// The squares of the figure's set on which the board has such a man.
+fn homes_on(first: &Board, figure: &Figure) -> SquareSet
+    ensures { result ≡ homes_on first.now figure.now }
+{
+    those_that(figure.squares, |h| has_like(first, figure, h))
+}
+
+/// Whether each square of the first set is in the second.
+fn is_within(a: SquareSet, b: SquareSet) -> bool
+    ensures { result ≡ is_inside a b }
+{
+    both(a, outside(b)).bits() == 0
+}
+
+/// How many squares the set has.
+fn count(set: SquareSet) -> usize
+    ensures { result ≡ home_count set }
+{
+    let mut n = 0usize;
+    for i in 0..64 {
+        if set.has(Square::known(i)) {
+            n += 1;
+        }
+    }
+    n
+}
+
+/// Whether all homes of the figure are among these.
+fn lives_on(first: &Board, homes: SquareSet, figure: &Figure) -> bool
+    ensures { result ≡ lives_on first.now homes figure.now }
+{
+    is_within(homes_on(first, figure), homes)
+}
+
+/// The same of a figure, if there is one.
+fn lodges_on(first: &Board, homes: SquareSet, figure: Option<Figure>) -> bool
+    ensures { result ≡ lodges_on first.now homes figure }
+{
+    match figure {
+        None => false,
+        Some(man) => lives_on(first, homes, &man),
+    }
+}
+
+/// How many figures have all their homes among these.
+fn lodgers(first: &Board, homes: SquareSet, sketch: &Sketch) -> usize
+    ensures { result ≡ count_by (lives_on first.now homes) sketch.now }
+{
+    sketch
+        .figures()
+        .iter()
+        .filter(|figure| lives_on(first, homes, *figure))
+        .count()
+}
+
+/// Whether the figure has no home if `all` says so, and otherwise whether more figures have all their homes among his than there are.
+fn lacks_homes(all: bool, first: &Board, sketch: &Sketch, figure: &Figure) -> bool
+    ensures { result ≡ lacks_on all first.now sketch.now figure.now }
+{
+    let homes = homes_on(first, figure);
+    let beds = count(homes);
+    let wanted = lodgers(first, homes, sketch);
+    if all { beds == 0 } else { beds < wanted }
+}
+
+/// The first figure for whom it is so.
+fn first_lacking(all: bool, odds: Odds, sketch: &Sketch) -> Option<Figure>
+    ensures { result ≡ first_lacking all odds sketch.now sketch.now }
+{
+    let first = array_of(odds);
+    for i in 0..sketch.len() {
+        let Some(figure) = sketch.get(i) else {
+            return None;
+        };
+        if lacks_homes(all, &first, sketch, &figure) {
+            return Some(figure);
+        }
+    }
+    None
+}
+
+/// The first figure without a home; if there is none, the first with too few.
+fn first_crowded(odds: Odds, sketch: &Sketch) -> Option<Figure>
+    ensures { result ≡ first_crowded odds sketch.now }
+{
+    match first_lacking(true, odds, sketch) {
+        Some(figure) => Some(figure),
+        None => first_lacking(false, odds, sketch),
+    }
+}
+
+/// The name of a figure with this number, counted from 0, if there is one and he is wanted.
+fn push_named_if(
+    alloc: Global,
+    wanted: bool,
+    diagram: &Sketch,
+    i: usize,
+    figure: Option<Figure>,
+    out: &mut Vec<u8>,
+) -> Result<(), AllocError>
+    ensures { IfOk result (λ _. out.new.items ≡ out.old.items ++ cond wanted (named diagram.now i figure) []) }
+{
+    match figure {
+        None => Ok(()),
+        Some(man) => {
+            if wanted {
+                push_figure(alloc, diagram, i, &man, out)
+            } else {
+                Ok(())
+            }
+        }
+    }
+}
+
+/// The names in the sketch of those figures of the wider one whose homes all lie within those of the figure.
+fn lodgers_list(
+    alloc: Global,
+    odds: Odds,
+    diagram: &Sketch,
+    sketch: &Sketch,
+    wide: &Sketch,
+    figure: &Figure,
+) -> Result<Vec<u8>, AllocError>
+    ensures { IfOk result (λ v. v.items ≡ lodgers_words odds diagram.now sketch.now wide.now figure.now) }
+{
+    let first = array_of(odds);
+    let homes = homes_on(&first, figure);
+    let mut list = Vec::new(alloc);
+    for i in 0..wide.len() {
+        let wanted = lodges_on(&first, homes, wide.get(i));
+        push_named_if(alloc, wanted, diagram, i, sketch.get(i), &mut list)?;
+    }
+    Ok(list)
+}
+
+fn push_one(names: &[u8], squares: &[u8], out: &mut Vec<u8>) -> Result<(), AllocError>
+    ensures { IfOk result (λ _. out.new.items ≡ out.old.items ++ one_words names.now squares.now) }
+{
+    if squares.len() > 24 {
+        return push_two(b" this man can't have come from home:", names, out);
+    }
+    push_four(
+        b" this man can only have been on",
+        squares,
+        b", where no such man began:",
+        names,
+        out,
+    )
+}
+
+fn push_two(a: &[u8], b: &[u8], out: &mut Vec<u8>) -> Result<(), AllocError>
+    ensures { IfOk result (λ _. out.new.items ≡ out.old.items ++ (a.now ++ b.now)) }
+{
+    say(a, out)?;
+    say(b, out)?;
+    Ok(())
+}
+
+fn push_four(a: &[u8], b: &[u8], c: &[u8], d: &[u8], out: &mut Vec<u8>) -> Result<(), AllocError>
+    ensures { IfOk result (λ _. out.new.items ≡ out.old.items ++ (a.now ++ b.now ++ c.now ++ d.now)) }
+{
+    push_two(a, b, out)?;
+    say(c, out)?;
+    say(d, out)?;
+    Ok(())
+}
+
+/// Men without a home; one man, and where he can have been, if that is on at most eight squares.
+fn push_homeless(
+    one: bool,
+    names: &[u8],
+    squares: &[u8],
+    out: &mut Vec<u8>,
+) -> Result<(), AllocError>
+    ensures { IfOk result (λ _. out.new.items ≡ out.old.items ++ homeless_words one names.now squares.now) }
+{
+    if one {
+        return push_one(names, squares, out);
+    }
+    push_two(b" these men can't have come from home:", names, out)
+}
+
+/// Men for whom there are only these homes, if there are any.
+fn push_came(
+    one: bool,
+    names: &[u8],
+    homes: &[u8],
+    squares: &[u8],
+    out: &mut Vec<u8>,
+) -> Result<(), AllocError>
+    ensures { IfOk result (λ _. out.new.items ≡ out.old.items ++ came_words one names.now homes.now squares.now) }
+{
+    if homes.len() == 0 {
+        return push_homeless(one, names, squares, out);
+    }
+    push_four(
+        b" these men can only have come from",
+        homes,
+        b":",
+        names,
+        out,
+    )
+}
+
+/// Which men can't have come from home, if they can have been where the wider sketch says. The figure is one for whom there are too few
+/// homes.
+fn push_crowd(
+    alloc: Global,
+    odds: Odds,
+    diagram: &Sketch,
+    sketch: &Sketch,
+    wide: &Sketch,
+    figure: &Figure,
+    out: &mut Vec<u8>,
+) -> Result<(), AllocError>
+    ensures { IfOk result (λ _. out.new.items ≡ out.old.items ++ why_words odds diagram.now sketch.now wide.now (Some figure.now)) }
+{
+    let first = array_of(odds);
+    let homes = homes_on(&first, figure);
+    let wanted = lodgers(&first, homes, wide);
+    let names = lodgers_list(alloc, odds, diagram, sketch, wide, figure)?;
+    let home_list = list_of(alloc, homes)?;
+    let squares = list_of(alloc, figure.squares)?;
+    push_came(
+        wanted == 1,
+        names.as_slice(),
+        home_list.as_slice(),
+        squares.as_slice(),
+        out,
+    )?;
+    Ok(())
+}
+
+fn push_why(
+    alloc: Global,
+    odds: Odds,
+    diagram: &Sketch,
+    sketch: &Sketch,
+    wide: &Sketch,
+    out: &mut Vec<u8>,
+) -> Result<(), AllocError>
+    ensures { IfOk result (λ _. out.new.items ≡ out.old.items ++ why_words odds diagram.now sketch.now wide.now (first_crowded odds wide.now)) }
+{
+    match first_crowded(odds, wide) {
+        None => say(b" not all men can have come from home", out),
+        Some(figure) => push_crowd(alloc, odds, diagram, sketch, wide, &figure, out),
+    }
+}
+
+/// Why not all men of the sketch can have come from home, if they can have been where the wider one says.
+pub fn why_list(
+    alloc: Global,
+    odds: Odds,
+    diagram: &Sketch,
+    sketch: &Sketch,
+    wide: &Sketch,
+) -> Result<Vec<u8>, AllocError>
+    ensures { IfOk result (λ v. v.items ≡ why_words odds diagram.now sketch.now wide.now (first_crowded odds wide.now)) }
+{
+    let mut list = Vec::new(alloc);
+    push_why(alloc, odds, diagram, sketch, wide, &mut list)?;
+    Ok(list)
+}
