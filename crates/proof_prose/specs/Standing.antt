@@ -1,6 +1,6 @@
 -- Inner: no public clause cites this file.
 -- What the nodes of a certificate that proves its claim say is so.
-use Rattle.std.specs.Prelude.{◌≡◌, List, length}
+use Rattle.std.specs.Prelude.{◌≡◌, length}
 use Rattle.query_base.specs.Asked.{Asked}
 use Rattle.query_base.specs.Targets.{Covers}
 use Rattle.cert_checker.specs.Reasons.{ReasonSupports}
