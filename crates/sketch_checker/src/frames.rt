@@ -14,6 +14,7 @@ use std::marker::Model;
 #[derive(Drop)]
 pub(crate) struct Frame {
     pub(crate) line: u32,
+    // As wide as a line's number: with no gap between them an idle frame is all zeros, and is made in its place.
     pub(crate) announced: u32,
     pub(crate) left: Left,
 }
