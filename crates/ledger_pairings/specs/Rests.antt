@@ -13,11 +13,7 @@ pub record IsRest (table : List (List ℕ)) (i j rest : ℕ) : Type 0 where
   pub has : slice_index columns i ≡ j
   pub reached : assignment_cost table columns ≡ rest + cost_at table i j
 
--- so for each column of row i
-abbrev pub AreRestsOfRow : List (List ℕ) → ℕ → List ℕ → Type 0
-AreRestsOfRow table i rests = (j : ℕ) → j < 16 → IsRest table i j (slice_index rests j)
-
--- so for each row
+-- so for each row and column
 abbrev pub AreRests : List (List ℕ) → List (List ℕ) → Type 0
 AreRests table rests = (i j : ℕ) → i < 16 → j < 16 → IsRest table i j (cost_at rests i j)
 

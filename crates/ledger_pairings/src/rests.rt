@@ -1,8 +1,8 @@
 ghost use Rattle.std.specs.Prelude.{◌≡◌, ◌+◌, ◌<◌, ◌≤◌, ℕ, IfSome, IsTrue, List, length, slice_index, sum};
 ghost use Rattle.assignment.specs.Tables.{IsTable};
 ghost use Rattle.assignment.specs.Assignments.{IsInjection, assignment_cost};
-ghost use Rattle.ledger_pairings.specs.Rests.{AreRests, AreRestsOfRow, IsRest};
-ghost use Rattle.ledger_pairings.specs.Fair.{AreFair};
+ghost use Rattle.ledger_pairings.specs.Rests.{AreRests, IsRest};
+ghost use Rattle.ledger_pairings.specs.Fair.{AreFair, AreRestsOfRow};
 
 use crate::exchanges::{Pairs, exchanges_from, handed_on, index, pairs_of};
 use assignment::solve_large;

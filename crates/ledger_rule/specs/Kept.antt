@@ -46,19 +46,6 @@ pub record IsSide (o : List Bool) (board : Places) (p : PriceList) (set : List B
   pub cost : s.cost ≡ side_cost_if nothing o board p set c
   pub table : IfSome s.table (IsTableOf (cost_table_if nothing p set c (array_of o) board))
 
--- so at some odds and prices, beside some set
-pub record IsReckoned (board : Places) (s : Side) : Type 0 where
-  pub odds : List Bool
-  pub prices : PriceList
-  pub set : List Bool
-  pub side : Colour
-  pub is : IsSide odds board prices set side s
-
--- what is kept of a side
-abbrev pub side_in : Account → Colour → Side
-side_in a White = a.white
-side_in a Black = a.black
-
 -- The set is frozen and as in the array at the query's odds, no side has more men than it began with, and all that is kept is true.
 pub record IsAccount (q : Asked) (a : Account) : Type 0 where
   pub settled : IsSettled q.odds q a.set

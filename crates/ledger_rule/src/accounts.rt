@@ -5,7 +5,8 @@ ghost use Rattle.ledger_facts.specs.Accounts.{side_cost_if};
 ghost use Rattle.ledger_facts.specs.Refuted.{IsRefuted};
 ghost use Rattle.ledger_facts.specs.declared.suppositions.Supposition.{Supposition as ASupposition};
 ghost use Rattle.ledger_rule.specs.Counting.{is_count};
-ghost use Rattle.ledger_rule.specs.Kept.{IsAccount, IsAccountOf, IsReckoned, IsSide};
+ghost use Rattle.ledger_rule.specs.Kept.{IsAccount, IsAccountOf, IsSide};
+ghost use Rattle.ledger_rule.specs.Touched.{IsReckoned};
 
 use crate::changing::{by_home, by_homes, by_man};
 use crate::refuting::{is_settled, refutes};

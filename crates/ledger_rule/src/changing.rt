@@ -8,8 +8,8 @@ ghost use Rattle.balance_rule.specs.Costs.{never};
 ghost use Rattle.ledger_facts.specs.Accounts.{cost_table_if, side_cost_if};
 ghost use Rattle.ledger_facts.specs.declared.suppositions.Supposition.{Supposition as ASupposition};
 ghost use Rattle.ledger_facts.specs.declared.suppositions.Supposition.TheVariants.{Began};
-ghost use Rattle.ledger_rule.specs.Kept.{IsReckoned, IsSide, IsSound};
-ghost use Rattle.ledger_rule.specs.Touched.{AreSame, IsOfHome, IsOfMan};
+ghost use Rattle.ledger_rule.specs.Kept.{IsSide, IsSound};
+ghost use Rattle.ledger_rule.specs.Touched.{AreSame, IsOfHome, IsOfMan, IsReckoned};
 
 use crate::men::{place_among, place_of_home};
 use crate::sides::{Side, Table};

@@ -3,8 +3,8 @@ ghost use Rattle.capture_prices.specs.Prices.{are_prices};
 ghost use Rattle.ledger_facts.specs.Accounts.{raised, side_cost_if};
 ghost use Rattle.ledger_facts.specs.Refuted.{IsRefuted};
 ghost use Rattle.ledger_facts.specs.declared.suppositions.Supposition.TheVariants.{AtLeast, AtMost};
-ghost use Rattle.ledger_rule.specs.Kept.{IsAccount, nothing, side_in};
-ghost use Rattle.ledger_rule.specs.Touched.{dear_cost};
+ghost use Rattle.ledger_rule.specs.Kept.{IsAccount, nothing};
+ghost use Rattle.ledger_rule.specs.Touched.{dear_cost, side_in};
 
 use crate::accounts::Account;
 use crate::lists::raised;
