@@ -1,5 +1,5 @@
 -- How many figures a sketch has at most with which a walk can begin, and so that a board of such a sketch has one.
-use Rattle.std.proofs.Common.{◌≡◌, ◌≤◌, Bool, List, length, refl, arith}
+use Rattle.std.proofs.Common.{◌≤◌, Bool, List, length, refl, arith}
 use Rattle.std.specs.Prelude.{Option, None, Some, SomeIff, IsSome}
 use Rattle.board_base.specs.declared.men.Colour.TheVariants.{White, Black}
 use Rattle.past_sketches.specs.Figures.{Sketch}
