@@ -16,7 +16,8 @@ use Rattle.sketch_checker.specs.Proofs.{HoldEach, Proves, Setting}
 use Rattle.sketch_checker.specs.Placed.{of_line}
 use Rattle.sketch_checker.specs.declared.lines.SketchLine.{SketchLine}
 use Rattle.sketch_found.specs.Found.{IsProofOf, IsWithin, is_line}
-use Rattle.sketch_found.specs.Plain.{EndsPlainly, IsOneNode, IsPlainNode, IsStepless, no_files, node_line}
+use Rattle.sketch_found.specs.Ends.{EndsPlainly}
+use Rattle.sketch_found.specs.Plain.{IsOneNode, IsPlainNode, IsStepless, no_files, node_line}
 use Rattle.sketch_found.specs.declared.found.FoundSketch.{FoundSketch}
 
 void-proves : (g : Setting) (S : Sketch) → IsVoid g.odds g.held S → Proves g S (map of_line (node_line Void ∷ []))

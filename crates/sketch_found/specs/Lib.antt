@@ -3,3 +3,4 @@ pub mod Plain
 pub use Rattle.sketch_checker.specs.Placed
 pub use Rattle.sketch_checker.specs.Proofs
 pub use Rattle.sketch_checker.specs.Roots
+pub mod Ends

@@ -1,5 +1,5 @@
 -- Sketches that one node refutes, without exact files, prices and marks.
-use Rattle.std.specs.Prelude.{zero, suc, ◌≡◌, ◌⊎◌, Bool, false, List, [], ◌∷◌}
+use Rattle.std.specs.Prelude.{◌≡◌, ◌⊎◌, Bool, false, List, [], ◌∷◌}
 use Rattle.board_base.specs.Rights.{Rights}
 use Rattle.past_sketches.specs.Figures.{Sketch}
 use Rattle.sketch_node.specs.Homes.{may_be_array}
@@ -7,7 +7,7 @@ use Rattle.sketch_node.specs.Listed.{earlier}
 use Rattle.sketch_node.specs.Nodes.{IsLeastAbove, IsVoid}
 use Rattle.sketch_text.specs.declared.labels.Label.TheVariants.{Now}
 use Rattle.sketch_text.specs.declared.nodes.End.{End}
-use Rattle.sketch_text.specs.declared.nodes.End.TheVariants.{Void, Closed, Steps, Split}
+use Rattle.sketch_text.specs.declared.nodes.End.TheVariants.{Void, Steps}
 use Rattle.sketch_checker.specs.declared.lines.SketchLine.{SketchLine}
 use Rattle.sketch_checker.specs.declared.lines.SketchLine.TheVariants.{Node}
 use Rattle.sketch_found.specs.declared.found.FoundSketch.{FoundSketch}
@@ -26,14 +26,6 @@ pub record IsStepless (o : List Bool) (held : Rights) (S : Sketch) : Type 0 wher
 -- a man who never moved isn't of the array, or so
 abbrev pub IsPlain : List Bool → Rights → Sketch → Type 0
 IsPlain o held S = IsVoid o held S ⊎ IsStepless o held S
-
--- this end, without marks, says which of these it is
-abbrev pub EndsPlainly : End → List Bool → Rights → Sketch → Type 0
-EndsPlainly Void o held S = IsVoid o held S
-EndsPlainly (Closed k) o held S = ⊥
-EndsPlainly (Steps zero) o held S = IsStepless o held S
-EndsPlainly (Steps (suc m)) o held S = ⊥
-EndsPlainly (Split s) o held S = ⊥
 
 -- the line of the first node with this end, without marks
 abbrev pub node_line : End → SketchLine

@@ -4,7 +4,8 @@ ghost use Rattle.cage_rules.specs.Reach.{LeadsTo};
 ghost use Rattle.past_sketches.specs.Figures.{sketch_of};
 ghost use Rattle.sketch_checker.specs.Beginning.{CanBegin};
 ghost use Rattle.sketch_found.specs.Found.{IsProofOf, IsWithin};
-ghost use Rattle.sketch_found.specs.Plain.{EndsPlainly, IsOneNode, IsPlain, IsPlainNode};
+ghost use Rattle.sketch_found.specs.Ends.{EndsPlainly};
+ghost use Rattle.sketch_found.specs.Plain.{IsOneNode, IsPlain, IsPlainNode};
 
 use crate::found::{FoundSketch, if_proved};
 use board_base::Memory;
