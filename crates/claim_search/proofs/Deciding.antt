@@ -1,5 +1,6 @@
 -- What settles a claim, by how it was found.
 use Rattle.std.proofs.Common.{ℕ, ◌≡◌, ◌≤◌, ◌⊎◌, inl, inr, List, [], length, refl, subst, arith}
+use Rattle.std.specs.Prelude.{IfOk, Result, Ok, Err}
 use Rattle.board_base.specs.declared.moves.Move.{Move}
 use Rattle.query_base.specs.Asked.{Asked}
 use Rattle.query_base.specs.Reach.{Contradicts}
@@ -8,6 +9,8 @@ use Rattle.query_base.specs.declared.claims.Claim.{Claim}
 use Rattle.price_search.specs.FlatPrices.{FlatPricesSupport, flat_prices}
 use Rattle.balance_rule.proofs.Sound.{balance-unreached}
 use Rattle.retro_search.proofs.Contradicted.{contradiction-reaches}
+use Rattle.retro_search.proofs.Unsketched.{plain-unreached}
+use Rattle.retro_search.specs.Plain.{HasPlainSketch}
 use Rattle.retro_search.specs.Answers.{IfSpentAt, IfUndecided, IsAnswer, IsProved, IsUndecided}
 use Rattle.retro_search.specs.Lines.{EndsAtArray}
 use Rattle.retro_search.specs.Lone.{IsDear}
@@ -60,3 +63,12 @@ uncounterable depth nodes claim q (found.Undecided line) is undecided spent none
     undecided.elsewhere (subst (EndsAtArray (target q claim)) same can.counter.at_array)
 uncounterable depth nodes claim q (found.Countered game) is undecided spent none can = none game refl
 uncounterable depth nodes claim q (found.Spent n) is undecided spent none can = let dear = spent.cost can.cost can.is_cost in let cheap = can.cheap in omega arith
+
+-- a game contradicts no claim whose target one node of a sketch refutes
+pub unsketched : (game : List Move) (claim : Claim) (q : Asked) → Contradicts game claim q → HasPlainSketch (target q claim) → ⊥
+unsketched game claim q against has = plain-unreached (target q claim) has game (contradiction-reaches game claim q against)
+
+-- what follows from what isn't so is so of each answer
+pub if-never : {A E : Type 0} (r : Result A E) (H : Type 0) (P : A → Type 0) → (H → ⊥) → IfOk r (λ x. H → P x)
+if-never {A} {E} (Ok x) H P never = λ h. absurd (never h)
+if-never {A} {E} (Err e) H P never = tt

@@ -14,3 +14,4 @@ pub mod Telling
 mod Examples
 pub use Rattle.cert_checker.proofs.Contradicted
 pub use Rattle.cert_checker.proofs.Sound
+pub use Rattle.sketch_findings.proofs.Unsketched

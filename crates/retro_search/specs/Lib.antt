@@ -22,3 +22,4 @@ pub mod Attempts
 pub mod Told
 pub mod Good
 pub use Rattle.cert_checker.specs.Proving
+pub use Rattle.sketch_findings.specs.Plain

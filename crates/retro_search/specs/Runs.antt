@@ -1,6 +1,6 @@
 -- Inner: no public clause cites this file.
 -- Searches on their way.
-use Rattle.std.specs.Prelude.{◌≡◌, ◌≤◌}
+use Rattle.std.specs.Prelude.{◌≡◌, ◌≤◌, true}
 use Rattle.retro_search.specs.Kept.{IsSound, KeepsRuleLines}
 use Rattle.retro_search.specs.declared.runs.Reasons.TheVariants.{RuleLines}
 use Rattle.retro_search.specs.declared.runs.Run.{Run as ARun}
@@ -17,7 +17,12 @@ pub record GoesOn (old new : ARun) : Type 0 where
   pub fewer : new.left ≤ old.left
   pub reasons : new.reasons ≡ old.reasons
 
--- the run is the same but for what is on the desk
+-- sketches are sought: trees are kept, and a search for one may find nothing
+pub record IsSeeking (run : ARun) : Type 0 where
+  pub on : run.memo.on ≡ true
+  pub some : 1 ≤ run.quest.left
+
+-- the run is the same but for what is kept while prices and sketches are sought
 pub record IsSameButDesk (old new : ARun) : Type 0 where
   pub left : new.left ≡ old.left
   pub reasons : new.reasons ≡ old.reasons

@@ -1,7 +1,9 @@
 ghost use Rattle.std.specs.Prelude.{◌≡◌, IfErr, IfOk, IsTrue, None, map, reverse};
 ghost use Rattle.cert_text.specs.Writable.{stays_on_board, IsQuery};
-ghost use Rattle.retro_search.specs.Answers.{IsAnswer};
-ghost use Rattle.retro_search.specs.Runs.{IsReady};
+ghost use Rattle.query_base.specs.Targets.{target};
+ghost use Rattle.sketch_findings.specs.Plain.{HasPlainSketch};
+ghost use Rattle.retro_search.specs.Answers.{IsAnswer, IsProved};
+ghost use Rattle.retro_search.specs.Runs.{IsReady, IsSeeking};
 ghost use Rattle.retro_search.specs.Told.{IsTold, Tells, TellsOpenLine};
 ghost use Rattle.retro_search.specs.Unrefuted.{IfTooLarge};
 
@@ -9,7 +11,7 @@ use crate::answers::Found;
 use crate::attempts::refute;
 use crate::limits::Limits;
 use crate::refutations::Refutation;
-use crate::runs::Run;
+use crate::runs::{Reasons, Run};
 use crate::unrefuted::{OpenLine, Unrefuted};
 use board_base::{Memory, MoveList, Unmove, UnmoveList};
 use cert_text::Cert;
@@ -101,7 +103,9 @@ pub(crate) fn answer(
     requires ready { IsReady run.old }
     ensures answer { IfOk result (IsAnswer limits.depth limits.nodes claim.now query.now) }
     ensures told { IfOk result (IsTold limits.depth limits.nodes run.old claim.now query.now) }
+    ensures sketched { run.old.reasons ≡ Reasons.All → IsSeeking run.old → HasPlainSketch (target query.now claim.now) → IfOk result IsProved }
     ensures ready { IsReady run.new }
+    ensures on { run.new.memo.on ≡ run.old.memo.on }
     ensures reasons { run.new.reasons ≡ run.old.reasons }
 {
     are_known(query, claim);

@@ -1,6 +1,7 @@
-ghost use Rattle.std.specs.Prelude.{◌≡◌, ◌≤◌, IfErr, false};
+ghost use Rattle.std.specs.Prelude.{◌≡◌, ◌≤◌, ◌⊎◌, IfErr, false};
 ghost use Rattle.retro_search.specs.Attempts.{ComesTo, IsPaidSearch};
-ghost use Rattle.retro_search.specs.Runs.{IsReady};
+ghost use Rattle.sketch_findings.specs.Plain.{HasPlainSketch};
+ghost use Rattle.retro_search.specs.Runs.{IsReady, IsSeeking};
 ghost use Rattle.retro_search.specs.Tidy.{IsFresh};
 ghost use Rattle.retro_search.specs.Unrefuted.{IfTooLarge};
 
@@ -23,8 +24,10 @@ fn attempt(
     ensures plain { run.old.reasons ≡ Reasons.RuleLines → run.old.memo.on ≡ false → IfErr result (λ why. IfTooLarge why ⊥) }
     ensures few_nodes { run.old.memo.on ≡ false → limits.nodes ≤ 250000 → IfErr result (λ why. IfTooLarge why ⊥) }
     ensures comes { ComesTo result query.now limits.depth limits.nodes run.old.reasons }
+    ensures sketched { run.old.reasons ≡ Reasons.All → IsSeeking run.old → HasPlainSketch query.now → IfErr result (λ stop. (stop ≡ Unrefuted.Memory) ⊎ (limits.nodes ≡ 0)) }
     ensures lone { run.old.reasons ≡ Reasons.RuleLines → IsFresh run.old.memo → IsPaidSearch result query.now limits.depth limits.nodes }
     ensures ready { IsReady run.new }
+    ensures on { run.new.memo.on ≡ run.old.memo.on }
     ensures reasons { run.new.reasons ≡ run.old.reasons }
 {
     run.left = limits.nodes;
@@ -64,8 +67,10 @@ pub(crate) fn refute(
     requires { IsReady run.old }
     ensures comes { ComesTo result query.now limits.depth limits.nodes run.old.reasons }
     ensures small { IfErr result (λ why. IfTooLarge why ⊥) }
+    ensures sketched { run.old.reasons ≡ Reasons.All → IsSeeking run.old → HasPlainSketch query.now → IfErr result (λ stop. (stop ≡ Unrefuted.Memory) ⊎ (limits.nodes ≡ 0)) }
     ensures lone { run.old.reasons ≡ Reasons.RuleLines → IsFresh run.old.memo → IsPaidSearch result query.now limits.depth limits.nodes }
     ensures ready { IsReady run.new }
+    ensures on { run.new.memo.on ≡ run.old.memo.on }
     ensures reasons { run.new.reasons ≡ run.old.reasons }
 {
     match attempt(alloc, query, limits, run) {

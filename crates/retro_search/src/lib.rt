@@ -6,11 +6,12 @@
 mod answering;
 mod answers;
 mod attempts;
-mod balancing;
 mod copying;
 mod laws;
 mod limits;
 mod memos;
+mod quests;
+mod reasoning;
 mod refutations;
 mod runs;
 mod searchers;
@@ -27,4 +28,5 @@ pub use laws::{
 pub use limits::Limits;
 pub use runs::Reasons;
 pub use searchers::{Outcome, Searcher};
+pub use sketch_findings::{LARGE, SMALL, SketchLimits};
 pub use solving::solve;

@@ -3,6 +3,7 @@ ghost use Rattle.retro_search.specs.Runs.{IsReady};
 ghost use Rattle.retro_search.specs.Tidy.{IsFresh};
 
 use crate::memos::Memo;
+use crate::quests::SketchQuest;
 use price_search::PriceDesk;
 use std::alloc::Global;
 
@@ -11,7 +12,8 @@ use std::alloc::Global;
 pub enum Reasons {
     /// The eight rule lines alone.
     RuleLines,
-    /// The rule lines, and a set and prices that support the query by the balance of captures, where some are found.
+    /// The rule lines, and a set and prices that support the query by the balance of captures, where some are found; and a sketch, if sketches
+    /// are sought.
     All,
 }
 
@@ -26,6 +28,8 @@ pub struct Run {
     pub memo: Memo,
     /// What is kept while prices are sought.
     pub desk: PriceDesk,
+    /// What is kept while sketches are sought.
+    pub quest: SketchQuest,
 }
 
 impl Run {
@@ -40,6 +44,7 @@ impl Run {
             reasons,
             memo: Memo::new(alloc),
             desk: PriceDesk::new(alloc),
+            quest: SketchQuest::idle(alloc),
         }
     }
 
@@ -54,6 +59,7 @@ impl Run {
             reasons,
             memo: Memo::off(alloc),
             desk: PriceDesk::new(alloc),
+            quest: SketchQuest::idle(alloc),
         }
     }
 

@@ -1,6 +1,7 @@
 ghost use Rattle.std.specs.Prelude.{◌≡◌, ◌≤◌, ◌<◌, ◌↔◌, [], IfErr, IfOk, None};
 ghost use Rattle.query_base.specs.Targets.{target};
 ghost use Rattle.price_search.specs.FlatPrices.{FlatPricesSupport};
+ghost use Rattle.sketch_findings.specs.Plain.{HasPlainSketch};
 ghost use Rattle.cert_text.specs.SeenCert.{cert_of};
 ghost use Rattle.retro_search.specs.Answers.{IfCountered, IfProved, IfSpentAt, IfUndecided, IfUnspent, IsAnswer, IsProved, IsShort};
 ghost use Rattle.retro_search.specs.Attempts.{ComesTo};
@@ -19,6 +20,7 @@ use crate::runs::{Reasons, Run};
 use crate::unrefuted::Unrefuted;
 use board_base::Memory;
 use query_base::{Claim, Query};
+use sketch_findings::SketchLimits;
 use std::alloc::Global;
 use std::marker::Model;
 
@@ -45,7 +47,7 @@ pub struct Searcher {
 }
 
 impl Model for Searcher {
-    ghost use Rattle.std.specs.Prelude.{◌≡◌};
+    ghost use Rattle.std.specs.Prelude.{◌≡◌, true};
     ghost use Rattle.retro_search.specs.Runs.{IsReady};
     ghost use Rattle.retro_search.specs.declared.runs.Reasons.{Reasons as AReasons};
 
@@ -53,7 +55,7 @@ impl Model for Searcher {
 
     ghost view = { λ s. s.run.reasons };
 
-    ghost invariant = { λ s. IsReady s.run };
+    ghost invariant = { λ s. IsReady s.run × (s.run.memo.on ≡ true) };
 }
 
 impl Searcher {
@@ -145,5 +147,38 @@ impl Searcher {
     {
         let alloc = self.alloc;
         answer(alloc, query, claim, limits, &mut self.run)
+    }
+
+    /// The same by all reasons, and where neither rule lines nor prices refute a query, a sketch is sought within these limits, until so many
+    /// searches for one have found nothing. `Proved` comes also wherever one node of a sketch refutes the target, without exact files,
+    /// prices and marks.
+    pub fn settle_with_sketches(
+        &mut self,
+        query: &Query,
+        claim: &Claim,
+        limits: Limits,
+        sketches: SketchLimits,
+        failures: u32,
+    ) -> Result<Found, Memory>
+        requires unbarred { query.now.barred ≡ None }
+        requires all { self.old ≡ Reasons.All }
+        requires some_failures { 1 ≤ failures }
+        ensures answer { IfOk result (IsAnswer limits.depth limits.nodes claim.now query.now) }
+        ensures short { IfOk result (λ found. IfProved found (λ cert. IsShort (cert_of cert))) }
+        ensures undecided { IfOk result (λ found. IfUndecided found (λ line. StaysUnsettled line (target query.now claim.now) limits.depth)) }
+        ensures countered { IfOk result (λ found. IfCountered found (λ game. IsAgainst game claim.now query.now limits.depth)) }
+        ensures spent { IfOk result (λ found. IfSpentAt found (λ visited. WhereRefutable (target query.now claim.now) limits.depth (λ n. limits.nodes < n))) }
+        ensures large { IfOk result (λ found. IfSpentAt found (λ visited. IsLargeSearch (target query.now claim.now) limits.depth limits.nodes)) }
+        ensures never_weaker { IfOk result (λ found. WhereRefutable (target query.now claim.now) limits.depth (λ n. n ≤ limits.nodes → IsProved found)) }
+        ensures priced { 1 ≤ limits.nodes → FlatPricesSupport (target query.now claim.now) → IfOk result IsProved }
+        ensures unpriced { limits.nodes ≤ 250000 → IfOk result (λ found. IfUndecided found (IsUnpriced (target query.now claim.now))) }
+        ensures sketched { IfOk result (λ found. HasPlainSketch (target query.now claim.now) → IsProved found) }
+        ensures reasons { self.new ≡ self.old }
+    {
+        let alloc = self.alloc;
+        self.run.quest.begin(sketches, failures);
+        let found = answer(alloc, query, claim, limits, &mut self.run);
+        self.run.quest.left = 0;
+        found
     }
 }

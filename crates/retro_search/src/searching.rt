@@ -1,5 +1,6 @@
 ghost use Rattle.std.specs.Prelude.{ℕ, List, ◌≡◌, ◌+◌, ◌*◌, ◌<◌, ◌≤◌, ◌⊎◌, [], IfErr, IfOk, IsTrue, OnOk, false, length, reverse, suc};
 ghost use Rattle.price_search.specs.FlatPrices.{FlatPricesSupport};
+ghost use Rattle.sketch_findings.specs.Plain.{HasPlainSketch};
 ghost use Rattle.query_base.specs.Reach.{Reaches};
 ghost use Rattle.cert_text.specs.Seen.{tree_of};
 ghost use Rattle.retro_search.specs.Refutable.{IsRefutable, IsShut};
@@ -10,14 +11,14 @@ ghost use Rattle.retro_search.specs.Unrefuted.{IfOpen, IfSpent, IfTooLarge};
 ghost use Rattle.retro_search.specs.Unsettled.{IsUnpriced};
 ghost use Rattle.retro_search.specs.Kept.{IsRefutation, IsSound, KeepsRuleLines, StandsAlone};
 ghost use Rattle.retro_search.specs.RuleLines.{IsByRuleLines};
-ghost use Rattle.retro_search.specs.Runs.{GoesOn};
+ghost use Rattle.retro_search.specs.Runs.{GoesOn, IsSeeking};
 ghost use Rattle.retro_search.specs.Tidy.{HasRoomFor, Keeps};
 ghost use Rattle.retro_search.specs.Good.{GoesWell, GoesWellBelow, IsGood, IsGoodBelow, IsPaid};
 ghost use Rattle.query_base.specs.Asked.{Asked};
 
-use crate::balancing::by_balance;
 use crate::copying::copied;
 use crate::memos::Kept;
+use crate::reasoning::by_reason;
 use crate::refutations::{Children, MOST_NODES, Refutation};
 use crate::runs::{Reasons, Run};
 use crate::shutting::shut;
@@ -103,6 +104,7 @@ pub(crate) fn search(
     ensures twice { IfOk result (λ found. run.old.memo.on ≡ false → found.lines + 2 * run.new.left ≤ 2 * run.old.left) }
     ensures few_visits { IfErr result (λ stop. IfTooLarge stop (run.old.memo.on ≡ false → 250000 < run.old.left)) }
     ensures priced { run.old.reasons ≡ Reasons.All → FlatPricesSupport query.now → IfErr result (λ stop. (stop ≡ Unrefuted.Memory) ⊎ (run.old.left ≡ 0)) }
+    ensures sketched { run.old.reasons ≡ Reasons.All → IsSeeking run.old → HasPlainSketch query.now → IfErr result (λ stop. (stop ≡ Unrefuted.Memory) ⊎ (run.old.left ≡ 0)) }
     ensures unpriced { run.old.reasons ≡ Reasons.All → IfErr result (λ stop. IfOpen stop (λ line. IsUnpriced query.now (reverse line.back.items))) }
     ensures cost { OnOk result (IsRefutable query.now depth (reverse ancestors.old.items) → (n : ℕ) → IsCost query.now depth (reverse ancestors.old.items) n → run.old.left ≤ run.new.left + n) }
     ensures spent { IfErr result (λ stop. IfSpent stop (IsCounted run.old.reasons query.now depth (reverse ancestors.old.items) → (n : ℕ) → IsCost query.now depth (reverse ancestors.old.items) n → run.old.left < n)) }
@@ -134,7 +136,11 @@ pub(crate) fn search(
     if let Some(kept) = run.memo.find(query, depth) {
         return taken(alloc, kept);
     }
-    if let Some(found) = by_balance(query, run) {
+    let reason = match by_reason(alloc, query, run) {
+        Ok(reason) => reason,
+        Err(_) => return Err(Unrefuted::Memory),
+    };
+    if let Some(found) = reason {
         return kept_alone(alloc, query, found, run);
     }
     if depth == 0 {

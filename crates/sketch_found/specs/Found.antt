@@ -8,7 +8,7 @@ use Rattle.sketch_text.specs.declared.nodes.End.TheVariants.{Void, Closed, Steps
 use Rattle.sketch_text.specs.Marks.{is_mark}
 use Rattle.sketch_text.specs.Nodes.{is_node}
 use Rattle.sketch_text.specs.Trees.{Line, of_marks, of_node}
-use Rattle.sketch_proof.specs.Proofs.{Proves}
+use Rattle.sketch_checker.specs.Proofs.{Proves}
 use Rattle.sketch_checker.specs.Seen.{line_of}
 use Rattle.sketch_found.specs.declared.found.FoundSketch.{FoundSketch}
 

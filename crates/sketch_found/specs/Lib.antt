@@ -1,2 +1,5 @@
 pub mod Found
-pub mod VoidNodes
+pub mod Plain
+pub use Rattle.sketch_checker.specs.Proofs
+pub use Rattle.sketch_checker.specs.Roots
+pub mod Ends

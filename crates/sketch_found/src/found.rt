@@ -62,6 +62,7 @@ pub fn if_proved(query: &Query, most: usize, found: FoundSketch) -> Option<Found
     ensures proves { IfSome result (λ f. IsProofOf query.now f) }
     ensures games { IfSome result (λ f. (m : List Move) → LeadsTo query.now.odds m query.now → ⊥) }
     ensures within { IfSome result (λ f. IsWithin most f) }
+    ensures same { IfSome result (λ f. f ≡ found) }
     ensures all { CanBegin query.now.odds (sketch_of query.now.board) → IsProofOf query.now found → IsWithin most found → result ≡ Some found }
 {
     let proved = is_proof(query, &found);

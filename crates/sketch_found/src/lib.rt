@@ -5,10 +5,11 @@
 #![tactic(auto)]
 
 mod found;
+mod plain;
 mod ranges;
 mod roots;
-mod voids;
 
 pub use found::{FoundSketch, if_proved};
+pub use plain::plain_root;
 pub use roots::root_of;
-pub use voids::void_root;
+pub use sketch_checker::SketchLine;

@@ -1,11 +1,10 @@
-ghost use Rattle.std.specs.Prelude.{IfOk, IfSome, IsSome, List};
+ghost use Rattle.std.specs.Prelude.{IfOk, IfSome, IsSome, List, MatchOption};
 ghost use Rattle.board_base.specs.declared.moves.Move.{Move};
 ghost use Rattle.cage_rules.specs.Reach.{LeadsTo};
 ghost use Rattle.past_sketches.specs.Figures.{sketch_of};
-ghost use Rattle.sketch_node.specs.Nodes.{IsVoid};
-ghost use Rattle.sketch_checker.specs.Beginning.{CanBegin};
-ghost use Rattle.sketch_checker.specs.Roots.{IsRoot};
+ghost use Rattle.sketch_found.specs.Roots.{IsRoot};
 ghost use Rattle.sketch_found.specs.Found.{IsProofOf, IsWithin};
+ghost use Rattle.sketch_found.specs.Plain.{IsPlain, IsPlainNode};
 
 use crate::desks::SketchDesk;
 use crate::writing::written;
@@ -13,8 +12,7 @@ use board_base::{Kind, Memory, pawn_rank};
 use figures::Sketch;
 use home_ways::{file_set, squares_of};
 use query_base::Query;
-use sketch_found::{FoundSketch, if_proved, root_of, void_root};
-use sketch_node::is_void;
+use sketch_found::{FoundSketch, if_proved, plain_root, root_of};
 use sketch_text::Label;
 use sketch_trees::{Child, Limits, MOST_BELOW, Search, Setting};
 use std::alloc::Global;
@@ -106,11 +104,30 @@ fn found_on_files(
     Ok(None)
 }
 
+/// What the searches find, first without exact files.
+fn found_further(
+    alloc: Global,
+    query: &Query,
+    sketch: &Sketch,
+    limits: Limits,
+    desk: &mut SketchDesk,
+) -> Result<Option<FoundSketch>, Memory>
+    ensures proves { IfOk result (λ r. IfSome r (λ found. IsProofOf query.now found)) }
+    ensures games { IfOk result (λ r. IfSome r (λ found. (m : List Move) → LeadsTo query.now.odds m query.now → ⊥)) }
+    ensures within { IfOk result (λ r. IfSome r (λ found. IsWithin limits.steps found)) }
+{
+    let found = found_with(alloc, query, sketch, [false; 8], limits, desk)?;
+    if found.is_some() || !limits.files {
+        return Ok(found);
+    }
+    found_on_files(alloc, query, sketch, limits.for_file(), desk)
+}
+
 /// Looks for a sketch that shows that no game comes to the query: for prices that close its sketch, marks that they force, and trees over
 /// what was before its steps, as far as the limits allow. If no exact file is needed, none is given; otherwise one at a time is tried. The
 /// same query, limits and desk have the same answer. What is found proves that no game, of any length, leads to the query, and is within the
-/// limits; on each exact file less is spent. If the query's own sketch is void, that is found; if nothing is found otherwise, nothing is
-/// said of the query.
+/// limits; on each exact file less is spent. A proof of one node, without exact files, prices and marks, is always found; if nothing is found
+/// otherwise, nothing is said of the query.
 pub fn find_sketch(
     alloc: Global,
     query: &Query,
@@ -121,18 +138,14 @@ pub fn find_sketch(
     ensures games { IfOk result (λ r. IfSome r (λ found. (m : List Move) → LeadsTo query.now.odds m query.now → ⊥)) }
     ensures within { IfOk result (λ r. IfSome r (λ found. IsWithin limits.steps found)) }
     ensures root { IfOk result (λ r. IsSome r → IsRoot query.now.odds query.now.board) }
-    // A proof of one node without prices and marks is never missed, if a walk can begin with the query's sketch at all.
-    ensures void { IfOk result (λ r. IsRoot query.now.odds query.now.board → CanBegin query.now.odds (sketch_of query.now.board) → IsVoid query.now.odds query.now.held (sketch_of query.now.board) → IsSome r) }
+    // A proof of one node without exact files, prices and marks is never missed.
+    ensures plain { IfOk result (λ r. IsRoot query.now.odds query.now.board → IsPlain query.now.odds query.now.held (sketch_of query.now.board) → MatchOption r ⊥ IsPlainNode) }
 {
     let Some(sketch) = root_of(query) else {
         return Ok(None);
     };
-    if is_void(&sketch, query.held, query.odds) {
-        return void_root(alloc, query, limits.steps);
+    match plain_root(alloc, query, limits.steps)? {
+        Some(found) => Ok(Some(found)),
+        None => found_further(alloc, query, &sketch, limits, desk),
     }
-    let found = found_with(alloc, query, &sketch, [false; 8], limits, desk)?;
-    if found.is_some() || !limits.files {
-        return Ok(found);
-    }
-    found_on_files(alloc, query, &sketch, limits.for_file(), desk)
 }

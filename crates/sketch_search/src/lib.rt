@@ -10,3 +10,5 @@ mod writing;
 
 pub use desks::SketchDesk;
 pub use finding::find_sketch;
+pub use sketch_found::{FoundSketch, SketchLine};
+pub use sketch_trees::{LARGE, Limits, SMALL};

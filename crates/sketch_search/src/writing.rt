@@ -2,8 +2,7 @@ use arrayvec::ArrayVec;
 use board_base::Memory;
 use capture_prices::Prices;
 use figures::Sketch;
-use sketch_checker::SketchLine;
-use sketch_found::FoundSketch;
+use sketch_found::{FoundSketch, SketchLine};
 use sketch_prices::{Basis, Survey};
 use sketch_text::{End, Label, MarkLine, SketchNode};
 use sketch_trees::{

@@ -49,7 +49,7 @@ paid_at_none ps ancestors run f none =
 
 -- a run after a visit
 abbrev pub visited : Run → Run
-visited run = record { left = run.left - 1; reasons = run.reasons; memo = run.memo; desk = run.desk }
+visited run = record { left = run.left - 1; reasons = run.reasons; memo = run.memo; desk = run.desk; quest = run.quest }
 
 -- a tree of one node
 pub leaf_eager : (t : Tree) (q : Asked) (above : List Asked) → Proves t q above → height t ≡ 0 → (IsCovered q above → ⊥) → ((k : ℕ) → t ≡ back k → IsCovered q above) → IsEager t q

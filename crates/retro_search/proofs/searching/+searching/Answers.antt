@@ -30,6 +30,7 @@ use Rattle.retro_search.proofs.Bound.GoodSteps.{good_all, good_more, good_none, 
 use Rattle.retro_search.proofs.Bound.Goods.{good_at, if_ok_both, kept_well, paid_at, paid_at_none, shut_well, visited, well_at}
 use Rattle.retro_search.proofs.Lines.OpenLines.{if_open, leaf_open, stop_open}
 use Rattle.retro_search.proofs.Lines.OpenEnds.{leaf_unsettled}
+use Rattle.sketch_findings.proofs.Unsketched.{plain-unreached}
 use Rattle.retro_search.proofs.Pricing as pricing
 use Rattle.retro_search.proofs.Pricing.{further, leaf_unpriced, over_balance, stop_unpriced}
 use Rattle.retro_search.proofs.searching.+searching.Goals as goal
@@ -99,8 +100,8 @@ expand-returns-in-Err-search-clause-deep t c =
 pub expand-returns-in-Err-add-clause-deep : goal.expand-returns-in-Err-add-clause-deep
 expand-returns-in-Err-add-clause-deep t c = no_open c.in-Err-add.stop _ c.in-Err-add.ensures.closed
 
-pub search-returns-in-Err-clause-deep : goal.search-returns-in-Err-clause-deep
-search-returns-in-Err-clause-deep t c = if_open c.in-Err.stop _ _ (λ line short. omega (arith, short, (some_left c.is_spent.result _ c.is_spent.ensures c.if-is_spent.false), c.by_balance.ensures.same.left)) c.in-Err.ensures.deep
+pub search-returns-in-Err-expand-clause-deep : goal.search-returns-in-Err-expand-clause-deep
+search-returns-in-Err-expand-clause-deep t c = if_open c.in-Err-expand.stop _ _ (λ line short. omega (arith, short, (some_left c.is_spent.result _ c.is_spent.ensures c.if-is_spent.false), c.by_reason.ensures.same.left)) c.in-Err-expand.ensures.deep
 
 pub expand-returns-in-Err-add-clause-unrefuted : goal.expand-returns-in-Err-add-clause-unrefuted
 expand-returns-in-Err-add-clause-unrefuted t c by = no_open c.in-Err-add.stop _ c.in-Err-add.ensures.closed
@@ -132,35 +133,35 @@ pub search-returns-in-Some-find-clause-cost : goal.search-returns-in-Some-find-c
 search-returns-in-Some-find-clause-cost t c =
     ok_always c.taken.result _ (λ ref n h. omega (arith, cost_positive c.args.depth c.args.query.now (reverse c.args.ancestors.now.items) n h, (some_left c.is_spent.result _ c.is_spent.ensures c.if-is_spent.false)))
 
-pub search-returns-in-Some-by_balance-clause-cost : goal.search-returns-in-Some-by_balance-clause-cost
-search-returns-in-Some-by_balance-clause-cost t c =
-    ok_always c.kept_alone.result _ (λ ref n h. omega (arith, cost_positive c.args.depth c.args.query.now (reverse c.args.ancestors.now.items) n h, (some_left c.is_spent.result _ c.is_spent.ensures c.if-is_spent.false), c.by_balance.ensures.same.left, c.kept_alone.ensures.on.1))
+pub search-returns-in-Some-reason-clause-cost : goal.search-returns-in-Some-reason-clause-cost
+search-returns-in-Some-reason-clause-cost t c =
+    ok_always c.kept_alone.result _ (λ ref n h. omega (arith, cost_positive c.args.depth c.args.query.now (reverse c.args.ancestors.now.items) n h, (some_left c.is_spent.result _ c.is_spent.ensures c.if-is_spent.false), c.by_reason.ensures.same.left, c.kept_alone.ensures.on.1))
 
 pub search-returns-then-keep_alone-clause-cost : goal.search-returns-then-keep_alone-clause-cost
 search-returns-then-keep_alone-clause-cost t c ref n h =
     let q : Asked = c.args.query.now in
     let above : List Asked = reverse c.args.ancestors.now.items in
     let elsewhere : Reaches [] q → ⊥ = λ here. both_ways _ c.if-at_array.false (c.is_array-at_array.ensures.1 here) in
-    let left : c.by_balance.new.run.left ≡ c.args.run.now.left - 1 = c.by_balance.ensures.same.left in
-    let below : WhereEachRefutable q (c.args.depth - 1) above (λ m. c.args.run.now.left - 1 ≤ c.expand.new.run.left + m) = subst (λ (l : ℕ). WhereEachRefutable q (c.args.depth - 1) above (λ m. l ≤ c.expand.new.run.left + m)) left c.in-Ok.ensures.cost in
+    let left : c.by_reason.new.run.left ≡ c.args.run.now.left - 1 = c.by_reason.ensures.same.left in
+    let below : WhereEachRefutable q (c.args.depth - 1) above (λ m. c.args.run.now.left - 1 ≤ c.expand.new.run.left + m) = subst (λ (l : ℕ). WhereEachRefutable q (c.args.depth - 1) above (λ m. l ≤ c.expand.new.run.left + m)) left c.in-Ok-expand.ensures.cost in
     let own = own_ok c.args.depth q above c.args.run.now.left c.expand.new.run.left c.if-depth-eq0.false (some_left c.is_spent.result _ c.is_spent.ensures c.if-is_spent.false) (unshut-here _ _ _ c.deref.ensures.value c.in_default.ensures.shut) elsewhere below ref n h in
     let same : c.keep_alone.new.run.left ≡ c.expand.new.run.left = c.keep_alone.ensures.on.1 in
     omega (arith, own, same)
 
-pub search-returns-in-Err-clause-unrefuted : goal.search-returns-in-Err-clause-unrefuted
-search-returns-in-Err-clause-unrefuted t c by =
-    deeper_open c.args.depth c.args.query.now _ c.in-Err.stop c.if-depth-eq0.false (c.in-Err.ensures.unrefuted (c.by_balance.ensures.same.reasons ∙ by))
+pub search-returns-in-Err-expand-clause-unrefuted : goal.search-returns-in-Err-expand-clause-unrefuted
+search-returns-in-Err-expand-clause-unrefuted t c by =
+    deeper_open c.args.depth c.args.query.now _ c.in-Err-expand.stop c.if-depth-eq0.false (c.in-Err-expand.ensures.unrefuted (c.by_reason.ensures.same.reasons ∙ by))
 
-pub search-returns-in-Err-clause-unsettled : goal.search-returns-in-Err-clause-unsettled
-search-returns-in-Err-clause-unsettled t c =
-    deeper_unsettled c.args.depth c.args.query.now _ c.in-Err.stop c.if-depth-eq0.false c.in-Err.ensures.unsettled
+pub search-returns-in-Err-expand-clause-unsettled : goal.search-returns-in-Err-expand-clause-unsettled
+search-returns-in-Err-expand-clause-unsettled t c =
+    deeper_unsettled c.args.depth c.args.query.now _ c.in-Err-expand.stop c.if-depth-eq0.false c.in-Err-expand.ensures.unsettled
 
-pub search-returns-in-Err-clause-spent : goal.search-returns-in-Err-clause-spent
-search-returns-in-Err-clause-spent t c =
+pub search-returns-in-Err-expand-clause-spent : goal.search-returns-in-Err-expand-clause-spent
+search-returns-in-Err-expand-clause-spent t c =
     let q : Asked = c.args.query.now in
     let above : List Asked = reverse c.args.ancestors.now.items in
     let elsewhere : Reaches [] q → ⊥ = λ here. both_ways _ c.if-at_array.false (c.is_array-at_array.ensures.1 here) in
-    if_spent c.in-Err.stop _ _ (λ cost. own_spent c.args.run.now.reasons c.args.depth q above c.args.run.now.left c.if-depth-eq0.false (some_left c.is_spent.result _ c.is_spent.ensures c.if-is_spent.false) (unshut-here _ _ _ c.deref.ensures.value c.in_default.ensures.shut) elsewhere (λ counted m sums. let s = cost (subst (λ (r : Reasons). AreCounted r q (c.args.depth - 1) above) (sym c.by_balance.ensures.same.reasons) counted) m sums in omega (arith, s, c.by_balance.ensures.same.left))) c.in-Err.ensures.spent
+    if_spent c.in-Err-expand.stop _ _ (λ cost. own_spent c.args.run.now.reasons c.args.depth q above c.args.run.now.left c.if-depth-eq0.false (some_left c.is_spent.result _ c.is_spent.ensures c.if-is_spent.false) (unshut-here _ _ _ c.deref.ensures.value c.in_default.ensures.shut) elsewhere (λ counted m sums. let s = cost (subst (λ (r : Reasons). AreCounted r q (c.args.depth - 1) above) (sym c.by_reason.ensures.same.reasons) counted) m sums in omega (arith, s, c.by_reason.ensures.same.left))) c.in-Err-expand.ensures.spent
 
 pub expand-returns-in-Err-search-clause-paid : goal.expand-returns-in-Err-search-clause-paid
 expand-returns-in-Err-search-clause-paid t c by ps m g =
@@ -213,31 +214,31 @@ search-returns-then-keep_alone-clause-well t c by ps n g =
     let elsewhere : Reaches [] q → ⊥ = λ here. both_ways _ c.if-at_array.false (c.is_array-at_array.ensures.1 here) in
     let missed : IsKeptLow c.args.run.now.memo q c.args.depth → ⊥ = λ h. true≢false (sym (c.in_default-find.ensures.complete h)) in
     let b = good_at ps n q c.args.depth above c.args.run.now c.if-depth-eq0.false g (unshut-here _ _ _ c.deref.ensures.value c.in_default.ensures.shut) elsewhere c.requires.sound missed in
-    let same : c.by_balance.new.run ≡ visited c.args.run.now = (c.by_balance.ensures.lines by).1 in
-    let well = c.in-Ok.ensures.well (c.by_balance.ensures.same.reasons ∙ by) ps b.0 (subst (λ (r : Run). IsGoodBelow ps b.0 q (c.args.depth - 1) above r) (sym same) b.2) in
+    let same : c.by_reason.new.run ≡ visited c.args.run.now = (c.by_reason.ensures.lines by).1 in
+    let well = c.in-Ok-expand.ensures.well (c.by_reason.ensures.same.reasons ∙ by) ps b.0 (subst (λ (r : Run). IsGoodBelow ps b.0 q (c.args.depth - 1) above r) (sym same) b.2) in
     let on = c.keep_alone.ensures.on in
-    well_at ps n b.0 q c.args.depth above c.args.run.now c.expand.new.run c.keep_alone.new.run c.in-Ok.found c.if-depth-eq0.false (some_left c.is_spent.result _ c.is_spent.ensures c.if-is_spent.false) b.1 g b.2 (subst (λ (r : Run). GoesWellBelow ps b.0 q (c.args.depth - 1) above c.in-Ok.found r c.expand.new.run) same well) on.1 (c.keep_alone.ensures.kept c.if-keep_alone.true) on.0.mode
+    well_at ps n b.0 q c.args.depth above c.args.run.now c.expand.new.run c.keep_alone.new.run c.in-Ok-expand.found c.if-depth-eq0.false (some_left c.is_spent.result _ c.is_spent.ensures c.if-is_spent.false) b.1 g b.2 (subst (λ (r : Run). GoesWellBelow ps b.0 q (c.args.depth - 1) above c.in-Ok-expand.found r c.expand.new.run) same well) on.1 (c.keep_alone.ensures.kept c.if-keep_alone.true) on.0.mode
 
-pub search-returns-in-Err-clause-paid : goal.search-returns-in-Err-clause-paid
-search-returns-in-Err-clause-paid t c by ps n g =
+pub search-returns-in-Err-expand-clause-paid : goal.search-returns-in-Err-expand-clause-paid
+search-returns-in-Err-expand-clause-paid t c by ps n g =
     let q : Asked = c.args.query.now in
     let above : List Asked = reverse c.args.ancestors.now.items in
     let elsewhere : Reaches [] q → ⊥ = λ here. both_ways _ c.if-at_array.false (c.is_array-at_array.ensures.1 here) in
     let missed : IsKeptLow c.args.run.now.memo q c.args.depth → ⊥ = λ h. true≢false (sym (c.in_default-find.ensures.complete h)) in
     let b = good_at ps n q c.args.depth above c.args.run.now c.if-depth-eq0.false g (unshut-here _ _ _ c.deref.ensures.value c.in_default.ensures.shut) elsewhere c.requires.sound missed in
-    let same : c.by_balance.new.run ≡ visited c.args.run.now = (c.by_balance.ensures.lines by).1 in
-    let paid = c.in-Err.ensures.paid (c.by_balance.ensures.same.reasons ∙ by) ps b.0 (subst (λ (r : Run). IsGoodBelow ps b.0 q (c.args.depth - 1) above r) (sym same) b.2) in
-    if_spent c.in-Err.stop (IsPaid ps above (c.args.run.now.left - 1 + 1) c.args.run.now.memo) (IsPaid ps above c.args.run.now.left c.args.run.now.memo) (paid_at ps above c.args.run.now (some_left c.is_spent.result _ c.is_spent.ensures c.if-is_spent.false)) (subst (λ (r : Run). IfSpent c.in-Err.stop (IsPaid ps above (r.left + 1) r.memo)) same paid)
+    let same : c.by_reason.new.run ≡ visited c.args.run.now = (c.by_reason.ensures.lines by).1 in
+    let paid = c.in-Err-expand.ensures.paid (c.by_reason.ensures.same.reasons ∙ by) ps b.0 (subst (λ (r : Run). IsGoodBelow ps b.0 q (c.args.depth - 1) above r) (sym same) b.2) in
+    if_spent c.in-Err-expand.stop (IsPaid ps above (c.args.run.now.left - 1 + 1) c.args.run.now.memo) (IsPaid ps above c.args.run.now.left c.args.run.now.memo) (paid_at ps above c.args.run.now (some_left c.is_spent.result _ c.is_spent.ensures c.if-is_spent.false)) (subst (λ (r : Run). IfSpent c.in-Err-expand.stop (IsPaid ps above (r.left + 1) r.memo)) same paid)
 
-pub search-returns-in-Err-clause-small : goal.search-returns-in-Err-clause-small
-search-returns-in-Err-clause-small t c by ps n g =
+pub search-returns-in-Err-expand-clause-small : goal.search-returns-in-Err-expand-clause-small
+search-returns-in-Err-expand-clause-small t c by ps n g =
     let q : Asked = c.args.query.now in
     let above : List Asked = reverse c.args.ancestors.now.items in
     let elsewhere : Reaches [] q → ⊥ = λ here. both_ways _ c.if-at_array.false (c.is_array-at_array.ensures.1 here) in
     let missed : IsKeptLow c.args.run.now.memo q c.args.depth → ⊥ = λ h. true≢false (sym (c.in_default-find.ensures.complete h)) in
     let b = good_at ps n q c.args.depth above c.args.run.now c.if-depth-eq0.false g (unshut-here _ _ _ c.deref.ensures.value c.in_default.ensures.shut) elsewhere c.requires.sound missed in
-    let same : c.by_balance.new.run ≡ visited c.args.run.now = (c.by_balance.ensures.lines by).1 in
-    c.in-Err.ensures.small (c.by_balance.ensures.same.reasons ∙ by) ps b.0 (subst (λ (r : Run). IsGoodBelow ps b.0 q (c.args.depth - 1) above r) (sym same) b.2)
+    let same : c.by_reason.new.run ≡ visited c.args.run.now = (c.by_reason.ensures.lines by).1 in
+    c.in-Err-expand.ensures.small (c.by_reason.ensures.same.reasons ∙ by) ps b.0 (subst (λ (r : Run). IsGoodBelow ps b.0 q (c.args.depth - 1) above r) (sym same) b.2)
 
 pub expand-returns-clause-lined : goal.expand-returns-clause-lined
 expand-returns-clause-lined t c by = subst IsByRuleLines (sym c.finish.ensures.tree) (c.loop-unmove.invariant.expands.lined by)
@@ -249,19 +250,19 @@ pub search-returns-then-at_array-clause-unpriced : goal.search-returns-then-at_a
 search-returns-then-at_array-clause-unpriced t c by =
     leaf_unpriced _ c.args.query.now c.new.ensures.items (λ e. pricing.elsewhere c.args.query.now e (c.is_array-at_array.ensures.0 c.if-at_array.true))
 
-pub search-returns-in-Some-by_balance-clause-on : goal.search-returns-in-Some-by_balance-clause-on
-search-returns-in-Some-by_balance-clause-on t c = over_balance c.args.run.now c.by_balance.new.run c.kept_alone.new.run c.by_balance.ensures.same c.kept_alone.ensures.on.0
+pub search-returns-in-Some-reason-clause-on : goal.search-returns-in-Some-reason-clause-on
+search-returns-in-Some-reason-clause-on t c = over_balance c.args.run.now c.by_reason.new.run c.kept_alone.new.run c.by_reason.ensures.same c.kept_alone.ensures.on.0
 
 pub search-returns-then-keep_alone-clause-on : goal.search-returns-then-keep_alone-clause-on
 search-returns-then-keep_alone-clause-on t c =
-    over_balance c.args.run.now c.by_balance.new.run c.keep_alone.new.run c.by_balance.ensures.same (further c.by_balance.new.run c.expand.new.run c.keep_alone.new.run c.in-Ok.ensures.on c.keep_alone.ensures.on.0)
+    over_balance c.args.run.now c.by_reason.new.run c.keep_alone.new.run c.by_reason.ensures.same (further c.by_reason.new.run c.expand.new.run c.keep_alone.new.run c.in-Ok-expand.ensures.on c.keep_alone.ensures.on.0)
 
 pub search-returns-else-keep_alone-clause-on : goal.search-returns-else-keep_alone-clause-on
 search-returns-else-keep_alone-clause-on t c =
-    over_balance c.args.run.now c.by_balance.new.run c.keep_alone.new.run c.by_balance.ensures.same (further c.by_balance.new.run c.expand.new.run c.keep_alone.new.run c.in-Ok.ensures.on c.keep_alone.ensures.on.0)
+    over_balance c.args.run.now c.by_reason.new.run c.keep_alone.new.run c.by_reason.ensures.same (further c.by_reason.new.run c.expand.new.run c.keep_alone.new.run c.in-Ok-expand.ensures.on c.keep_alone.ensures.on.0)
 
-pub search-returns-in-Err-clause-on : goal.search-returns-in-Err-clause-on
-search-returns-in-Err-clause-on t c = over_balance c.args.run.now c.by_balance.new.run c.expand.new.run c.by_balance.ensures.same c.in-Err.ensures.on
+pub search-returns-in-Err-expand-clause-on : goal.search-returns-in-Err-expand-clause-on
+search-returns-in-Err-expand-clause-on t c = over_balance c.args.run.now c.by_reason.new.run c.expand.new.run c.by_reason.ensures.same c.in-Err-expand.ensures.on
 
 pub expand-returns-in-Err-search-clause-unpriced : goal.expand-returns-in-Err-search-clause-unpriced
 expand-returns-in-Err-search-clause-unpriced t c by lacks =
@@ -297,24 +298,27 @@ pub search-returns-in-Some-find-clause-size : goal.search-returns-in-Some-find-c
 search-returns-in-Some-find-clause-size t c =
     ok_always c.taken.result _ (λ n h. omega (arith, size_positive c.args.depth c.args.query.now (reverse c.args.ancestors.now.items) n h, (some_left c.is_spent.result _ c.is_spent.ensures c.if-is_spent.false)))
 
-pub search-returns-in-Some-by_balance-clause-size : goal.search-returns-in-Some-by_balance-clause-size
-search-returns-in-Some-by_balance-clause-size t c =
-    ok_always c.kept_alone.result _ (λ n h. omega (arith, size_positive c.args.depth c.args.query.now (reverse c.args.ancestors.now.items) n h, (some_left c.is_spent.result _ c.is_spent.ensures c.if-is_spent.false), c.by_balance.ensures.same.left, c.kept_alone.ensures.on.1))
+pub search-returns-in-Some-reason-clause-size : goal.search-returns-in-Some-reason-clause-size
+search-returns-in-Some-reason-clause-size t c =
+    ok_always c.kept_alone.result _ (λ n h. omega (arith, size_positive c.args.depth c.args.query.now (reverse c.args.ancestors.now.items) n h, (some_left c.is_spent.result _ c.is_spent.ensures c.if-is_spent.false), c.by_reason.ensures.same.left, c.kept_alone.ensures.on.1))
 
 pub search-returns-then-keep_alone-clause-size : goal.search-returns-then-keep_alone-clause-size
 search-returns-then-keep_alone-clause-size t c n h =
     let q : Asked = c.args.query.now in
     let above : List Asked = reverse c.args.ancestors.now.items in
     let elsewhere : Reaches [] q → ⊥ = λ here. both_ways _ c.if-at_array.false (c.is_array-at_array.ensures.1 here) in
-    let left : c.by_balance.new.run.left ≡ c.args.run.now.left - 1 = c.by_balance.ensures.same.left in
-    let own = sized_ok c.args.depth q above c.args.run.now.left c.by_balance.new.run.left c.expand.new.run.left c.if-depth-eq0.false (some_left c.is_spent.result _ c.is_spent.ensures c.if-is_spent.false) left (unshut-here _ _ _ c.deref.ensures.value c.in_default.ensures.shut) elsewhere c.in-Ok.ensures.size n h in
+    let left : c.by_reason.new.run.left ≡ c.args.run.now.left - 1 = c.by_reason.ensures.same.left in
+    let own = sized_ok c.args.depth q above c.args.run.now.left c.by_reason.new.run.left c.expand.new.run.left c.if-depth-eq0.false (some_left c.is_spent.result _ c.is_spent.ensures c.if-is_spent.false) left (unshut-here _ _ _ c.deref.ensures.value c.in_default.ensures.shut) elsewhere c.in-Ok-expand.ensures.size n h in
     let same : c.keep_alone.new.run.left ≡ c.expand.new.run.left = c.keep_alone.ensures.on.1 in
     omega (arith, own, same)
 
-pub search-returns-in-Err-clause-outsized : goal.search-returns-in-Err-clause-outsized
-search-returns-in-Err-clause-outsized t c =
+pub search-returns-in-Err-expand-clause-outsized : goal.search-returns-in-Err-expand-clause-outsized
+search-returns-in-Err-expand-clause-outsized t c =
     let q : Asked = c.args.query.now in
     let above : List Asked = reverse c.args.ancestors.now.items in
     let elsewhere : Reaches [] q → ⊥ = λ here. both_ways _ c.if-at_array.false (c.is_array-at_array.ensures.1 here) in
-    let left : c.by_balance.new.run.left ≡ c.args.run.now.left - 1 = c.by_balance.ensures.same.left in
-    if_spent c.in-Err.stop _ _ (outsized c.args.depth q above c.args.run.now.left c.by_balance.new.run.left c.if-depth-eq0.false (some_left c.is_spent.result _ c.is_spent.ensures c.if-is_spent.false) left (unshut-here _ _ _ c.deref.ensures.value c.in_default.ensures.shut) elsewhere) c.in-Err.ensures.outsized
+    let left : c.by_reason.new.run.left ≡ c.args.run.now.left - 1 = c.by_reason.ensures.same.left in
+    if_spent c.in-Err-expand.stop _ _ (outsized c.args.depth q above c.args.run.now.left c.by_reason.new.run.left c.if-depth-eq0.false (some_left c.is_spent.result _ c.is_spent.ensures c.if-is_spent.false) left (unshut-here _ _ _ c.deref.ensures.value c.in_default.ensures.shut) elsewhere) c.in-Err-expand.ensures.outsized
+
+pub search-returns-then-at_array-clause-sketched : goal.search-returns-then-at_array-clause-sketched
+search-returns-then-at_array-clause-sketched t c by seeking has = absurd (plain-unreached c.args.query.now has [] (c.is_array-at_array.ensures.0 c.if-at_array.true))

@@ -1,0 +1,4 @@
+pub mod PlainBodies
+pub mod SameFiles
+pub mod Supporting
+pub mod Unsketched
