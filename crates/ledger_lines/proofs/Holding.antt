@@ -1,8 +1,8 @@
 -- What a ledger knows holds of every game.
-use Rattle.std.proofs.Common.{◌≡◌, ℕ, ◌+◌, ◌-◌, ◌<◌, ◌≤◌, inl, inr, Bool, true, false, ◌&&◌, not, List, [], slice_index_or, zero, suc, refl, ap, sym, subst, ◌∙◌, arith}
-use Rattle.std.specs.Prelude.{IsTrue, Option, None, Some, nat_le, nat_lt}
+use Rattle.std.proofs.Common.{◌≡◌, ℕ, ◌+◌, ◌<◌, ◌≤◌, inl, inr, Bool, true, false, not, List, zero, suc, refl, ap, ◌∙◌, arith}
+use Rattle.std.specs.Prelude.{Option, None, Some, nat_lt}
 use Rattle.std.specs.Bool.{beq}
-use Rattle.std.proofs.lemmas.Bool.{and_parts, both_ways, cases_Bool, cases_eq, leb-true, ltb-true, not_from_false}
+use Rattle.std.proofs.lemmas.Bool.{and_parts, both_ways, cases_Bool, leb-true, ltb-true}
 use Rattle.std.proofs.lemmas.List.{get_or-set_same}
 use Rattle.board_base.specs.Board.{Places, array_of, at, is_a, is_in, is_of, same_colour}
 use Rattle.board_base.specs.Game.{board_after}
@@ -30,7 +30,6 @@ use Rattle.ledger_facts.proofs.Known.{gone-so, has-captured, kept-file, less-tha
 use Rattle.ledger_facts.proofs.Sound.{refuted}
 use Rattle.ledger_search.specs.Ledgers.{AreCounts, IsLeast, IsLedger, IsLedgerOf, IsMost}
 use Rattle.ledger_search.specs.Questions.{IsFlatlyRefuted, is_asked, is_man, only, shares_side}
-use Rattle.ledger_search.specs.declared.counts.Counts.{Counts}
 use Rattle.ledger_search.specs.declared.ledgers.Ledger.{Ledger}
 use Rattle.ledger_search.specs.declared.questions.Question.TheVariants.{Home}
 use Rattle.ledger_lines.specs.Facts.{Says}

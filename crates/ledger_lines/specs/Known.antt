@@ -1,5 +1,5 @@
 -- Which facts a ledger knows.
-use Rattle.std.specs.Prelude.{ℕ, ◌≡◌, ◌<◌, ◌≤◌, ◌&&◌, Bool, true, false, not, IsTrue, List, [], nat_le, nat_lt, slice_index, slice_index_or}
+use Rattle.std.specs.Prelude.{ℕ, ◌≡◌, ◌<◌, ◌&&◌, Bool, true, false, not, IsTrue, [], nat_le, nat_lt, slice_index, slice_index_or}
 use Rattle.std.specs.Bool.{beq}
 use Rattle.board_base.specs.Board.{Places, array_of, at, is_a, is_in}
 use Rattle.board_base.specs.declared.men.Colour.{Colour}

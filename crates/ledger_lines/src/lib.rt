@@ -1,4 +1,5 @@
-//! The facts that the lines of a ledger consist of: what each says of a game, and whether a ledger knows it. It takes no memory.
+//! The lines of a ledger, the facts that they consist of, what each says of a game, and whether a ledger knows it. Only their text takes
+//! memory.
 //!
 //! Articles are those of the FIDE Laws of Chess, in force from 1 January 2023.
 #![tactic(auto)]
@@ -6,7 +7,11 @@
 mod facts;
 mod knowing;
 mod laws;
+mod lines;
+mod writing;
 
 pub use facts::Fact;
 pub use knowing::is_known;
-pub use laws::known_facts_hold;
+pub use laws::{known_facts_hold, known_lines_hold};
+pub use lines::{Line, Manner, Taker};
+pub use writing::write_line;
