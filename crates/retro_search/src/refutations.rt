@@ -20,7 +20,7 @@ pub struct Refutation {
     pub lean: u8,
     /// How many unmoves it goes back at most, the last of them included that has no unmove before it.
     pub height: u8,
-    /// How many lines it fills: one for each node, and two where prices are listed.
+    /// How many lines it fills: one for each node, two where prices are listed, and two more for each unit of a sketch.
     pub lines: u32,
 }
 
