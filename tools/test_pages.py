@@ -95,6 +95,16 @@ class Shown(unittest.TestCase):
         self.assertEqual(done.returncode, 0, done.stdout)
 
 
+    def test_each_reason_of_the_laws_closes_its_diagram(self):
+        part = (TOP / "docs" / "LAWS.md").read_text().partition("## Each reason by a small diagram\n")[2].partition("\n## ")[0]
+        shown = [(name, re.search(r"`(\S*(?:/\S*){7} [wb] \S+ -)`", text)) for name, text in re.findall(r"(?s)- \*\*`(\w+)`\*\*(.*?)(?=\n- \*\*|$)", part)]
+        self.assertEqual([name for name, _ in shown], ["kings", "ranks", "check", "rights", "count", "frozen", "promo", "caps", "balance", "sketch"])
+        for name, fen in shown[:-1]:
+            done = subprocess.run([os.environ["RETRACTOR"], "settle"], input=f"claim illegal\n{fen[1]}\n", capture_output=True, text=True)
+            root = next((line for line in done.stdout.split("\n") if line.startswith("root ")), done.stdout)
+            self.assertEqual(root.split(" ")[:3], ["root", "rule", name], fen[1])
+
+
 class Lists(unittest.TestCase):
     def test_a_definition_before_one_that_it_uses_is_found(self):
         rank, ranks = ("a", "Texts", "rank"), ("a", "Texts", "ranks")
