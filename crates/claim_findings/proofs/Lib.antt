@@ -6,3 +6,6 @@ pub mod Playing
 pub mod Agreeing
 pub mod OpenFronts
 pub mod Staying
+pub use Rattle.retro_search.proofs.Contradicted
+pub use Rattle.retro_search.proofs.Sound
+pub use Rattle.retro_search.proofs.Trees

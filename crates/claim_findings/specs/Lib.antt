@@ -5,3 +5,7 @@ pub mod Joined
 pub mod Decisions
 pub mod Lines
 pub mod SearchEnds
+pub use Rattle.retro_search.specs.Outcomes
+pub use Rattle.retro_search.specs.declared.searchers.Outcome
+pub use Rattle.retro_search.specs.Proving
+pub use Rattle.retro_search.specs.Heights

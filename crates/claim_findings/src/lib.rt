@@ -18,5 +18,6 @@ pub use lines::{
     push_decided, push_decided_steps, push_found, push_number, push_steps, push_unmoves,
 };
 pub use proving::{search_at, seek, seek_line};
+pub use retro_search::{Limits, Outcome};
 pub use searchers::{Searchers, is_refuted};
 pub use subjects::Subject;

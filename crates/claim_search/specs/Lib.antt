@@ -1,1 +1,9 @@
 pub mod Settlements
+pub use Rattle.retro_search.specs.Answers
+pub use Rattle.retro_search.specs.Lone
+pub use Rattle.retro_search.specs.SearchSizes
+pub use Rattle.retro_search.specs.Unsettled
+pub use Rattle.retro_search.specs.Refutable
+pub use Rattle.retro_search.specs.Costs
+pub use Rattle.retro_search.specs.declared.answers.Found
+pub use Rattle.retro_search.specs.Lines

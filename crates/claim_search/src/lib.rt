@@ -5,4 +5,5 @@
 
 mod settling;
 
+pub use retro_search::{Found, Limits, solve};
 pub use settling::settle;

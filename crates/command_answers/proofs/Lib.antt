@@ -10,3 +10,5 @@ pub mod LegalGames
 pub mod Finding
 pub use Rattle.diagram_study.proofs.Truths
 pub use Rattle.claim_search.proofs.Unreached
+pub use Rattle.dossier_search.proofs.Lines
+pub use Rattle.dossier_checker.proofs.OneDossier

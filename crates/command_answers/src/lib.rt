@@ -27,6 +27,10 @@ mod verdicts;
 
 pub use atleasts::answer_atleast;
 pub use checks::answer_check;
+pub use claim_search::Limits;
+pub use dossier_checker::{
+    accepted_are_dossiers, accepted_lines_are_written, dossiers_prove, one_dossier_answer,
+};
 pub use dossiers::answer_dossier;
 pub use explains::answer_explain;
 pub use lengths::answer_length;

@@ -4,9 +4,9 @@ ghost use Rattle.command_answers.specs.Studies.{AnswersStudy, AnswersStudyOf};
 
 use crate::questions::write_fault;
 use crate::statuses::Status;
+use claim_search::Limits;
 use diagram_study::study;
 use question_text::{Position, read_lone_question};
-use retro_search::Limits;
 use std::alloc::{AllocError, Global};
 
 /// What is said of the query: its study.

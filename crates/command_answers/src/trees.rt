@@ -5,8 +5,8 @@ ghost use Rattle.command_answers.specs.Trees.{AnswersTree, AnswersTreeOf};
 use crate::questions::write_fault;
 use crate::solves::write_spent;
 use crate::statuses::Status;
+use claim_search::Limits;
 use question_text::{Position, read_lone_question};
-use retro_search::Limits;
 use std::alloc::{AllocError, Global};
 use tree_browser::{TreeFault, tree_text};
 

@@ -16,14 +16,14 @@ use Rattle.unmove_gen.specs.Listed.{before, candidates, fits_ends, is_legal_befo
 use Rattle.unmove_gen.specs.Predecessor.{predecessor}
 use Rattle.unmove_gen.specs.Sane.{is_sane}
 use Rattle.cert_text.specs.Tree.{Forest, expand, none, more}
-use Rattle.retro_search.specs.Proving.{Proves, ProvesEach}
-use Rattle.retro_search.proofs.Contradicted.{contradiction-reaches}
-use Rattle.retro_search.proofs.Sound.{sound}
-use Rattle.retro_search.specs.Heights.{height_of_all}
-use Rattle.retro_search.specs.Outcomes.{HasProof}
-use Rattle.retro_search.specs.declared.searchers.Outcome.{Outcome}
-use Rattle.retro_search.specs.declared.searchers.Outcome.TheVariants.{Refuted}
-use Rattle.retro_search.proofs.Trees.Ancestors.{Extends, proves_below}
+use Rattle.claim_findings.specs.Proving.{Proves, ProvesEach}
+use Rattle.claim_findings.proofs.Contradicted.{contradiction-reaches}
+use Rattle.claim_findings.proofs.Sound.{sound}
+use Rattle.claim_findings.specs.Heights.{height_of_all}
+use Rattle.claim_findings.specs.Outcomes.{HasProof}
+use Rattle.claim_findings.specs.Outcome.{Outcome}
+use Rattle.claim_findings.specs.Outcome.TheVariants.{Refuted}
+use Rattle.claim_findings.proofs.Trees.Ancestors.{Extends, proves_below}
 use Rattle.claim_findings.specs.Findings.{IsFound, IsOutcome, is_proved, is_refuted}
 use Rattle.diagram_study.specs.Looks.{AreHeights, AreLooked, IsHeight, IsKeptIn, IsLooked, claim_but}
 use Rattle.claim_findings.specs.declared.findings.Finding.{Finding}

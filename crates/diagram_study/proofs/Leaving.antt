@@ -14,8 +14,8 @@ use Rattle.unmove_gen.specs.Listed.{unmoves}
 use Rattle.unmove_gen.specs.Predecessor.{predecessor, unmove_after}
 use Rattle.claim_findings.specs.Findings.{IsOutcome, is_refuted}
 use Rattle.diagram_study.specs.Retractions.{AreLeft, EndsAmong}
-use Rattle.retro_search.specs.declared.searchers.Outcome.{Outcome}
-use Rattle.retro_search.specs.declared.searchers.Outcome.TheVariants.{Refuted, Open, Spent}
+use Rattle.claim_findings.specs.Outcome.{Outcome}
+use Rattle.claim_findings.specs.Outcome.TheVariants.{Refuted, Open, Spent}
 
 -- the unmoves in front of those that are still to be looked at, those of them that are left, and the number of those looked at
 pub record LeftSoFar (q : Asked) (depth nodes : ℕ) (still left : List Unmove) (number : ℕ) : Type 0 where

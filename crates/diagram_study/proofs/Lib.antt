@@ -10,3 +10,4 @@ pub mod Gathered
 pub mod Truths
 pub mod OneMove
 pub mod Seeking
+pub use Rattle.claim_findings.proofs.Steps

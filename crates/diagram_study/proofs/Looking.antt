@@ -12,8 +12,8 @@ use Rattle.query_base.specs.Asked.{Asked}
 use Rattle.query_base.specs.declared.claims.Claim.TheVariants.{Illegal}
 use Rattle.unmove_gen.specs.Listed.{unmoves}
 use Rattle.unmove_gen.specs.Predecessor.{predecessor}
-use Rattle.retro_search.specs.declared.searchers.Outcome.{Outcome}
-use Rattle.retro_search.specs.declared.searchers.Outcome.TheVariants.{Refuted}
+use Rattle.claim_findings.specs.Outcome.{Outcome}
+use Rattle.claim_findings.specs.Outcome.TheVariants.{Refuted}
 use Rattle.claim_findings.specs.Findings.{IsOutcome}
 use Rattle.diagram_study.specs.Looks.{AreHeights, AreLooked, IsHeight, IsKeptIn, IsLooked}
 use Rattle.diagram_study.specs.declared.retractions.Looked.{Looked}

@@ -11,7 +11,7 @@ use Rattle.query_base.specs.declared.claims.Claim.TheVariants.{Illegal, Last}
 use Rattle.line_claims.specs.Lines.{has_text}
 use Rattle.unmove_gen.specs.Listed.{unmoves}
 use Rattle.unmove_gen.specs.Predecessor.{predecessor}
-use Rattle.retro_search.specs.declared.searchers.Outcome.TheVariants.{Refuted}
+use Rattle.claim_findings.specs.Outcome.TheVariants.{Refuted}
 use Rattle.claim_findings.specs.Findings.{IsOutcome, is_refuted}
 use Rattle.diagram_study.specs.Retractions.{HasLeft}
 use Rattle.diagram_study.specs.declared.retractions.Counted.{Counted}

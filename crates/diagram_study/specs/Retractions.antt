@@ -9,7 +9,7 @@ use Rattle.query_base.specs.Reach.{Reaches}
 use Rattle.query_base.specs.declared.claims.Claim.TheVariants.{Illegal, Last}
 use Rattle.unmove_gen.specs.Predecessor.{predecessor, unmove_after}
 use Rattle.unmove_gen.specs.Listed.{unmoves}
-use Rattle.retro_search.specs.declared.searchers.Outcome.{Outcome}
+use Rattle.claim_findings.specs.Outcome.{Outcome}
 use Rattle.claim_findings.specs.Findings.{IsFound, IsOutcome, is_proved, is_refuted}
 use Rattle.claim_findings.specs.Lines.{found_line}
 use Rattle.claim_findings.specs.declared.findings.Finding.{Finding}

@@ -2,16 +2,15 @@ ghost use Rattle.std.specs.Prelude.{◌≡◌, ◌≢◌, ◌-◌, ◌≤◌, []
 ghost use Rattle.std.specs.List.{All, Contains};
 ghost use Rattle.board_base.specs.Legal.{is_move};
 ghost use Rattle.query_base.specs.Reach.{Reaches};
-ghost use Rattle.retro_search.specs.Outcomes.{HasProof};
+ghost use Rattle.claim_findings.specs.Outcomes.{HasProof};
 ghost use Rattle.claim_findings.specs.Findings.{IsFound, is_proved, is_refuted};
 ghost use Rattle.diagram_study.specs.Looks.{AreHeights, AreLooked, claim_but};
 ghost use Rattle.diagram_study.specs.declared.retractions.Looked.{Looked as ALooked};
 
 use crate::retractions::{Counted, Looked};
 use board_base::{Move, is_move};
-use claim_findings::{Finding, Subject};
+use claim_findings::{Finding, Outcome, Subject};
 use query_base::is_array;
-use retro_search::Outcome;
 
 /// The greatest height of the trees that refute what is before these unmoves, but those of the move, if one is given. None where the
 /// search didn't refute one of them.

@@ -9,9 +9,10 @@ ghost use Rattle.diagram_study.specs.Retractions.{HasLeft, TellsLast, TellsMove,
 
 use crate::joining::joined_up;
 use board_base::{Move, Unmove, UnmoveList, is_move};
-use claim_findings::{Searchers, Subject, is_refuted, push_found, search_at, seek};
+use claim_findings::{
+    Limits, Outcome, Searchers, Subject, is_refuted, push_found, search_at, seek,
+};
 use query_base::Claim;
-use retro_search::{Limits, Outcome};
 use std::alloc::AllocError;
 use unmove_gen::{Unmoves, few_unmoves, last_moves_are_listed, pred, unmoves_have_texts};
 

@@ -17,10 +17,11 @@ use crate::retractions::{Counted, retractions, tell_last};
 use crate::rights::{tell_captures, tell_castlings};
 use crate::texts::{push_left, push_length};
 use board_base::{Castle, CastleSet};
-use claim_findings::{Finding, Games, Searchers, Subject, decide, push_decided, push_found, seek};
+use claim_findings::{
+    Finding, Games, Limits, Searchers, Subject, decide, push_decided, push_found, seek,
+};
 use length_bound::{longest, shown_lengths_hold};
 use query_base::{Claim, Query};
-use retro_search::Limits;
 use std::alloc::{AllocError, Global};
 
 /// Adds the line of the length of the games, where it can be told.

@@ -8,6 +8,7 @@ mod refusals;
 mod stages;
 mod streams;
 
+pub use dossier_text::dossiers_prove;
 pub use laws::{
     accepted_are_dossiers, accepted_lines_are_written, one_dossier_answer,
     unlisted_in_parts_have_texts,

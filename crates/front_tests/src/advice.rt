@@ -1,8 +1,9 @@
 //! What is said on standard error, case by case.
 
-use front_door::{Advice, FenAdvice, LineAdvice, MoveAdvice, TextAdvice, WordAdvice, advise};
+use front_door::{
+    Advice, FenAdvice, LineAdvice, MoveAdvice, Status, TextAdvice, WordAdvice, advise, run,
+};
 use retro_ports::{MemSink, MemSource};
-use retro_top::{Status, run};
 use std::alloc::{AllocError, Global};
 
 /// Words that call no command, what is said of them, and how the command that is meant is called.

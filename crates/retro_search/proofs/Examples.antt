@@ -31,7 +31,7 @@ use Rattle.retro_search.specs.Answers.{IsCounter, IsProofOf}
 use Rattle.retro_search.specs.Unsettled.{IsAgainst, IsOpenLine, WhereRefutable}
 use Rattle.retro_search.specs.Outcomes.{HasProof}
 use Rattle.retro_search.specs.LineCounts.{lines_in}
-use Rattle.cert_checker.proofs.Sound.{sound}
+use Rattle.sketch_findings.proofs.Sound.{sound}
 
 -- a board without men
 abbrev nothing : Asked

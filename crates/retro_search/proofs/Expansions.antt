@@ -12,7 +12,7 @@ use Rattle.unmove_gen.specs.Listed.{unmoves}
 use Rattle.unmove_gen.specs.Predecessor.{predecessor}
 use Rattle.cert_text.specs.Tree.{Forest, expand, none, with_last}
 use Rattle.cert_text.specs.Seen.{tree_of}
-use Rattle.cert_checker.specs.Proving.{Proves, ProvesEach}
+use Rattle.sketch_findings.specs.Proving.{Proves, ProvesEach}
 use Rattle.retro_search.specs.Refutable.{IsRefutable, IsShut}
 use Rattle.retro_search.specs.Costs.{IsCost, SumsUpTo}
 use Rattle.retro_search.specs.Searched.{AreCounted, IsCostBelow, IsCounted, IsOpen, IsUnsettled, WhereEachRefutable}

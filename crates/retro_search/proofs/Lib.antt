@@ -12,6 +12,6 @@ pub mod SketchLines
 pub mod TextSizes
 pub mod Telling
 mod Examples
-pub use Rattle.cert_checker.proofs.Contradicted
-pub use Rattle.cert_checker.proofs.Sound
+pub use Rattle.sketch_findings.proofs.Contradicted
+pub use Rattle.sketch_findings.proofs.Sound
 pub use Rattle.sketch_findings.proofs.Unsketched

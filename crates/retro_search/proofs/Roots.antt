@@ -11,8 +11,8 @@ use Rattle.cert_text.specs.Certificate.{Certificate, HasText}
 use Rattle.cert_text.specs.ClaimLines.{promotes_well}
 use Rattle.cert_text.specs.Writable.{stays_on_board, IsQuery}
 use Rattle.cert_text.proofs.CertTexts as texts
-use Rattle.cert_checker.proofs.Contradicted.{contradiction-reaches}
-use Rattle.cert_checker.proofs.Sound.{sound}
+use Rattle.sketch_findings.proofs.Contradicted.{contradiction-reaches}
+use Rattle.sketch_findings.proofs.Sound.{sound}
 use Rattle.retro_search.specs.Refutable.{IsRefutable}
 use Rattle.retro_search.specs.RuleLines.{IsByRuleLines}
 use Rattle.retro_search.specs.Searched.{Refutes}

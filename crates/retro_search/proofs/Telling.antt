@@ -14,7 +14,7 @@ use Rattle.cert_text.specs.SeenCert.{cert_of}
 use Rattle.cert_text.specs.Certificate.{HasText}
 use Rattle.cert_text.specs.Writable.{stays_on_board, IsQuery}
 use Rattle.cert_text.specs.declared.certificates.Cert.{Cert}
-use Rattle.cert_checker.proofs.Sound.{sound}
+use Rattle.sketch_findings.proofs.Sound.{sound}
 use Rattle.retro_search.specs.Refutable.{IsRefutable}
 use Rattle.retro_search.specs.Answers.{IfCountered, IfProved, IfSpentAt, IfUndecided, IfUnspent, IsAnswer, IsCounter, IsProofOf, IsProved, IsShort, IsUndecided}
 use Rattle.retro_search.specs.Attempts.{ComesTo, IsPaidSearch, WhereLone}

@@ -10,7 +10,7 @@ use Rattle.cert_text.specs.Certificate.{Certificate, HasText, IsTextOf}
 use Rattle.cert_text.specs.ClaimLines.{promotes_well}
 use Rattle.cert_text.specs.SeenCert.{cert_of}
 use Rattle.cert_text.specs.declared.certificates.Cert.{Cert}
-use Rattle.cert_checker.specs.Proving.{ProvesClaim}
+use Rattle.sketch_findings.specs.Proving.{ProvesClaim}
 use Rattle.retro_search.specs.Refutable.{IsRefutable}
 use Rattle.retro_search.specs.Heights.{height}
 use Rattle.retro_search.specs.Lines.{EndsAtArray, IsFirstOpen, forwards}

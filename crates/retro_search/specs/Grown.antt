@@ -3,7 +3,7 @@
 use Rattle.std.specs.Prelude.{ℕ, ◌≡◌, ◌≤◌, List, take}
 use Rattle.board_base.specs.declared.unmoves.Unmove.{Unmove}
 use Rattle.query_base.specs.Asked.{Asked}
-use Rattle.cert_checker.specs.Proving.{ProvesEach}
+use Rattle.sketch_findings.specs.Proving.{ProvesEach}
 use Rattle.retro_search.specs.Heights.{height_of_all}
 use Rattle.retro_search.specs.LineCounts.{lines_in_all}
 use Rattle.retro_search.specs.SketchTexts.{HaveSketchTexts}

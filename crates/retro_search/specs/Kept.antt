@@ -6,7 +6,7 @@ use Rattle.indexmap.specs.IndexMap.{values}
 use Rattle.query_base.specs.Asked.{Asked}
 use Rattle.cert_text.specs.Tree.{Tree}
 use Rattle.cert_text.specs.Seen.{tree_of}
-use Rattle.cert_checker.specs.Proving.{Proves}
+use Rattle.sketch_findings.specs.Proving.{Proves}
 use Rattle.retro_search.specs.Heights.{height}
 use Rattle.retro_search.specs.LineCounts.{lines_in}
 use Rattle.retro_search.specs.RuleLines.{IsByRuleLines}

@@ -21,5 +21,5 @@ pub mod Searched
 pub mod Attempts
 pub mod Told
 pub mod Good
-pub use Rattle.cert_checker.specs.Proving
+pub use Rattle.sketch_findings.specs.Proving
 pub use Rattle.sketch_findings.specs.Plain

@@ -4,7 +4,7 @@ use Rattle.board_base.specs.declared.moves.Move.{Move}
 use Rattle.query_base.specs.Asked.{Asked}
 use Rattle.query_base.specs.Reach.{Reaches}
 use Rattle.cert_text.specs.Tree.{Tree}
-use Rattle.cert_checker.specs.Proving.{Proves}
+use Rattle.sketch_findings.specs.Proving.{Proves}
 use Rattle.retro_search.specs.Heights.{height}
 use Rattle.retro_search.specs.declared.searchers.Outcome.{Outcome}
 use Rattle.retro_search.specs.declared.searchers.Outcome.TheVariants as outcome

@@ -7,7 +7,7 @@ use Rattle.query_base.specs.Asked.{Asked}
 use Rattle.unmove_gen.specs.Listed.{unmoves}
 use Rattle.unmove_gen.specs.Predecessor.{predecessor}
 use Rattle.cert_text.specs.Tree.{Tree}
-use Rattle.cert_checker.specs.Proving.{Proves}
+use Rattle.sketch_findings.specs.Proving.{Proves}
 use Rattle.retro_search.specs.Refutable.{IsRefutable}
 use Rattle.retro_search.specs.Lines.{IsFirstOpen, EndsAtArray}
 use Rattle.retro_search.specs.Costs.{IsCost, SumsUpTo}

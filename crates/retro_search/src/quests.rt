@@ -2,7 +2,7 @@ ghost use Rattle.std.specs.Prelude.{◌≡◌, ◌≤◌, IfOk, IfSome, MatchOpt
 ghost use Rattle.sketch_body.specs.Bodies.{units_of};
 ghost use Rattle.sketch_body.specs.Whole.{is_body};
 ghost use Rattle.sketch_findings.specs.Plain.{HasPlainSketch};
-ghost use Rattle.cert_checker.specs.Sketches.{IsSketchOf};
+ghost use Rattle.sketch_findings.specs.Sketches.{IsSketchOf};
 
 use board_base::Memory;
 use query_base::Query;

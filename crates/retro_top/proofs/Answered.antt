@@ -13,8 +13,8 @@ use Rattle.command_answers.specs.Sans.{AnswersSanGame}
 use Rattle.command_answers.specs.Spells.{AnswersSpelling}
 use Rattle.codex_verdict.specs.declared.kinds.Right.{Right}
 use Rattle.line_claims.specs.declared.claims.LineClaim.{LineClaim}
-use Rattle.dossier_checker.specs.DossierAnswers.{DossierAnswer}
-use Rattle.dossier_checker.specs.DossierAnswers as dossiers
+use Rattle.command_answers.specs.DossierAnswers.{DossierAnswer}
+use Rattle.command_answers.specs.DossierAnswers as dossiers
 use Rattle.length_bound.specs.LengthAnswers.{LengthAnswer}
 use Rattle.length_bound.specs.LengthAnswers as bounds
 use Rattle.question_text.specs.Positions.{IsLonePosition, IsNoLonePosition}

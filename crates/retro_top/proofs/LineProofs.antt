@@ -8,9 +8,9 @@ use Rattle.line_claims.specs.Holding.{HoldsLine}
 use Rattle.line_claims.specs.Lines.{line_claim_of}
 use Rattle.line_claims.specs.Listing.{HasParts}
 use Rattle.line_claims.specs.declared.claims.LineClaim.{LineClaim}
-use Rattle.dossier_text.specs.Proving.{IsDossier}
-use Rattle.dossier_checker.specs.DossierAnswers.{DossierAnswer, bad_text_in, fault_in, line_accepted, no_head, no_part, other_part, unlisted_step}
-use Rattle.dossier_checker.specs.DossierAnswers as dossiers
+use Rattle.command_answers.specs.Proving.{IsDossier}
+use Rattle.command_answers.specs.DossierAnswers.{DossierAnswer, bad_text_in, fault_in, line_accepted, no_head, no_part, other_part, unlisted_step}
+use Rattle.command_answers.specs.DossierAnswers as dossiers
 use Rattle.retro_top.specs.Answers.{IsUnspent}
 use Rattle.command_answers.specs.Dossiers.{AnswersDossier, AnswersLineClaim, AreCheapParts, AreClearParts, IsCheapPart, IsClearPart, StatesCheapLine, StatesClearLine, StatesProvedLine}
 use Rattle.command_answers.specs.Lines.{AnswersLine, ProvesLine, TellsDossier, accepted_steps_line}
@@ -18,7 +18,7 @@ use Rattle.command_answers.specs.Statements.{StatesLine}
 use Rattle.command_answers.specs.declared.statuses.Status.{Status}
 use Rattle.command_answers.specs.declared.statuses.Status.TheVariants.{Done, Refused, Undecided, Spent}
 use Rattle.retro_top.proofs.Stated.{stated-by, states-some-by}
-use Rattle.dossier_checker.proofs.OneDossier.{no_step}
+use Rattle.command_answers.proofs.OneDossier.{no_step}
 
 -- there is one answer to a dossier
 abbrev pub OneDossier : Type 0

@@ -7,10 +7,10 @@ use Rattle.query_base.specs.Targets.{target}
 use Rattle.query_base.specs.declared.claims.Claim.{Claim}
 use Rattle.cert_text.specs.Certificate.{Certificate, IsTextOf}
 use Rattle.cert_checker.specs.Proving.{ProvesClaim}
-use Rattle.retro_search.specs.Answers.{IsProofOf}
-use Rattle.retro_search.specs.Lines.{EndsAtArray}
-use Rattle.retro_search.specs.Refutable.{IsRefutable}
-use Rattle.retro_search.proofs.Lines.OneLine.{line_one}
+use Rattle.command_answers.specs.Answers.{IsProofOf}
+use Rattle.command_answers.specs.ClaimSearchLines.{EndsAtArray}
+use Rattle.command_answers.specs.Refutable.{IsRefutable}
+use Rattle.command_answers.proofs.Lines.OneLine.{line_one}
 use Rattle.command_answers.specs.Settlements.{IsCounterable}
 use Rattle.retro_top.specs.Answers.{IsUnspent, StatesCheap, StatesCounterable, StatesRefutable}
 use Rattle.command_answers.specs.Solves.{AnswersClaim, AnswersSolve, IsCheap, countered_line}

@@ -19,9 +19,9 @@ use Rattle.cert_checker.specs.Proving.{ProvesClaim}
 use Rattle.command_answers.specs.Prose.{Explains}
 use Rattle.price_search.specs.FlatPrices.{FlatPricesSupport}
 use Rattle.command_answers.specs.Settlements.{IsCounterable}
-use Rattle.retro_search.specs.Answers.{IsProofOf}
-use Rattle.retro_search.specs.Refutable.{IsRefutable}
-use Rattle.retro_search.specs.SearchSizes.{IsSmallSearch}
+use Rattle.command_answers.specs.Answers.{IsProofOf}
+use Rattle.command_answers.specs.Refutable.{IsRefutable}
+use Rattle.command_answers.specs.SearchSizes.{IsSmallSearch}
 use Rattle.codex_verdict.specs.Rights.{AreRights, claim_of}
 use Rattle.codex_verdict.specs.declared.kinds.Right.{Right}
 use Rattle.retro_top.specs.Commands.{Call, TakesMemory}

@@ -11,3 +11,6 @@ mod Weighed
 mod Plain
 mod Opened
 pub use Rattle.balance_rule.proofs.Rowed
+pub use Rattle.sketch_grounds.proofs.Freezing
+pub use Rattle.sketch_grounds.proofs.Joining
+pub use Rattle.sketch_grounds.proofs.Refutes

@@ -7,3 +7,11 @@ pub mod Rows
 pub use Rattle.balance_rule.specs.Balance
 pub use Rattle.balance_rule.specs.Costs
 pub use Rattle.men_fates.specs.Ways
+pub use Rattle.sketch_grounds.specs.Closes
+pub use Rattle.sketch_grounds.specs.FrozenSets
+pub use Rattle.sketch_grounds.specs.LeastZones
+pub use Rattle.sketch_grounds.specs.Frozen
+pub use Rattle.sketch_grounds.specs.Zones
+pub use Rattle.sketch_grounds.specs.Account
+pub use Rattle.sketch_grounds.specs.Begun
+pub use Rattle.sketch_grounds.specs.Limits

@@ -16,3 +16,4 @@ mod ways;
 
 pub use accounts::{Scales, closes, forces};
 pub use laws::plain_accounts_balance;
+pub use sketch_grounds::{are_begun, greatest_frozen};

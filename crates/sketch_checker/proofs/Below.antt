@@ -7,8 +7,8 @@ use Rattle.general_lemmas.proofs.Lists.{contains-first, contains-later}
 use Rattle.capture_prices.specs.Prices.{PriceList}
 use Rattle.figures.specs.Figures.{Sketch}
 use Rattle.figures.specs.Homes.{may_be_array}
-use Rattle.sketch_account.specs.Basis.{IsClosedAt}
-use Rattle.sketch_list.specs.Listed.{Earlier, earlier}
+use Rattle.sketch_proof.specs.Basis.{IsClosedAt}
+use Rattle.sketch_proof.specs.Listed.{Earlier, earlier}
 use Rattle.sketch_proof.specs.Nodes.{IsFirstUnknown, IsLeastAbove, IsUnknownOn, IsVoid}
 use Rattle.sketch_proof.proofs.Least.{least-one}
 use Rattle.sketch_walk.specs.Values.{can_step_back}

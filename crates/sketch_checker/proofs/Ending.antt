@@ -2,9 +2,9 @@
 use Rattle.std.proofs.Common.{◌≡◌, ℕ, ◌+◌, ◌≤◌, false, List, [], ◌∷◌, ◌++◌, append-nil, length, map, refl, ap, sym, ◌∙◌, subst, arith}
 use Rattle.figures.specs.Figures.{Sketch}
 use Rattle.figures.specs.Homes.{may_be_array}
-use Rattle.sketch_list.specs.Listed.{Earlier, earlier}
+use Rattle.sketch_proof.specs.Listed.{Earlier, earlier}
 use Rattle.sketch_proof.specs.Nodes.{IsFirstUnknown, IsLeastAbove, IsVoid}
-use Rattle.sketch_account.specs.Basis.{IsClosedAt}
+use Rattle.sketch_proof.specs.Basis.{IsClosedAt}
 use Rattle.sketch_text.specs.Marks.{Marks}
 use Rattle.sketch_text.specs.declared.labels.Officer.TheVariants.{Knight}
 use Rattle.sketch_text.specs.declared.nodes.End.{End}

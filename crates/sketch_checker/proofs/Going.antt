@@ -22,9 +22,9 @@ use Rattle.figures.specs.Trimmed.{trimmed, trimmed_figure, trims}
 use Rattle.sketch_sets.specs.Leasts.{AreLike, IsClosedAbove}
 use Rattle.sketch_sets.specs.TrimmedOut.{trimmed_out}
 use Rattle.sketch_steps.specs.Places.{has_low_place, is_lower, placed_in, recounted}
-use Rattle.sketch_list.specs.Listed.{Earlier, Listed, earlier, figures_before, is_open, is_short, is_sound, may_be_above, may_take, sketch_before, step_for, steps_by, victims_as, ways_to}
-use Rattle.sketch_list.specs.declared.steps.Victim.{Victim}
-use Rattle.sketch_list.specs.declared.steps.Victim.TheVariants.{Nobody, TakenPawn, TakenBishop, TakenOther, PassedPawn}
+use Rattle.sketch_proof.specs.Listed.{Earlier, Listed, earlier, figures_before, is_open, is_short, is_sound, may_be_above, may_take, sketch_before, step_for, steps_by, victims_as, ways_to}
+use Rattle.sketch_proof.specs.Victim.{Victim}
+use Rattle.sketch_proof.specs.Victim.TheVariants.{Nobody, TakenPawn, TakenBishop, TakenOther, PassedPawn}
 use Rattle.sketch_proof.specs.Nodes.{marked_with}
 use Rattle.sketch_walk.specs.Values.{can_step_back}
 use Rattle.sketch_checker.specs.Able.{HasRoom, IsAble}

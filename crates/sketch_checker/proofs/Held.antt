@@ -5,8 +5,8 @@ use Rattle.general_lemmas.proofs.Lists.{contains-first, contains-later}
 use Rattle.board_base.specs.declared.men.Kind.TheVariants as kind
 use Rattle.figures.specs.Clashes.{is_nowhere}
 use Rattle.figures.specs.Figures.{Sketch}
-use Rattle.sketch_account.specs.Basis.{IsClosedAt}
-use Rattle.sketch_list.specs.Listed.{Earlier, earlier}
+use Rattle.sketch_proof.specs.Basis.{IsClosedAt}
+use Rattle.sketch_proof.specs.Listed.{Earlier, earlier}
 use Rattle.sketch_proof.specs.Nodes.{IsVoid, marked_with}
 use Rattle.sketch_text.specs.Marks.{Marks}
 use Rattle.sketch_text.specs.Trees.{Node, Nodes, Reason, closed, more, node, none, split, steps, void}

@@ -2,7 +2,7 @@
 use Rattle.std.proofs.Common.{◌≡◌, ℕ, zero, suc, ◌+◌, ◌-◌, inl, inr, List, [], ◌∷◌, ◌++◌, append_assoc, append-nil, length, map, refl, ap, sym, ◌∙◌, subst, arith}
 use Rattle.std.specs.Prelude.{Some, None}
 use Rattle.figures.specs.Figures.{Sketch}
-use Rattle.sketch_list.specs.Listed.{earlier}
+use Rattle.sketch_proof.specs.Listed.{earlier}
 use Rattle.sketch_proof.specs.Nodes.{marked_with}
 use Rattle.sketch_text.specs.Marks.{Marks}
 use Rattle.sketch_text.specs.declared.labels.Officer.TheVariants as officer

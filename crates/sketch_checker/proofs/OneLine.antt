@@ -2,8 +2,8 @@
 use Rattle.std.proofs.Common.{◌≡◌, ℕ, zero, suc, ◌+◌, ◌-◌, inl, inr, List, [], ◌∷◌, map, ap, sym, ◌∙◌, subst}
 use Rattle.std.specs.Prelude.{Option, Some, None}
 use Rattle.figures.specs.Figures.{Sketch}
-use Rattle.sketch_account.specs.Basis.{IsClosedAt}
-use Rattle.sketch_list.specs.Listed.{earlier}
+use Rattle.sketch_proof.specs.Basis.{IsClosedAt}
+use Rattle.sketch_proof.specs.Listed.{earlier}
 use Rattle.sketch_proof.specs.Nodes.{IsVoid, marked_with}
 use Rattle.sketch_text.specs.Trees.{Line, of_marks, of_node}
 use Rattle.sketch_text.specs.declared.labels.Officer.TheVariants.{Knight}

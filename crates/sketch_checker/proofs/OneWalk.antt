@@ -1,8 +1,8 @@
 -- The walk over a tree comes to one thing.
 use Rattle.std.proofs.Common.{◌≡◌, ℕ, ◌+◌, inl, inr, List, [], ◌∷◌, map, sym, ◌∙◌, subst}
 use Rattle.figures.specs.Figures.{Sketch}
-use Rattle.sketch_account.specs.Basis.{IsClosedAt}
-use Rattle.sketch_list.specs.Listed.{earlier}
+use Rattle.sketch_proof.specs.Basis.{IsClosedAt}
+use Rattle.sketch_proof.specs.Listed.{earlier}
 use Rattle.sketch_proof.specs.Nodes.{IsVoid, marked_with}
 use Rattle.sketch_proof.proofs.Least.{least-one}
 use Rattle.sketch_text.specs.Marks.{Marks}

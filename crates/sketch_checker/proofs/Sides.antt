@@ -7,7 +7,7 @@ use Rattle.std.specs.List.{list_all, range_with_len}
 use Rattle.board_base.specs.Board.{array_of, at, is_of, men_squares, same_colour}
 use Rattle.board_base.specs.declared.men.Colour.{Colour}
 use Rattle.board_base.specs.declared.men.Colour.TheVariants.{White, Black}
-use Rattle.sketch_account.proofs.Rowed.{begun-few}
+use Rattle.sketch_proof.proofs.Rowed.{begun-few}
 use Rattle.figures.specs.Clashes.{is_crowded}
 use Rattle.figures.specs.Figures.{Figure, Sketch, each_changed}
 use Rattle.sketch_steps.specs.Places.{has_low_place}

@@ -18,15 +18,15 @@ use Rattle.cage_rules.proofs.Tested.{all_board, at_board, member-inside}
 use Rattle.figures.specs.Clashes.{is_nowhere}
 use Rattle.figures.specs.Figures.{Figure, Sketch, figure_at, is_fixed_on, may_be}
 use Rattle.figures.specs.Homes.{may_be_array}
-use Rattle.sketch_list.specs.Account.{CostTooMuch, Counted, against, by_marks}
-use Rattle.sketch_list.specs.Frozen.{AreBegun, IsBegun}
-use Rattle.sketch_list.specs.Zones.{room_past}
-use Rattle.sketch_account.specs.Basis.{AreFew, Basis, IsAbove, IsClosedAt, basis_of}
+use Rattle.sketch_proof.specs.Account.{CostTooMuch, Counted, against, by_marks}
+use Rattle.sketch_proof.specs.Frozen.{AreBegun, IsBegun}
+use Rattle.sketch_proof.specs.Zones.{room_past}
+use Rattle.sketch_proof.specs.Basis.{AreFew, Basis, IsAbove, IsClosedAt, basis_of}
 use Rattle.sketch_proof.specs.Begun.{begins_on, is_begun}
 use Rattle.sketch_proof.specs.FrozenSets.{greatest_frozen}
 use Rattle.sketch_proof.specs.Trees.{is_heavy}
 use Rattle.sketch_proof.specs.Nodes.{IsFirstUnknown, IsMarkable, IsMarkableOn, IsUnknownOn, IsVoid, marked_with}
-use Rattle.sketch_list.specs.Listed.{earlier}
+use Rattle.sketch_proof.specs.Listed.{earlier}
 use Rattle.sketch_text.specs.Marks.{Marks}
 use Rattle.sketch_text.specs.Trees.{Line, of_marks, of_node}
 use Rattle.sketch_text.specs.declared.labels.Officer.TheVariants.{Knight}

@@ -7,7 +7,7 @@ use Rattle.query_base.specs.Reach.{Reaches}
 use Rattle.cage_rules.proofs.Histories.{reaches-leads}
 use Rattle.figures.specs.Figures.{sketch_of}
 use Rattle.figures.proofs.Queries.{query-fits}
-use Rattle.sketch_list.proofs.Refutes.{no-game}
+use Rattle.sketch_proof.proofs.Refutes.{no-game}
 use Rattle.sketch_proof.proofs.Refuting.{tree-refutes}
 use Rattle.sketch_text.specs.Trees.{Line, Node}
 use Rattle.sketch_text.specs.declared.labels.Label.TheVariants.{Now}

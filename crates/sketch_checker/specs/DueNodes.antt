@@ -4,7 +4,7 @@ use Rattle.board_base.specs.declared.men.Kind.{Kind}
 use Rattle.board_base.specs.declared.men.Kind.TheVariants as kind
 use Rattle.figures.specs.Figures.{Sketch}
 use Rattle.figures.specs.Known.{known_at}
-use Rattle.sketch_list.specs.Listed.{Earlier}
+use Rattle.sketch_proof.specs.Listed.{Earlier}
 use Rattle.sketch_text.specs.declared.labels.Label.{Label}
 use Rattle.sketch_text.specs.declared.labels.Label.TheVariants.{Now, Case}
 use Rattle.sketch_text.specs.declared.labels.Officer.{Officer}

@@ -12,3 +12,5 @@ pub mod Steering
 pub use Rattle.sketch_proof.specs.Proofs
 pub use Rattle.sketch_body.specs.Seen
 pub use Rattle.sketch_body.specs.declared.lines.SketchLine
+pub use Rattle.sketch_proof.specs.Nodes
+pub use Rattle.sketch_proof.specs.Listed

@@ -1,8 +1,8 @@
 -- The walk over lines that come one after another, with a frame for each node below which some may be due.
 use Rattle.std.specs.Prelude.{ℕ, zero, suc, ◌≡◌, ◌+◌, ◌-◌, ◌⊎◌, Bool, true, List, [], ◌∷◌, map, Option, Some, None, Result, Ok, Err}
 use Rattle.figures.specs.Figures.{Sketch}
-use Rattle.sketch_account.specs.Basis.{IsClosedAt}
-use Rattle.sketch_list.specs.Listed.{earlier}
+use Rattle.sketch_proof.specs.Basis.{IsClosedAt}
+use Rattle.sketch_proof.specs.Listed.{earlier}
 use Rattle.sketch_proof.specs.Nodes.{IsFirstUnknown, IsUnknownOn, IsVoid, marked_with}
 use Rattle.sketch_text.specs.Trees.{Line, of_marks, of_node}
 use Rattle.sketch_text.specs.declared.labels.Officer.TheVariants.{Knight}

@@ -4,8 +4,8 @@ use Rattle.std.specs.List.{list_any}
 use Rattle.figures.specs.Clashes.{is_nowhere}
 use Rattle.figures.specs.Figures.{Sketch}
 use Rattle.figures.specs.Homes.{may_be_array}
-use Rattle.sketch_account.specs.Basis.{IsClosedAt}
-use Rattle.sketch_list.specs.Listed.{earlier}
+use Rattle.sketch_proof.specs.Basis.{IsClosedAt}
+use Rattle.sketch_proof.specs.Listed.{earlier}
 use Rattle.sketch_proof.specs.Nodes.{IsFirstUnknown, IsLeastAbove, IsUnknownOn, IsVoid, marked_with}
 use Rattle.sketch_text.specs.Marks.{Marks}
 use Rattle.sketch_text.specs.Trees.{Node, Nodes, Reason, closed, more, node, none, split, steps, void}

@@ -6,10 +6,9 @@ ghost use Rattle.sketch_checker.specs.Dues.{IsFirstOf, due_by};
 use board_base::Kind;
 use figures::Sketch;
 use play_rules::is_end;
-use sketch_list::Victim as WhoFell;
 use sketch_proof::known_at;
 use sketch_text::{Label, Officer, StepLabel, Taken, Victim, Way};
-use sketch_walk::{Listed, StepsBack};
+use sketch_walk::{Listed, StepsBack, Victim as WhoFell};
 use std::marker::Model;
 
 /// A node that is due: its label, and the sketch to which no game may come.

@@ -1,5 +1,5 @@
 ghost use Rattle.std.specs.Prelude.{◌↔◌, ◌<◌, Bool, IfErr, IfOk, IsTrue, List, None, OnErr, OnOk, Some, length};
-ghost use Rattle.sketch_account.specs.Basis.{IsClosedAt};
+ghost use Rattle.sketch_proof.specs.Basis.{IsClosedAt};
 ghost use Rattle.sketch_text.specs.Trees.{Line as ALine};
 ghost use Rattle.sketch_proof.specs.Proofs.{AtLine, Setting as ASetting};
 ghost use Rattle.sketch_checker.specs.Able.{IsAble};
@@ -14,8 +14,7 @@ use crate::frames::{Frame, Frames, go_below, settle};
 use crate::settings::SketchSetting;
 use board_base::Square;
 use figures::Sketch;
-use sketch_account::closes;
-use sketch_proof::{before_steps, first_unknown, is_void};
+use sketch_proof::{before_steps, closes, first_unknown, is_void};
 use sketch_text::{End, Officer};
 use sketch_walk::StepsBack;
 

@@ -17,4 +17,5 @@ pub use accounts::SideAccount;
 pub use deeds::Deeds;
 pub use fees::Fees;
 pub use rows::{Row, Rows, rows_of};
+pub use sketch_grounds::{Zones, are_begun, greatest_frozen, zones_of};
 pub use terrains::{SideTerrain, Terrain};

@@ -8,8 +8,8 @@ use Rattle.sketch_body.specs.Bodies.{Body, units_of}
 use Rattle.sketch_body.specs.Whole.{is_body}
 use Rattle.cert_checker.specs.Sketches.{files_of}
 use Rattle.sketch_body.specs.Seen.{line_of}
-use Rattle.sketch_found.specs.Plain.{IsOneNode, IsPlainNode, no_files}
-use Rattle.sketch_found.specs.declared.found.FoundSketch.{FoundSketch}
+use Rattle.sketch_search.specs.Plain.{IsOneNode, IsPlainNode, no_files}
+use Rattle.sketch_search.specs.FoundSketch.{FoundSketch}
 use Rattle.sketch_findings.specs.Bodies.{IsGatheredFrom, IsPlainBody, one_body}
 
 one-of : (b : Body) (f : FoundSketch) (end : End) → IsOneNode end f → b.files ≡ [] → IsGatheredFrom b f → b ≡ one_body end

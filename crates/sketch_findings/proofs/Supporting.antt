@@ -8,10 +8,10 @@ use Rattle.sketch_text.specs.declared.labels.Label.TheVariants.{Now}
 use Rattle.sketch_body.specs.Bodies.{Body}
 use Rattle.cert_checker.proofs.SketchWalked.{prices-known}
 use Rattle.cert_checker.specs.Sketches.{IsSketchOf, files_of}
-use Rattle.sketch_found.specs.Found.{IsProofOf}
-use Rattle.sketch_found.specs.Proofs.{Holds}
-use Rattle.sketch_found.specs.Roots.{IsRoot}
-use Rattle.sketch_found.specs.declared.found.FoundSketch.{FoundSketch}
+use Rattle.sketch_search.specs.Found.{IsProofOf}
+use Rattle.sketch_search.specs.Proofs.{Holds}
+use Rattle.sketch_search.specs.Roots.{IsRoot}
+use Rattle.sketch_search.specs.FoundSketch.{FoundSketch}
 use Rattle.sketch_findings.specs.Bodies.{IsBodyOf}
 
 pub supporting : (b : Body) (q : Asked) (f : FoundSketch) → IsBodyOf b f → IsProofOf q f → IsRoot q.odds q.board → IsSketchOf b q

@@ -12,8 +12,8 @@ use Rattle.cert_text.specs.Tree.{sketch}
 use Rattle.general_lemmas.proofs.Lists.{contains-none}
 use Rattle.cert_checker.proofs.Sound.{sound}
 use Rattle.cert_checker.specs.Sketches.{IsSketchOf}
-use Rattle.sketch_found.specs.Plain.{no_files}
-use Rattle.sketch_found.specs.Proofs.{HoldEach, Holds, Setting}
+use Rattle.sketch_search.specs.Plain.{no_files}
+use Rattle.sketch_search.specs.Proofs.{HoldEach, Holds, Setting}
 use Rattle.sketch_findings.specs.Bodies.{one_body}
 use Rattle.sketch_findings.specs.Plain.{HasPlainSketch}
 

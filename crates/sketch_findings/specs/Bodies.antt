@@ -8,7 +8,7 @@ use Rattle.sketch_text.specs.Trees.{of_node}
 use Rattle.sketch_body.specs.Bodies.{Body}
 use Rattle.sketch_body.specs.Whole.{is_body}
 use Rattle.sketch_body.specs.Seen.{line_of}
-use Rattle.sketch_found.specs.declared.found.FoundSketch.{FoundSketch}
+use Rattle.sketch_search.specs.FoundSketch.{FoundSketch}
 use Rattle.cert_checker.specs.Sketches.{files_of}
 
 -- the body of one node with this end

@@ -1,7 +1,7 @@
 ghost use Rattle.std.specs.Prelude.{◌≡◌, ◌↔◌, [], IfOk, IfSome, IsTrue, MatchOption, Some, map, true};
 ghost use Rattle.sketch_body.specs.Seen.{line_of};
 ghost use Rattle.sketch_body.specs.Whole.{is_body};
-ghost use Rattle.sketch_found.specs.Plain.{IsPlainNode};
+ghost use Rattle.sketch_search.specs.Plain.{IsPlainNode};
 ghost use Rattle.cert_checker.specs.Sketches.{files_of};
 ghost use Rattle.sketch_findings.specs.Bodies.{IsBodyOf, IsGatheredFrom, IsPlainBody};
 
@@ -9,7 +9,7 @@ use crate::files::{exact_files, head_with};
 use board_base::Memory;
 use capture_prices::Prices;
 use sketch_body::{SketchBody, SketchItem, SketchLine};
-use sketch_found::FoundSketch;
+use sketch_search::FoundSketch;
 use sketch_text::{MarkLine, SketchHead};
 use std::alloc::Global;
 

@@ -1,7 +1,7 @@
 ghost use Rattle.std.specs.Prelude.{◌≡◌, ◌==◌, [], MatchOption};
 ghost use Rattle.std.specs.List.{list_any};
 ghost use Rattle.cert_checker.specs.Sketches.{files_of};
-ghost use Rattle.sketch_found.specs.Plain.{no_files};
+ghost use Rattle.sketch_search.specs.Plain.{no_files};
 
 use arrayvec::ArrayVec;
 use sketch_text::SketchHead;

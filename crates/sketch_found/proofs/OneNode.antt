@@ -6,8 +6,8 @@ use Rattle.std.proofs.lemmas.Bool.{le-leb}
 use Rattle.board_base.specs.Rights.{Rights}
 use Rattle.query_base.specs.Asked.{Asked}
 use Rattle.past_sketches.specs.Figures.{Sketch, sketch_of}
-use Rattle.sketch_node.specs.Listed.{Earlier, earlier}
-use Rattle.sketch_node.specs.Nodes.{IsLeastAbove, IsVoid}
+use Rattle.sketch_checker.specs.Listed.{Earlier, earlier}
+use Rattle.sketch_checker.specs.Nodes.{IsLeastAbove, IsVoid}
 use Rattle.sketch_text.specs.declared.labels.Label.TheVariants.{Now}
 use Rattle.sketch_text.specs.declared.nodes.End.{End}
 use Rattle.sketch_text.specs.declared.nodes.End.TheVariants.{Void, Closed, Steps, Split}

@@ -3,7 +3,7 @@
 use Rattle.std.specs.Prelude.{zero, suc, Bool, List}
 use Rattle.board_base.specs.Rights.{Rights}
 use Rattle.past_sketches.specs.Figures.{Sketch}
-use Rattle.sketch_node.specs.Nodes.{IsVoid}
+use Rattle.sketch_checker.specs.Nodes.{IsVoid}
 use Rattle.sketch_text.specs.declared.nodes.End.{End}
 use Rattle.sketch_text.specs.declared.nodes.End.TheVariants.{Void, Closed, Steps, Split}
 use Rattle.sketch_found.specs.Plain.{IsStepless}

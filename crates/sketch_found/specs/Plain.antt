@@ -2,9 +2,9 @@
 use Rattle.std.specs.Prelude.{◌≡◌, ◌⊎◌, Bool, false, List, [], ◌∷◌}
 use Rattle.board_base.specs.Rights.{Rights}
 use Rattle.past_sketches.specs.Figures.{Sketch}
-use Rattle.sketch_node.specs.Homes.{may_be_array}
-use Rattle.sketch_node.specs.Listed.{earlier}
-use Rattle.sketch_node.specs.Nodes.{IsLeastAbove, IsVoid}
+use Rattle.past_sketches.specs.Homes.{may_be_array}
+use Rattle.sketch_checker.specs.Listed.{earlier}
+use Rattle.sketch_checker.specs.Nodes.{IsLeastAbove, IsVoid}
 use Rattle.sketch_text.specs.declared.labels.Label.TheVariants.{Now}
 use Rattle.sketch_text.specs.declared.nodes.End.{End}
 use Rattle.sketch_text.specs.declared.nodes.End.TheVariants.{Void, Steps}

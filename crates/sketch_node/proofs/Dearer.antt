@@ -14,9 +14,9 @@ use Rattle.capture_prices.specs.Prices.{PriceList}
 use Rattle.sketch_account.specs.Ways.{is_straight}
 use Rattle.sketch_account.specs.Balance.{men_on}
 use Rattle.sketch_account.specs.Costs.{least, never, way_cost, ways_from}
-use Rattle.sketch_grounds.specs.Account.{Counted, figure_comes, figure_row, figure_table, figures_cost, is_figure_of, lost_row}
-use Rattle.sketch_grounds.specs.Limits.{Limit, allows, brings_in, comes, comes_as, may_come_by, pawn_comes, piece_comes}
-use Rattle.sketch_grounds.specs.Zones.{Room}
+use Rattle.sketch_account.specs.Account.{Counted, figure_comes, figure_row, figure_table, figures_cost, is_figure_of, lost_row}
+use Rattle.sketch_account.specs.Limits.{Limit, allows, brings_in, comes, comes_as, may_come_by, pawn_comes, piece_comes}
+use Rattle.sketch_account.specs.Zones.{Room}
 
 cond-le : (b : Bool) (m n r s : ℕ) → m ≤ n → r ≤ s → cond b m r ≤ cond b n s
 cond-le true m n r s h k = h

@@ -12,16 +12,16 @@ use Rattle.board_base.specs.declared.men.Kind.{Kind}
 use Rattle.board_base.specs.declared.men.Kind.TheVariants.{Pawn, Knight, Bishop, Rook, Queen, King}
 use Rattle.play_rules.specs.Reach.{IsWithin}
 use Rattle.play_rules.proofs.Skipped.{same-file}
-use Rattle.sketch_grounds.specs.CageRulesFrozen.{is_entry, is_past_home, is_plain_entry}
-use Rattle.sketch_grounds.specs.Sets.{squares_that}
+use Rattle.figures.specs.Frozen.{is_entry, is_past_home, is_plain_entry}
+use Rattle.figures.specs.Sets.{squares_that}
 use Rattle.sketch_account.specs.Ways.{is_pawn_step}
 use Rattle.figures.specs.Figures.{Figure, Sketch, each_changed, figure_at, fixed_squares, is_fixed_on}
 use Rattle.figures.specs.Known.{marked_at}
-use Rattle.sketch_grounds.specs.Account.{Counted, against, counted_by, mark_limit}
-use Rattle.sketch_grounds.specs.Closes.{Forces}
-use Rattle.sketch_grounds.specs.Frozen.{IsFrozenIn, enters_as, figure_enters}
-use Rattle.sketch_grounds.specs.Limits.{Limit, any, other, plain}
-use Rattle.sketch_grounds.specs.Zones.{AreZones, IsZone, Room, goes_on, may_hold, room_past}
+use Rattle.sketch_account.specs.Account.{Counted, against, counted_by, mark_limit}
+use Rattle.sketch_account.specs.Closes.{Forces}
+use Rattle.sketch_account.specs.Frozen.{IsFrozenIn, enters_as, figure_enters}
+use Rattle.sketch_account.specs.Limits.{Limit, any, other, plain}
+use Rattle.sketch_account.specs.Zones.{AreZones, IsZone, Room, goes_on, may_hold, room_past}
 use Rattle.sketch_rule.proofs.Narrowed.{changed-there}
 use Rattle.sketch_node.proofs.Dearer.{IsLooser, IsTighter, side-le}
 

@@ -4,7 +4,7 @@ use Rattle.std.specs.List.{Contains, list_any}
 use Rattle.general_lemmas.proofs.Lists.{contains-first, contains-later}
 use Rattle.board_base.specs.Board.{is_in}
 use Rattle.board_base.specs.Rights.{Rights}
-use Rattle.sketch_grounds.proofs.SetAlgebra.{same-set}
+use Rattle.figures.proofs.SetAlgebra.{same-set}
 use Rattle.figures.specs.Clashes.{is_nowhere}
 use Rattle.figures.specs.Figures.{AreWider, Figure, Sketch}
 use Rattle.sketch_sets.specs.Leasts.{AreLike, IsLike}

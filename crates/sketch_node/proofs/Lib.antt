@@ -6,8 +6,9 @@ pub mod Trees
 pub mod Least
 pub mod Unknown
 pub use Rattle.sketch_rule.proofs.Refuting
-pub use Rattle.sketch_grounds.proofs.Freezing
-pub use Rattle.sketch_grounds.proofs.Joining
-pub use Rattle.sketch_grounds.proofs.Refutes
+pub use Rattle.sketch_account.proofs.Freezing
+pub use Rattle.sketch_account.proofs.Joining
+pub use Rattle.sketch_account.proofs.Refutes
 pub use Rattle.figures.proofs.Queries
 pub use Rattle.figures.proofs.Sketches
+pub use Rattle.sketch_account.proofs.Rowed

@@ -7,7 +7,7 @@ use Rattle.general_lemmas.proofs.Truth.{same_truth}
 use Rattle.board_base.specs.Rights.{Rights}
 use Rattle.figures.specs.Figures.{Figure, Sketch, each_changed}
 use Rattle.figures.specs.Known.{marked_at}
-use Rattle.sketch_grounds.specs.Closes.{Forces}
+use Rattle.sketch_account.specs.Closes.{Forces}
 use Rattle.sketch_rule.specs.Trees.{marked}
 use Rattle.sketch_node.specs.Nodes.{HasTree, marked_with}
 use Rattle.sketch_node.proofs.Changing.{each-alike, each-same, each-twice}

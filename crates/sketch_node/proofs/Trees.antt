@@ -7,7 +7,7 @@ use Rattle.board_base.specs.declared.men.Kind.TheVariants.{Knight, Rook, Queen}
 use Rattle.figures.specs.Figures.{Sketch}
 use Rattle.figures.specs.Homes.{may_be_array}
 use Rattle.figures.specs.Known.{known_at}
-use Rattle.sketch_grounds.specs.Closes.{Closes}
+use Rattle.sketch_account.specs.Closes.{Closes}
 use Rattle.sketch_rule.specs.Listed.{Earlier, earlier}
 use Rattle.sketch_rule.specs.Trees.{Forest, RefutesEach, closed, more, none, split, stepped}
 use Rattle.sketch_node.specs.Nodes.{HasTree, IsFirstUnknown, IsLeastAbove}

@@ -7,10 +7,10 @@ use Rattle.board_base.specs.declared.men.Kind.TheVariants.{King}
 use Rattle.capture_prices.specs.Prices.{PriceList}
 use Rattle.figures.specs.Clashes.{is_nowhere}
 use Rattle.figures.specs.Figures.{Figure, IsAbove, Sketch, each_changed, figure_at, is_fixed_on, may_be}
-use Rattle.sketch_grounds.specs.Account.{against}
-use Rattle.sketch_grounds.specs.Frozen.{AreBegun}
+use Rattle.sketch_account.specs.Account.{against}
+use Rattle.sketch_account.specs.Frozen.{AreBegun}
 use Rattle.sketch_sets.specs.Leasts.{IsClosedAbove}
-use Rattle.sketch_grounds.specs.FrozenSets.{greatest_frozen}
+use Rattle.sketch_account.specs.FrozenSets.{greatest_frozen}
 use Rattle.sketch_account.specs.Basis.{Basis, IsAbove as CostsTooMuch, basis_of}
 use Rattle.sketch_rule.specs.Trees.{IsUnknown, Refutes, Tree}
 

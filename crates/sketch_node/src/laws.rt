@@ -6,7 +6,7 @@ ghost use Rattle.figures.specs.Clashes.{is_nowhere};
 ghost use Rattle.figures.specs.Figures.{Sketch};
 ghost use Rattle.figures.specs.Homes.{may_be_array};
 ghost use Rattle.figures.specs.Known.{known_at, marked_at};
-ghost use Rattle.sketch_grounds.specs.Closes.{Closes, Forces};
+ghost use Rattle.sketch_account.specs.Closes.{Closes, Forces};
 ghost use Rattle.sketch_rule.specs.Listed.{Earlier, earlier};
 ghost use Rattle.sketch_node.specs.Nodes.{HasTree, IsFirstUnknown, IsLeastAbove, marked_with};
 

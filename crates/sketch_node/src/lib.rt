@@ -13,5 +13,6 @@ mod voids;
 pub use cases::{case_of, first_unknown, known_at};
 pub use laws::nodes_refute;
 pub use marks::marked;
+pub use sketch_account::closes;
 pub use steps::before_steps;
 pub use voids::is_void;

@@ -5,8 +5,7 @@ use arrayvec::ArrayVec;
 use board_base::{CastleSet, Colour, Memory, Odds, SquareSet};
 use figures::Sketch;
 use price_ascent::PriceRow;
-use sketch_costs::{Rows, Terrain, rows_of};
-use sketch_grounds::{Zones, are_begun, greatest_frozen, zones_of};
+use sketch_costs::{Rows, Terrain, Zones, are_begun, greatest_frozen, rows_of, zones_of};
 use std::alloc::Global;
 
 /// The most terrains that are kept.

@@ -1,7 +1,6 @@
 use board_base::{Colour, Memory, SquareSet};
 use price_ascent::PriceRow;
-use sketch_costs::{Fees, Terrain};
-use sketch_grounds::Zones;
+use sketch_costs::{Fees, Terrain, Zones};
 use std::alloc::Global;
 
 /// For how many lines of prices the fees are kept of each terrain.

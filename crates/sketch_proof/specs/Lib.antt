@@ -4,3 +4,9 @@ pub use Rattle.sketch_node.specs.Nodes
 pub use Rattle.sketch_node.specs.Begun
 pub use Rattle.sketch_node.specs.FrozenSets
 pub use Rattle.sketch_node.specs.Trees
+pub use Rattle.sketch_node.specs.Basis
+pub use Rattle.sketch_node.specs.Listed
+pub use Rattle.sketch_node.specs.Victim
+pub use Rattle.sketch_node.specs.Account
+pub use Rattle.sketch_node.specs.Frozen
+pub use Rattle.sketch_node.specs.Zones

@@ -6,4 +6,4 @@
 mod laws;
 
 pub use laws::sketch_proofs_hold;
-pub use sketch_node::{before_steps, first_unknown, is_void, known_at, marked};
+pub use sketch_node::{before_steps, closes, first_unknown, is_void, known_at, marked};

@@ -3,11 +3,10 @@ use board_base::Memory;
 use capture_prices::Prices;
 use figures::Sketch;
 use sketch_found::{FoundSketch, SketchLine};
-use sketch_prices::{Basis, Survey};
 use sketch_text::{End, Label, MarkLine, SketchNode};
 use sketch_trees::{
-    Child, Close, MOST_BELOW, Marking, Search, cases_of, closed_above, steps_of, with_marks,
-    with_marks_of,
+    Basis, Child, Close, MOST_BELOW, Marking, Search, Survey, cases_of, closed_above, steps_of,
+    with_marks, with_marks_of,
 };
 use std::alloc::Global;
 

@@ -6,10 +6,9 @@ ghost use Rattle.sketch_node.specs.Nodes.{IsLeastAbove};
 use board_base::{CastleSet, Kind, Memory, Odds, Square};
 use figures::Sketch;
 use play_rules::is_end;
-use sketch_list::Victim as WhoFell;
 use sketch_node::{before_steps, case_of};
 use sketch_text::{Label, Officer, StepLabel, Taken, Victim, Way};
-use sketch_walk::{Earlier, Listed, StepsBack};
+use sketch_walk::{Earlier, Listed, StepsBack, Victim as WhoFell};
 use std::alloc::Global;
 
 /// What a tree asks of a sketch below it.

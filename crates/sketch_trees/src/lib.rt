@@ -18,4 +18,5 @@ pub use children::{Child, Setting, cases_of, closed_above, steps_of};
 pub use limits::{LARGE, Limits, SMALL};
 pub use marking::{Marking, with_marks, with_marks_of};
 pub use search::{Close, Reason, Search};
+pub use sketch_prices::{Basis, Survey};
 pub use trees::MOST_BELOW;

@@ -14,4 +14,5 @@ mod walking;
 mod ways;
 
 pub use listed::{Earlier, Listed};
+pub use sketch_list::Victim;
 pub use steps_back::{StepsBack, can_step_back};

@@ -8,7 +8,7 @@ use Rattle.query_base.specs.Ancestors.{ancestor}
 use Rattle.unmove_gen.specs.Listed.{unmoves}
 use Rattle.unmove_gen.specs.Predecessor.{predecessor}
 use Rattle.cert_text.specs.Tree.{Tree, Forest, rule, back, expand, sketch, none, more}
-use Rattle.cert_checker.specs.Proving.{Proves, ProvesEach}
+use Rattle.sketch_findings.specs.Proving.{Proves, ProvesEach}
 
 -- each ancestor of the first stands in the second at the same place
 pub record Extends (a b : List Asked) : Type 0 where

@@ -10,7 +10,7 @@ use Rattle.static_rules.specs.Supports.{IsClosed}
 use Rattle.unmove_gen.specs.Listed.{unmoves}
 use Rattle.unmove_gen.specs.Predecessor.{predecessor}
 use Rattle.cert_text.specs.Tree.{Tree, Forest, rule, back, expand, sketch, none, more}
-use Rattle.cert_checker.specs.Proving.{Proves, ProvesEach}
+use Rattle.sketch_findings.specs.Proving.{Proves, ProvesEach}
 use Rattle.query_base.specs.Ancestors.{IsCovered}
 use Rattle.retro_search.specs.Refutable.{IsRefutable, IsShut}
 use Rattle.retro_search.specs.Costs.{IsCost, SumsUpTo}

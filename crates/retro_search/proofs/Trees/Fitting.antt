@@ -21,8 +21,8 @@ use Rattle.query_base.specs.declared.rule_lines.RuleLine.TheVariants.{Kings, Ran
 use Rattle.static_rules.specs.Supports.{Supports}
 use Rattle.cert_text.specs.declared.reasons.Reason.{Reason}
 use Rattle.cert_text.specs.declared.reasons.Reason.TheVariants.{Line, Balance}
-use Rattle.cert_checker.specs.Reasons.{ReasonSupports}
-use Rattle.cert_checker.specs.Proving.{Proves, ProvesEach}
+use Rattle.sketch_findings.specs.Reasons.{ReasonSupports}
+use Rattle.sketch_findings.specs.Proving.{Proves, ProvesEach}
 use Rattle.retro_search.specs.Heights.{height, height_of_all}
 use Rattle.retro_search.specs.Sizes.{nodes_in, nodes_in_all}
 use Rattle.retro_search.specs.SketchTexts.{HasSketchTexts, HaveSketchTexts}

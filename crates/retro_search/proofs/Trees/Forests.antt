@@ -4,7 +4,7 @@ use Rattle.board_base.specs.declared.unmoves.Unmove.{Unmove}
 use Rattle.query_base.specs.Asked.{Asked}
 use Rattle.unmove_gen.specs.Predecessor.{predecessor}
 use Rattle.cert_text.specs.Tree.{Tree, Forest, none, more, with_last}
-use Rattle.cert_checker.specs.Proving.{Proves, ProvesEach}
+use Rattle.sketch_findings.specs.Proving.{Proves, ProvesEach}
 use Rattle.retro_search.specs.Heights.{height, height_of_all}
 use Rattle.retro_search.specs.SketchTexts.{HasSketchTexts, HaveSketchTexts}
 use Rattle.retro_search.specs.RuleLines.{AreByRuleLines, IsByRuleLines}

@@ -7,11 +7,11 @@ use Rattle.query_base.specs.Targets.{Covers}
 use Rattle.query_base.specs.Ancestors.{CoversAt}
 use Rattle.cert_text.specs.declared.reasons.Reason.{Reason}
 use Rattle.cert_text.specs.declared.reasons.Reason.TheVariants.{Line, Balance}
-use Rattle.cert_checker.specs.Reasons.{ReasonSupports}
+use Rattle.sketch_findings.specs.Reasons.{ReasonSupports}
 use Rattle.unmove_gen.specs.Listed.{unmoves}
 use Rattle.cert_text.specs.Tree.{Tree, rule, back, expand}
 use Rattle.cert_text.specs.Seen.{tree_of}
-use Rattle.cert_checker.specs.Proving.{Proves, ProvesEach}
+use Rattle.sketch_findings.specs.Proving.{Proves, ProvesEach}
 use Rattle.retro_search.specs.Refutable.{IsRefutable}
 use Rattle.retro_search.specs.Heights.{height}
 use Rattle.retro_search.specs.LineCounts.{lines_in, lines_of_reason}

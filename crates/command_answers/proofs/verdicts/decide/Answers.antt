@@ -2,8 +2,8 @@ use Rattle.std.proofs.Common.{[], refl, subst}
 use Rattle.query_base.specs.Reach.{Holds}
 use Rattle.query_base.specs.Targets.{target}
 use Rattle.query_base.specs.declared.claims.Claim.{Claim}
-use Rattle.retro_search.specs.Lone.{IsAfforded, IsDear}
-use Rattle.retro_search.specs.Refutable.{IsRefutable}
+use Rattle.claim_search.specs.Lone.{IsAfforded, IsDear}
+use Rattle.claim_search.specs.Refutable.{IsRefutable}
 use Rattle.command_answers.proofs.verdicts.decide.Goals as goal
 
 pub returns : goal.returns

@@ -1,6 +1,6 @@
 use Rattle.std.proofs.Common.{◌≡◌, ◌+◌, ◌-◌, suc, ℕ, List, subst, arith}
 use Rattle.std.proofs.lemmas.Bool.{both_ways}
-use Rattle.retro_search.specs.Outcomes.{HasProof}
+use Rattle.claim_findings.specs.Outcomes.{HasProof}
 use Rattle.diagram_study.specs.Looks.{AreHeights}
 use Rattle.diagram_study.specs.declared.retractions.Looked.{Looked}
 use Rattle.diagram_study.proofs.JoinedTrees.{but_for, joined_proof}

@@ -1,6 +1,6 @@
 use Rattle.std.proofs.Common.{false, refl}
 use Rattle.std.proofs.lemmas.Bool.{both_ways}
-use Rattle.sketch_account.specs.Basis.{IsClosedAt}
+use Rattle.sketch_proof.specs.Basis.{IsClosedAt}
 use Rattle.sketch_checker.proofs.Below.{no-line}
 use Rattle.sketch_checker.proofs.ends.is_closed.Goals as goal
 

@@ -2,7 +2,7 @@ use Rattle.std.proofs.Common.{◌∙◌, inl, sym}
 use Rattle.std.proofs.lemmas.Bool.{both_ways}
 use Rattle.past_sketches.specs.Figures.{sketch_of}
 use Rattle.sketch_checker.specs.Beginning.{CanBegin}
-use Rattle.sketch_node.specs.Nodes.{IsVoid}
+use Rattle.sketch_checker.specs.Nodes.{IsVoid}
 use Rattle.sketch_text.specs.declared.nodes.End.TheVariants.{Void}
 use Rattle.sketch_found.specs.Plain.{IsStepless}
 use Rattle.sketch_found.proofs.OneNode.{found-node, found-then}

@@ -1,6 +1,6 @@
 use Rattle.std.proofs.Common.{◌≡◌, ◌-◌, ℕ, ap, subst, sym, ◌∙◌, arith}
 use Rattle.figures.specs.Figures.{Figure}
-use Rattle.sketch_grounds.specs.Account.{against}
+use Rattle.sketch_account.specs.Account.{against}
 use Rattle.sketch_account.specs.Basis.{IsAbove}
 use Rattle.sketch_node.proofs.marks.is_markable.Goals as goal
 

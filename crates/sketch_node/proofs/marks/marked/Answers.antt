@@ -2,8 +2,8 @@ use Rattle.std.proofs.Common.{◌≡◌, Bool, List, true, ap, subst, sym, ◌�
 use Rattle.std.proofs.lemmas.List.Elements.{All-weaker}
 use Rattle.capture_prices.specs.Prices.{PriceList, are_prices}
 use Rattle.figures.specs.Figures.{Sketch}
-use Rattle.sketch_grounds.specs.Account.{CostTooMuch, against}
-use Rattle.sketch_grounds.specs.Zones.{room_past}
+use Rattle.sketch_account.specs.Account.{CostTooMuch, against}
+use Rattle.sketch_account.specs.Zones.{room_past}
 use Rattle.sketch_account.specs.Basis.{Basis}
 use Rattle.sketch_node.specs.Nodes.{HasTree, IsMarkableOn}
 use Rattle.sketch_node.proofs.Several.{IsForcedFor, marks-refute}

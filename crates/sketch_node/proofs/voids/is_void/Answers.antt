@@ -1,7 +1,7 @@
 use Rattle.std.proofs.Common.{◌≡◌, Bool, List, sym, subst}
 use Rattle.std.proofs.lemmas.Bool.{both_ways, false_from_ne_true, not-true, not_from_false}
-use Rattle.sketch_grounds.specs.Closes.{foreign}
-use Rattle.sketch_grounds.specs.Frozen.{AreBegun}
+use Rattle.sketch_account.specs.Closes.{foreign}
+use Rattle.sketch_account.specs.Frozen.{AreBegun}
 use Rattle.sketch_node.proofs.voids.is_void.Goals as goal
 
 pub returns-clause-exact : goal.returns-clause-exact
