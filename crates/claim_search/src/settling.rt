@@ -14,8 +14,11 @@ use std::alloc::Global;
 /// How many queries the first search for a certificate visits at most.
 const FIRST_NODES: u32 = 2_000;
 
-/// How many small searches for a sketch may find nothing.
+/// How many small searches for a sketch may find nothing, if there are nodes for them.
 const SMALL_FAILURES: u32 = 100;
+
+/// How many nodes each of these is worth.
+const NODES_A_FAILURE: u32 = 20;
 
 /// How many large ones may.
 const LARGE_FAILURES: u32 = 10;
@@ -30,6 +33,13 @@ fn with_few_nodes(limits: Limits) -> Limits
         depth: limits.depth,
         nodes: limits.nodes.min(FIRST_NODES),
     }
+}
+
+/// How many small searches for a sketch may find nothing within these limits.
+fn small_failures(limits: Limits) -> u32
+    ensures { 1 ≤ result }
+{
+    (limits.nodes / NODES_A_FAILURE + 1).min(SMALL_FAILURES)
 }
 
 /// What a search for a certificate by all reasons comes to.
@@ -178,7 +188,8 @@ fn is_decided(found: &Found) -> bool
     matches!(found, Found::Proved(_) | Found::Countered(_))
 }
 
-/// What the searches behind the search for a game that looks at few queries come to: one with large sketches, then the long ones.
+/// What the searches behind the search for a game that looks at few queries come to: one with large sketches, if there are more nodes than
+/// that search looks at, then the long ones.
 fn search_large(
     alloc: Global,
     searcher: &mut Searcher,
@@ -192,6 +203,9 @@ fn search_large(
     ensures settlement { IfOk result (IsSettlement limits.depth limits.nodes claim.now query.now) }
     ensures counterable { IfOk result (λ found. IsCounterable limits.depth limits.nodes claim.now query.now → IsCountered found) }
 {
+    if limits.nodes <= FEW_QUERIES {
+        return search_long(alloc, searcher, query, claim, limits);
+    }
     match seek(searcher, query, claim, limits, LARGE, LARGE_FAILURES)? {
         Some(found) => Ok(found),
         None => search_long(alloc, searcher, query, claim, limits),
@@ -233,7 +247,8 @@ fn search_small(
     ensures counterable { IfOk result (λ found. IsCounterable limits.depth limits.nodes claim.now query.now → IsCountered found) }
     ensures sketched { IfOk result (λ found. HasPlainSketch (target query.now claim.now) → IsProved found) }
 {
-    match seek(searcher, query, claim, limits, SMALL, SMALL_FAILURES)? {
+    let failures = small_failures(limits);
+    match seek(searcher, query, claim, limits, SMALL, failures)? {
         Some(found) => Ok(found),
         None => search_on(alloc, searcher, query, claim, limits),
     }
@@ -242,9 +257,10 @@ fn search_small(
 /// Searches for what decides the claim about the query: a certificate, by taking moves back from the claim's target, at most as many as
 /// the depth; or a game that contradicts it. First comes a search for a certificate that visits few queries, then the same with small
 /// searches for sketches at the queries that it leaves open, then a search for a game that looks at few queries, then a search for a
-/// certificate with large searches for sketches, then one without sketches that visits as many queries as the nodes; if this leaves the
-/// claim open, the search by rule lines alone that `solve` makes, which may come to a game, and another one for a game. Each search for a
-/// certificate visits at most as many queries as the nodes, and those for games look together at no more. The query bars no move of its own.
+/// certificate with large searches for sketches, if there are more than 4,000 nodes, then one without sketches that visits as many
+/// queries as the nodes; if this leaves the claim open, the search by rule lines alone that `solve` makes, which may come to a game, and
+/// another one for a game. Each search for a certificate visits at most as many queries as the nodes, and those for games look together
+/// at no more. The query bars no move of its own.
 ///
 /// - `Proved` comes wherever rule lines refute the target at some depth up to that of the limits at a cost of at most their nodes, flat
 ///   prices support it, or one node of a sketch refutes it without exact files, prices and marks, and often elsewhere. The certificate is
