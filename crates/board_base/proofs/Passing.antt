@@ -5,7 +5,8 @@ use Rattle.std.proofs.lemmas.Option.{cond_some}
 use Rattle.std.specs.Prelude.{Some, None}
 use Rattle.board_base.specs.Board.{file, rank}
 use Rattle.board_base.specs.Attacks.{distance, files_apart, one_ahead}
-use Rattle.board_base.specs.Play.{double_of, double_step, en_passant_rank, en_passant_victim}
+use Rattle.board_base.specs.Play.{double_of, en_passant_rank, en_passant_victim}
+use Rattle.board_base.specs.Parts.{double_step}
 use Rattle.board_base.specs.declared.men.Colour.{Colour}
 use Rattle.board_base.specs.declared.men.Colour.TheVariants.{White, Black}
 use Rattle.board_base.specs.declared.moves.Move.{Move}

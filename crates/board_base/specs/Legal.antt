@@ -78,14 +78,9 @@ abbrev pub may_castle : Places → Colour → (Castle → Bool) → Castle → B
 may_castle board c rights x =
     same_colour c (side x) && rights x && is_the c King (at board (king_home x)) && is_the c Rook (at board (rook_home x)) && is_open board (king_home x) (rook_home x) && not (attacks board (king_home x) (opponent c)) && not (attacks board (crossed x) (opponent c)) && not (attacks board (king_target x) (opponent c))
 
--- the move is a castling, which c may play
-abbrev pub castles_as : Places → Colour → (Castle → Bool) → Option Castle → Bool
-castles_as board c rights None = false
-castles_as board c rights (Some x) = may_castle board c rights x
-
 -- Article 3.8: the king castles
 unfoldable pub king_castles : Places → Colour → (Castle → Bool) → Move → Bool
-king_castles board c rights m = castles_as board c rights (castling board m)
+king_castles board c rights m = elim (castling board m) [ None ↦ false | Some x ↦ may_castle board c rights x ]
 
 -- Articles 3.2 to 3.8: the man may go so
 unfoldable pub may_go : Places → Colour → (Castle → Bool) → Option Move → Move → Bool

@@ -51,13 +51,13 @@ crossed BlackLong = 59
 abbrev pub all_castles : List Castle
 all_castles = WhiteShort ∷ WhiteLong ∷ BlackShort ∷ BlackLong ∷ []
 
+-- Article 3.8: the castling that the move is on this board: a king goes two squares from e1 or e8 along its rank
+abbrev pub castling : Places → Move → Option Castle
+castling board m = cond (is_a King (at board m.from)) (find (λ x. (king_home x == m.from) && (king_target x == m.to)) all_castles) None
+
 -- the castling whose king goes from here to there
 abbrev pub castling_from : ℕ → ℕ → Option Castle
 castling_from from to = find (λ x. (king_home x == from) && (king_target x == to)) all_castles
-
--- the castling that the move is on this board: a king goes two squares from e1 or e8 along its rank
-abbrev pub castling : Places → Move → Option Castle
-castling board m = cond (is_a King (at board m.from)) (castling_from m.from m.to) None
 
 -- a pawn goes to an empty square on another file
 abbrev pub goes_en_passant : Places → Move → Bool
@@ -85,13 +85,9 @@ moved become m (Some x) en_passant places = carried (λ place. place) (carried (
 moved become m None en_passant places =
     cond en_passant (slice_set (carried become places m.from m.to) (en_passant_victim m) None) (carried become places m.from m.to)
 
--- the board after the move, which is this castling or none
-abbrev pub played_as : Places → Move → Option Castle → Places
-played_as board m castle = moved (promoted m.promo) m castle (goes_en_passant board m) board
-
 -- Articles 3.1, 3.7 and 3.8: the board after the move
 unfoldable pub play : Places → Move → Places
-play board m = played_as board m (castling board m)
+play board m = moved (promoted m.promo) m (castling board m) (goes_en_passant board m) board
 
 -- the square one rank back from s, as this colour sees it
 abbrev pub behind : Colour → ℕ → ℕ
@@ -108,15 +104,11 @@ abbrev pub en_passant_rank : Colour → ℕ
 en_passant_rank White = 4
 en_passant_rank Black = 3
 
--- Article 3.7: the double step over a square by the other side than this colour
-abbrev pub double_over : ℕ → Colour → Move
-double_over s c = record { from = ahead c s; to = behind c s; promo = None }
-
--- the double step over the target of a capture en passant by this colour
-abbrev pub double_step : Move → Colour → Move
-double_step m c = double_over m.to c
-
 -- Article 3.7: the double step that a capture en passant by this colour answers, if the move may be one
 abbrev pub double_of : Move → Colour → Option Move
 double_of m c =
-    cond ((rank m.from == en_passant_rank c) && one_ahead c m.from m.to && (files_apart m.from m.to == 1) && is_none m.promo) (Some (double_step m c)) None
+    cond ((rank m.from == en_passant_rank c) && one_ahead c m.from m.to && (files_apart m.from m.to == 1) && is_none m.promo) (Some (record { from = ahead c m.to; to = behind c m.to; promo = None })) None
+
+-- Article 3.7: the double step over a square by the other side than this colour
+abbrev pub double_over : ℕ → Colour → Move
+double_over s c = record { from = ahead c s; to = behind c s; promo = None }

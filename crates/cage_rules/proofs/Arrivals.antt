@@ -5,8 +5,9 @@ use Rattle.std.proofs.lemmas.Option.{cond_some}
 use Rattle.std.specs.Prelude.{Option, Some, None}
 use Rattle.board_base.specs.Board.{Places, at, is_a, is_empty, is_the, opponent, same_colour, same_kind, rank}
 use Rattle.board_base.specs.Attacks.{attacks_from, files_apart, kind_attacks}
-use Rattle.board_base.specs.Play.{castling, double_of, double_step, promoted}
-use Rattle.board_base.specs.Legal.{promotion_fits, is_officer, last_rank, man_moves, pawn_steps, pawn_doubles, pawn_captures, pawn_captures_en_passant, king_castles, castles_as, is_move}
+use Rattle.board_base.specs.Play.{castling, double_of, promoted}
+use Rattle.board_base.specs.Legal.{promotion_fits, is_officer, last_rank, man_moves, pawn_steps, pawn_doubles, pawn_captures, pawn_captures_en_passant, king_castles, is_move}
+use Rattle.board_base.specs.Parts.{double_step, castles_as}
 use Rattle.board_base.specs.declared.men.Man.{Man}
 use Rattle.board_base.specs.declared.men.Colour.{Colour}
 use Rattle.board_base.specs.declared.men.Kind.{Kind}

@@ -6,7 +6,8 @@ use Rattle.std.specs.Prelude.{Option, Some, None}
 use Rattle.board_base.specs.Board.{Places, at, is_a, same_kind}
 use Rattle.board_base.specs.Attacks.{attacks_from, distance, is_open, kind_attacks, king_distance, on_the_way, toward}
 use Rattle.board_base.specs.Play.{castling, crossed, goes_en_passant, en_passant_victim, king_home, king_target, rook_home}
-use Rattle.board_base.specs.Legal.{castles_as, king_castles, man_moves, pawn_captures, pawn_captures_en_passant, pawn_doubles, pawn_steps}
+use Rattle.board_base.specs.Legal.{king_castles, man_moves, pawn_captures, pawn_captures_en_passant, pawn_doubles, pawn_steps}
+use Rattle.board_base.specs.Parts.{castles_as}
 use Rattle.board_base.specs.declared.men.Man.{Man}
 use Rattle.board_base.specs.declared.men.Colour.{Colour}
 use Rattle.board_base.specs.declared.men.Kind.{Kind}

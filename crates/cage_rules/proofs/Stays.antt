@@ -5,7 +5,8 @@ use Rattle.std.specs.Prelude.{Option, Some, None}
 use Rattle.std.specs.List.{list_all, list_any}
 use Rattle.board_base.specs.Board.{Places, at, is_empty, is_of, is_a, is_the, is_in, same_colour}
 use Rattle.board_base.specs.Attacks.{distance, king_distance}
-use Rattle.board_base.specs.Play.{play, played_as, promoted, castling, goes_en_passant, en_passant_victim, all_castles, king_home, rook_home, king_target, crossed}
+use Rattle.board_base.specs.Play.{play, promoted, castling, goes_en_passant, en_passant_victim, all_castles, king_home, rook_home, king_target, crossed}
+use Rattle.board_base.specs.Parts.{played_as}
 use Rattle.board_base.specs.Game.{touches}
 use Rattle.board_base.specs.Rights.{Rights, holds}
 use Rattle.board_base.specs.Texts.{◌>>=◌}

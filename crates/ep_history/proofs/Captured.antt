@@ -3,7 +3,8 @@ use Rattle.std.proofs.Common.{◌≡◌, ℕ, Bool, true, false, ◌&&◌, not, 
 use Rattle.std.proofs.lemmas.Bool.{and_parts, and_from, cond-true, cond-false, not_from_false, not-true}
 use Rattle.std.specs.Prelude.{Option, Some, None}
 use Rattle.board_base.specs.Board.{Places, at, is_a, is_the, is_empty, opponent}
-use Rattle.board_base.specs.Play.{play, played_as, castling, castling_from, goes_en_passant, en_passant_victim, double_of}
+use Rattle.board_base.specs.Play.{play, castling, castling_from, goes_en_passant, en_passant_victim, double_of}
+use Rattle.board_base.specs.Parts.{played_as}
 use Rattle.board_base.specs.Carry.{carry}
 use Rattle.board_base.specs.Legal.{in_check}
 use Rattle.ep_history.specs.Fits.{stand_after, fits_after, ep_fits}

@@ -7,8 +7,9 @@ use Rattle.std.proofs.lemmas.Option.{same_Some, cond_some}
 use Rattle.std.proofs.lemmas.List.Sums.{sum_by-le-sum_by}
 use Rattle.board_base.specs.Board.{Places, at, is_of, is_a, is_the, same_colour, same_kind, file, rank, opponent}
 use Rattle.board_base.specs.Attacks.{distance, files_apart, one_ahead, kind_attacks, attacks_from}
-use Rattle.board_base.specs.Play.{play, castling, goes_en_passant, king_target, rook_home, crossed, double_of, double_step, en_passant_rank}
-use Rattle.board_base.specs.Legal.{last_rank, is_officer, is_move, promotion_fits, man_moves, pawn_steps, pawn_doubles, pawn_captures, pawn_captures_en_passant, king_castles, castles_as}
+use Rattle.board_base.specs.Play.{play, castling, goes_en_passant, king_target, rook_home, crossed, double_of, en_passant_rank}
+use Rattle.board_base.specs.Legal.{last_rank, is_officer, is_move, promotion_fits, man_moves, pawn_steps, pawn_doubles, pawn_captures, pawn_captures_en_passant, king_castles}
+use Rattle.board_base.specs.Parts.{double_step, castles_as}
 use Rattle.board_base.specs.declared.men.Colour.{Colour}
 use Rattle.board_base.specs.declared.men.Kind.{Kind}
 use Rattle.board_base.specs.declared.men.Kind.TheVariants.{Pawn, Rook, King}

@@ -4,7 +4,8 @@ use Rattle.std.proofs.lemmas.Bool.{and_parts, both_ways, cases_Bool, eqb-true}
 use Rattle.std.specs.Prelude.{Option, Some, None}
 use Rattle.board_base.specs.Board.{Places, array_of, at, is_a, same_kind, file, rank}
 use Rattle.board_base.specs.Play.{castling, rook_home}
-use Rattle.board_base.specs.Legal.{is_officer, promotion_fits, man_moves, pawn_steps, pawn_doubles, pawn_captures, pawn_captures_en_passant, king_castles, castles_as}
+use Rattle.board_base.specs.Legal.{is_officer, promotion_fits, man_moves, pawn_steps, pawn_doubles, pawn_captures, pawn_captures_en_passant, king_castles}
+use Rattle.board_base.specs.Parts.{castles_as}
 use Rattle.board_base.specs.Game.{IsGame, board_after}
 use Rattle.board_base.specs.declared.men.Colour.{Colour}
 use Rattle.board_base.specs.declared.men.Kind.{Kind}

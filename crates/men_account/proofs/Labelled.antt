@@ -7,7 +7,8 @@ use Rattle.std.proofs.lemmas.Option.{same_Some}
 use Rattle.std.specs.Prelude.{Option, Some, None, is_none}
 use Rattle.board_base.proofs.Without.{length-array}
 use Rattle.board_base.specs.Board.{Places, array_of, at, is_empty, is_of, is_a, same_kind}
-use Rattle.board_base.specs.Play.{play, played_as, promoted, moved, castling, goes_en_passant, en_passant_victim}
+use Rattle.board_base.specs.Play.{play, promoted, moved, castling, goes_en_passant, en_passant_victim}
+use Rattle.board_base.specs.Parts.{played_as}
 use Rattle.board_base.specs.Legal.{is_officer, promotion_fits}
 use Rattle.board_base.specs.Game.{IsGame, board_after, turn_after, unmoved, last_move}
 use Rattle.board_base.specs.declared.men.Colour.{Colour}

@@ -5,7 +5,8 @@ use Rattle.std.proofs.lemmas.Option.{cond_some}
 use Rattle.std.specs.Prelude.{Option, Some, None}
 use Rattle.board_base.specs.Board.{Places, at, is_of, is_a, is_the, is_empty, opponent, file, rank}
 use Rattle.board_base.specs.Attacks.{distance, files_apart, ranks_apart, one_ahead}
-use Rattle.board_base.specs.Play.{castling, goes_en_passant, en_passant_victim, double_of, double_step}
+use Rattle.board_base.specs.Play.{castling, goes_en_passant, en_passant_victim, double_of}
+use Rattle.board_base.specs.Parts.{double_step}
 use Rattle.board_base.specs.Legal.{pawn_rank, is_move, man_moves, pawn_steps, pawn_doubles, pawn_captures, pawn_captures_en_passant, king_castles}
 use Rattle.board_base.specs.declared.men.Colour.{Colour}
 use Rattle.board_base.specs.declared.men.Colour.TheVariants.{White, Black}

@@ -7,7 +7,8 @@ use Rattle.std.specs.List.{list_any}
 use Rattle.board_base.specs.Board.{Places, array_of, at, file, is_a, is_empty, is_of, rank, same_kind}
 use Rattle.board_base.specs.Attacks.{attacks_from, kind_attacks}
 use Rattle.board_base.specs.Play.{castling, promoted}
-use Rattle.board_base.specs.Legal.{castles_as, king_castles, last_rank, man_moves, pawn_captures, pawn_captures_en_passant, pawn_doubles, pawn_steps}
+use Rattle.board_base.specs.Legal.{king_castles, last_rank, man_moves, pawn_captures, pawn_captures_en_passant, pawn_doubles, pawn_steps}
+use Rattle.board_base.specs.Parts.{castles_as}
 use Rattle.board_base.specs.Game.{IsGame, board_after, turn_after, last_move, unmoved}
 use Rattle.board_base.specs.declared.men.Colour.{Colour}
 use Rattle.board_base.specs.declared.men.Colour.TheVariants.{White, Black}

@@ -5,7 +5,8 @@ use Rattle.std.proofs.lemmas.List.{append-nil, append_assoc}
 use Rattle.std.specs.Prelude.{Option, Some, None}
 use Rattle.std.specs.List.{list_all, range_with_len}
 use Rattle.board_base.specs.Board.{Places, at, is_a, is_empty, is_in, is_of}
-use Rattle.board_base.specs.Play.{castling, crossed, goes_en_passant, en_passant_victim, king_home, king_target, play, played_as, rook_home}
+use Rattle.board_base.specs.Play.{castling, crossed, goes_en_passant, en_passant_victim, king_home, king_target, play, rook_home}
+use Rattle.board_base.specs.Parts.{played_as}
 use Rattle.board_base.specs.Game.{IsGame, board_after, turn_after, last_move, unmoved}
 use Rattle.board_base.specs.Rights.{Rights}
 use Rattle.board_base.specs.declared.men.Colour.{Colour}

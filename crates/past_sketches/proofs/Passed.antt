@@ -10,7 +10,8 @@ use Rattle.std.proofs.lemmas.Option.{none-some, same_Some}
 use Rattle.std.specs.Prelude.{Option, Some, None}
 use Rattle.board_base.specs.Board.{Places, at, is_a, is_empty, is_of, is_the, opponent, rank, file, same_colour}
 use Rattle.board_base.specs.Attacks.{distance, files_apart, one_ahead, ranks_apart}
-use Rattle.board_base.specs.Play.{ahead, behind, castling, moved, play, promoted, double_step, en_passant_rank, en_passant_victim, goes_en_passant, king_target}
+use Rattle.board_base.specs.Play.{ahead, behind, castling, moved, play, promoted, en_passant_rank, en_passant_victim, goes_en_passant, king_target}
+use Rattle.board_base.specs.Parts.{double_step}
 use Rattle.board_base.specs.Game.{IsGame, board_after, last_move, turn_after, unmoved}
 use Rattle.board_base.specs.Rights.{Rights}
 use Rattle.board_base.specs.declared.men.Colour.{Colour}

@@ -7,7 +7,8 @@ use Rattle.std.specs.Prelude.{Option, Some, None, nat_lt}
 use Rattle.board_base.specs.Board.{Places, at, file, is_a, is_empty, is_in, is_of, is_the, opponent, rank, same_colour, same_kind}
 use Rattle.board_base.specs.Attacks.{attacks, attacks_from, distance, files_apart, kind_attacks, one_ahead, on_the_way}
 use Rattle.board_base.specs.Play.{castling, rook_home}
-use Rattle.board_base.specs.Legal.{castles_as, in_check, king_castles, man_moves, pawn_captures, pawn_captures_en_passant, pawn_doubles, pawn_steps}
+use Rattle.board_base.specs.Legal.{in_check, king_castles, man_moves, pawn_captures, pawn_captures_en_passant, pawn_doubles, pawn_steps}
+use Rattle.board_base.specs.Parts.{castles_as}
 use Rattle.board_base.specs.Game.{board_after, last_move, turn_after, unmoved}
 use Rattle.board_base.specs.Rights.{Rights}
 use Rattle.board_base.specs.declared.men.Colour.{Colour}

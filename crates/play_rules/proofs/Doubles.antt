@@ -7,9 +7,10 @@ use Rattle.std.specs.Prelude.{Option, Some, None}
 use Rattle.std.specs.List.{last_or}
 use Rattle.board_base.specs.Board.{Places, at, is_a, is_the, opponent, file, rank}
 use Rattle.board_base.specs.Attacks.{distance, ranks_apart, one_ahead}
-use Rattle.board_base.specs.Play.{play, played_as, moved, ahead, promoted, castling, goes_en_passant, en_passant_victim, double_of, double_step, king_home}
+use Rattle.board_base.specs.Play.{play, moved, ahead, promoted, castling, goes_en_passant, en_passant_victim, double_of, king_home}
 use Rattle.board_base.specs.Carry.{carry}
-use Rattle.board_base.specs.Legal.{legal_on, promotion_fits, is_officer, last_rank, pawn_rank, man_moves, pawn_steps, pawn_doubles, pawn_captures, pawn_captures_en_passant, king_castles, castles_as, is_move}
+use Rattle.board_base.specs.Legal.{legal_on, promotion_fits, is_officer, last_rank, pawn_rank, man_moves, pawn_steps, pawn_doubles, pawn_captures, pawn_captures_en_passant, king_castles, is_move}
+use Rattle.board_base.specs.Parts.{played_as, double_step, castles_as}
 use Rattle.board_base.specs.declared.men.Man.{Man}
 use Rattle.board_base.specs.declared.men.Colour.{Colour}
 use Rattle.board_base.specs.declared.men.Colour.TheVariants.{White, Black}

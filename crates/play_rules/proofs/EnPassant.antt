@@ -5,7 +5,8 @@ use Rattle.std.proofs.lemmas.Option.{cond_some}
 use Rattle.std.specs.Prelude.{Option, Some, None}
 use Rattle.board_base.specs.Board.{Places, at, is_a, is_the, is_empty, opponent, rank}
 use Rattle.board_base.specs.Attacks.{distance, ranks_apart, one_ahead}
-use Rattle.board_base.specs.Play.{ahead, behind, double_of, double_step, en_passant_rank}
+use Rattle.board_base.specs.Play.{ahead, behind, double_of, en_passant_rank}
+use Rattle.board_base.specs.Parts.{double_step}
 use Rattle.board_base.specs.Legal.{is_move, pawn_captures_en_passant}
 use Rattle.board_base.specs.declared.men.Colour.{Colour}
 use Rattle.board_base.specs.declared.men.Colour.TheVariants.{White, Black}

@@ -7,7 +7,8 @@ use Rattle.std.specs.Prelude.{Option, Some, None}
 use Rattle.std.specs.List.{list_all, range_with_len}
 use Rattle.board_base.specs.Board.{Places, initial_array, array_of, is_in, at, is_of, is_a, is_the, opponent, rank}
 use Rattle.board_base.specs.Attacks.{distance, ranks_apart, one_ahead}
-use Rattle.board_base.specs.Play.{play, played_as, promoted, castling, goes_en_passant, en_passant_victim, double_of, double_step, king_home, rook_home, crossed}
+use Rattle.board_base.specs.Play.{play, promoted, castling, goes_en_passant, en_passant_victim, double_of, king_home, rook_home, crossed}
+use Rattle.board_base.specs.Parts.{played_as, double_step}
 use Rattle.board_base.specs.Carry.{carry}
 use Rattle.board_base.specs.Legal.{promotion_fits, is_officer, last_rank, pawn_rank, man_moves, pawn_steps, pawn_doubles, pawn_captures, pawn_captures_en_passant, king_castles, is_move}
 use Rattle.board_base.specs.Game.{IsGame, board_after}

@@ -9,9 +9,10 @@ use Rattle.std.specs.List.{count_by, find, list_all, range_with_len}
 use Rattle.general_lemmas.proofs.Ranges.{all_in_range}
 use Rattle.board_base.proofs.Without.{length-array, count-without}
 use Rattle.board_base.specs.Board.{Places, initial_array, array_of, AreOdds, is_in, may_lack, at, is_of, is_a, is_the, is_empty, opponent, file}
-use Rattle.board_base.specs.Play.{play, played_as, promoted, castling, castling_from, all_castles, goes_en_passant, en_passant_victim, double_of, king_home, king_target, rook_home, crossed}
+use Rattle.board_base.specs.Play.{play, promoted, castling, castling_from, all_castles, goes_en_passant, en_passant_victim, double_of, king_home, king_target, rook_home, crossed}
 use Rattle.board_base.specs.Carry.{carry}
-use Rattle.board_base.specs.Legal.{promotion_fits, is_officer, is_move, man_moves, pawn_steps, pawn_doubles, pawn_captures, pawn_captures_en_passant, king_castles, castles_as, may_castle}
+use Rattle.board_base.specs.Legal.{promotion_fits, is_officer, is_move, man_moves, pawn_steps, pawn_doubles, pawn_captures, pawn_captures_en_passant, king_castles, may_castle}
+use Rattle.board_base.specs.Parts.{played_as, castles_as}
 use Rattle.board_base.specs.Attacks.{kind_attacks, attacks_from, king_distance}
 use Rattle.play_rules.proofs.Legality.{Manner, moves, steps, doubles, takes, passes, castles, Legality, legality}
 use Rattle.board_base.specs.declared.men.Colour.TheVariants.{White, Black}

@@ -5,7 +5,8 @@ use Rattle.std.proofs.lemmas.List.{get_or-set_same, get_or-set_other}
 use Rattle.std.proofs.lemmas.Option.{same_Some}
 use Rattle.std.specs.Prelude.{Option, Some, None}
 use Rattle.board_base.specs.Board.{Places, at, is_of}
-use Rattle.board_base.specs.Play.{play, played_as, castling, goes_en_passant, en_passant_victim, rook_home, crossed, promoted}
+use Rattle.board_base.specs.Play.{play, castling, goes_en_passant, en_passant_victim, rook_home, crossed, promoted}
+use Rattle.board_base.specs.Parts.{played_as}
 use Rattle.board_base.specs.Carry.{carry}
 use Rattle.board_base.specs.Game.{IsGame, board_after, last_move}
 use Rattle.board_base.specs.declared.men.Colour.{Colour}

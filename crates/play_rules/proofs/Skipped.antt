@@ -7,8 +7,9 @@ use Rattle.std.specs.Prelude.{Option, Some, None}
 use Rattle.std.specs.List.{filter, flat_map, range_with_len}
 use Rattle.board_base.specs.Board.{Places, at, is_in, is_of, is_a, is_the, same_kind, same_colour, opponent, file, rank}
 use Rattle.board_base.specs.Attacks.{distance, ranks_apart, files_apart, one_ahead, king_distance, kind_attacks, attacks_from}
-use Rattle.board_base.specs.Play.{castling, double_of, double_step, king_home, king_target}
-use Rattle.board_base.specs.Legal.{promotion_fits, is_officer, last_rank, man_moves, pawn_steps, pawn_doubles, pawn_captures, pawn_captures_en_passant, king_castles, castles_as, is_move}
+use Rattle.board_base.specs.Play.{castling, double_of, king_home, king_target}
+use Rattle.board_base.specs.Legal.{promotion_fits, is_officer, last_rank, man_moves, pawn_steps, pawn_doubles, pawn_captures, pawn_captures_en_passant, king_castles, is_move}
+use Rattle.board_base.specs.Parts.{double_step, castles_as}
 use Rattle.board_base.specs.declared.men.Man.{Man}
 use Rattle.board_base.specs.declared.men.Colour.{Colour}
 use Rattle.board_base.specs.declared.men.Kind.{Kind}

@@ -6,7 +6,8 @@ use Rattle.std.specs.List.{list_all}
 use Rattle.std.proofs.lemmas.List.Folds.{list_all-append}
 use Rattle.board_base.specs.Rights.{holds}
 use Rattle.board_base.specs.Play.{play, castling}
-use Rattle.board_base.specs.Legal.{legal_on, may_go, man_moves, pawn_steps, pawn_doubles, pawn_captures, pawn_captures_en_passant, king_castles, castles_as}
+use Rattle.board_base.specs.Legal.{legal_on, may_go, man_moves, pawn_steps, pawn_doubles, pawn_captures, pawn_captures_en_passant, king_castles}
+use Rattle.board_base.specs.Parts.{castles_as}
 use Rattle.board_base.specs.Game.{IsGame, board_after, turn_after, unmoved, last_move, legal_after, touches, lacks_home}
 use Rattle.play_rules.specs.States.{Position, StandsFor, Follows, legal_at, step_over, crossed_by}
 use Rattle.play_rules.specs.Clocks.{clock_after, counted, resets}

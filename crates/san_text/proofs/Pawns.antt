@@ -4,7 +4,8 @@ use Rattle.std.proofs.lemmas.Bool.{and_parts, eqb-true, both_ways, not-true}
 use Rattle.std.specs.Prelude.{Option, Some, None, is_some}
 use Rattle.board_base.specs.Board.{Places, at, is_a, is_empty, is_of, is_the, opponent, file, rank}
 use Rattle.board_base.specs.Attacks.{distance, ranks_apart, one_ahead, is_open, on_the_way, toward, king_distance}
-use Rattle.board_base.specs.Play.{castling, double_step}
+use Rattle.board_base.specs.Play.{castling}
+use Rattle.board_base.specs.Parts.{double_step}
 use Rattle.board_base.specs.Legal.{man_moves, pawn_steps, pawn_doubles, pawn_captures, pawn_captures_en_passant, king_castles, pawn_rank, is_move}
 use Rattle.board_base.specs.declared.men.Man.{Man}
 use Rattle.board_base.specs.declared.men.Colour.{Colour}

@@ -4,7 +4,8 @@ use Rattle.std.proofs.lemmas.Bool.{and_parts, and_from, or_from, or_parts, not-t
 use Rattle.std.proofs.lemmas.List.{get_or-set_other}
 use Rattle.std.specs.Prelude.{Option, Some, None}
 use Rattle.board_base.specs.Board.{Places, initial_array, array_of, at, is_a, is_in, is_the, rank}
-use Rattle.board_base.specs.Play.{play, played_as, castling, goes_en_passant, en_passant_victim, side, king_home, rook_home, crossed}
+use Rattle.board_base.specs.Play.{play, castling, goes_en_passant, en_passant_victim, side, king_home, rook_home, crossed}
+use Rattle.board_base.specs.Parts.{played_as}
 use Rattle.board_base.specs.Carry.{carry}
 use Rattle.board_base.specs.Game.{IsGame, board_after, lacks_home, touches, unmoved}
 use Rattle.board_base.specs.declared.men.Colour.{Colour}

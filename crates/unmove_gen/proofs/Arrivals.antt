@@ -4,7 +4,8 @@ use Rattle.std.proofs.lemmas.Bool.{and_parts, and_from, both_ways, cond-true, eq
 use Rattle.std.specs.Prelude.{Option, Some, None}
 use Rattle.board_base.specs.Board.{Places, at, is_a, is_empty, is_of, rank}
 use Rattle.board_base.specs.Attacks.{kind_attacks}
-use Rattle.board_base.specs.Play.{double_of, double_step, promoted}
+use Rattle.board_base.specs.Play.{double_of, promoted}
+use Rattle.board_base.specs.Parts.{double_step}
 use Rattle.board_base.specs.Legal.{last_rank, pawn_captures_en_passant, promotion_fits}
 use Rattle.board_base.specs.Rights.{Rights, holds}
 use Rattle.board_base.specs.declared.men.Man.{Man}

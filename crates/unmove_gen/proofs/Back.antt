@@ -4,7 +4,8 @@ use Rattle.std.proofs.lemmas.Bool.{and_parts, and_left, both_ways}
 use Rattle.std.proofs.lemmas.List.{set-set, set_comm, set-get_or, length-set, get_or-set_same, get_or-set_other}
 use Rattle.std.specs.Prelude.{Option, Some, None}
 use Rattle.board_base.specs.Board.{Places, at, is_of, is_a, man, opponent}
-use Rattle.board_base.specs.Play.{play, played_as, carried, promoted, castling, goes_en_passant, en_passant_victim, rook_home, crossed}
+use Rattle.board_base.specs.Play.{play, carried, promoted, castling, goes_en_passant, en_passant_victim, rook_home, crossed}
+use Rattle.board_base.specs.Parts.{played_as}
 use Rattle.board_base.specs.Carry.{carry}
 use Rattle.board_base.specs.Legal.{promotion_fits, is_officer}
 use Rattle.board_base.specs.declared.men.Man.{Man}

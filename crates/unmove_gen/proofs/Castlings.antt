@@ -5,7 +5,8 @@ use Rattle.std.proofs.lemmas.List.{length-set, get_or-set_same, get_or-set_other
 use Rattle.std.specs.Prelude.{Option, Some, None}
 use Rattle.board_base.specs.Board.{Places, at, is_a, is_the, same_colour, same_kind}
 use Rattle.board_base.specs.Attacks.{is_open}
-use Rattle.board_base.specs.Play.{played_as, castling, castling_from, side, king_home, king_target, rook_home, crossed}
+use Rattle.board_base.specs.Play.{castling, castling_from, side, king_home, king_target, rook_home, crossed}
+use Rattle.board_base.specs.Parts.{played_as}
 use Rattle.board_base.specs.Carry.{carry}
 use Rattle.board_base.specs.Legal.{may_castle}
 use Rattle.castle_history.specs.TakenBack.{castling_back, of_king, of_side}

@@ -5,7 +5,8 @@ use Rattle.std.specs.Prelude.{Option, Some, None, IsTrue, IfSome}
 use Rattle.board_base.specs.Board.{Places, at, is_a, is_of, is_the, is_empty, man, opponent, file, rank}
 use Rattle.board_base.specs.Attacks.{distance, files_apart, one_ahead}
 use Rattle.board_base.specs.Play.{castling, castling_from, double_of, goes_en_passant, en_passant_victim}
-use Rattle.board_base.specs.Legal.{is_move, man_moves, pawn_steps, pawn_doubles, pawn_captures, pawn_captures_en_passant, king_castles, castles_as}
+use Rattle.board_base.specs.Legal.{is_move, man_moves, pawn_steps, pawn_doubles, pawn_captures, pawn_captures_en_passant, king_castles}
+use Rattle.board_base.specs.Parts.{castles_as}
 use Rattle.board_base.specs.declared.men.Colour.{Colour}
 use Rattle.board_base.specs.declared.men.Colour.TheVariants.{White, Black}
 use Rattle.board_base.specs.declared.men.Kind.TheVariants.{Pawn, King}

@@ -5,7 +5,8 @@ use Rattle.std.specs.Prelude.{Option, Some, None, IsTrue, IfSome, is_some}
 use Rattle.std.specs.Bool.{beq}
 use Rattle.std.specs.List.{Contains}
 use Rattle.board_base.specs.Board.{Places, at, is_a, is_empty, is_of, opponent}
-use Rattle.board_base.specs.Play.{play, played_as, castling, en_passant_victim, goes_en_passant}
+use Rattle.board_base.specs.Play.{play, castling, en_passant_victim, goes_en_passant}
+use Rattle.board_base.specs.Parts.{played_as}
 use Rattle.board_base.specs.Legal.{legal_on, may_castle, pawn_captures_en_passant}
 use Rattle.board_base.specs.Game.{last_move, legal_after, turn_after, unmoved}
 use Rattle.board_base.specs.Rights.{holds}

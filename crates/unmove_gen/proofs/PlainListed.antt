@@ -5,7 +5,8 @@ use Rattle.std.specs.Prelude.{Option, Some, None}
 use Rattle.board_base.specs.Board.{Places, at, is_a, is_empty, is_of, is_the, opponent, same_colour}
 use Rattle.board_base.specs.Attacks.{attacks, attacks_from}
 use Rattle.board_base.specs.Play.{castling, goes_en_passant, play}
-use Rattle.board_base.specs.Legal.{castles_as, in_check, king_castles, legal_on, man_moves, may_go, pawn_captures, pawn_doubles, pawn_steps, promotion_fits}
+use Rattle.board_base.specs.Legal.{in_check, king_castles, legal_on, man_moves, may_go, pawn_captures, pawn_doubles, pawn_steps, promotion_fits}
+use Rattle.board_base.specs.Parts.{castles_as}
 use Rattle.board_base.specs.declared.men.Man.{Man}
 use Rattle.board_base.specs.declared.men.Colour.{Colour}
 use Rattle.board_base.specs.declared.men.Colour.TheVariants.{White, Black}

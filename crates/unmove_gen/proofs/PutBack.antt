@@ -5,7 +5,8 @@ use Rattle.std.proofs.lemmas.List.{length-set, get_or-set_same, get_or-set_other
 use Rattle.std.specs.Prelude.{Option, Some, None}
 use Rattle.board_base.specs.Board.{Places, at, is_a, is_of, same_kind}
 use Rattle.board_base.specs.Carry.{carry}
-use Rattle.board_base.specs.Play.{castling, castling_from, goes_en_passant, play, played_as}
+use Rattle.board_base.specs.Play.{castling, castling_from, goes_en_passant, play}
+use Rattle.board_base.specs.Parts.{played_as}
 use Rattle.board_base.specs.declared.men.Man.{Man}
 use Rattle.board_base.specs.declared.men.Colour.{Colour}
 use Rattle.board_base.specs.declared.men.Kind.{Kind}

@@ -8,7 +8,8 @@ use Rattle.std.specs.List.{list_all, range_with_len}
 use Rattle.board_base.specs.Board.{Places, at, is_empty, is_in, is_of, is_the, opponent}
 use Rattle.board_base.specs.Attacks.{attacks, attacks_from, distance, kind_attacks, king_distance}
 use Rattle.board_base.specs.Carry.{carry}
-use Rattle.board_base.specs.Play.{castling, crossed, en_passant_victim, goes_en_passant, king_home, king_target, play, played_as, promoted, rook_home}
+use Rattle.board_base.specs.Play.{castling, crossed, en_passant_victim, goes_en_passant, king_home, king_target, play, promoted, rook_home}
+use Rattle.board_base.specs.Parts.{played_as}
 use Rattle.board_base.specs.Legal.{in_check, may_castle}
 use Rattle.board_base.specs.declared.men.Man.{Man}
 use Rattle.board_base.specs.declared.men.Colour.{Colour}
