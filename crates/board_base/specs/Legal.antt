@@ -41,7 +41,7 @@ same_promo None None = true
 same_promo (Some j) (Some k) = same_kind j k
 same_promo _ _ = false
 
--- this is the move
+-- a move is given, and it is this one
 abbrev pub is_move : Option Move → Move → Bool
 is_move None m = false
 is_move (Some l) m = (l.from == m.from) && (l.to == m.to) && same_promo l.promo m.promo
@@ -73,12 +73,12 @@ pawn_captures_en_passant board c last m =
       | Some d ↦ is_move last d && is_the (opponent c) Pawn (at board d.to)
     ]
 
--- Article 3.8: it is c's castling, its right is held, king and rook are at home, no man is between, and none of the king's three squares is attacked
+-- Article 3.8: it is c's castling, its right is held, c's king and rook are at home, no man is between, and none of the king's three squares is attacked
 abbrev pub may_castle : Places → Colour → (Castle → Bool) → Castle → Bool
 may_castle board c rights x =
     same_colour c (side x) && rights x && is_the c King (at board (king_home x)) && is_the c Rook (at board (rook_home x)) && is_open board (king_home x) (rook_home x) && not (attacks board (king_home x) (opponent c)) && not (attacks board (crossed x) (opponent c)) && not (attacks board (king_target x) (opponent c))
 
--- Article 3.8: the king castles
+-- Article 3.8: the move is a castling that c may play
 unfoldable pub king_castles : Places → Colour → (Castle → Bool) → Move → Bool
 king_castles board c rights m = elim (castling board m) [ None ↦ false | Some x ↦ may_castle board c rights x ]
 
@@ -87,7 +87,8 @@ unfoldable pub may_go : Places → Colour → (Castle → Bool) → Option Move 
 may_go board c rights last m =
     man_moves board m || pawn_steps board c m || pawn_doubles board c m || pawn_captures board c m || pawn_captures_en_passant board c last m || king_castles board c rights m
 
--- Articles 1.4, 3.1 and 3.9: a man of c goes where no man of c and no king stands, and no king of c is attacked afterwards
+-- Articles 1.4, 3.1 and 3.9: a man of c goes as he may, to a square of the board where no man of c and no king stands, and is
+-- promoted if and only if he must be; and no king of c is attacked afterwards
 unfoldable pub legal_on : Places → Colour → (Castle → Bool) → Option Move → Move → Bool
 legal_on board c rights last m =
     nat_lt m.to 64 &&

@@ -59,7 +59,7 @@ castling board m = cond (is_a King (at board m.from)) (find (λ x. (king_home x 
 abbrev pub castling_from : ℕ → ℕ → Option Castle
 castling_from from to = find (λ x. (king_home x == from) && (king_target x == to)) all_castles
 
--- a pawn goes to an empty square on another file
+-- Article 3.7: a pawn goes to an empty square on another file, so it captures en passant
 abbrev pub goes_en_passant : Places → Move → Bool
 goes_en_passant board m = is_a Pawn (at board m.from) && not (file m.from == file m.to) && is_empty (at board m.to)
 
@@ -67,14 +67,14 @@ goes_en_passant board m = is_a Pawn (at board m.from) && not (file m.from == fil
 abbrev pub en_passant_victim : Move → ℕ
 en_passant_victim m = 8 * rank m.from + file m.to
 
--- Article 3.7: what a man becomes, of its own colour
+-- Article 3.7: the place with its man promoted to this kind, if one is given; he keeps his colour
 abbrev pub promoted : Option Kind → Option Man → Option Man
 promoted None place = place
 promoted (Some k) None = None
 promoted (Some k) (Some m) = Some (record m { kind = k })
 
--- What stands on one square goes to another, and becomes something else there, if it does; whatever stood there is gone.
--- The places may hold men, or anything else that goes where the men go.
+-- What stands on one square goes to another, and becomes what `become` says; what stood there is gone. The places may hold
+-- men, or whatever else goes where the men go.
 abbrev pub carried : {A : Type 0} → (Option A → Option A) → List (Option A) → ℕ → ℕ → List (Option A)
 carried become places from to = slice_set (slice_set places from None) to (become (slice_index_or places from None))
 
@@ -104,7 +104,7 @@ abbrev pub en_passant_rank : Colour → ℕ
 en_passant_rank White = 4
 en_passant_rank Black = 3
 
--- Article 3.7: the double step that a capture en passant by this colour answers, if the move may be one
+-- Article 3.7: the double step that a capture en passant by this colour answers, over its target, if the move may be one
 abbrev pub double_of : Move → Colour → Option Move
 double_of m c =
     cond ((rank m.from == en_passant_rank c) && one_ahead c m.from m.to && (files_apart m.from m.to == 1) && is_none m.promo) (Some (record { from = ahead c m.to; to = behind c m.to; promo = None })) None

@@ -5,11 +5,11 @@ use Rattle.board_base.specs.Play.{play}
 use Rattle.board_base.specs.declared.men.Kind.TheVariants.{Pawn}
 use Rattle.board_base.specs.declared.moves.Move.{Move}
 
--- Article 9.3: the move is a pawn's or captures, and so is each capture en passant, which a pawn makes
+-- Article 9.3: the move is a pawn's, as each capture en passant is, or it captures
 abbrev pub resets : Places → Move → Bool
 resets board m = is_a Pawn (at board m.from) || not (is_empty (at board m.to))
 
--- so many moves were made before these, which begin on this board: how many after them
+-- the clock after these moves, which begin on this board, at clock n
 abbrev pub clock_from : Places → ℕ → List Move → ℕ
 clock_from board n [] = n
 clock_from board n (m ∷ g) = clock_from (play board m) (cond (resets board m) 0 (n + 1)) g
