@@ -1,18 +1,20 @@
--- Homes on which their men stand aren't dead, and those that an enemy pawn can strike aren't shielded.
-use Rattle.std.proofs.Common.{◌≡◌, ℕ, zero, suc, ◌+◌, ◌-◌, ◌<◌, ◌≤◌, inl, inr, Bool, true, false, cond, ◌&&◌, ◌||◌, ◌==◌, not, List, length, refl, sym, ap, ◌∙◌, subst, arith}
-use Rattle.std.specs.Prelude.{Option, None, Some, ℤ, pos, ◌+ℤ◌, ◌≤ℤ◌, ◌<ℤ◌}
-use Rattle.std.specs.List.{count_by, list_all, list_any, range_with_len}
-use Rattle.std.proofs.lemmas.Bool.{and_from, and_parts, both_ways, cases_Bool, false_from_ne_true, not-true, not_from_false, or_cases, or_from, or_left, or_parts, or_right}
+-- No more homes are dead than those on which their men don't stand, and those that an enemy pawn can strike aren't shielded.
+use Rattle.std.proofs.Common.{◌≡◌, ℕ, suc, ◌+◌, ◌-◌, ◌<◌, ◌≤◌, inl, inr, Bool, true, false, cond, ◌&&◌, ◌||◌, ◌==◌, not, List, length, refl, sym, ap, ◌∙◌, subst, arith}
+use Rattle.std.specs.Prelude.{Option, None, ℤ, pos, ◌+ℤ◌, ◌≤ℤ◌, ◌<ℤ◌}
+use Rattle.std.specs.List.{count_by, list_all, range_with_len}
+use Rattle.std.proofs.lemmas.Bool.{and_from, and_parts, both_ways, cases_Bool, false_from_ne_true, not-true, not_from_false, or_cases, or_from, or_left, or_right}
 use Rattle.std.proofs.lemmas.Int.{ints}
-use Rattle.std.proofs.lemmas.List.Sums.{sum_by-cons}
+use Rattle.std.proofs.lemmas.List.FromFn.{length-range_with_len}
+use Rattle.std.proofs.lemmas.List.Sums.{count_by-le-length}
+use Rattle.general_lemmas.proofs.Counts.{count-end, one_if}
 use Rattle.board_base.specs.Attacks.{distance}
-use Rattle.board_base.specs.Board.{Places, array_of, at, file, initial_array, is_a, is_empty, is_in, is_of, is_the, opponent, rank, is_like}
+use Rattle.board_base.specs.Board.{Places, array_of, at, file, initial_array, is_a, is_empty, is_in, is_of, is_the, opponent, rank}
 use Rattle.board_base.specs.Legal.{is_officer}
 use Rattle.board_base.specs.declared.men.Colour.{Colour}
 use Rattle.board_base.specs.declared.men.Kind.{Kind}
 use Rattle.board_base.specs.declared.men.Kind.TheVariants.{Pawn, Knight, Bishop, Rook, Queen}
 use Rattle.board_base.specs.declared.men.Man.{Man}
-use Rattle.board_base.proofs.KindsOfMen.{full-of, same_colour-self, same_kind-self}
+use Rattle.board_base.proofs.KindsOfMen.{full-of}
 use Rattle.play_rules.specs.Laws.{is_end}
 use Rattle.men_account.specs.Account.{counts_of, excess_of, is_any, is_dark, is_light, men, allowance_of}
 use Rattle.men_account.specs.Homes.{men_of}
@@ -21,8 +23,6 @@ use Rattle.men_account.specs.declared.tallies.Counts.{Counts}
 use Rattle.query_base.specs.Asked.{Asked}
 use Rattle.cage_rules.specs.Refuted.{HasTooMany, is_spent}
 use Rattle.cage_rules.specs.Regions.{beginner, is_dead, is_exposed, is_officer_home, is_shielded, is_struck, may_strike, region}
-use Rattle.board_base.proofs.Without.{at-without}
-use Rattle.board_base.proofs.Equal.{place_is}
 use Rattle.cage_rules.proofs.Beginners.{officer-inside}
 use Rattle.cage_rules.proofs.Regions.{region-home}
 use Rattle.general_lemmas.proofs.Ranges.{any-found}
@@ -30,42 +30,17 @@ use Rattle.cage_rules.proofs.Tested.{at_board}
 use Rattle.assignment.specs.Assignments.{IsBounded, IsInjection, assignment_cost, total}
 use Rattle.assignment.proofs.Duality.{weak_duality}
 use Rattle.pawn_assign.specs.PawnCosts.{pawn_costs}
-use Rattle.static_rules.specs.Left.{left_with}
+use Rattle.static_rules.specs.Left.{has_stayed, left_with}
 use Rattle.static_rules.specs.SetRules.{IsAbove}
-use Rattle.static_rules.specs.Stayed.{IsStayedAllowance, front, has_stayed, is_guarded, may_be_spent, may_spend, pawns_alone}
+use Rattle.static_rules.specs.Stayed.{IsStayedAllowance, front, is_guarded, may_be_spent, pawns_alone}
+use Rattle.static_rules.proofs.Alive.{alive-at-home}
 use Rattle.static_rules.proofs.Larger.{excess-more, less-count}
 use Rattle.static_rules.proofs.Left.{at-left, home-of}
 
--- a man is like himself
 both-not : (a b : Bool) → a ≡ true → not (a && not b) ≡ true → b ≡ true
 both-not true true e h = refl
 both-not true false e h = h
 both-not false b e h = absurd (both_ways false refl e)
-
-like-self : (place : Option Man) → (is_a Knight place || is_a Bishop place || is_a Rook place || is_a Queen place) ≡ true → is_like place place ≡ true
-like-self None h = absurd (both_ways false refl h)
-like-self (Some m) h = and_from _ _ (same_colour-self m.colour) (same_kind-self m.kind)
-
-kept-full : (b : Bool) (place : Option Man) → is_empty (cond b None place) ≡ false → cond b None place ≡ place
-kept-full true place full = absurd (both_ways true full refl)
-kept-full false place full = refl
-
--- who isn't left out begins where he begins in the whole array
-begins-there : (o : List Bool) (h : ℕ) → is_empty (at (array_of o) h) ≡ false → at (array_of o) h ≡ beginner h
-unfolding array_of beginner
-begins-there o h full = at-without o initial_array h ∙ kept-full (is_in o h) (at initial_array h) (sym (ap is_empty (at-without o initial_array h)) ∙ full)
-
-stayed-there : (o : List Bool) (board : Places) (h : ℕ) → is_empty (at (array_of o) h) ≡ false → has_stayed (array_of o) board h ≡ true → at board h ≡ beginner h
-stayed-there o board h full stayed = place_is _ _ stayed ∙ begins-there o h full
-
--- a home is alive on which its man stands
-alive-at-home : (o : List Bool) (board : Places) (set : List Bool) (h : ℕ) → is_officer_home h ≡ true → is_empty (at (array_of o) h) ≡ false → has_stayed (array_of o) board h ≡ true → is_dead board set h ≡ false
-unfolding is_dead
-alive-at-home o board set h home full stayed =
-    let inside : h < 64 = officer-inside h home in
-    false_from_ne_true _ (λ dead.
-    both_ways _ (not-true _ (at_board (λ t. not (is_in (region set h) t && is_like (beginner h) (at board t))) h dead inside))
-    (and_from _ _ (region-home set (beginner h) h inside) (subst (λ (p : Option Man). is_like (beginner h) p ≡ true) (sym (stayed-there o board h full stayed)) (like-self (beginner h) home))))
 
 -- Officers who stand where they began
 
@@ -157,30 +132,40 @@ spent-may o board set h full spent =
     let gone : has_stayed (array_of o) board h ≡ false = false_from_ne_true _ (λ stayed. both_ways _ (alive-at-home o board set h dead.0 full stayed) dead.1) in
     and_from _ _ (and_from _ _ dead.0 (not_from_false _ gone)) (guarded set h dead.0 parts.1)
 
--- what passes a test that none passes isn't counted
-none-counted : (p q : ℕ → Bool) (k n : ℕ) → ((s : ℕ) → q s ≡ true → p s ≡ true) → list_any p (range_with_len k n) ≡ false → count_by q (range_with_len k n) ≡ 0
-none-counted p q k zero less none = refl
-none-counted p q k (suc n) less none =
-    let parts = or_parts (p k) (list_any p (range_with_len (k + 1) n)) none in
-    let rest = none-counted p q (k + 1) n less parts.1 in
-    let here : q k ≡ false = false_from_ne_true _ (λ passes. both_ways _ parts.0 (less k passes)) in
-    let zero_here : ◌≡◌ {A = ℕ} (cond (q k) 1 0) 0 = ap (λ (b : Bool). cond b 1 0) here in
-    omega (arith, sum_by-cons (λ x. cond (q x) 1 0) k (range_with_len (k + 1) n), rest, zero_here)
+-- so many of the first squares are homes of a side whose men may have been spent
+abbrev pub may_spend : Places → Colour → Places → List Bool → ℕ → ℕ
+may_spend first side board set i = count_by (λ s. is_of side (at first s) && may_be_spent first board set s) (range_with_len 0 i)
 
-none-spent : (o : List Bool) (c : Colour) (board : Places) (set : List Bool) → may_spend (array_of o) c board set ≡ false → men_of c (is_spent board set) (array_of o) ≡ 0
-unfolding may_spend men_of
-none-spent o c board set none =
-    none-counted (λ s. is_of c (at (array_of o) s) && may_be_spent (array_of o) board set s) (λ s. is_of c (at (array_of o) s) && is_spent board set s) 0 64 (λ s here.
-    let parts = and_parts (is_of c (at (array_of o) s)) (is_spent board set s) here in and_from _ _ parts.0 (spent-may o board set s (full-of c _ parts.0) parts.1)) none
+pub may_spend-more : (first : Places) (side : Colour) (board : Places) (set : List Bool) (i n after : ℕ) → n ≡ may_spend first side board set i → after ≡ n + cond (is_of side (at first i) && may_be_spent first board set i) 1 0 → after ≡ may_spend first side board set (i + 1)
+may_spend-more first side board set i n after so_far e =
+    let grown = count-end (λ s. is_of side (at first s) && may_be_spent first board set s) i 0 in
+    let from_zero : 0 + i ≡ i = omega arith in
+    let last : ◌≡◌ {A = ℕ} (cond (is_of side (at first (0 + i)) && may_be_spent first board set (0 + i)) 1 0) (cond (is_of side (at first i) && may_be_spent first board set i) 1 0) = ap (λ (s : ℕ). one_if (is_of side (at first s) && may_be_spent first board set s)) from_zero in
+    let suc_i : i + 1 ≡ suc i = omega arith in
+    let next : may_spend first side board set (i + 1) ≡ may_spend first side board set (suc i) = ap (may_spend first side board set) suc_i in
+    omega (arith, grown, last, next, so_far, e)
 
-too-few : (cost on_board spent all : ℕ) (sum : ℤ) → spent ≡ 0 → cost + on_board ≤ all → sum ≤ℤ pos cost → pos all <ℤ (sum +ℤ pos (on_board + spent)) → ⊥
-too-few cost on_board spent all sum none few least above = absurd (omega (arith, ints))
+pub may_spend-few : (first : Places) (side : Colour) (board : Places) (set : List Bool) (i : ℕ) → may_spend first side board set i ≤ i
+may_spend-few first side board set i = omega (arith, count_by-le-length (λ s. is_of side (at first s) && may_be_spent first board set s) (range_with_len 0 i), length-range_with_len 0 i)
 
--- where no home may be spent, the pawns need no more captures than there are men gone
-few-needed : (o : List Bool) (q : Asked) (side : Colour) (set : List Bool) (table : List (List ℕ)) (files : List ℕ) (cost on_board begun : ℕ) → may_spend (array_of o) (opponent side) q.board set ≡ false → table ≡ pawn_costs o side q.board → IsInjection 8 (length table) files → cost ≡ assignment_cost table files → on_board ≡ men_of (opponent side) is_any q.board → begun ≡ men_of (opponent side) is_any (array_of o) → cost + on_board ≤ begun → (u v : List ℤ) → IsAbove o q side set u v → ⊥
-few-needed o q side set table files cost on_board begun none same injection costs counted first few u v h =
+pub may_spend-all : (first : Places) (side : Colour) (board : Places) (set : List Bool) (i : ℕ) → i ≡ 64 → may_spend first side board set i ≡ men_of side (may_be_spent first board set) first
+unfolding men_of
+may_spend-all first side board set i e = ap (may_spend first side board set) e
+
+spent-less : (o : List Bool) (c : Colour) (board : Places) (set : List Bool) → men_of c (is_spent board set) (array_of o) ≤ men_of c (may_be_spent (array_of o) board set) (array_of o)
+unfolding men_of
+spent-less o c board set =
+    less-count (λ s. is_of c (at (array_of o) s) && is_spent board set s) (λ s. is_of c (at (array_of o) s) && may_be_spent (array_of o) board set s) 0 64 (λ s low high here.
+    let parts = and_parts (is_of c (at (array_of o) s)) (is_spent board set s) here in and_from _ _ parts.0 (spent-may o board set s (full-of c _ parts.0) parts.1))
+
+too-few : (cost on_board spent most all : ℕ) (sum : ℤ) → spent ≤ most → cost + on_board + most ≤ all → sum ≤ℤ pos cost → pos all <ℤ (sum +ℤ pos (on_board + spent)) → ⊥
+too-few cost on_board spent most all sum less few least above = absurd (omega (arith, ints))
+
+-- where the pawns need no more captures than there are men gone beside those who may have been spent
+few-needed : (o : List Bool) (q : Asked) (side : Colour) (set : List Bool) (table : List (List ℕ)) (files : List ℕ) (cost on_board spent begun : ℕ) → spent ≡ men_of (opponent side) (may_be_spent (array_of o) q.board set) (array_of o) → table ≡ pawn_costs o side q.board → IsInjection 8 (length table) files → cost ≡ assignment_cost table files → on_board ≡ men_of (opponent side) is_any q.board → begun ≡ men_of (opponent side) is_any (array_of o) → cost + on_board + spent ≤ begun → (u v : List ℤ) → IsAbove o q side set u v → ⊥
+few-needed o q side set table files cost on_board spent begun may same injection costs counted first few u v h =
     let least = weak_duality 8 table u v files (subst (λ (t : List (List ℕ)). IsBounded 8 t u v) (sym same) h.needs.bounded) injection in
-    too-few (assignment_cost table files) (men_of (opponent side) is_any q.board) (men_of (opponent side) (is_spent q.board set) (array_of o)) (men_of (opponent side) is_any (array_of o)) (total u +ℤ total v) (none-spent o (opponent side) q.board set none) (omega arith) least h.needs.above
+    too-few (assignment_cost table files) (men_of (opponent side) is_any q.board) (men_of (opponent side) (is_spent q.board set) (array_of o)) (men_of (opponent side) (may_be_spent (array_of o) q.board set) (array_of o)) (men_of (opponent side) is_any (array_of o)) (total u +ℤ total v) (spent-less o (opponent side) q.board set) (omega arith) least h.needs.above
 
 -- The same, as the tests have it.
 
@@ -194,8 +179,8 @@ few-from q side o board counted a n odds here counts stayed is few set more =
     few-more o q side a (subst (λ (b : Places). IsStayedAllowance (array_of o) side b a) here stayed) (subst (λ (m : ℕ). m ≤ a.pawns) (is ∙ ap (λ (k : Counts). excess_of k a) (counts ∙ ap (counts_of side) here)) few) set
     (subst (λ (x : List Bool). HasTooMany x q set side) (sym odds) more)
 
-pub needed-from : (q : Asked) (side : Colour) (set o : List Bool) (board : Places) (enemy : Colour) (spends : Bool) (table : List (List ℕ)) (files : List ℕ) (cost on_board begun : ℕ) → o ≡ q.odds → board ≡ q.board → enemy ≡ opponent side → spends ≡ may_spend (array_of o) enemy board set → spends ≡ false → table ≡ pawn_costs o side board → IsInjection 8 (length table) files → cost ≡ assignment_cost table files → on_board ≡ men_of enemy is_any board → begun ≡ men_of enemy is_any (array_of o) → cost + on_board ≤ begun → (u v : List ℤ) → IsAbove q.odds q side set u v → ⊥
-needed-from q side set o board enemy spends table files cost on_board begun odds here against is none same injection costs counted first few u v h =
-    few-needed o q side set table files cost on_board begun (sym (ap (λ (c : Colour). may_spend (array_of o) c q.board set) against) ∙ sym (ap (λ (b : Places). may_spend (array_of o) enemy b set) here) ∙ sym is ∙ none) (same ∙ ap (pawn_costs o side) here) injection costs
-    (counted ∙ ap (λ (c : Colour). men_of c is_any board) against ∙ ap (men_of (opponent side) is_any) here) (first ∙ ap (λ (c : Colour). men_of c is_any (array_of o)) against) few u v
-    (subst (λ (x : List Bool). IsAbove x q side set u v) (sym odds) h)
+pub needed-from : (q : Asked) (side : Colour) (set o : List Bool) (first board : Places) (enemy : Colour) (table : List (List ℕ)) (files : List ℕ) (cost on_board spent begun : ℕ) → o ≡ q.odds → board ≡ q.board → enemy ≡ opponent side → first ≡ array_of o → spent ≡ men_of enemy (may_be_spent first board set) first → table ≡ pawn_costs q.odds side q.board → IsInjection 8 (length table) files → cost ≡ assignment_cost table files → on_board ≡ men_of enemy is_any board → begun ≡ men_of enemy is_any (array_of o) → cost + on_board + spent ≤ begun → (u v : List ℤ) → IsAbove q.odds q side set u v → ⊥
+needed-from q side set o first board enemy table files cost on_board spent begun odds here against is may same injection costs counted all few u v h =
+    few-needed q.odds q side set table files cost on_board spent begun
+    (may ∙ ap (λ (f : Places). men_of enemy (may_be_spent f board set) f) (is ∙ ap array_of odds) ∙ ap (λ (b : Places). men_of enemy (may_be_spent (array_of q.odds) b set) (array_of q.odds)) here ∙ ap (λ (c : Colour). men_of c (may_be_spent (array_of q.odds) q.board set) (array_of q.odds)) against) same injection costs
+    (counted ∙ ap (λ (c : Colour). men_of c is_any board) against ∙ ap (men_of (opponent side) is_any) here) (all ∙ ap (λ (c : Colour). men_of c is_any (array_of o)) against ∙ ap (λ (x : List Bool). men_of (opponent side) is_any (array_of x)) odds) few u v h

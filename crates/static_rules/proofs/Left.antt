@@ -12,14 +12,15 @@ use Rattle.board_base.specs.declared.men.Colour.{Colour}
 use Rattle.board_base.specs.declared.men.Kind.{Kind}
 use Rattle.board_base.specs.declared.men.Kind.TheVariants.{Pawn, Knight, Bishop, Rook, Queen}
 use Rattle.board_base.proofs.Without.{at-without}
-use Rattle.board_base.proofs.KindsOfMen.{kind_is}
+use Rattle.board_base.proofs.KindsOfMen.{full-of, kind_is}
 use Rattle.men_account.specs.Account.{men, is_any, is_light, is_dark, counts_of, allowance_of}
 use Rattle.men_account.specs.Homes.{men_of}
 use Rattle.men_account.specs.declared.tallies.Counts.{Counts}
 use Rattle.men_account.specs.declared.tallies.Allowance.{Allowance}
 use Rattle.cage_rules.proofs.Refuted.{officer-kind}
 use Rattle.cage_rules.specs.Regions.{beginner, is_dead, is_officer_home}
-use Rattle.static_rules.specs.Left.{left_with, may_live}
+use Rattle.static_rules.specs.Left.{has_stayed, left_with, may_live}
+use Rattle.static_rules.proofs.Alive.{alive-at-home}
 
 -- two tests that agree on a range count alike
 pub same-count : (p q : ℕ → Bool) (k n : ℕ) → ((s : ℕ) → k ≤ s → s < k + n → p s ≡ q s) → count_by p (range_with_len k n) ≡ count_by q (range_with_len k n)
@@ -41,13 +42,20 @@ officer-home c k (Some m) officer h =
     officer-kind m.kind (ap is_officer (sym same) ∙ officer)
 
 -- a man counts where he is left, that is where his home counts
-kept-officer : (home dead among there : Bool) → (there ≡ true → home ≡ true) → (cond (not (home && dead)) there false && among) ≡ (there && (among && not dead))
-kept-officer true true among true h = sym (and_right among false refl)
-kept-officer true true among false h = refl
-kept-officer true false true there h = refl
-kept-officer true false false there h = refl
-kept-officer false dead among true h = absurd (both_ways false refl (h refl))
-kept-officer false dead among false h = refl
+nobody : (b among : Bool) → (cond b false false && among) ≡ false
+nobody true among = refl
+nobody false among = refl
+
+kept-officer : (own home stayed dead among there : Bool) → (there ≡ true → own ≡ true) → (there ≡ true → home ≡ true) → (there ≡ true → stayed ≡ true → dead ≡ false) → (cond (not (own && home && not stayed && dead)) there false && among) ≡ (there && (among && not dead))
+kept-officer own home stayed dead among false his is alive = nobody (not (own && home && not stayed && dead)) among
+kept-officer false home stayed dead among true his is alive = absurd (both_ways false refl (his refl))
+kept-officer true false stayed dead among true his is alive = absurd (both_ways false refl (is refl))
+kept-officer true true true true among true his is alive = absurd (both_ways true (alive refl refl) refl)
+kept-officer true true true false true true his is alive = refl
+kept-officer true true true false false true his is alive = refl
+kept-officer true true false true among true his is alive = sym (and_right among false refl)
+kept-officer true true false false true true his is alive = refl
+kept-officer true true false false false true his is alive = refl
 
 is_the-kept : (c : Colour) (k : Kind) (b : Bool) (place : Option Man) → is_the c k (cond b place None) ≡ cond b (is_the c k place) false
 is_the-kept c k true place = refl
@@ -62,14 +70,16 @@ unfolding array_of beginner
 home-of o c k s officer h = officer-home c k (at initial_array s) officer (kept-the c k (is_in o s) (at initial_array s) (sym (ap (is_the c k) (at-without o initial_array s)) ∙ h))
 
 -- the officers who are left where homes are dead
-living-men : (o : List Bool) (board : Places) (set : List Bool) (c : Colour) (k : Kind) (among : ℕ → Bool) → is_officer k ≡ true → men c k among (left_with (may_live board set) (array_of o)) ≡ men c k (λ s. among s && not (is_dead board set s)) (array_of o)
+living-men : (o : List Bool) (board : Places) (set : List Bool) (c : Colour) (k : Kind) (among : ℕ → Bool) → is_officer k ≡ true → men c k among (left_with (may_live c (array_of o) board set) (array_of o)) ≡ men c k (λ s. among s && not (is_dead board set s)) (array_of o)
 unfolding men
 living-men o board set c k among officer =
-    same-count (λ s. is_the c k (at (left_with (may_live board set) (array_of o)) s) && among s) (λ s. is_the c k (at (array_of o) s) && (among s && not (is_dead board set s))) 0 64 (λ s low high.
+    same-count (λ s. is_the c k (at (left_with (may_live c (array_of o) board set) (array_of o)) s) && among s) (λ s. is_the c k (at (array_of o) s) && (among s && not (is_dead board set s))) 0 64 (λ s low high.
     let inside : s < 64 = omega arith in
-    ap (λ (p : Option Man). is_the c k p && among s) (at-left (may_live board set) (array_of o) s inside)
-    ∙ ap (λ (b : Bool). b && among s) (is_the-kept c k (may_live board set s) (at (array_of o) s))
-    ∙ kept-officer (is_officer_home s) (is_dead board set s) (among s) (is_the c k (at (array_of o) s)) (home-of o c k s officer))
+    let his : is_the c k (at (array_of o) s) ≡ true → is_of c (at (array_of o) s) ≡ true = λ there. (and_parts (is_of c (at (array_of o) s)) (is_a k (at (array_of o) s)) there).0 in
+    let home : is_the c k (at (array_of o) s) ≡ true → is_officer_home s ≡ true = home-of o c k s officer in
+    ap (λ (p : Option Man). is_the c k p && among s) (at-left (may_live c (array_of o) board set) (array_of o) s inside)
+    ∙ ap (λ (b : Bool). b && among s) (is_the-kept c k (may_live c (array_of o) board set s) (at (array_of o) s))
+    ∙ kept-officer (is_of c (at (array_of o) s)) (is_officer_home s) (has_stayed (array_of o) board s) (is_dead board set s) (among s) (is_the c k (at (array_of o) s)) his home (λ there. alive-at-home o board set s (home there) (full-of c _ (his there))))
 
 abbrev allowance_as : ℕ → ℕ → ℕ → ℕ → ℕ → ℕ → Allowance
 allowance_as p n l d r q = record { pawns = p; knights = n; light_bishops = l; dark_bishops = d; rooks = r; queens = q }
@@ -77,7 +87,7 @@ allowance_as p n l d r q = record { pawns = p; knights = n; light_bishops = l; d
 same_allowance : (p p' n n' l l' d d' r r' q q' : ℕ) → p ≡ p' → n ≡ n' → l ≡ l' → d ≡ d' → r ≡ r' → q ≡ q' → allowance_as p n l d r q ≡ allowance_as p' n' l' d' r' q'
 same_allowance p p' n n' l l' d d' r r' q q' e0 e1 e2 e3 e4 e5 = cc
 
-pub living-allowance : (o : List Bool) (board : Places) (set : List Bool) (c : Colour) (p : ℕ) (n : Counts) → p ≡ men c Pawn is_any (array_of o) → n ≡ counts_of c (left_with (may_live board set) (array_of o)) → allowance_as p n.knights n.light_bishops n.dark_bishops n.rooks n.queens ≡ allowance_of c (λ h. not (is_dead board set h)) (array_of o)
+pub living-allowance : (o : List Bool) (board : Places) (set : List Bool) (c : Colour) (p : ℕ) (n : Counts) → p ≡ men c Pawn is_any (array_of o) → n ≡ counts_of c (left_with (may_live c (array_of o) board set) (array_of o)) → allowance_as p n.knights n.light_bishops n.dark_bishops n.rooks n.queens ≡ allowance_of c (λ h. not (is_dead board set h)) (array_of o)
 living-allowance o board set c p n pawns e =
     same_allowance _ _ _ _ _ _ _ _ _ _ _ _ pawns (ap (λ (x : Counts). x.knights) e ∙ living-men o board set c Knight is_any refl) (ap (λ (x : Counts). x.light_bishops) e ∙ living-men o board set c Bishop is_light refl) (ap (λ (x : Counts). x.dark_bishops) e ∙ living-men o board set c Bishop is_dark refl) (ap (λ (x : Counts). x.rooks) e ∙ living-men o board set c Rook is_any refl) (ap (λ (x : Counts). x.queens) e ∙ living-men o board set c Queen is_any refl)
 

@@ -7,5 +7,6 @@ pub mod Homes
 pub mod Unreached
 pub mod Settled
 pub mod EachLine
+pub mod Alive
 pub mod AtHome
 pub mod OwnFiles

@@ -40,10 +40,10 @@ above-told o q c set u v table sum b few bound over =
     )
 
 -- the same, of equal odds, boards, colours and sums
-pub above-from : (q : Asked) (c : Colour) (set : List Bool) (u v : List ℤ) (table : List (List ℕ)) (sum : ℤ) (b : Bool) (o : List Bool) (first board : Places) (enemy : Colour) (given : ℤ) → o ≡ q.odds → first ≡ array_of o → board ≡ q.board → enemy ≡ opponent c → given ≡ sum → (length (pawn_squares c board) ≤ 8) × (table ≡ pawn_costs o c board) → IsBounded 8 table u v × (sum ≡ total u +ℤ total v) → Over b set given enemy first board → (b ≡ true → IsAbove q.odds q c set u v) × (IsAbove q.odds q c set u v → b ≡ true)
-above-from q c set u v table sum b o first board enemy given eo ef eb ee eg few bound over =
-    subst (λ (x : List Bool). (b ≡ true → IsAbove x q c set u v) × (IsAbove x q c set u v → b ≡ true)) eo (above-told o q c set u v table sum b (subst (λ (x : Places). (length (pawn_squares c x) ≤ 8) × (table ≡ pawn_costs o c x)) eb few) bound
-    (subst (λ (x : ℤ). Over b set x (opponent c) (array_of o) q.board) eg (subst (λ (y : Colour). Over b set given y (array_of o) q.board) ee (subst (λ (z : Places). Over b set given enemy (array_of o) z) eb (subst (λ (f : Places). Over b set given enemy f board) ef over)))))
+pub above-from : (q : Asked) (c : Colour) (set : List Bool) (u v : List ℤ) (table : List (List ℕ)) (sum : ℤ) (b : Bool) (o : List Bool) (first board : Places) (enemy : Colour) (given : ℤ) → o ≡ q.odds → first ≡ array_of o → board ≡ q.board → enemy ≡ opponent c → given ≡ sum → length (pawn_squares c q.board) ≤ 8 → table ≡ pawn_costs q.odds c q.board → IsBounded 8 table u v × (sum ≡ total u +ℤ total v) → Over b set given enemy first board → (b ≡ true → IsAbove q.odds q c set u v) × (IsAbove q.odds q c set u v → b ≡ true)
+above-from q c set u v table sum b o first board enemy given eo ef eb ee eg few costs bound over =
+    above-told q.odds q c set u v table sum b (few, costs) bound
+    (subst (λ (x : ℤ). Over b set x (opponent c) (array_of q.odds) q.board) eg (subst (λ (y : Colour). Over b set given y (array_of q.odds) q.board) ee (subst (λ (z : Places). Over b set given enemy (array_of q.odds) z) eb (subst (λ (f : Places). Over b set given enemy f board) (ef ∙ ap array_of eo) over))))
 
 pub more-from : (q : Asked) (c : Colour) (set : List Bool) (n : ℕ) (counted : Counts) (allowed : Allowance) (o : List Bool) (board : Places) → o ≡ q.odds → board ≡ q.board → n ≡ excess_of counted allowed → counted ≡ counts_of c board → allowed ≡ allowance_of c (λ h. not (is_dead board set h)) (array_of o) → (nat_lt allowed.pawns n ≡ true → HasTooMany q.odds q set c) × (HasTooMany q.odds q set c → nat_lt allowed.pawns n ≡ true)
 more-from q c set n counted allowed o board eo eb en ec ea =

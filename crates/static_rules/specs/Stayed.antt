@@ -1,18 +1,13 @@
 -- Inner: no public clause cites this file.
 -- Men who stand where they began on a first board, and homes whose men can have been lost out of the reach of pawns.
 use Rattle.std.specs.Prelude.{ℕ, ◌≡◌, ◌+◌, ◌-◌, Bool, cond, ◌&&◌, ◌||◌, ◌==◌, not, List}
-use Rattle.std.specs.List.{list_any, range_with_len}
-use Rattle.board_base.specs.Board.{Places, at, file, is_in, is_of, rank, same_place}
+use Rattle.board_base.specs.Board.{Places, file, is_in, rank}
 use Rattle.board_base.specs.declared.men.Colour.{Colour}
 use Rattle.board_base.specs.declared.men.Kind.TheVariants.{Pawn}
 use Rattle.men_account.specs.Account.{counts_of, is_any, men}
 use Rattle.men_account.specs.declared.tallies.Allowance.{Allowance}
 use Rattle.cage_rules.specs.Regions.{is_officer_home}
-use Rattle.static_rules.specs.Left.{left_with}
-
--- the square holds what the first board has there
-abbrev pub has_stayed : Places → Places → ℕ → Bool
-has_stayed first board s = same_place (at board s) (at first s)
+use Rattle.static_rules.specs.Left.{has_stayed, left_with}
 
 -- the square in front of this one, where a side's officers begin
 abbrev pub front : ℕ → ℕ
@@ -25,10 +20,6 @@ is_guarded set h = (file h == 0 || is_in set (front h - 1)) && (file h == 7 || i
 -- an officer's home that doesn't hold what the first board has there, and where no enemy pawn can have captured him
 abbrev pub may_be_spent : Places → Places → List Bool → ℕ → Bool
 may_be_spent first board set s = is_officer_home s && not (has_stayed first board s) && is_guarded set s
-
--- there is such a home of this side, with a man of the side on the first board
-unfoldable pub may_spend : Places → Colour → Places → List Bool → Bool
-may_spend first side board set = list_any (λ s. is_of side (at first s) && may_be_spent first board set s) (range_with_len 0 64)
 
 -- as many pawns as on the first board, and as many officers of each kind as stand where they stand there
 abbrev pub IsStayedAllowance : Places → Colour → Places → Allowance → Type 0

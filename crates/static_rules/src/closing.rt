@@ -1,16 +1,18 @@
-ghost use Rattle.std.specs.Prelude.{List, MatchOption, IfSome};
+ghost use Rattle.std.specs.Prelude.{◌≡◌, ◌≤◌, List, MatchOption, IfSome, length};
 ghost use Rattle.std.specs.List.{All};
 ghost use Rattle.board_base.specs.declared.moves.Move.{Move};
+ghost use Rattle.pawn_assign.specs.PawnCosts.{pawn_costs, pawn_squares};
 ghost use Rattle.query_base.specs.Reach.{Reaches};
 ghost use Rattle.static_rules.specs.Greatest.{IsGreatestSettled};
 ghost use Rattle.static_rules.specs.Lines.{HasNoCapsLine, HasNoFrozenLine, HasNoPromoLine, HasNoSettledLine, simple};
 ghost use Rattle.static_rules.specs.Supports.{IsClosed, Supports};
 
 use crate::rules::supports;
-use crate::set_rules::{best_potentials, has_more, is_above, is_whole};
+use crate::set_rules::{best_potentials, has_more, is_above_with, is_whole};
 use crate::stayed::{has_few, needs_few};
 use board_base::{Colour, SquareSet};
 use cage_rules::{as_array, greatest_frozen};
+use pawn_assign::{Costs, costs};
 use query_base::{Query, RuleLine};
 
 /// The first of these rule lines that supports the query.
@@ -57,19 +59,33 @@ fn promo_line(query: &Query, side: Colour, settled: SquareSet) -> Option<RuleLin
     }
 }
 
-/// A rule line on captures by pawns of this side that supports the query. Most queries are told by the number of enemy men.
+/// A rule line on captures by pawns of this side, which have these costs, that supports the query. Most queries are told by the number of
+/// enemy men.
+fn costly_line(query: &Query, side: Colour, settled: SquareSet, costs: &Costs) -> Option<RuleLine>
+    requires settled { IsGreatestSettled query.now.odds query.now settled }
+    requires few { length (pawn_squares side query.now.board) ≤ 8 }
+    requires costs { costs.now ≡ pawn_costs query.now.odds side query.now.board }
+    ensures { MatchOption result (HasNoCapsLine query.now side) (λ rule. Supports query.now rule) }
+{
+    if needs_few(query, side, settled, costs) {
+        return None;
+    }
+    let p = best_potentials(costs);
+    if is_above_with(query, side, settled, costs, &p) {
+        Some(RuleLine::Caps(side, settled, p))
+    } else {
+        None
+    }
+}
+
+/// A rule line on captures by pawns of this side that supports the query.
 fn caps_line(query: &Query, side: Colour, settled: SquareSet) -> Option<RuleLine>
     requires { IsGreatestSettled query.now.odds query.now settled }
     ensures { MatchOption result (HasNoCapsLine query.now side) (λ rule. Supports query.now rule) }
 {
-    if needs_few(query, side, settled) {
-        return None;
-    }
-    let p = best_potentials(&query.board, side, query.odds);
-    if is_above(query, side, settled, &p) {
-        Some(RuleLine::Caps(side, settled, p))
-    } else {
-        None
+    match costs(&query.board, side, query.odds) {
+        Some(costs) => costly_line(query, side, settled, &costs),
+        None => None,
     }
 }
 

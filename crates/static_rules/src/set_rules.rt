@@ -1,18 +1,21 @@
-ghost use Rattle.std.specs.Prelude.{◌≡◌, ◌↔◌, ◌+◌, length, IsTrue, List, pos, ◌+ℤ◌, ◌<ℤ◌};
+ghost use Rattle.std.specs.Prelude.{◌≡◌, ◌↔◌, ◌+◌, ◌≤◌, length, Bool, IsTrue, List, pos, ◌+ℤ◌, ◌<ℤ◌};
+ghost use Rattle.board_base.specs.Board.{Places};
 ghost use Rattle.board_base.specs.Potentials.{ArePotentials};
+ghost use Rattle.board_base.specs.declared.men.Colour.{Colour as AColour};
 ghost use Rattle.board_base.specs.declared.moves.Move.{Move};
 ghost use Rattle.men_account.specs.Account.{is_any};
 ghost use Rattle.men_account.specs.Homes.{men_of};
 ghost use Rattle.cage_rules.specs.Refuted.{HasTooMany, is_spent};
+ghost use Rattle.pawn_assign.specs.PawnCosts.{pawn_costs, pawn_squares};
 ghost use Rattle.query_base.specs.Reach.{Reaches};
 ghost use Rattle.static_rules.specs.SetRules.{CapsSupports, FrozenSupports, IsAbove, IsSettled, PromoSupports};
 ghost use Rattle.static_rules.specs.Greatest.{AreBest};
 
 use crate::living_homes::{living_allowance, spent_of};
-use board_base::{Board, Colour, Odds, Potentials, Square, SquareSet, array_of};
+use board_base::{Board, Colour, Potentials, Square, SquareSet, array_of};
 use cage_rules::{as_array, is_frozen};
 use men_account::{counts, excess, men_of};
-use pawn_assign::{bound, costs, least};
+use pawn_assign::{Costs, bound, costs, least};
 use query_base::Query;
 
 /// Tells the caller that a set has 64 truth values.
@@ -84,37 +87,43 @@ fn is_over(first: &Board, board: &Board, side: Colour, set: SquareSet, sum: i32)
     sum > begun - on_board - lost
 }
 
-/// Whether the potentials are bounded by the costs of the side's pawns, and their sum is above the men with which the other side begins,
-/// less those on the board, less those of its homes that are dead and shielded.
-pub(crate) fn is_above(query: &Query, side: Colour, set: SquareSet, p: &Potentials) -> bool
+/// Whether the potentials are bounded by the costs, which are those of the side's pawns, and their sum is above the men with which the
+/// other side begins, less those on the board, less those of its homes that are dead and shielded.
+pub(crate) fn is_above_with(
+    query: &Query,
+    side: Colour,
+    set: SquareSet,
+    costs: &Costs,
+    p: &Potentials,
+) -> bool
+    requires few { length (pawn_squares side query.now.board) ≤ 8 }
+    requires costs { costs.now ≡ pawn_costs query.now.odds side query.now.board }
     ensures { IsTrue result ↔ IsAbove query.now.odds query.now side set p.now.u p.now.v }
 {
-    match costs(&query.board, side, query.odds) {
-        Some(costs) => match bound(&costs, p) {
-            Some(sum) => is_over(&array_of(query.odds), &query.board, side.other(), set, sum),
-            None => false,
-        },
+    match bound(costs, p) {
+        Some(sum) => is_over(&array_of(query.odds), &query.board, side.other(), set, sum),
         None => false,
     }
 }
 
-/// Potentials of the side's pawns with the greatest sum that their costs bound.
-pub(crate) fn best_potentials(board: &Board, side: Colour, odds: Odds) -> Potentials
-    ensures best { AreBest odds side board.now result.u result.v }
+/// The same of the costs of the side's pawns, if they are no more than eight.
+fn is_above(query: &Query, side: Colour, set: SquareSet, p: &Potentials) -> bool
+    ensures { IsTrue result ↔ IsAbove query.now.odds query.now side set p.now.u p.now.v }
+{
+    match costs(&query.board, side, query.odds) {
+        Some(costs) => is_above_with(query, side, set, &costs, p),
+        None => false,
+    }
+}
+
+/// The potentials with the greatest sum that these costs bound.
+pub(crate) fn best_potentials(costs: &Costs) -> Potentials
+    ensures best { (o : List Bool) (side : AColour) (board : Places) → costs.now ≡ pawn_costs o side board → AreBest o side board result.u result.v }
     ensures known { ArePotentials result }
 {
-    match costs(board, side, odds) {
-        Some(costs) => {
-            let p = least(&costs).potentials;
-            are_potentials(&p);
-            p
-        }
-        None => {
-            let p = Potentials::known(&[], &[0; 8]);
-            are_potentials(&p);
-            p
-        }
-    }
+    let p = least(costs).potentials;
+    are_potentials(&p);
+    p
 }
 
 fn caps_holds(query: &Query, side: Colour, set: SquareSet, p: &Potentials) -> bool

@@ -1,25 +1,20 @@
-ghost use Rattle.std.specs.Prelude.{◌≡◌, ◌&&◌, ◌<◌, ◌≤◌, cond, IsTrue, List, Bool, ℤ, None};
+ghost use Rattle.std.specs.Prelude.{◌≡◌, ◌&&◌, ◌+◌, ◌<◌, ◌≤◌, cond, IsTrue, List, Bool, ℤ, None};
 ghost use Rattle.board_base.specs.Board.{array_of, at, is_of};
 ghost use Rattle.men_account.specs.Account.{excess_of};
-ghost use Rattle.static_rules.specs.Left.{left_with};
+ghost use Rattle.men_account.specs.Homes.{men_of};
+ghost use Rattle.pawn_assign.specs.PawnCosts.{pawn_costs};
+ghost use Rattle.static_rules.specs.Left.{has_stayed, left_with};
 ghost use Rattle.cage_rules.specs.Refuted.{HasTooMany};
 ghost use Rattle.static_rules.specs.SetRules.{IsAbove};
-ghost use Rattle.static_rules.specs.Stayed.{IsStayedAllowance, front, has_stayed, is_guarded, may_be_spent, may_spend, pawns_alone};
+ghost use Rattle.static_rules.specs.Stayed.{IsStayedAllowance, front, is_guarded, may_be_spent, pawns_alone};
 
-use crate::living_homes::{begun_with, with_pawns};
+use crate::living_homes::{begun_with, has_stayed, with_pawns};
 use crate::own_files::low_cost;
-use board_base::{Board, Colour, Man, Odds, Square, SquareSet, array_of, is_of, is_same_place};
+use board_base::{Board, Colour, Man, Odds, Square, SquareSet, array_of, is_of};
 use cage_rules::is_officer_home;
 use men_account::{Allowance, Counts, allowance, counts, excess, men_of};
-use pawn_assign::costs;
+use pawn_assign::Costs;
 use query_base::Query;
-
-/// Whether the square holds what the first board has there.
-fn has_stayed(first: &Board, board: &Board, s: Square) -> bool
-    ensures { result ≡ has_stayed first.now board.now s }
-{
-    is_same_place(board.at(s), first.at(s))
-}
 
 fn stayed_at(first: &Board, board: &Board, s: Square) -> Option<Man>
     ensures { result ≡ cond (has_stayed first.now board.now s) (at first.now s) None }
@@ -113,42 +108,47 @@ fn may_be_spent(first: &Board, board: &Board, set: SquareSet, s: Square) -> bool
     is_officer_home(s) && !has_stayed(first, board, s) && is_guarded(set, s)
 }
 
-fn may_spend_at(first: &Board, board: &Board, set: SquareSet, side: Colour, index: u8) -> bool
-    requires { index < 64 }
-    ensures { result ≡ (is_of side (at first.now index) && may_be_spent first.now board.now set index) }
+/// One more, if an officer of the side on the first board doesn't stand on this home, and no enemy pawn can have captured him there.
+fn with_home(
+    so_far: u8,
+    first: &Board,
+    board: &Board,
+    set: SquareSet,
+    side: Colour,
+    s: Square,
+) -> u8
+    requires { so_far < 64 }
+    ensures { result ≡ so_far + cond (is_of side (at first.now s) && may_be_spent first.now board.now set s) 1 0 }
 {
-    let s = Square::known(index);
-    is_of(side, first.at(s)) && may_be_spent(first, board, set, s)
-}
-
-/// Whether an officer of the side on the first board doesn't stand on his home, and no enemy pawn can have captured him there.
-#[tactic(auto, unfolding(crate::specs::Stayed::may_spend))]
-fn may_spend(first: &Board, board: &Board, set: SquareSet, side: Colour) -> bool
-    ensures { result ≡ may_spend first.now side board.now set }
-{
-    for i in 0..64 {
-        if may_spend_at(first, board, set, side, i) {
-            return true;
-        }
+    if is_of(side, first.at(s)) && may_be_spent(first, board, set, s) {
+        so_far + 1
+    } else {
+        so_far
     }
-    false
 }
 
-/// True only where the side's pawns need no more captures than there are enemy men gone, and each of these may have been captured by a pawn.
-pub(crate) fn needs_few(query: &Query, side: Colour, set: SquareSet) -> bool
+/// How many officers of the side on the first board don't stand on their homes, where no enemy pawn can have captured them.
+fn may_be_spent_of(first: &Board, board: &Board, set: SquareSet, side: Colour) -> u8
+    ensures number { result ≡ men_of side (may_be_spent first.now board.now set) first.now }
+    ensures few { result ≤ 64 }
+{
+    let mut n = 0;
+    for i in 0..64 {
+        n = with_home(n, first, board, set, side, Square::known(i));
+    }
+    n
+}
+
+/// True only where the side's pawns, which have these costs, need no more captures than there are enemy men gone whom pawns may have
+/// captured.
+pub(crate) fn needs_few(query: &Query, side: Colour, set: SquareSet, costs: &Costs) -> bool
+    requires { costs.now ≡ pawn_costs query.now.odds side query.now.board }
     ensures { IsTrue result → (u v : List ℤ) → IsAbove query.now.odds query.now side set u v → ⊥ }
 {
     let enemy = side.other();
-    if may_spend(&array_of(query.odds), &query.board, set, enemy) {
-        return false;
-    }
-    match costs(&query.board, side, query.odds) {
-        Some(costs) => {
-            let on_board = men_of(&query.board, enemy);
-            let begun = begun_with(enemy, query.odds);
-            let gone = begun.saturating_sub(on_board);
-            low_cost(&costs, u16::from(gone)) as u32 + on_board as u32 <= begun as u32
-        }
-        None => true,
-    }
+    let on_board = men_of(&query.board, enemy);
+    let spent = may_be_spent_of(&array_of(query.odds), &query.board, set, enemy);
+    let begun = begun_with(enemy, query.odds);
+    let gone = begun.saturating_sub(on_board).saturating_sub(spent);
+    low_cost(costs, u16::from(gone)) as u32 + on_board as u32 + spent as u32 <= begun as u32
 }

@@ -10,4 +10,4 @@ pub returns : goal.returns
 returns c =
     c.with_pawns.ensures
     ∙ living-allowance c.args.odds c.args.board.now c.args.set c.args.side c.allowance.result.pawns c.counts-n.result (ap (λ (a : Allowance). a.pawns) c.allowance.ensures)
-    (c.counts-n.ensures ∙ ap (counts_of c.args.side) (c.living.ensures ∙ ap (λ (first : Places). left_with (may_live c.args.board.now c.args.set) first) c.array_of.ensures))
+    (c.counts-n.ensures ∙ ap (counts_of c.args.side) (c.living.ensures ∙ ap (λ (first : Places). left_with (may_live c.args.side first c.args.board.now c.args.set) first) c.array_of.ensures))

@@ -1,8 +1,8 @@
 use Rattle.std.proofs.Common.{ℕ, cond}
 use Rattle.std.specs.Prelude.{None}
 use Rattle.board_base.specs.Board.{at}
-use Rattle.static_rules.specs.Stayed.{has_stayed}
 use Rattle.cage_rules.proofs.Filling.{Filled}
+use Rattle.static_rules.specs.Left.{has_stayed}
 use Rattle.static_rules.proofs.stayed.stayed.Given as goal
 
 abbrev pub invariant-loop-i : goal.invariant-loop-i
