@@ -11,9 +11,11 @@ use Rattle.board_base.specs.Attacks.{distance}
 use Rattle.board_base.specs.Board.{Places, array_of, at, file, initial_array, is_a, is_empty, is_in, is_of, is_the, opponent, rank}
 use Rattle.board_base.specs.Legal.{is_officer}
 use Rattle.board_base.specs.declared.men.Colour.{Colour}
+use Rattle.board_base.specs.declared.men.Colour.TheVariants.{White, Black}
 use Rattle.board_base.specs.declared.men.Kind.{Kind}
 use Rattle.board_base.specs.declared.men.Kind.TheVariants.{Pawn, Knight, Bishop, Rook, Queen}
 use Rattle.board_base.specs.declared.men.Man.{Man}
+use Rattle.board_base.proofs.Without.{at-without}
 use Rattle.board_base.proofs.KindsOfMen.{full-of}
 use Rattle.play_rules.specs.Laws.{is_end}
 use Rattle.men_account.specs.Account.{counts_of, excess_of, is_any, is_dark, is_light, men, allowance_of}
@@ -158,14 +160,33 @@ spent-less o c board set =
     less-count (λ s. is_of c (at (array_of o) s) && is_spent board set s) (λ s. is_of c (at (array_of o) s) && may_be_spent (array_of o) board set s) 0 64 (λ s low high here.
     let parts = and_parts (is_of c (at (array_of o) s)) (is_spent board set s) here in and_from _ _ parts.0 (spent-may o board set s (full-of c _ parts.0) parts.1))
 
-too-few : (cost on_board spent most all : ℕ) (sum : ℤ) → spent ≤ most → cost + on_board + most ≤ all → sum ≤ℤ pos cost → pos all <ℤ (sum +ℤ pos (on_board + spent)) → ⊥
+-- a side begins with seven officers
+begun-of : (c : Colour) (b : Bool) (place : Option Man) → is_of c (cond b None place) ≡ true → is_of c place ≡ true
+begun-of c true place h = absurd (both_ways false refl h)
+begun-of c false place h = h
+
+officers : (c : Colour) → count_by (λ s. is_of c (at initial_array s) && is_officer_home s) (range_with_len 0 64) ≡ 7
+unfolding initial_array beginner
+officers White = refl
+officers Black = refl
+
+seven-spent : (o : List Bool) (c : Colour) (board : Places) (set : List Bool) → men_of c (is_spent board set) (array_of o) ≤ 7
+unfolding men_of array_of
+seven-spent o c board set =
+    let less = less-count (λ s. is_of c (at (array_of o) s) && is_spent board set s) (λ s. is_of c (at initial_array s) && is_officer_home s) 0 64 (λ s low high here.
+    let parts = and_parts (is_of c (at (array_of o) s)) (is_spent board set s) here in
+    let home = and_parts (is_officer_home s) (is_dead board set s) (and_parts (is_officer_home s && is_dead board set s) (is_shielded set s) parts.1).0 in
+    and_from _ _ (begun-of c (is_in o s) (at initial_array s) (sym (ap (is_of c) (at-without o initial_array s)) ∙ parts.0)) home.0) in
+    omega (arith, less, officers c)
+
+too-few : (cost on_board spent most all : ℕ) (sum : ℤ) → spent ≤ most → cost + (on_board + most) ≤ all → sum ≤ℤ pos cost → pos all <ℤ (sum +ℤ pos (on_board + spent)) → ⊥
 too-few cost on_board spent most all sum less few least above = absurd (omega (arith, ints))
 
 -- where the pawns need no more captures than there are men gone beside those who may have been spent
-few-needed : (o : List Bool) (q : Asked) (side : Colour) (set : List Bool) (table : List (List ℕ)) (files : List ℕ) (cost on_board spent begun : ℕ) → spent ≡ men_of (opponent side) (may_be_spent (array_of o) q.board set) (array_of o) → table ≡ pawn_costs o side q.board → IsInjection 8 (length table) files → cost ≡ assignment_cost table files → on_board ≡ men_of (opponent side) is_any q.board → begun ≡ men_of (opponent side) is_any (array_of o) → cost + on_board + spent ≤ begun → (u v : List ℤ) → IsAbove o q side set u v → ⊥
-few-needed o q side set table files cost on_board spent begun may same injection costs counted first few u v h =
+few-needed : (q : Asked) (side : Colour) (set : List Bool) (table : List (List ℕ)) (files : List ℕ) (most : ℕ) → men_of (opponent side) (is_spent q.board set) (array_of q.odds) ≤ most → table ≡ pawn_costs q.odds side q.board → IsInjection 8 (length table) files → assignment_cost table files + (men_of (opponent side) is_any q.board + most) ≤ men_of (opponent side) is_any (array_of q.odds) → (u v : List ℤ) → IsAbove q.odds q side set u v → ⊥
+few-needed q side set table files most spent same injection few u v h =
     let least = weak_duality 8 table u v files (subst (λ (t : List (List ℕ)). IsBounded 8 t u v) (sym same) h.needs.bounded) injection in
-    too-few (assignment_cost table files) (men_of (opponent side) is_any q.board) (men_of (opponent side) (is_spent q.board set) (array_of o)) (men_of (opponent side) (may_be_spent (array_of o) q.board set) (array_of o)) (men_of (opponent side) is_any (array_of o)) (total u +ℤ total v) (spent-less o (opponent side) q.board set) (omega arith) least h.needs.above
+    too-few (assignment_cost table files) (men_of (opponent side) is_any q.board) (men_of (opponent side) (is_spent q.board set) (array_of q.odds)) most (men_of (opponent side) is_any (array_of q.odds)) (total u +ℤ total v) spent few least h.needs.above
 
 -- The same, as the tests have it.
 
@@ -179,8 +200,22 @@ few-from q side o board counted a n odds here counts stayed is few set more =
     few-more o q side a (subst (λ (b : Places). IsStayedAllowance (array_of o) side b a) here stayed) (subst (λ (m : ℕ). m ≤ a.pawns) (is ∙ ap (λ (k : Counts). excess_of k a) (counts ∙ ap (counts_of side) here)) few) set
     (subst (λ (x : List Bool). HasTooMany x q set side) (sym odds) more)
 
+on-board : (q : Asked) (side enemy : Colour) (board : Places) (on_board : ℕ) → board ≡ q.board → enemy ≡ opponent side → on_board ≡ men_of enemy is_any board → on_board ≡ men_of (opponent side) is_any q.board
+on-board q side enemy board on_board here against counted = counted ∙ ap (λ (c : Colour). men_of c is_any board) against ∙ ap (men_of (opponent side) is_any) here
+
+with-all : (q : Asked) (side enemy : Colour) (o : List Bool) (begun : ℕ) → o ≡ q.odds → enemy ≡ opponent side → begun ≡ men_of enemy is_any (array_of o) → begun ≡ men_of (opponent side) is_any (array_of q.odds)
+with-all q side enemy o begun odds against all = all ∙ ap (λ (c : Colour). men_of c is_any (array_of o)) against ∙ ap (λ (x : List Bool). men_of (opponent side) is_any (array_of x)) odds
+
+sums : (cost other on_board on most spent begun all : ℕ) → cost ≡ other → on_board ≡ on → most ≡ spent → begun ≡ all → cost + (on_board + most) ≤ begun → other + (on + spent) ≤ all
+sums cost other on_board on most spent begun all e1 e2 e3 e4 few = omega arith
+
+pub ample-from : (q : Asked) (side : Colour) (set o : List Bool) (board : Places) (enemy : Colour) (table : List (List ℕ)) (files : List ℕ) (on_board begun : ℕ) → o ≡ q.odds → board ≡ q.board → enemy ≡ opponent side → table ≡ pawn_costs q.odds side q.board → IsInjection 8 (length table) files → on_board ≡ men_of enemy is_any board → begun ≡ men_of enemy is_any (array_of o) → assignment_cost table files + (on_board + 7) ≤ begun → (u v : List ℤ) → IsAbove q.odds q side set u v → ⊥
+ample-from q side set o board enemy table files on_board begun odds here against same injection counted all few =
+    few-needed q side set table files 7 (seven-spent q.odds (opponent side) q.board set) same injection (sums _ _ on_board (men_of (opponent side) is_any q.board) 7 7 begun (men_of (opponent side) is_any (array_of q.odds)) refl (on-board q side enemy board on_board here against counted) refl (with-all q side enemy o begun odds against all) few)
+
 pub needed-from : (q : Asked) (side : Colour) (set o : List Bool) (first board : Places) (enemy : Colour) (table : List (List ℕ)) (files : List ℕ) (cost on_board spent begun : ℕ) → o ≡ q.odds → board ≡ q.board → enemy ≡ opponent side → first ≡ array_of o → spent ≡ men_of enemy (may_be_spent first board set) first → table ≡ pawn_costs q.odds side q.board → IsInjection 8 (length table) files → cost ≡ assignment_cost table files → on_board ≡ men_of enemy is_any board → begun ≡ men_of enemy is_any (array_of o) → cost + on_board + spent ≤ begun → (u v : List ℤ) → IsAbove q.odds q side set u v → ⊥
-needed-from q side set o first board enemy table files cost on_board spent begun odds here against is may same injection costs counted all few u v h =
-    few-needed q.odds q side set table files cost on_board spent begun
-    (may ∙ ap (λ (f : Places). men_of enemy (may_be_spent f board set) f) (is ∙ ap array_of odds) ∙ ap (λ (b : Places). men_of enemy (may_be_spent (array_of q.odds) b set) (array_of q.odds)) here ∙ ap (λ (c : Colour). men_of c (may_be_spent (array_of q.odds) q.board set) (array_of q.odds)) against) same injection costs
-    (counted ∙ ap (λ (c : Colour). men_of c is_any board) against ∙ ap (men_of (opponent side) is_any) here) (all ∙ ap (λ (c : Colour). men_of c is_any (array_of o)) against ∙ ap (λ (x : List Bool). men_of (opponent side) is_any (array_of x)) odds) few u v h
+needed-from q side set o first board enemy table files cost on_board spent begun odds here against is may same injection costs counted all few =
+    let may_spent : spent ≡ men_of (opponent side) (may_be_spent (array_of q.odds) q.board set) (array_of q.odds) =
+    may ∙ ap (λ (f : Places). men_of enemy (may_be_spent f board set) f) (is ∙ ap array_of odds) ∙ ap (λ (b : Places). men_of enemy (may_be_spent (array_of q.odds) b set) (array_of q.odds)) here ∙ ap (λ (c : Colour). men_of c (may_be_spent (array_of q.odds) q.board set) (array_of q.odds)) against in
+    few-needed q side set table files (men_of (opponent side) (may_be_spent (array_of q.odds) q.board set) (array_of q.odds)) (spent-less q.odds (opponent side) q.board set) same injection
+    (sums cost (assignment_cost table files) on_board (men_of (opponent side) is_any q.board) spent (men_of (opponent side) (may_be_spent (array_of q.odds) q.board set) (array_of q.odds)) begun (men_of (opponent side) is_any (array_of q.odds)) costs (on-board q side enemy board on_board here against counted) may_spent (with-all q side enemy o begun odds against all) (omega arith))

@@ -1,4 +1,4 @@
-ghost use Rattle.std.specs.Prelude.{◌≡◌, ◌<◌, ◌≤◌, ℕ, List, IfSome, false, length, slice_index_or};
+ghost use Rattle.std.specs.Prelude.{◌≡◌, ◌<◌, ◌≤◌, ℕ, List, IfSome, false, length, slice_index_or, IsTrue, ◌+◌};
 ghost use Rattle.assignment.specs.Assignments.{IsInjection, assignment_cost};
 
 use pawn_assign::{Costs, least};
@@ -42,5 +42,15 @@ pub(crate) fn low_cost(costs: &Costs, enough: u16) -> u16
     match greedy_cost(costs) {
         Some(cost) if cost <= enough => cost,
         _ => least(costs).cost,
+    }
+}
+
+/// Whether the pawns cost so little with some files of their own, the first that are tried, that so many men are enough beside the others.
+pub(crate) fn are_cheap(costs: &Costs, others: u16, men: u16) -> bool
+    ensures { IsTrue result → (files : List ℕ) × IsInjection 8 (length costs.now) files × (assignment_cost costs.now files + others ≤ men) }
+{
+    match greedy_cost(costs) {
+        Some(cost) => cost as u32 + others as u32 <= men as u32,
+        None => false,
     }
 }

@@ -9,12 +9,15 @@ ghost use Rattle.static_rules.specs.SetRules.{IsAbove};
 ghost use Rattle.static_rules.specs.Stayed.{IsStayedAllowance, front, is_guarded, may_be_spent, pawns_alone};
 
 use crate::living_homes::{begun_with, has_stayed, with_pawns};
-use crate::own_files::low_cost;
+use crate::own_files::{are_cheap, low_cost};
 use board_base::{Board, Colour, Man, Odds, Square, SquareSet, array_of, is_of};
 use cage_rules::is_officer_home;
 use men_account::{Allowance, Counts, allowance, counts, excess, men_of};
 use pawn_assign::Costs;
 use query_base::Query;
+
+/// The most officers with which a side begins.
+const OFFICERS: u16 = 7;
 
 fn stayed_at(first: &Board, board: &Board, s: Square) -> Option<Man>
     ensures { result ≡ cond (has_stayed first.now board.now s) (at first.now s) None }
@@ -147,8 +150,11 @@ pub(crate) fn needs_few(query: &Query, side: Colour, set: SquareSet, costs: &Cos
 {
     let enemy = side.other();
     let on_board = men_of(&query.board, enemy);
-    let spent = may_be_spent_of(&array_of(query.odds), &query.board, set, enemy);
     let begun = begun_with(enemy, query.odds);
+    if are_cheap(costs, on_board as u16 + OFFICERS, begun as u16) {
+        return true;
+    }
+    let spent = may_be_spent_of(&array_of(query.odds), &query.board, set, enemy);
     let gone = begun.saturating_sub(on_board).saturating_sub(spent);
     low_cost(costs, u16::from(gone)) as u32 + on_board as u32 + spent as u32 <= begun as u32
 }
