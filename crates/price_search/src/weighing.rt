@@ -87,25 +87,24 @@ fn is_mixed(row: &Row) -> bool {
     mixed
 }
 
-/// Notes which tallies say another number than this on a place.
-fn note_others(others: &mut [bool; 16], row: &Row, number: i8) {
-    for i in 0..16 {
-        others[i] |= row[i] != number;
-    }
-}
-
-/// What the tallies say on a place, by their weights.
-fn weighted(row: &Row, weights: &[i32; 16]) -> i32 {
+/// What the first tallies say on a place, by their weights.
+fn weighted(row: &Row, weights: &[i32; 16], count: usize) -> i32 {
     let mut sum = 0i32;
     for i in 0..16 {
+        if i >= count {
+            break;
+        }
         sum = sum.wrapping_add(weights[i].wrapping_mul(i32::from(row[i])));
     }
     sum
 }
 
-/// Adds what each tally says on a place, so many times.
-fn add_times(sums: &mut [i32; 16], row: &Row, by: i32) {
+/// Adds what each of the first tallies says on a place, so many times.
+fn add_times(sums: &mut [i32; 16], row: &Row, by: i32, count: usize) {
     for i in 0..16 {
+        if i >= count {
+            break;
+        }
         sums[i] = sums[i].wrapping_add(by.wrapping_mul(i32::from(row[i])));
     }
 }
@@ -122,18 +121,33 @@ impl SideSeen {
         }
     }
 
+    /// Whether the tally in this place is the same.
+    fn is_at(&self, at: usize, tally: &Tally) -> bool
+        requires { at < 16 }
+    {
+        for k in 0..96 {
+            if self.times[k][at] != tally.times[k] {
+                return false;
+            }
+        }
+        true
+    }
+
     /// Whether a tally is there.
     fn has(&self, tally: &Tally) -> bool {
-        let mut others = [false; 16];
-        for k in 0..96 {
-            note_others(&mut others, &self.times[k], tally.times[k]);
-        }
-        for i in 0..16 {
-            if i < self.count && !others[i] {
+        for at in 0..16 {
+            if at < self.count && self.is_at(at, tally) {
                 return true;
             }
         }
         false
+    }
+
+    /// What the tallies say on a place, by their weights.
+    fn weighted(&self, place: usize) -> i32
+        requires { place < 96 }
+    {
+        weighted(&self.times[place], &self.weights, self.count)
     }
 
     /// Adds a tally that isn't there. The first has the whole weight and the next have none; where there is no more room the lightest
@@ -231,13 +245,13 @@ impl Scale {
         }
     }
 
-    /// What each tally of a side owes on the places where anything is owed.
-    fn dues(&self, side: Colour) -> [i32; 16] {
+    /// What each of the first tallies of a side owes on the places where anything is owed.
+    fn dues(&self, side: Colour, count: usize) -> [i32; 16] {
         let rows = self.rows(side);
         let mut sums = [0i32; 16];
         for x in 0..self.len() {
             if self.owed[x] > 0 {
-                add_times(&mut sums, &rows[x], self.owed[x]);
+                add_times(&mut sums, &rows[x], self.owed[x], count);
             }
         }
         sums
@@ -323,7 +337,7 @@ fn amount(gain: i32, squares: i32, weight: i32) -> i32 {
 
 /// Shifts weight between two tallies of a side; false where none goes over.
 fn shift_weight(seen: &mut SideSeen, scale: &mut Scale, side: Colour) -> bool {
-    let Some(shift) = best_shift(&seen.weights, seen.count, &scale.dues(side)) else {
+    let Some(shift) = best_shift(&seen.weights, seen.count, &scale.dues(side, seen.count)) else {
         return false;
     };
     let rises = scale.rises(side, shift);
@@ -357,8 +371,8 @@ impl Weighing {
     fn owed_on(&self, place: usize) -> i32
         requires { place < 96 }
     {
-        let white = weighted(&self.white.times[place], &self.white.weights);
-        let black = weighted(&self.black.times[place], &self.black.weights);
+        let white = self.white.weighted(place);
+        let black = self.black.weighted(place);
         let free = WHOLE.wrapping_mul(free_on(place));
         white.wrapping_add(black).wrapping_sub(free)
     }
