@@ -1,8 +1,8 @@
 -- What a ledger knows holds of every game.
-use Rattle.std.proofs.Common.{◌≡◌, ℕ, ◌+◌, ◌<◌, ◌≤◌, inl, inr, Bool, true, false, not, List, zero, suc, refl, ap, ◌∙◌, arith}
-use Rattle.std.specs.Prelude.{Option, None, Some, nat_lt}
+use Rattle.std.proofs.Common.{◌≡◌, ℕ, ◌+◌, ◌<◌, ◌≤◌, inl, inr, Bool, true, false, not, List, [], length, zero, suc, refl, ap, sym, subst, ◌∙◌, ◌⊎◌, append-nil, arith}
+use Rattle.std.specs.Prelude.{IsTrue, Option, None, Some, nat_le, nat_lt}
 use Rattle.std.specs.Bool.{beq}
-use Rattle.std.proofs.lemmas.Bool.{and_parts, both_ways, cases_Bool, leb-true, ltb-true}
+use Rattle.std.proofs.lemmas.Bool.{and_parts, both_ways, cases_Bool, leb-true, ltb-false, ltb-true, or_cases}
 use Rattle.std.proofs.lemmas.List.{get_or-set_same}
 use Rattle.board_base.specs.Board.{Places, array_of, at, is_a, is_in, is_of, same_colour}
 use Rattle.board_base.specs.Game.{board_after}
@@ -12,12 +12,20 @@ use Rattle.board_base.specs.declared.men.Colour.TheVariants.{White, Black}
 use Rattle.board_base.specs.declared.men.Kind.TheVariants.{Pawn}
 use Rattle.board_base.specs.declared.men.Man.{Man}
 use Rattle.board_base.specs.declared.moves.Move.{Move}
+use Rattle.board_base.specs.Attacks.{files_apart}
 use Rattle.men_account.specs.Labels.{label_at, labels_after}
+use Rattle.men_fates.specs.Deeds.{way_of}
+use Rattle.men_fates.specs.Ways.{captures_on}
+use Rattle.men_fates.proofs.Goings.{pawn-ends}
+use Rattle.men_fates.proofs.Roads.{way-past}
 use Rattle.men_account.proofs.FilesLeft.{array-inside}
 use Rattle.men_account.proofs.Labelled.{labels-colours}
 use Rattle.query_base.specs.Asked.{Asked}
 use Rattle.query_base.specs.Reach.{Reaches}
+use Rattle.cage_rules.specs.Frozen.{IsFrozen}
+use Rattle.cage_rules.specs.Laws.{Caged}
 use Rattle.cage_rules.specs.Reach.{LeadsTo}
+use Rattle.cage_rules.proofs.WalledGames.{caged-walled}
 use Rattle.cage_rules.proofs.Histories.{reaches-leads}
 use Rattle.price_search.specs.FlatPrices.{flat_prices}
 use Rattle.ledger_facts.specs.Refuted.{IsRuledOut}
@@ -33,9 +41,15 @@ use Rattle.ledger_search.specs.Questions.{IsFlatlyRefuted, is_asked, is_man, onl
 use Rattle.ledger_search.specs.declared.ledgers.Ledger.{Ledger}
 use Rattle.ledger_search.specs.declared.questions.Question.TheVariants.{Home}
 use Rattle.ledger_lines.specs.Facts.{Says}
-use Rattle.ledger_lines.specs.Known.{AreRuledOut, IsKnown, IsOnBoard, counts_of, is_class, is_fallen, is_most, least_of}
+use Rattle.ledger_lines.specs.Known.{AreRuledOut, IsKnown, IsOnBoard, are_lacking, counts_of, is_class, is_fallen, is_most, least_of}
+use Rattle.ledger_lines.proofs.FewTaken.{lacking-most}
+use Rattle.ledger_lines.proofs.FilesCrossed.{captured-once, files-crossed}
 use Rattle.ledger_lines.specs.declared.facts.Fact.{Fact}
-use Rattle.ledger_lines.specs.declared.facts.Fact.TheVariants.{Began, Original, Promoted, Captured, Straight, Fell, FellToPawn, EscapedPawns, Became, NeverBecame, AtLeast, AtMost}
+use Rattle.ledger_lines.specs.declared.facts.Fact.TheVariants.{Began, Original, Promoted, Captured, Took, Straight, Fell, FellToPawn, EscapedPawns, Became, NeverBecame, AtLeast, AtMost}
+
+pawn-man : (place : Option Man) → is_a Pawn place ≡ true → is_man place ≡ true
+pawn-man None h = absurd (both_ways false refl h)
+pawn-man (Some m) h = refl
 
 man-on : (place : Option Man) → is_man place ≡ true → (m : Man) × (place ≡ Some m)
 man-on None h = absurd (both_ways false refl h)
@@ -58,7 +72,7 @@ not-not true false h = absurd (both_ways true h refl)
 not-not false true h = absurd (both_ways true h refl)
 not-not false false h = refl
 
-module _ (q : Asked) (l : Ledger) (set : List Bool) (is : IsLedger q set l) (g : List Move) (leads : LeadsTo q.odds g q) where
+module _ (q : Asked) (l : Ledger) (set : List Bool) (frozen : IsFrozen q set) (is : IsLedger q set l) (g : List Move) (leads : LeadsTo q.odds g q) where
   out : (x : Supposition) → IsFlatlyRefuted x q set → IsRuledOut x q
   out x it = (set, flat_prices it.0, it.1)
 
@@ -75,6 +89,28 @@ module _ (q : Asked) (l : Ledger) (set : List Bool) (is : IsLedger q set l) (g :
         absurd (refuted (BeganAt s (only h)) q set (flat_prices found.0) found.1 g leads (h, label, in-only h low))
     | inr fails ↦ fails
   ]
+
+  -- the pawn of a square came to it over as many files as it lies from his home
+  came-far : (s h : ℕ) → is_a Pawn (at q.board s) ≡ true → label_at (labels_after q.odds g) s ≡ Some h → files_apart h s ≤ length (captures_on h (way_of q.odds g h))
+  came-far s h pawn label =
+      let there : is_man (at q.board s) ≡ true = pawn-man (at q.board s) pawn in
+      let m = man-on (at q.board s) there in
+      let on : at (board_after q.odds g) s ≡ Some m.0 = ap (λ (b : Places). at b s) leads.board ∙ m.1 in
+      let home = labels-colours q.odds g leads.game s h m.0 label on in
+      let caged : Caged q.odds g q set = record { leads = leads; frozen = frozen } in
+      let way = way-past q.odds g g [] set m.0.colour h (caged-walled q.odds g q set caged) (sym (append-nil g)) home in
+      let ends = pawn-ends q.odds g leads.game s h label (ap (λ (b : Places). is_a Pawn (at b s)) leads.board ∙ pawn) in
+      let far = files-crossed m.0.colour set h (way_of q.odds g h) way in
+      subst (λ (t : ℕ). files_apart h t ≤ length (captures_on h (way_of q.odds g h))) ends far
+
+  took-holds : (s n : ℕ) → s < 64 → IsTrue (is_a Pawn (at q.board s)) → (AreRuledOut q l s (λ h. nat_lt (files_apart h s) n) ⊎ (IsTrue (nat_le n 1) × IsTrue (is_in l.captured s))) → (h : ℕ) → label_at (labels_after q.odds g) s ≡ Some h → n ≤ length (captures_on h (way_of q.odds g h))
+  took-holds s n low pawn (inl far) h label =
+      let near = not-ruled-out s h (λ k. nat_lt (files_apart k s) n) low far label in
+      omega (arith, ltb-false (files_apart h s) n near, came-far s h pawn label)
+  took-holds s n low pawn (inr once) h label =
+      let it = (is.captured s low).0 once.1 in
+      let aside = has-captured q s (out (Went s true) it.1) it.0 g leads h label in
+      omega (arith, captured-once h (way_of q.odds g h) aside, leb-true n 1 once.0)
 
   least-holds : (c : Colour) (squares : Squares) (n m : ℕ) → IsLeast c squares q set m → n ≤ m → n ≤ captures q.odds g c squares
   least-holds c squares zero m least low = omega arith
@@ -131,6 +167,7 @@ module _ (q : Asked) (l : Ledger) (set : List Bool) (is : IsLedger q set l) (g :
   holds (Original s) on known = λ h label. not-not false (is_a Pawn (at (array_of q.odds) h)) (not-ruled-out s h (λ k. not (beq false (is_a Pawn (at (array_of q.odds) k)))) on known label)
   holds (Promoted s) on known = λ h label. not-not true (is_a Pawn (at (array_of q.odds) h)) (not-ruled-out s h (λ k. not (beq true (is_a Pawn (at (array_of q.odds) k)))) on known label)
   holds (Captured s) on known = let it = (is.captured s on).0 known in has-captured q s (out (Went s true) it.1) it.0 g leads
+  holds (Took s n) on known = took-holds s n on known.0 known.1
   holds (Straight s) on known = let it = (is.straight s on).0 known in kept-file q s (out (Went s false) it.1) it.0 g leads
   holds (Fell h) on known =
       let b = and_parts _ (is_in l.fates.stands_promoted h) known in
@@ -158,10 +195,13 @@ module _ (q : Asked) (l : Ledger) (set : List Bool) (is : IsLedger q set l) (g :
       let a = and_parts (is_man (at (array_of q.odds) h)) (is_in l.fates.stands_promoted h) b.0 in
       never-promoted q c h home g leads (up h on a.1) (struck-later h on e.1) (taken-later h on b.1)
   holds (AtLeast c squares n) on known = least-holds c squares n (least_of (counts_of l c) squares) (least-known c squares on) (leb-true n _ known)
-  holds (AtMost c squares n) on known = most-known c squares n known
+  holds (AtMost c squares n) on known = elim (or_cases (is_most (counts_of l c) squares n) (are_lacking q c squares n) known) [
+    | inl most ↦ most-known c squares n most
+    | inr lack ↦ lacking-most q c squares n g leads lack
+  ]
 
 pub known-holds : (x : Fact) (q : Asked) (l : Ledger) → IsOnBoard x → IsLedgerOf q l → IsKnown x q l → (g : List Move) → LeadsTo q.odds g q → Says x q.odds g
-known-holds x q l on is known g leads = holds q l is.set is.ledger g leads x on known
+known-holds x q l on is known g leads = holds q l is.set is.frozen is.ledger g leads x on known
 
 pub known-reached : (x : Fact) (q : Asked) (l : Ledger) → IsOnBoard x → IsLedgerOf q l → IsKnown x q l → (g : List Move) → Reaches g q → Says x q.odds g
 known-reached x q l on is known g reaches = known-holds x q l on is known g (reaches-leads g q reaches)

@@ -1,5 +1,5 @@
 -- What each fact says of a game.
-use Rattle.std.specs.Prelude.{ℕ, ◌≡◌, ◌≤◌, Bool, true, false, IsTrue, List, Some}
+use Rattle.std.specs.Prelude.{ℕ, ◌≡◌, ◌≤◌, Bool, true, false, IsTrue, List, length, Some}
 use Rattle.board_base.specs.Board.{array_of, at, is_a, is_of}
 use Rattle.board_base.specs.declared.men.Colour.{Colour}
 use Rattle.board_base.specs.declared.men.Kind.TheVariants.{Pawn}
@@ -7,10 +7,11 @@ use Rattle.board_base.specs.declared.moves.Move.{Move}
 use Rattle.men_account.specs.Labels.{label_at, labels_after}
 use Rattle.cage_rules.specs.Laws.{IsGone}
 use Rattle.men_fates.specs.Deeds.{way_of}
+use Rattle.men_fates.specs.Ways.{captures_on}
 use Rattle.ledger_facts.specs.Lines.{BeganOn, FellToPawn, HasCaptured, KeptFile}
 use Rattle.ledger_facts.specs.Supposed.{captures, is_last}
 use Rattle.ledger_lines.specs.declared.facts.Fact.{Fact}
-use Rattle.ledger_lines.specs.declared.facts.Fact.TheVariants.{Began, Original, Promoted, Captured, Straight, Fell, FellToPawn as ToPawn, EscapedPawns, Became, NeverBecame, AtLeast, AtMost}
+use Rattle.ledger_lines.specs.declared.facts.Fact.TheVariants.{Began, Original, Promoted, Captured, Took, Straight, Fell, FellToPawn as ToPawn, EscapedPawns, Became, NeverBecame, AtLeast, AtMost}
 
 -- whoever stands on s began as a pawn, or as none
 abbrev pub BeganAs : List Bool → List Move → ℕ → Bool → Type 0
@@ -26,6 +27,7 @@ Says (Began s homes) o g = BeganOn o g s homes
 Says (Original s) o g = BeganAs o g s false
 Says (Promoted s) o g = BeganAs o g s true
 Says (Captured s) o g = HasCaptured o g s
+Says (Took s n) o g = (h : ℕ) → label_at (labels_after o g) s ≡ Some h → n ≤ length (captures_on h (way_of o g h))
 Says (Straight s) o g = KeptFile o g s
 Says (Fell h) o g = IsGone o g h
 Says (ToPawn h) o g = (c : Colour) → IsTrue (is_of c (at (array_of o) h)) → FellToPawn o g c h

@@ -3,24 +3,26 @@ use Rattle.std.specs.Prelude.{ℕ, ◌<◌, Bool, IsTrue, List}
 use Rattle.board_base.specs.Board.{is_in}
 use Rattle.board_base.specs.declared.moves.Move.{Move}
 use Rattle.query_base.specs.Asked.{Asked}
+use Rattle.cage_rules.specs.Frozen.{IsFrozen}
+use Rattle.cage_rules.specs.Laws.{KeepLabels}
 use Rattle.ledger_facts.specs.declared.suppositions.Squares.TheVariants.{All}
 use Rattle.ledger_search.specs.Questions.{only}
 use Rattle.ledger_search.specs.declared.ledgers.Ledger.{Ledger}
 use Rattle.ledger_lines.specs.Facts.{Says}
 use Rattle.ledger_lines.specs.Known.{IsKnown}
 use Rattle.ledger_lines.specs.declared.facts.Fact.{Fact}
-use Rattle.ledger_lines.specs.declared.facts.Fact.TheVariants.{Began, Original as BeganOriginal, Straight, Fell as Taken, FellToPawn, EscapedPawns, Became as Promoted, NeverBecame, AtLeast, AtMost}
+use Rattle.ledger_lines.specs.declared.facts.Fact.TheVariants.{Began, Original as BeganOriginal, Took, Straight, Fell as Taken, FellToPawn, EscapedPawns, Became as Promoted, NeverBecame, AtLeast, AtMost}
 use Rattle.ledger_lines.specs.declared.lines.Line.{Line}
-use Rattle.ledger_lines.specs.declared.lines.Line.TheVariants.{Captures, Man, Ahead, Original, Fell, Became}
+use Rattle.ledger_lines.specs.declared.lines.Line.TheVariants.{Unmoved, Captures, Pawn, Man, Ahead, Original, Fell, Became}
 use Rattle.ledger_lines.specs.declared.lines.Taker.{Taker}
-use Rattle.ledger_lines.specs.declared.lines.Taker.TheVariants.{Anyone, Pawn, Officer}
+use Rattle.ledger_lines.specs.declared.lines.Taker.TheVariants.{Anyone, Pawn as ByPawn, Officer}
 use Rattle.ledger_lines.specs.declared.lines.Manner.{Manner}
 use Rattle.ledger_lines.specs.declared.lines.Manner.TheVariants.{Anyhow, AsPawn, AsPromoted}
 
 -- who took the man of h, and as what, if it is told
 abbrev pub OfTaker : (Fact → Type 0) → ℕ → Taker → Type 0
 OfTaker P h Anyone = Unit {0}
-OfTaker P h Pawn = P (FellToPawn h)
+OfTaker P h ByPawn = P (FellToPawn h)
 OfTaker P h Officer = P (EscapedPawns h)
 
 abbrev pub OfManner : (Fact → Type 0) → ℕ → Manner → Type 0
@@ -28,26 +30,30 @@ OfManner P h Anyhow = Unit {0}
 OfManner P h AsPawn = P (NeverBecame h)
 OfManner P h AsPromoted = P (Promoted h)
 
--- each fact of the line is so
-abbrev pub OfEach : (Fact → Type 0) → Line → Type 0
-OfEach P (Captures side least most lacking) = P (AtLeast side All least) × P (AtMost side All most)
-OfEach P (Man s h) = P (Began s (only h))
-OfEach P (Ahead set) = (s : ℕ) → s < 64 → IsTrue (is_in set s) → P (Straight s)
-OfEach P (Original set) = (s : ℕ) → s < 64 → IsTrue (is_in set s) → P (BeganOriginal s)
-OfEach P (Fell h taker manner) = P (Taken h) × OfTaker P h taker × OfManner P h manner
-OfEach P (Became h) = P (Promoted h)
+-- each fact of the line is so, or its men stay
+abbrev pub OfEach : (Fact → Type 0) → (List Bool → Type 0) → Line → Type 0
+OfEach P F (Unmoved set) = F set
+OfEach P F (Captures side least most lacking) = P (AtLeast side All least) × P (AtMost side All most)
+OfEach P F (Pawn s homes n) = P (Began s homes) × P (Took s n)
+OfEach P F (Man s h) = P (Began s (only h))
+OfEach P F (Ahead set) = (s : ℕ) → s < 64 → IsTrue (is_in set s) → P (Straight s)
+OfEach P F (Original set) = (s : ℕ) → s < 64 → IsTrue (is_in set s) → P (BeganOriginal s)
+OfEach P F (Fell h taker manner) = P (Taken h) × OfTaker P h taker × OfManner P h manner
+OfEach P F (Became h) = P (Promoted h)
 
 -- The line is true of a game: that the other side lacks so many men is a count on the board, and says nothing of a game.
 abbrev pub LineSays : Line → List Bool → List Move → Type 0
-LineSays x o g = OfEach (λ f. Says f o g) x
+LineSays x o g = OfEach (λ f. Says f o g) (KeepLabels o g) x
 
--- the ledger of a query knows the line
+-- the ledger of a query knows the line; who stands on a frozen set never moved
 abbrev pub IsLineKnown : Line → Asked → Ledger → Type 0
-IsLineKnown x q l = OfEach (λ f. IsKnown f q l) x
+IsLineKnown x q l = OfEach (λ f. IsKnown f q l) (IsFrozen q) x
 
 -- its squares are on the board
 abbrev pub IsLineOnBoard : Line → Type 0
+IsLineOnBoard (Unmoved set) = Unit {0}
 IsLineOnBoard (Captures side least most lacking) = Unit {0}
+IsLineOnBoard (Pawn s homes n) = s < 64
 IsLineOnBoard (Man s h) = s < 64
 IsLineOnBoard (Ahead set) = Unit {0}
 IsLineOnBoard (Original set) = Unit {0}

@@ -12,6 +12,8 @@ pub enum Fact {
     Promoted(Square),
     /// The pawn on this square has captured.
     Captured(Square),
+    /// The pawn on this square made at least so many captures.
+    Took(Square, u8),
     /// The pawn on this square has never left his file.
     Straight(Square),
     /// The man who began on this square was taken.

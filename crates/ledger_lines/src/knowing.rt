@@ -1,15 +1,20 @@
-ghost use Rattle.std.specs.Prelude.{◌≡◌, ◌<◌, ◌↔◌, ℕ, IsTrue, cond, not, slice_set, true};
+ghost use Rattle.std.specs.Prelude.{◌≡◌, ◌<◌, ◌≤◌, ◌↔◌, ℕ, IsTrue, cond, nat_lt, not, slice_set, true};
 ghost use Rattle.std.specs.Bool.{beq};
+ghost use Rattle.board_base.specs.Attacks.{files_apart};
 ghost use Rattle.board_base.specs.Board.{array_of, at, is_a, is_in};
 ghost use Rattle.board_base.specs.declared.men.Kind.TheVariants.{Pawn};
 ghost use Rattle.ledger_search.specs.Questions.{is_asked, is_man};
 ghost use Rattle.ledger_search.specs.declared.questions.Question.TheVariants.{Home};
-ghost use Rattle.ledger_lines.specs.Known.{AreRuledOut, IsKnown, IsOnBoard, counts_of, is_class, is_fallen, is_most, is_promoted, is_struck, is_unpromoted, is_unstruck, least_of};
+ghost use Rattle.ledger_lines.specs.declared.facts.Fact.TheVariants.{Took};
+ghost use Rattle.ledger_lines.specs.Known.{AreRuledOut, IsKnown, IsOnBoard, are_lacking, counts_of, is_class, is_fallen, is_most, is_promoted, is_struck, is_unpromoted, is_unstruck, lacking, least_of};
 
 use crate::facts::Fact;
-use board_base::{Board, Colour, Kind, Man, Square, SquareSet, array_of, is_a, is_of};
+use board_base::{
+    Board, Colour, Kind, Man, Square, SquareSet, array_of, files_between, is_a, is_of,
+};
 use ledger_facts::Squares;
 use ledger_search::{Counts, Fates, Ledger};
+use men_account::men_of;
 use query_base::Query;
 
 /// Whether the place has a man.
@@ -75,36 +80,63 @@ fn has_begun_as(query: &Query, ledger: &Ledger, s: Square, pawn: bool) -> bool
     has_begun_among(query, ledger, s, homes)
 }
 
+/// Whether each home of his side that isn't ruled out for the man on a square is at least so many files away.
+fn has_come_far(query: &Query, ledger: &Ledger, s: Square, number: u8) -> bool
+    ensures { IsTrue result ↔ AreRuledOut query.now ledger.now s (λ h. nat_lt (files_apart h s) number) }
+{
+    let first = array_of(query.odds);
+    let ruled_out = ledger.homes[s.index() as usize];
+    for i in 0..64 {
+        let h = Square::known(i);
+        if is_asked(&query.board, &first, s, h)
+            && files_between(h, s) < number
+            && !ruled_out.has(h)
+        {
+            return false;
+        }
+    }
+    is_man(query.board.at(s))
+}
+
+/// Whether it is known of the pawn on a square that he made at least so many captures.
+fn has_taken(query: &Query, ledger: &Ledger, s: Square, number: u8) -> bool
+    requires { s < 64 }
+    ensures { IsTrue result ↔ IsKnown (Took s number) query.now ledger.now }
+{
+    is_a(Kind::Pawn, query.board.at(s))
+        && (has_come_far(query, ledger, s, number) || (number <= 1 && ledger.captured.has(s)))
+}
+
 /// Whether the man who began on the square doesn't stand.
-fn is_fallen(first: &Board, fates: &Fates, h: Square) -> bool
+pub fn is_fallen(first: &Board, fates: &Fates, h: Square) -> bool
     ensures { result ≡ is_fallen first.now fates.now h }
 {
     is_man(first.at(h)) && fates.stands.has(h) && fates.stands_promoted.has(h)
 }
 
 /// Whether a pawn took him.
-fn is_struck(first: &Board, fates: &Fates, h: Square) -> bool
+pub fn is_struck(first: &Board, fates: &Fates, h: Square) -> bool
     ensures { result ≡ is_struck first.now fates.now h }
 {
     is_fallen(first, fates, h) && fates.taken.has(h) && fates.taken_promoted.has(h)
 }
 
 /// Whether no pawn did.
-fn is_unstruck(first: &Board, fates: &Fates, h: Square) -> bool
+pub fn is_unstruck(first: &Board, fates: &Fates, h: Square) -> bool
     ensures { result ≡ is_unstruck first.now fates.now h }
 {
     is_man(first.at(h)) && fates.struck.has(h) && fates.struck_promoted.has(h)
 }
 
 /// Whether he was promoted.
-fn is_promoted(first: &Board, fates: &Fates, h: Square) -> bool
+pub fn is_promoted(first: &Board, fates: &Fates, h: Square) -> bool
     ensures { result ≡ is_promoted first.now fates.now h }
 {
     is_man(first.at(h)) && fates.stands.has(h) && fates.taken.has(h) && fates.struck.has(h)
 }
 
 /// Whether he never was.
-fn is_unpromoted(first: &Board, fates: &Fates, h: Square) -> bool
+pub fn is_unpromoted(first: &Board, fates: &Fates, h: Square) -> bool
     ensures { result ≡ is_unpromoted first.now fates.now h }
 {
     is_man(first.at(h))
@@ -114,7 +146,7 @@ fn is_unpromoted(first: &Board, fates: &Fates, h: Square) -> bool
 }
 
 /// The numbers of captures of a side.
-fn counts_of(ledger: &Ledger, side: Colour) -> Counts
+pub fn counts_of(ledger: &Ledger, side: Colour) -> Counts
     ensures { result ≡ counts_of ledger.now side }
 {
     match side {
@@ -153,6 +185,26 @@ fn is_most(counts: &Counts, squares: Squares, number: u8) -> bool
     }
 }
 
+/// How many men fewer a side has than it began with.
+pub fn lacking(query: &Query, side: Colour) -> u8
+    ensures number { result ≡ lacking query.now side }
+    ensures few { result ≤ 64 }
+{
+    men_of(&array_of(query.odds), side).saturating_sub(men_of(&query.board, side))
+}
+
+/// Whether the other side lacks at most so many men; squares of one kind don't count.
+fn are_lacking(query: &Query, side: Colour, squares: Squares, number: u8) -> bool
+    ensures { result ≡ are_lacking query.now side squares number }
+{
+    match squares {
+        Squares::All => lacking(query, side.other()) <= number,
+        Squares::Dark => false,
+        Squares::Light => false,
+        Squares::Class(_) => false,
+    }
+}
+
 /// Whether the ledger of the query knows the fact.
 pub fn is_known(query: &Query, ledger: &Ledger, fact: &Fact) -> bool
     requires { IsOnBoard fact.now }
@@ -164,6 +216,7 @@ pub fn is_known(query: &Query, ledger: &Ledger, fact: &Fact) -> bool
         Fact::Original(s) => has_begun_as(query, ledger, s, false),
         Fact::Promoted(s) => has_begun_as(query, ledger, s, true),
         Fact::Captured(s) => ledger.captured.has(s),
+        Fact::Took(s, number) => has_taken(query, ledger, s, number),
         Fact::Straight(s) => ledger.straight.has(s),
         Fact::Fell(h) => is_fallen(&first, &ledger.fates, h),
         Fact::FellToPawn(h) => is_struck(&first, &ledger.fates, h),
@@ -175,6 +228,7 @@ pub fn is_known(query: &Query, ledger: &Ledger, fact: &Fact) -> bool
         }
         Fact::AtMost(side, squares, number) => {
             is_most(&counts_of(ledger, side), squares, number)
+                || are_lacking(query, side, squares, number)
         }
     }
 }

@@ -11,7 +11,9 @@ mod lines;
 mod writing;
 
 pub use facts::Fact;
-pub use knowing::is_known;
+pub use knowing::{
+    counts_of, is_fallen, is_known, is_promoted, is_struck, is_unpromoted, is_unstruck, lacking,
+};
 pub use laws::{known_facts_hold, known_lines_hold};
 pub use lines::{Line, Manner, Taker};
 pub use writing::write_line;

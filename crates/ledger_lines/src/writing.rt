@@ -1,8 +1,8 @@
-ghost use Rattle.std.specs.Prelude.{◌≡◌, ◌++◌, IfOk};
+ghost use Rattle.std.specs.Prelude.{◌≡◌, ◌||◌, ◌++◌, IfOk};
 ghost use Rattle.board_base.specs.Board.{is_in};
 ghost use Rattle.prose_words.specs.Words.{squares_words};
-ghost use Rattle.ledger_lines.specs.declared.lines.Line.TheVariants.{Became, Captures, Fell, Man};
-ghost use Rattle.ledger_lines.specs.LineTexts.{line_text, manner_word, side_letter, spaced_number, spaced_square, taker_word};
+ghost use Rattle.ledger_lines.specs.declared.lines.Line.TheVariants.{Became, Captures, Fell, Man, Pawn};
+ghost use Rattle.ledger_lines.specs.LineTexts.{home_word, homes_words, line_text, manner_word, side_letter, spaced_number, spaced_square, taker_word};
 
 use crate::lines::{Line, Manner, Taker};
 use board_base::{Colour, Square, SquareSet};
@@ -74,6 +74,48 @@ fn push_captures(
     push_spaced_number(lacking, out)
 }
 
+fn either(first: bool, second: bool) -> bool
+    ensures { result ≡ (first || second) }
+{
+    first || second
+}
+
+/// Adds a home, after a space, or after a comma if there are several.
+fn push_home_if(given: bool, several: bool, h: Square, out: &mut Vec<u8>) -> Result<(), AllocError>
+    ensures { IfOk result (λ _. out.new.items ≡ out.old.items ++ home_word given several h) }
+{
+    if !given {
+        return Ok(());
+    }
+    say(if several { b"," } else { b" " }, out)?;
+    push_square(h, out)
+}
+
+/// Adds the homes of a set with commas between two.
+fn push_homes(homes: SquareSet, out: &mut Vec<u8>) -> Result<(), AllocError>
+    ensures { IfOk result (λ _. out.new.items ≡ out.old.items ++ homes_words homes) }
+{
+    let mut several = false;
+    for i in 0..64 {
+        let h = Square::known(i);
+        let given = homes.has(h);
+        push_home_if(given, several, h, out)?;
+        several = either(several, given);
+    }
+    Ok(())
+}
+
+/// Adds where a pawn began, and how often he captured at least.
+fn push_pawn(s: Square, homes: SquareSet, number: u8, out: &mut Vec<u8>) -> Result<(), AllocError>
+    ensures { IfOk result (λ _. out.new.items ≡ out.old.items ++ line_text (Pawn s homes number)) }
+{
+    say(b"pawn", out)?;
+    push_spaced_square(s, out)?;
+    push_homes(homes, out)?;
+    push_spaced_number(number, out)?;
+    say(b"+", out)
+}
+
 /// Adds where a man began.
 fn push_man(s: Square, h: Square, out: &mut Vec<u8>) -> Result<(), AllocError>
     ensures { IfOk result (λ _. out.new.items ≡ out.old.items ++ line_text (Man s h)) }
@@ -117,6 +159,8 @@ pub fn write_line(line: &Line, out: &mut Vec<u8>) -> Result<(), AllocError>
         Line::Captures(side, least, most, lacking) => {
             push_captures(side, least, most, lacking, out)
         }
+        Line::Unmoved(set) => push_set(b"unmoved", set, out),
+        Line::Pawn(s, homes, number) => push_pawn(s, homes, number, out),
         Line::Man(s, h) => push_man(s, h, out),
         Line::Ahead(set) => push_set(b"ahead", set, out),
         Line::Original(set) => push_set(b"original", set, out),
