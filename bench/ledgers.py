@@ -31,15 +31,18 @@ class Labelled:
         self.labels = {s: s for s in men}
         self.captures = {h: [] for h in men}
         self.promoted, self.gone, self.struck = set(), set(), set()
-        # The squares on which each side's pawns captured.
-        self.strikes = {True: [], False: []}
+        # The squares on which each side's pawns captured, and those on which moves began and ended.
+        self.strikes, self.touched = {True: [], False: []}, set()
 
     def play(self, move):
         position, board = self.position, self.position.board
         mover = self.labels.pop(move.origin)
+        self.touched |= {move.origin, move.target}
         if move.captured:
-            victim = self.labels.pop(move.target + (-8 if position.white else 8) if move.passing else move.target)
+            place = move.target + (-8 if position.white else 8) if move.passing else move.target
+            victim = self.labels.pop(place)
             self.gone.add(victim)
+            self.touched.add(place)
             if board[move.origin] in "Pp":
                 self.struck.add(victim)
                 self.captures[mover].append(move.target)
@@ -49,6 +52,7 @@ class Labelled:
         if board[move.origin] in "Kk" and abs(move.target - move.origin) == 2:
             _, rook, _, beside = next(c for c in CASTLINGS.values() if (c[0], c[2]) == (move.origin, move.target))
             self.labels[beside] = self.labels.pop(rook)
+            self.touched |= {rook, beside}
         self.labels[move.target] = mover
         self.position = position.after(move)
 
@@ -95,6 +99,33 @@ def false_facts(words, game):
         false += [f"captures on class {k}" for k in range(16) if numbers[6 + k] > made.count(k)]
         facts += sum(numbers[0:6:2]) + sum(16 - n for n in numbers[1:6:2]) + sum(numbers[6:])
     return false, facts
+
+
+def is_false_line(line, game):
+    """Whether a line of the ledger that `study` tells isn't so of a game."""
+    word, *words = line.split()
+    numbers = [int(one) for one in words if one.isdigit()]
+    squares = [8 * (int(one[1]) - 1) + "abcdefgh".index(one[0]) for one in words if len(one) == 2 and one[1].isdigit()]
+    board, homes = game.position.board, [game.labels.get(s) for s in squares]
+    if word == "unmoved":
+        return bool(game.touched & set(squares))
+    if word == "captures":
+        white, (least, most, lacking) = words[0] == "w", numbers
+        standing = sum(1 for s in range(64) if board[s] != "." and board[s].isupper() != white)
+        return not least <= len(game.strikes[white]) <= most or lacking != 16 - standing
+    if word == "pawn":
+        return name(homes[0]) not in words[1].split(",") or len(game.captures[homes[0]]) < int(words[2][:-1])
+    if word == "man":
+        return homes[0] != squares[1]
+    if word == "ahead":
+        return any(home is None or bool(game.captures[home]) or board[s] not in "Pp" for s, home in zip(squares, homes))
+    if word == "original":
+        return any(home is None or home // 8 in (1, 6) for home in homes)
+    if word == "became":
+        return squares[0] not in game.promoted
+    home = squares[0]
+    holds = {"pawn": home in game.struck, "officer": home not in game.struck, "as-pawn": home not in game.promoted, "as-promoted": home in game.promoted}
+    return home not in game.gone or not all(holds[one] for one in words[1:])
 
 
 def main():

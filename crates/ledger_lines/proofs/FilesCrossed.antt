@@ -1,9 +1,9 @@
 -- A pawn captures at least as often as it goes to another file.
-use Rattle.std.proofs.Common.{◌≡◌, ℕ, ◌+◌, ◌-◌, ◌≤◌, ◌<◌, ◌==◌, inl, inr, Bool, true, false, cond, List, [], ◌∷◌, length, refl, ap, sym, ◌∙◌, arith}
+use Rattle.std.proofs.Common.{◌≡◌, ℕ, ◌+◌, ◌≤◌, ◌<◌, ◌==◌, inl, inr, Bool, true, false, List, [], ◌∷◌, length, refl, ap, ◌∙◌, arith}
 use Rattle.std.specs.Prelude.{◌&&◌, nat_lt}
 use Rattle.std.proofs.lemmas.Bool.{and_parts, both_ways, cases_Bool, cond-false, cond-true, eqb-true, ltb-true}
 use Rattle.board_base.specs.Attacks.{distance, files_apart, one_ahead}
-use Rattle.board_base.specs.Board.{file, is_in}
+use Rattle.board_base.specs.Board.{file}
 use Rattle.board_base.specs.declared.men.Colour.{Colour}
 use Rattle.men_fates.specs.Ways.{captures_on, is_pawn_step, is_straight, is_way, way_end}
 use Rattle.men_fates.proofs.WayLists.{none-straight}

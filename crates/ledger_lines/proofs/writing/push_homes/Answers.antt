@@ -1,6 +1,6 @@
-use Rattle.std.proofs.Common.{◌≡◌, ◌++◌, ◌∙◌, ℕ, List, ap, arith}
+use Rattle.std.proofs.Common.{◌∙◌, ℕ, List, arith}
 use Rattle.std.specs.List.{list_any, range_with_len}
-use Rattle.std.specs.Prelude.{Bool, ◌||◌}
+use Rattle.std.specs.Prelude.{Bool}
 use Rattle.board_base.specs.Board.{is_in}
 use Rattle.prose_words.proofs.Squares.{flat_more, flat_whole}
 use Rattle.ledger_lines.specs.LineTexts.{home_word, homes_words}

@@ -1,0 +1,150 @@
+-- Each line that is told is known, and so it is true of every game.
+use Rattle.std.proofs.Common.{◌≡◌, ℕ, ◌<◌, ◌≤◌, inl, inr, Bool, true, false, cond, ◌&&◌, ◌||◌, not, List, [], zero, suc, refl, ap, sym, subst, ◌∙◌, arith}
+use Rattle.std.specs.Prelude.{IsTrue, Option, None, Some, nat_le, nat_lt, slice_index_or}
+use Rattle.std.specs.List.{All}
+use Rattle.std.proofs.lemmas.Bool.{and_from, and_parts, both_ways, cases_Bool, le-leb, or_left, or_right}
+use Rattle.std.proofs.lemmas.List.Elements.{All-append, All-cons, All-nil}
+use Rattle.std.proofs.lemmas.Option.{cond_some}
+use Rattle.board_base.specs.Board.{array_of, at, is_a, is_in, is_like, opponent}
+use Rattle.board_base.specs.declared.men.Colour.{Colour}
+use Rattle.board_base.specs.declared.men.Colour.TheVariants.{White, Black}
+use Rattle.board_base.specs.declared.men.Man.{Man}
+use Rattle.board_base.specs.declared.men.Kind.TheVariants.{Pawn as APawn}
+use Rattle.query_base.specs.Asked.{Asked}
+use Rattle.cage_rules.specs.Frozen.{IsFrozen}
+use Rattle.ledger_search.specs.Ledgers.{IsLedgerOf}
+use Rattle.ledger_search.specs.Questions.{is_man}
+use Rattle.ledger_search.specs.declared.ledgers.Ledger.{Ledger}
+use Rattle.ledger_facts.specs.declared.suppositions.Squares.TheVariants.{All as AllSquares}
+use Rattle.ledger_lines.specs.Known.{IsKnown, are_lacking, counts_of as captures_of, is_fallen, is_most, is_promoted, is_struck, is_unpromoted, is_unstruck, lacking}
+use Rattle.ledger_lines.specs.declared.facts.Fact.TheVariants.{Began}
+use Rattle.ledger_lines.specs.Lines.{IsLineKnown, IsLineOnBoard, OfManner, OfTaker}
+use Rattle.ledger_lines.specs.declared.lines.Line.{Line}
+use Rattle.ledger_lines.specs.declared.lines.Line.TheVariants.{Captures as CapturesLine}
+use Rattle.ledger_lines.specs.declared.lines.Taker.TheVariants as taker
+use Rattle.ledger_lines.specs.declared.lines.Manner.TheVariants as manner
+use Rattle.ledger_lines.proofs.LinesHolding.{known-line-reached}
+use Rattle.ledger_told.specs.Due.{AreLeft, IsChosen, IsSquareLine, IsWhole, TellsPawn, is_moving, is_pawn_news, is_news, most_made, of_group}
+use Rattle.ledger_told.specs.Told.{IsLineTrue, TellsAll, TellsFirst, TellsLedger, TellsWhole, lines_text, one_line}
+use Rattle.ledger_told.specs.declared.topics.Group.{Group}
+use Rattle.ledger_told.specs.declared.topics.Group.TheVariants.{Ahead, Original}
+use Rattle.ledger_told.specs.declared.topics.Whole.{Whole}
+use Rattle.ledger_told.specs.declared.topics.Whole.TheVariants.{Unmoved, Captures, Those}
+use Rattle.ledger_told.specs.declared.topics.Topic.{Topic}
+use Rattle.ledger_told.specs.declared.topics.Topic.TheVariants.{Pawns, Men, Falls, Promotions}
+
+not-so : (b : Bool) → not b ≡ true → b ≡ false
+not-so true h = absurd (both_ways false refl h)
+not-so false h = refl
+
+pub a-pawn : (place : Option Man) → is_a APawn place ≡ true → is_man place ≡ true
+a-pawn None h = absurd (both_ways false refl h)
+a-pawn (Some m) h = refl
+
+module _ (q : Asked) (l : Ledger) where
+  -- the line is on the board and known
+  abbrev Is : Line → Type 0
+  Is x = IsLineOnBoard x × IsLineKnown x q l
+
+  within : (a b n : ℕ) → (nat_lt a b && nat_lt a 16) ≡ true → n ≡ a → (nat_le a n && nat_lt n 16) ≡ true
+  within a b n low e = let parts = and_parts (nat_lt a b) (nat_lt a 16) low in ap (λ (m : ℕ). nat_le a m && nat_lt m 16) e ∙ ap (λ (t : Bool). t && nat_lt a 16) (le-leb a a (omega arith)) ∙ parts.1
+
+  most-known : (c : Colour) (low : Bool) → (nat_lt (captures_of l c).all.most (lacking q (opponent c)) && nat_lt (captures_of l c).all.most 16) ≡ low
+      → (is_most (captures_of l c) AllSquares (cond low (captures_of l c).all.most (lacking q (opponent c))) || are_lacking q c AllSquares (cond low (captures_of l c).all.most (lacking q (opponent c)))) ≡ true
+  most-known c true is = or_left _ _ (within (captures_of l c).all.most (lacking q (opponent c)) (captures_of l c).all.most is refl)
+  most-known c false is = or_right _ _ (le-leb (lacking q (opponent c)) (lacking q (opponent c)) (omega arith))
+
+  captures-known : (c : Colour) → Is (CapturesLine c (captures_of l c).all.least (most_made q l c) (lacking q (opponent c)))
+  captures-known c = (tt, (le-leb (captures_of l c).all.least (captures_of l c).all.least (omega arith), most-known c (nat_lt (captures_of l c).all.most (lacking q (opponent c)) && nat_lt (captures_of l c).all.most 16) refl))
+
+  group-known : (group : Group) (set named : List Bool) → ((s : ℕ) → s < 64 → IsTrue (is_in named s) → IsChosen group q l set s) → Is (of_group group named)
+  group-known Ahead set named each = (tt, λ s low there. (and_parts (is_in l.straight s) (not (is_like (at q.board s) (at (array_of q.odds) s))) (each s low there)).0)
+  group-known Original set named each = (tt, λ s low there. (each s low there).1)
+
+  whole-known : (whole : Whole) (set : List Bool) (x : Line) → IsFrozen q set → IsWhole whole q l set (Some x) → Is x
+  whole-known Unmoved set x frozen is = subst Is (sym is.0) (tt, frozen)
+  whole-known (Captures c) set x frozen is = let y = cond_some _ _ x (sym is) in subst Is y.1 (captures-known c)
+  whole-known (Those group) set x frozen is = subst Is (sym is.1) (group-known group set is.0 (λ s low. (is.2 s low).0))
+
+  taker-known : (h : ℕ) (struck unstruck : Bool) → is_struck (array_of q.odds) l.fates h ≡ struck → is_unstruck (array_of q.odds) l.fates h ≡ unstruck → OfTaker (λ f. IsKnown f q l) h (cond struck taker.Pawn (cond unstruck taker.Officer taker.Anyone))
+  taker-known h true unstruck first second = first
+  taker-known h false true first second = second
+  taker-known h false false first second = tt
+
+  manner-known : (h : ℕ) (pawn unpromoted promoted : Bool) → is_unpromoted (array_of q.odds) l.fates h ≡ unpromoted → is_promoted (array_of q.odds) l.fates h ≡ promoted → OfManner (λ f. IsKnown f q l) h (cond pawn (cond unpromoted manner.AsPawn (cond promoted manner.AsPromoted manner.Anyhow)) manner.Anyhow)
+  manner-known h true true promoted first second = first
+  manner-known h true false true first second = second
+  manner-known h true false false first second = tt
+  manner-known h false unpromoted promoted first second = tt
+
+  -- the homes of a pawn that aren't left are ruled out
+  left-known : (s : ℕ) (homes : List Bool) → is_man (at q.board s) ≡ true → AreLeft q l s homes → IsKnown (Began s homes) q l
+  left-known s homes man left = (
+    man,
+    λ h low asked out. elim (cases_Bool (is_in (slice_index_or l.homes s []) h)) [
+      | inl ruled_out ↦ ruled_out
+      | inr still ↦
+          let there = (left h low).1 (and_from _ _ asked (ap not still)) in
+          absurd (both_ways _ (not-so (is_in homes h) out) there)
+    ],
+  )
+
+  pawn-known : (c : Colour) (s : ℕ) (x : Line) → s < 64 → IsTrue (is_moving q l c s) → TellsPawn q l s (Some x) → Is x
+  pawn-known c s x low moving told =
+      let y = cond_some (is_pawn_news told.homes s told.number) _ x (sym told.line_is) in
+      subst Is y.1 (low, (left-known s told.homes (a-pawn (at q.board s) told.took.0) told.left, told.took))
+
+  square-known : (topic : Topic) (s : ℕ) (x : Line) → s < 64 → IsSquareLine topic q l s (Some x) → Is x
+  square-known (Pawns c) s x low is = elim (cases_Bool (is_moving q l c s)) [
+    | inl moving ↦ pawn-known c s x low moving (is.0 moving)
+    | inr other ↦ cc (is.1 other)
+  ]
+  square-known (Men c) s x low is = subst Is (sym is.2) (low, is.3.1)
+  square-known Falls s x low is =
+      let y = cond_some (is_fallen (array_of q.odds) l.fates s && is_news q l s) _ x (sym is) in
+      subst Is y.1 (low, ((and_parts (is_fallen (array_of q.odds) l.fates s) (is_news q l s) y.0).0, taker-known s (is_struck (array_of q.odds) l.fates s) (is_unstruck (array_of q.odds) l.fates s) refl refl, manner-known s (is_a APawn (at (array_of q.odds) s)) (is_unpromoted (array_of q.odds) l.fates s) (is_promoted (array_of q.odds) l.fates s) refl refl))
+  square-known Promotions s x low is =
+      let y = cond_some (is_promoted (array_of q.odds) l.fates s && is_a APawn (at (array_of q.odds) s)) _ x (sym is) in
+      subst Is y.1 (low, (and_parts (is_promoted (array_of q.odds) l.fates s) (is_a APawn (at (array_of q.odds) s)) y.0).0)
+
+  module _ (is : IsLedgerOf q l) (set : List Bool) (frozen : IsFrozen q set) where
+    true-line : (x : Line) → Is x → IsLineTrue q x
+    true-line x known g reaches = known-line-reached x q l known.0 is known.1 g reaches
+
+    true-one : (line : Option Line) → ((x : Line) → line ≡ Some x → Is x) → All (IsLineTrue q) (one_line line)
+    true-one None each = All-nil (IsLineTrue q)
+    true-one (Some x) each = All-cons (IsLineTrue q) x [] (true-line x (each x refl)) (All-nil (IsLineTrue q))
+
+    true-whole : (whole : Whole) (xs : List Line) → TellsWhole whole q l set xs → All (IsLineTrue q) xs
+    true-whole whole xs told = subst (All (IsLineTrue q)) (sym told.2) (true-one told.0 (λ x e. whole-known whole set x frozen (subst (IsWhole whole q l set) e told.1)))
+
+    true-first : (topic : Topic) (n : ℕ) (xs : List Line) → n ≤ 64 → TellsFirst topic q l n xs → All (IsLineTrue q) xs
+    unfolding TellsFirst
+    true-first topic zero xs few told = subst (All (IsLineTrue q)) (sym told) (All-nil (IsLineTrue q))
+    true-first topic (suc n) xs few told =
+        subst (All (IsLineTrue q)) (sym told.4)
+        (All-append (IsLineTrue q) told.0 (one_line told.1) (true-first topic n told.0 (omega arith) told.2) (true-one told.1 (λ x e. square-known topic n x (omega arith) (subst (IsSquareLine topic q l n) e told.3))))
+
+    true-all : (xs : List Line) → TellsAll q l set xs → All (IsLineTrue q) xs
+    true-all xs told =
+        let P : Line → Type 0 = IsLineTrue q in
+        subst (All P) (sym told.all)
+        (All-append P _ told.promotions (All-append P _ told.falls (All-append P _ told.original (All-append P _ told.ahead (All-append P _ told.black_men (All-append P _ told.white_men (All-append P _ told.black_pawns (All-append P _ told.white_pawns (All-append P _ told.black_captures (All-append P told.unmoved told.white_captures
+        (true-whole Unmoved told.unmoved told.unmoved_told)
+        (true-whole (Captures White) told.white_captures told.white_captures_told))
+        (true-whole (Captures Black) told.black_captures told.black_captures_told))
+        (true-first (Pawns White) 64 told.white_pawns (omega arith) told.white_pawns_told))
+        (true-first (Pawns Black) 64 told.black_pawns (omega arith) told.black_pawns_told))
+        (true-first (Men White) 64 told.white_men (omega arith) told.white_men_told))
+        (true-first (Men Black) 64 told.black_men (omega arith) told.black_men_told))
+        (true-whole (Those Ahead) told.ahead told.ahead_told))
+        (true-whole (Those Original) told.original told.original_told))
+        (true-first Falls 64 told.falls (omega arith) told.falls_told))
+        (true-first Promotions 64 told.promotions (omega arith) told.promotions_told))
+
+-- each line of what is told of a query's ledger is true
+pub all-true : (q : Asked) (text : List ℕ) → TellsLedger q text → (xs : List Line) × All (IsLineTrue q) xs × (text ≡ lines_text xs)
+all-true q text t = elim t.told [
+  | inl void ↦ (t.lines, subst (All (IsLineTrue q)) (sym void.1) (All-nil (IsLineTrue q)), t.text_is)
+  | inr told ↦ (t.lines, true-all q t.ledger t.ledger_is t.set t.set_is.frozen t.lines told.1, t.text_is)
+]

@@ -1,0 +1,89 @@
+-- What is told of a position's ledger.
+use Rattle.std.specs.Prelude.{ℕ, ◌≡◌, ◌⊎◌, zero, suc, List, [], ◌∷◌, ◌++◌, Bool, Option, Some, None}
+use Rattle.std.specs.List.{flat_map}
+use Rattle.board_base.specs.declared.men.Colour.TheVariants.{White, Black}
+use Rattle.board_base.specs.declared.moves.Move.{Move}
+use Rattle.play_rules.specs.Reach.{IsWithin}
+use Rattle.query_base.specs.Asked.{Asked}
+use Rattle.query_base.specs.Reach.{Reaches}
+use Rattle.cage_rules.specs.Frozen.{IsAsArray, IsFrozen}
+use Rattle.ledger_search.specs.Contradictions.{IsContradictory}
+use Rattle.ledger_search.specs.Ledgers.{IsLedgerOf}
+use Rattle.ledger_search.specs.declared.ledgers.Ledger.{Ledger}
+use Rattle.ledger_lines.specs.Lines.{LineSays}
+use Rattle.ledger_lines.specs.LineTexts.{line_text}
+use Rattle.ledger_lines.specs.declared.lines.Line.{Line}
+use Rattle.ledger_told.specs.Due.{IsSquareLine, IsWhole}
+use Rattle.ledger_told.specs.declared.topics.Group.TheVariants.{Ahead, Original}
+use Rattle.ledger_told.specs.declared.topics.Whole.{Whole}
+use Rattle.ledger_told.specs.declared.topics.Whole.TheVariants.{Unmoved, Captures, Those}
+use Rattle.ledger_told.specs.declared.topics.Topic.{Topic}
+use Rattle.ledger_told.specs.declared.topics.Topic.TheVariants.{Pawns, Men, Falls, Promotions}
+
+-- a line with its end
+abbrev pub whole_text : Line → List ℕ
+whole_text x = line_text x ++ 10 ∷ []
+
+-- lines one behind the other
+unfoldable pub lines_text : List Line → List ℕ
+lines_text xs = flat_map whole_text xs
+
+-- a line or none
+abbrev pub one_line : Option Line → List Line
+one_line None = []
+one_line (Some x) = x ∷ []
+
+-- the line of what is told by one, if it is due
+abbrev pub TellsWhole : Whole → Asked → Ledger → List Bool → List Line → Type 0
+TellsWhole whole q l set xs = (line : Option Line) × IsWhole whole q l set line × (xs ≡ one_line line)
+
+-- the lines of the first n squares
+unfoldable pub TellsFirst : Topic → Asked → Ledger → ℕ → List Line → Type 0
+TellsFirst topic q l zero xs = xs ≡ []
+TellsFirst topic q l (suc n) xs = (front : List Line) × (line : Option Line) × TellsFirst topic q l n front × IsSquareLine topic q l n line × (xs ≡ front ++ one_line line)
+
+-- the lines that are told, in order: what is one line of the whole board is told once, and the rest square by square
+pub record TellsAll (q : Asked) (l : Ledger) (set : List Bool) (xs : List Line) : Type 0 where
+  pub unmoved : List Line
+  pub white_captures : List Line
+  pub black_captures : List Line
+  pub white_pawns : List Line
+  pub black_pawns : List Line
+  pub white_men : List Line
+  pub black_men : List Line
+  pub ahead : List Line
+  pub original : List Line
+  pub falls : List Line
+  pub promotions : List Line
+  pub unmoved_told : TellsWhole Unmoved q l set unmoved
+  pub white_captures_told : TellsWhole (Captures White) q l set white_captures
+  pub black_captures_told : TellsWhole (Captures Black) q l set black_captures
+  pub white_pawns_told : TellsFirst (Pawns White) q l 64 white_pawns
+  pub black_pawns_told : TellsFirst (Pawns Black) q l 64 black_pawns
+  pub white_men_told : TellsFirst (Men White) q l 64 white_men
+  pub black_men_told : TellsFirst (Men Black) q l 64 black_men
+  pub ahead_told : TellsWhole (Those Ahead) q l set ahead
+  pub original_told : TellsWhole (Those Original) q l set original
+  pub falls_told : TellsFirst Falls q l 64 falls
+  pub promotions_told : TellsFirst Promotions q l 64 promotions
+  pub all : xs ≡ unmoved ++ white_captures ++ black_captures ++ white_pawns ++ black_pawns ++ white_men ++ black_men ++ ahead ++ original ++ falls ++ promotions
+
+-- the greatest frozen set that is as in the array at the query's odds
+pub record IsGreatest (q : Asked) (set : List Bool) : Type 0 where
+  pub frozen : IsFrozen q set
+  pub as_array : IsAsArray q.odds q.board set
+  pub greatest : (other : List Bool) → IsFrozen q other → IsAsArray q.odds q.board other → IsWithin other set
+
+-- The text is that of the query's ledger: nothing if this contradicts itself, and else all lines that are due.
+pub record TellsLedger (q : Asked) (text : List ℕ) : Type 0 where
+  pub ledger : Ledger
+  pub ledger_is : IsLedgerOf q ledger
+  pub set : List Bool
+  pub set_is : IsGreatest q set
+  pub lines : List Line
+  pub told : (IsContradictory q ledger × (lines ≡ [])) ⊎ ((IsContradictory q ledger → ⊥) × TellsAll q ledger set lines)
+  pub text_is : text ≡ lines_text lines
+
+-- the line is true of each game that reaches the query
+abbrev pub IsLineTrue : Asked → Line → Type 0
+IsLineTrue q x = (g : List Move) → Reaches g q → LineSays x q.odds g
