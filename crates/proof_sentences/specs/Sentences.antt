@@ -235,11 +235,11 @@ back_words k =
 
 -- that a side can't have moved last
 abbrev pub still_words : Colour → Bool → List ℕ
-still_words c first = side_word c ++ cond first (codes " moved last, but no man can have.\n") (codes " has no move before it.\n")
+still_words c first = side_word c ++ cond first (codes " moved last, but no man can have.") (codes " has no move before it.")
 
--- the same, and man by man why
+-- the same, and why
 abbrev pub barred_words : Asked → Bool → List ℕ
-barred_words q first = still_words (opponent q.turn) first ++ bars_text q (codes " ")
+barred_words q first = still_words (opponent q.turn) first ++ bars_text q
 
 -- that the moves with which it can have moved last follow
 abbrev pub moved_words : Colour → Bool → List ℕ

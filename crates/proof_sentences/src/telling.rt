@@ -596,14 +596,14 @@ fn push_still(side: Colour, first: bool, out: &mut Vec<u8>) -> Result<(), AllocE
     say(side_word(side), out)?;
     push_either(
         first,
-        b" moved last, but no man can have.\n",
-        b" has no move before it.\n",
+        b" moved last, but no man can have.",
+        b" has no move before it.",
         out,
     )?;
     Ok(())
 }
 
-/// That nobody can have moved last, and man by man why.
+/// That nobody can have moved last, and why.
 fn push_barred(
     alloc: Global,
     query: &Query,
@@ -613,7 +613,7 @@ fn push_barred(
     ensures { IfOk result (λ _. out.new.items ≡ out.old.items ++ barred_words query.now first) }
 {
     push_still(query.turn.other(), first, out)?;
-    push_bars(alloc, query, b" ", out)?;
+    push_bars(alloc, query, out)?;
     Ok(())
 }
 

@@ -6,4 +6,5 @@ pub mod FirstBars
 pub mod Places
 pub mod Truth
 pub mod Whole
+pub mod Rest
 pub mod Unexplained

@@ -1,4 +1,4 @@
--- Nothing is left untold where a query has no retraction.
+-- Some clause tells of each way, where a query has no retraction.
 use Rattle.std.proofs.Common.{◌≡◌, ℕ, ◌<◌, ◌==◌, Bool, true, false, List, [], ◌++◌, ◌⊎◌, inl, inr, Option, Some, None, refl, ap, subst, arith}
 use Rattle.std.proofs.lemmas.Bool.{and_from, cases_Bool, eq-eqb, false_from_ne_true, not_from_false, or_right}
 use Rattle.std.proofs.lemmas.List.Elements.{Contains-append_left, Contains-append_right}
@@ -18,7 +18,7 @@ use Rattle.retraction_bars.specs.Clauses.{clause_if, clause_or, clauses, clauses
 use Rattle.retraction_bars.specs.Grounds.{bars_all, first_bar, spares}
 use Rattle.retraction_bars.specs.Numbers.{bar_at}
 use Rattle.retraction_bars.specs.Scopes.{anywhere, is_from, is_within, scope_of}
-use Rattle.retraction_bars.specs.Told.{IsTold}
+use Rattle.retraction_bars.specs.Told.{Covers}
 use Rattle.retraction_bars.specs.Ways.{is_way}
 use Rattle.retraction_bars.specs.declared.gathering.Clause.{Clause}
 use Rattle.retraction_bars.specs.declared.scopes.Manner.TheVariants.{Origin, Quiet, Taking, Passing}
@@ -114,7 +114,7 @@ unfolding candidates
 ways_unlisted q t low none v h =
     unlisted q v none (contains-flat_map unmoves_to (range_with_len 0 64) t v (contains-range 0 64 t (omega arith) (omega arith)) (filter-contains (is_way q) (unmoves_to t) v h).0)
 
-pub whole : (q : Asked) (u : Unmove) → unmoves q ≡ [] → Contains candidates u → is_way q u ≡ true → IsTold q u
+pub whole : (q : Asked) (u : Unmove) → unmoves q ≡ [] → Contains candidates u → is_way q u ≡ true → (c : Clause) × Contains (clauses q) c × Covers c u
 unfolding clauses clauses_to
 whole q u none candidate way =
     let p = placed u candidate in

@@ -7,5 +7,6 @@ pub mod Clauses
 pub mod Phrases
 pub mod Sentences
 pub mod Pairs
+pub mod Exceptions
 pub mod Lines
 pub mod Told

@@ -1,5 +1,5 @@
--- The lines that tell why nobody can have moved last.
-use Rattle.std.specs.Prelude.{ℕ, Bool, cond, ◌&&◌, not, ◌==◌, length, List, [], ◌∷◌, ◌++◌, Option, Some, None}
+-- The sentences that tell why nobody can have moved last.
+use Rattle.std.specs.Prelude.{ℕ, Bool, cond, ◌&&◌, not, ◌==◌, nat_lt, length, List, [], ◌++◌, Option, Some, None}
 use Rattle.std.specs.List.{flat_map, list_any, range_with_len}
 use Rattle.board_base.specs.Board.{at, is_the, rank}
 use Rattle.board_base.specs.Legal.{pawn_rank}
@@ -7,16 +7,15 @@ use Rattle.board_base.specs.declared.men.Kind.TheVariants.{Pawn}
 use Rattle.query_base.specs.Asked.{Asked}
 use Rattle.unmove_gen.specs.Listed.{mover}
 use Rattle.retraction_bars.specs.Clauses.{clauses}
-use Rattle.retraction_bars.specs.Numbers.{bar_at}
+use Rattle.retraction_bars.specs.Exceptions.{main_of, told_clauses}
 use Rattle.retraction_bars.specs.Pairs.{pair_of}
 use Rattle.retraction_bars.specs.Phrases.{phrase}
-use Rattle.retraction_bars.specs.Scopes.{same_manner}
-use Rattle.retraction_bars.specs.Sentences.{label_words, sentences_words, text_if, whole_words}
+use Rattle.retraction_bars.specs.Sentences.{bar_words, label_words, sentences_words, text_if}
+use Rattle.retraction_bars.specs.declared.bars.Bar.TheVariants.{Check}
 use Rattle.retraction_bars.specs.declared.gathering.Clause.{Clause}
 use Rattle.retraction_bars.specs.declared.pairs.Pair.{Pair}
 use Rattle.retraction_bars.specs.declared.phrases.Phrase.{Phrase}
-use Rattle.retraction_bars.specs.declared.phrases.Phrase.TheVariants.{Also, AtOnce, OnFirst, OnOwnFirst, Is, Stop, End}
-use Rattle.retraction_bars.specs.declared.scopes.Manner.TheVariants.{Anywhere}
+use Rattle.retraction_bars.specs.declared.phrases.Phrase.TheVariants.{Also, AtOnce, Each, ElseEach, OnFirst, OnOwnFirst, Or, Stop, ToComeFrom}
 
 -- Article 2.3: a pawn of the side that moved stands on its first square
 abbrev pub is_first : Asked → ℕ → Bool
@@ -38,58 +37,48 @@ has_first q = list_any (is_first q) (range_with_len 0 64)
 abbrev pub firsts_phrase : List ℕ → Phrase
 firsts_phrase labels = cond (length labels == 3) OnOwnFirst OnFirst
 
--- the line of some pawns on their first squares
-abbrev pub some_firsts : List ℕ → List ℕ → List ℕ
-some_firsts indent labels = indent ++ labels ++ phrase (firsts_phrase labels)
+-- the sentence of some pawns on their first squares
+abbrev pub some_firsts : List ℕ → List ℕ
+some_firsts labels = labels ++ phrase (firsts_phrase labels)
 
--- the line of the pawns on their first squares
-abbrev pub firsts_line : Asked → List ℕ → List ℕ
-firsts_line q indent = text_if (has_first q) (some_firsts indent (labels_words q (is_first q)))
+-- the sentence of the pawns on their first squares
+abbrev pub firsts_words : Asked → List ℕ
+firsts_words q = text_if (has_first q) (some_firsts (labels_words q (is_first q)))
 
--- the clause says that the bar with this number bars all ways of a man
-abbrev pub is_whole : ℕ → Clause → Bool
-is_whole n c = same_manner Anywhere c.scope.manner && (c.bar == n)
+-- some clauses belong to the rest, since fewer are told by themselves
+abbrev pub has_rest : List Clause → List Clause → Bool
+has_rest cs told = nat_lt (length told) (length cs)
 
--- and of the man on t
-abbrev pub is_grouped : List Clause → ℕ → ℕ → Bool
-is_grouped cs n t = list_any (λ c. (c.to == t) && is_whole n c) cs
+-- how the sentence of the rest begins, behind these clauses
+abbrev pub rest_start : List Clause → Phrase
+rest_start told = cond (length told == 0) Each ElseEach
 
--- the line of the men all of whose ways this bars
-abbrev pub group_line : Asked → List Clause → List ℕ → ℕ → List ℕ
-group_line q cs indent n =
-    text_if (list_any (is_whole n) cs) (indent ++ labels_words q (is_grouped cs n) ++ phrase Is ++ whole_words q (bar_at n) ++ phrase End)
+-- that the main man gave check already, if there is one
+abbrev pub main_words : Asked → Option ℕ → List ℕ
+main_words q None = []
+main_words q (Some s) = phrase Or ++ bar_words q (Check s)
 
--- the clause tells of some ways of the man on t
-abbrev pub is_part : ℕ → Clause → Bool
-is_part t c = (c.to == t) && not (same_manner Anywhere c.scope.manner)
+-- the sentence of the rest
+abbrev pub rest_words : Asked → Option ℕ → List Clause → List ℕ
+rest_words q main told = phrase (rest_start told) ++ phrase ToComeFrom ++ main_words q main ++ phrase Stop
 
--- the line of a man whose ways are not barred by one thing
-abbrev pub man_line : Asked → List Clause → List ℕ → ℕ → List ℕ
-man_line q cs indent t =
-    text_if (list_any (is_part t) cs) (indent ++ label_words q t ++ phrase Stop ++ sentences_words q cs t ++ 10 ∷ [])
+-- The sentences that tell of these clauses, of which some are told by themselves; where all are, also the pawns without ways are named.
+abbrev pub sentences_of : Asked → Option ℕ → List Clause → List Clause → List ℕ
+sentences_of q main cs told =
+    text_if (not (has_rest cs told)) (firsts_words q) ++ sentences_words q told ++ text_if (has_rest cs told) (rest_words q main told)
 
--- the lines of the men all of whose ways one thing bars, bar by bar
-unfoldable pub group_lines : Asked → List Clause → List ℕ → List ℕ
-group_lines q cs indent = flat_map (group_line q cs indent) (range_with_len 0 146)
+-- the sentence of two men who give check at once
+abbrev pub pair_words : Asked → Pair → List ℕ
+pair_words q p = label_words q p.first ++ phrase Also ++ label_words q p.second ++ phrase AtOnce
 
--- the lines of the other men, by their squares
-unfoldable pub man_lines : Asked → List Clause → List ℕ → List ℕ
-man_lines q cs indent = flat_map (man_line q cs indent) (range_with_len 0 64)
+-- the sentence of the two, if there are such, else others
+abbrev pub pair_or : Asked → Option Pair → List ℕ → List ℕ
+pair_or q None others = others
+pair_or q (Some p) others = pair_words q p
 
--- The lines that tell these clauses, each after the indent.
-abbrev pub lines_of : Asked → List ℕ → List Clause → List ℕ
-lines_of q indent cs = firsts_line q indent ++ group_lines q cs indent ++ man_lines q cs indent
-
--- the line of two men who give check at once
-abbrev pub pair_line : Asked → List ℕ → Pair → List ℕ
-pair_line q indent p = indent ++ label_words q p.first ++ phrase Also ++ label_words q p.second ++ phrase AtOnce
-
--- the line of the two, if there are such, else others
-abbrev pub pair_or : Asked → List ℕ → Option Pair → List ℕ → List ℕ
-pair_or q indent None others = others
-pair_or q indent (Some p) others = pair_line q indent p
-
--- The lines that tell why nobody can have moved last: two checks that no move gives at once; else first the pawns on their first
--- squares; then, bar by bar, the men all of whose ways it bars; then each other man with the bars of his origins.
-unfoldable pub bars_text : Asked → List ℕ → List ℕ
-bars_text q indent = pair_or q indent (pair_of q) (lines_of q indent (clauses q))
+-- The sentences that tell why nobody can have moved last, each after a space: two checks that no move gives at once; else, bar by bar, the
+-- men all of whose ways it bars and those of whom it bars some, of all clauses but those that belong to the rest; and last that for the
+-- rest each square to come from is occupied, or the main man gave check already. Where there is no rest, the pawns on their first squares
+-- come first.
+unfoldable pub bars_text : Asked → List ℕ
+bars_text q = pair_or q (pair_of q) (sentences_of q (main_of q) (clauses q) (told_clauses q))

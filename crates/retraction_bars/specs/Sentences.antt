@@ -1,5 +1,5 @@
 -- The words of what bars the ways of a man.
-use Rattle.std.specs.Prelude.{ℕ, Bool, false, true, cond, ◌&&◌, ◌==◌, List, [], ◌∷◌, ◌++◌, Option, Some, None}
+use Rattle.std.specs.Prelude.{ℕ, Bool, false, true, cond, ◌&&◌, ◌==◌, drop, List, [], ◌∷◌, ◌++◌, Option, Some, None}
 use Rattle.std.specs.Bool.{beq}
 use Rattle.std.specs.List.{flat_map, list_any, range_with_len}
 use Rattle.board_base.specs.Board.{at, is_of}
@@ -48,20 +48,7 @@ bar_words q bar.Clock = phrase word.ByClock
 bar_words q bar.Passed = phrase word.NotPassed
 bar_words q bar.Otherwise = phrase word.Illegal
 
--- what bars all ways of a man, in words
-abbrev pub whole_words : Asked → Bar → List ℕ
-whole_words q bar.Occupied = phrase word.AllOccupied
-whole_words q bar.Itself = phrase word.AllAttacked
-whole_words q bar.Only = bar_words q bar.Only
-whole_words q (bar.Check s) = bar_words q (bar.Check s)
-whole_words q (bar.Held x) = bar_words q (bar.Held x)
-whole_words q bar.Barred = bar_words q bar.Barred
-whole_words q (bar.Account c) = bar_words q (bar.Account c)
-whole_words q bar.Clock = bar_words q bar.Clock
-whole_words q bar.Passed = bar_words q bar.Passed
-whole_words q bar.Otherwise = bar_words q bar.Otherwise
-
--- how a sentence on ways of a manner begins
+-- how ways of a manner are named
 abbrev pub start_of : Manner → Phrase
 start_of Anywhere = word.From
 start_of Origin = word.From
@@ -89,19 +76,53 @@ origin_words cs t m n o = text_if (list_any (tells t m n o false) cs) (spaced o)
 unfoldable pub origins_words : List Clause → ℕ → Manner → ℕ → List ℕ
 origins_words cs t m n = flat_map (origin_words cs t m n) (range_with_len 0 64)
 
--- the sentence of one bar, where a clause has it
-abbrev pub sentence_words : Asked → List Clause → ℕ → Manner → ℕ → List ℕ
-sentence_words q cs t m n =
-    text_if (list_any (is_ground t m n) cs) (phrase (start_of m) ++ origins_words cs t m n ++ phrase word.Is ++ bar_words q (bar_at n) ++ phrase word.Stop)
-
--- the sentences of one manner
-unfoldable pub manner_words : Asked → List Clause → ℕ → Manner → List ℕ
-manner_words q cs t m = flat_map (sentence_words q cs t m) (range_with_len 0 146)
-
--- all sentences on the man on t whose ways are not barred by one thing
-abbrev pub sentences_words : Asked → List Clause → ℕ → List ℕ
-sentences_words q cs t = manner_words q cs t Origin ++ manner_words q cs t Quiet ++ manner_words q cs t Taking ++ manner_words q cs t Passing
-
 -- a man by his letter and his square, after a space
 abbrev pub label_words : Asked → ℕ → List ℕ
 label_words q t = 32 ∷ (place_initial (at q.board t) ++ square_text t)
+
+-- the ways of this manner of the man on t that a clause says are barred so, behind a comma
+abbrev pub ways_words : Asked → List Clause → ℕ → ℕ → Manner → List ℕ
+ways_words q cs n t m = text_if (list_any (is_ground t m n) cs) (44 ∷ (label_words q t ++ phrase (start_of m) ++ origins_words cs t m n))
+
+-- the same of all manners
+abbrev pub man_words : Asked → List Clause → ℕ → ℕ → List ℕ
+man_words q cs n t = ways_words q cs n t Origin ++ ways_words q cs n t Quiet ++ ways_words q cs n t Taking ++ ways_words q cs n t Passing
+
+-- the same of all men
+unfoldable pub men_words : Asked → List Clause → ℕ → List ℕ
+men_words q cs n = flat_map (man_words q cs n) (range_with_len 0 64)
+
+-- the man on t, where a clause says that the bar with this number bars all his ways
+abbrev pub whole_words : Asked → List Clause → ℕ → ℕ → List ℕ
+whole_words q cs n t = text_if (list_any (is_ground t Anywhere n) cs) (label_words q t)
+
+-- all such men
+unfoldable pub wholes_words : Asked → List Clause → ℕ → List ℕ
+wholes_words q cs n = flat_map (whole_words q cs n) (range_with_len 0 64)
+
+-- from where, if the bar speaks of it
+abbrev pub square_words : Bar → List ℕ
+square_words bar.Itself = phrase word.AnySquare
+square_words _ = []
+
+-- the clause says that the bar with this number bars all ways of a man
+abbrev pub is_whole : ℕ → Clause → Bool
+is_whole n c = same_manner Anywhere c.scope.manner && (c.bar == n)
+
+-- the men of whom the bar bars all ways, and then those of whom it bars some, with these
+abbrev pub named_words : Asked → List Clause → ℕ → List ℕ
+named_words q cs n =
+    cond (list_any (is_whole n) cs) (wholes_words q cs n ++ square_words (bar_at n) ++ men_words q cs n) (drop 1 (men_words q cs n))
+
+-- the clause has this bar
+abbrev pub is_of_bar : ℕ → Clause → Bool
+is_of_bar n c = c.bar == n
+
+-- the sentence of one bar, where a clause has it
+abbrev pub sentence_words : Asked → List Clause → ℕ → List ℕ
+sentence_words q cs n =
+    text_if (list_any (is_of_bar n) cs) (named_words q cs n ++ phrase word.Is ++ bar_words q (bar_at n) ++ phrase word.Stop)
+
+-- the sentences of these clauses, bar by bar
+unfoldable pub sentences_words : Asked → List Clause → List ℕ
+sentences_words q cs = flat_map (sentence_words q cs) (range_with_len 0 146)

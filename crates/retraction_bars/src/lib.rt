@@ -5,6 +5,7 @@
 
 mod bars;
 mod checks;
+mod exceptions;
 mod gathering;
 mod grounds;
 mod laws;

@@ -1,17 +1,16 @@
-ghost use Rattle.std.specs.Prelude.{◌≡◌, ◌∷◌, [], ◌++◌, ◌&&◌, ◌==◌, IfOk};
-ghost use Rattle.std.specs.List.{list_any};
+ghost use Rattle.std.specs.Prelude.{◌≡◌, ◌++◌, IfOk};
 ghost use Rattle.retraction_bars.specs.Clauses.{clauses};
-ghost use Rattle.retraction_bars.specs.Lines.{bars_text, firsts_line, firsts_phrase, some_firsts, group_line, group_lines, has_first, is_first, is_grouped, is_part, is_whole, labels_words, lines_of, man_line, man_lines, pair_line};
-ghost use Rattle.retraction_bars.specs.Numbers.{bar_at};
+ghost use Rattle.retraction_bars.specs.Exceptions.{main_of, told_clauses};
+ghost use Rattle.retraction_bars.specs.Lines.{bars_text, firsts_phrase, firsts_words, has_first, has_rest, is_first, labels_words, main_words, pair_words, rest_start, rest_words, sentences_of, some_firsts};
 ghost use Rattle.retraction_bars.specs.Phrases.{phrase};
-ghost use Rattle.retraction_bars.specs.Sentences.{label_words, sentences_words, text_if, whole_words};
+ghost use Rattle.retraction_bars.specs.Sentences.{label_words, text_if};
 
+use crate::bars::Bar;
+use crate::exceptions::{exceptions, main_of};
 use crate::gathering::{Clause, clauses};
-use crate::numbers::bar_at;
 use crate::pairs::{Pair, pair_of};
 use crate::phrases::{Phrase, say_phrase};
-use crate::scopes::{Manner, same_manner};
-use crate::sentences::{push_label, push_sentences, push_whole};
+use crate::sentences::{push_bar, push_label, push_sentences};
 use board_base::{Kind, Square, is_the, pawn_rank};
 use prose_words::say;
 use query_base::Query;
@@ -74,191 +73,118 @@ fn firsts_phrase(labels: &[u8]) -> Phrase
     }
 }
 
-fn push_some_firsts(indent: &[u8], labels: &[u8], out: &mut Vec<u8>) -> Result<(), AllocError>
-    ensures { IfOk result (λ _. out.new.items ≡ out.old.items ++ some_firsts indent.now labels.now) }
+fn push_some_firsts(labels: &[u8], out: &mut Vec<u8>) -> Result<(), AllocError>
+    ensures { IfOk result (λ _. out.new.items ≡ out.old.items ++ some_firsts labels.now) }
 {
-    say(indent, out)?;
     say(labels, out)?;
     say_phrase(firsts_phrase(labels), out)?;
     Ok(())
 }
 
-/// The line of the pawns on their first squares.
-fn push_firsts_line(
-    alloc: Global,
-    query: &Query,
-    indent: &[u8],
-    out: &mut Vec<u8>,
-) -> Result<(), AllocError>
-    ensures { IfOk result (λ _. out.new.items ≡ out.old.items ++ firsts_line query.now indent.now) }
+/// The sentence of the pawns on their first squares.
+fn push_firsts_sentence(alloc: Global, query: &Query, out: &mut Vec<u8>) -> Result<(), AllocError>
+    ensures { IfOk result (λ _. out.new.items ≡ out.old.items ++ firsts_words query.now) }
 {
     if has_first(query) {
         let labels = firsts_of(alloc, query)?;
-        push_some_firsts(indent, labels.as_slice(), out)?;
+        push_some_firsts(labels.as_slice(), out)?;
     }
     Ok(())
 }
 
-fn is_whole(n: u8, c: &Clause) -> bool
-    ensures { result ≡ is_whole n c.now }
+/// Whether some clauses aren't told by themselves.
+fn has_rest(cs: &[Clause], told: &[Clause]) -> bool
+    ensures { result ≡ has_rest cs.now told.now }
 {
-    same_manner(Manner::Anywhere, c.scope.manner) && c.bar == n
+    told.len() < cs.len()
 }
 
-fn has_whole(cs: &[Clause], n: u8) -> bool
-    ensures { result ≡ list_any (is_whole n) cs.now }
+fn rest_start(told: &[Clause]) -> Phrase
+    ensures { result ≡ rest_start told.now }
 {
-    cs.iter().any(|c| is_whole(n, c))
+    if told.len() == 0 {
+        Phrase::Each
+    } else {
+        Phrase::ElseEach
+    }
 }
 
-fn is_whole_of(n: u8, t: Square, c: &Clause) -> bool
-    ensures { result ≡ ((c.now.to == t) && is_whole n c.now) }
+fn push_main(query: &Query, main: &Option<Square>, out: &mut Vec<u8>) -> Result<(), AllocError>
+    ensures { IfOk result (λ _. out.new.items ≡ out.old.items ++ main_words query.now main.now) }
 {
-    c.to == t && is_whole(n, c)
-}
-
-fn is_grouped(cs: &[Clause], n: u8, t: Square) -> bool
-    ensures { result ≡ is_grouped cs.now n t }
-{
-    cs.iter().any(|c| is_whole_of(n, t, c))
-}
-
-fn push_grouped(query: &Query, cs: &[Clause], n: u8, out: &mut Vec<u8>) -> Result<(), AllocError>
-    ensures { IfOk result (λ _. out.new.items ≡ out.old.items ++ labels_words query.now (is_grouped cs.now n)) }
-{
-    for i in 0..64 {
-        let t = Square::known(i);
-        push_label_if(is_grouped(cs, n, t), query, t, out)?;
+    if let Some(s) = main {
+        say_phrase(Phrase::Or, out)?;
+        push_bar(query, Bar::Check(*s), out)?;
     }
     Ok(())
 }
 
-/// The line of the men all of whose ways the bar with this number bars.
-fn push_group(
+/// The sentence of what isn't told by itself: each square to come from is occupied, or the main man gave check already.
+fn push_rest(
     query: &Query,
-    cs: &[Clause],
-    indent: &[u8],
-    n: u8,
+    main: &Option<Square>,
+    told: &[Clause],
     out: &mut Vec<u8>,
 ) -> Result<(), AllocError>
-    ensures { IfOk result (λ _. out.new.items ≡ out.old.items ++ (indent.now ++ labels_words query.now (is_grouped cs.now n) ++ phrase Phrase.Is ++ whole_words query.now (bar_at n) ++ phrase Phrase.End)) }
+    ensures { IfOk result (λ _. out.new.items ≡ out.old.items ++ rest_words query.now main.now told.now) }
 {
-    say(indent, out)?;
-    push_grouped(query, cs, n, out)?;
-    say_phrase(Phrase::Is, out)?;
-    push_whole(query, bar_at(n), out)?;
-    say_phrase(Phrase::End, out)?;
-    Ok(())
-}
-
-fn push_group_line(
-    query: &Query,
-    cs: &[Clause],
-    indent: &[u8],
-    n: u8,
-    out: &mut Vec<u8>,
-) -> Result<(), AllocError>
-    ensures { IfOk result (λ _. out.new.items ≡ out.old.items ++ group_line query.now cs.now indent.now n) }
-{
-    if has_whole(cs, n) {
-        push_group(query, cs, indent, n, out)?;
-    }
-    Ok(())
-}
-
-fn push_group_lines(
-    query: &Query,
-    cs: &[Clause],
-    indent: &[u8],
-    out: &mut Vec<u8>,
-) -> Result<(), AllocError>
-    ensures { IfOk result (λ _. out.new.items ≡ out.old.items ++ group_lines query.now cs.now indent.now) }
-{
-    for n in 0..146 {
-        push_group_line(query, cs, indent, n, out)?;
-    }
-    Ok(())
-}
-
-fn is_part(t: Square, c: &Clause) -> bool
-    ensures { result ≡ is_part t c.now }
-{
-    c.to == t && !same_manner(Manner::Anywhere, c.scope.manner)
-}
-
-fn has_part(cs: &[Clause], t: Square) -> bool
-    ensures { result ≡ list_any (is_part t) cs.now }
-{
-    cs.iter().any(|c| is_part(t, c))
-}
-
-/// The line of a man whose ways are not barred by one thing.
-fn push_man(
-    query: &Query,
-    cs: &[Clause],
-    indent: &[u8],
-    t: Square,
-    out: &mut Vec<u8>,
-) -> Result<(), AllocError>
-    ensures { IfOk result (λ _. out.new.items ≡ out.old.items ++ (indent.now ++ label_words query.now t ++ phrase Phrase.Stop ++ sentences_words query.now cs.now t ++ 10 ∷ [])) }
-{
-    say(indent, out)?;
-    push_label(query, t, out)?;
+    say_phrase(rest_start(told), out)?;
+    say_phrase(Phrase::ToComeFrom, out)?;
+    push_main(query, main, out)?;
     say_phrase(Phrase::Stop, out)?;
-    push_sentences(query, cs, t, out)?;
-    say(b"\n", out)?;
     Ok(())
 }
 
-fn push_man_line(
+fn push_rest_if(
+    given: bool,
     query: &Query,
-    cs: &[Clause],
-    indent: &[u8],
-    t: Square,
+    main: &Option<Square>,
+    told: &[Clause],
     out: &mut Vec<u8>,
 ) -> Result<(), AllocError>
-    ensures { IfOk result (λ _. out.new.items ≡ out.old.items ++ man_line query.now cs.now indent.now t) }
+    ensures { IfOk result (λ _. out.new.items ≡ out.old.items ++ text_if given (rest_words query.now main.now told.now)) }
 {
-    if has_part(cs, t) {
-        push_man(query, cs, indent, t, out)?;
+    if given {
+        push_rest(query, main, told, out)?;
     }
     Ok(())
 }
 
-fn push_man_lines(
-    query: &Query,
-    cs: &[Clause],
-    indent: &[u8],
-    out: &mut Vec<u8>,
-) -> Result<(), AllocError>
-    ensures { IfOk result (λ _. out.new.items ≡ out.old.items ++ man_lines query.now cs.now indent.now) }
-{
-    for i in 0..64 {
-        push_man_line(query, cs, indent, Square::known(i), out)?;
-    }
-    Ok(())
-}
-
-fn push_lines(
+fn push_firsts_if(
+    given: bool,
     alloc: Global,
     query: &Query,
-    cs: &[Clause],
-    indent: &[u8],
     out: &mut Vec<u8>,
 ) -> Result<(), AllocError>
-    ensures { IfOk result (λ _. out.new.items ≡ out.old.items ++ lines_of query.now indent.now cs.now) }
+    ensures { IfOk result (λ _. out.new.items ≡ out.old.items ++ text_if given (firsts_words query.now)) }
 {
-    push_firsts_line(alloc, query, indent, out)?;
-    push_group_lines(query, cs, indent, out)?;
-    push_man_lines(query, cs, indent, out)?;
+    if given {
+        push_firsts_sentence(alloc, query, out)?;
+    }
     Ok(())
 }
 
-/// The line of two men who give check at once.
-fn push_pair(query: &Query, indent: &[u8], pair: &Pair, out: &mut Vec<u8>) -> Result<(), AllocError>
-    ensures { IfOk result (λ _. out.new.items ≡ out.old.items ++ pair_line query.now indent.now pair.now) }
+fn push_told(
+    alloc: Global,
+    query: &Query,
+    main: &Option<Square>,
+    cs: &[Clause],
+    told: &[Clause],
+    out: &mut Vec<u8>,
+) -> Result<(), AllocError>
+    ensures { IfOk result (λ _. out.new.items ≡ out.old.items ++ sentences_of query.now main.now cs.now told.now) }
 {
-    say(indent, out)?;
+    let rest = has_rest(cs, told);
+    push_firsts_if(!rest, alloc, query, out)?;
+    push_sentences(alloc, query, told, out)?;
+    push_rest_if(rest, query, main, told, out)?;
+    Ok(())
+}
+
+/// The sentence of two men who give check at once.
+fn push_pair(query: &Query, pair: &Pair, out: &mut Vec<u8>) -> Result<(), AllocError>
+    ensures { IfOk result (λ _. out.new.items ≡ out.old.items ++ pair_words query.now pair.now) }
+{
     push_label(query, pair.first, out)?;
     say_phrase(Phrase::Also, out)?;
     push_label(query, pair.second, out)?;
@@ -266,34 +192,26 @@ fn push_pair(query: &Query, indent: &[u8], pair: &Pair, out: &mut Vec<u8>) -> Re
     Ok(())
 }
 
-fn push_all_lines(
-    alloc: Global,
-    query: &Query,
-    indent: &[u8],
-    out: &mut Vec<u8>,
-) -> Result<(), AllocError>
-    ensures { IfOk result (λ _. out.new.items ≡ out.old.items ++ lines_of query.now indent.now (clauses query.now)) }
+fn push_all(alloc: Global, query: &Query, out: &mut Vec<u8>) -> Result<(), AllocError>
+    ensures { IfOk result (λ _. out.new.items ≡ out.old.items ++ sentences_of query.now (main_of query.now) (clauses query.now) (told_clauses query.now)) }
 {
+    let main = main_of(query);
     let cs = clauses(alloc, query)?;
-    push_lines(alloc, query, cs.as_slice(), indent, out)?;
+    let told = exceptions(alloc, query, &main, cs.as_slice())?;
+    push_told(alloc, query, &main, cs.as_slice(), told.as_slice(), out)?;
     Ok(())
 }
 
-/// Why nobody can have moved last, in lines, each after the indent: that two men give check at once, where no move gives both checks;
-/// else the pawns on their first squares; bar by bar the men all of whose ways it bars; then each other man, with what bars the ways
-/// from each origin. Only want of memory stops it.
+/// Why nobody can have moved last, in sentences, each after a space: that two men give check at once, where no move gives both checks;
+/// else, bar by bar, the men all of whose ways it bars, and the men of whom it bars some ways; and last, for all ways that aren't told
+/// so, that each square to come from is occupied, or a man who gives check gave it already. Only want of memory stops it.
 #[tactic(auto, unfolding(crate::specs::Lines::bars_text))]
-pub fn push_bars(
-    alloc: Global,
-    query: &Query,
-    indent: &[u8],
-    out: &mut Vec<u8>,
-) -> Result<(), AllocError>
-    ensures { IfOk result (λ _. out.new.items ≡ out.old.items ++ bars_text query.now indent.now) }
+pub fn push_bars(alloc: Global, query: &Query, out: &mut Vec<u8>) -> Result<(), AllocError>
+    ensures { IfOk result (λ _. out.new.items ≡ out.old.items ++ bars_text query.now) }
 {
     match pair_of(alloc, query)? {
-        Some(pair) => push_pair(query, indent, &pair, out)?,
-        None => push_all_lines(alloc, query, indent, out)?,
+        Some(pair) => push_pair(query, &pair, out)?,
+        None => push_all(alloc, query, out)?,
     }
     Ok(())
 }

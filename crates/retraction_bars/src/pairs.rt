@@ -68,7 +68,7 @@ fn checks_from(query: &Query, s: Square) -> bool
 }
 
 /// The first square, from this one on, from which a man of the side that moved gives check.
-fn checker_from(query: &Query, low: u8) -> Option<u8>
+pub fn checker_from(query: &Query, low: u8) -> Option<u8>
     requires { low ≤ 64 }
     ensures found { result ≡ checker_from query.now low }
     ensures on_board { IfSome result (λ s. s < 64) }

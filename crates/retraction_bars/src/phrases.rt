@@ -9,8 +9,11 @@ use std::alloc::AllocError;
 pub enum Phrase {
     OnFirst,
     OnOwnFirst,
-    AllOccupied,
-    AllAttacked,
+    Each,
+    ElseEach,
+    ToComeFrom,
+    Or,
+    AnySquare,
     LastMove,
     GaveCheck,
     Occupied,
@@ -31,7 +34,6 @@ pub enum Phrase {
     AtOnce,
     Is,
     Stop,
-    End,
 }
 
 #[tactic(auto, unfolding(crate::specs::Phrases::phrase))]
@@ -39,10 +41,13 @@ fn phrase_of(p: Phrase) -> &'static [u8]
     ensures { result.now ≡ phrase p }
 {
     match p {
-        Phrase::OnFirst => b": on their first squares.\n",
-        Phrase::OnOwnFirst => b": on its first square.\n",
-        Phrase::AllOccupied => b"every square to come from is occupied",
-        Phrase::AllAttacked => b"from any square it attacked the king already",
+        Phrase::OnFirst => b": on their first squares.",
+        Phrase::OnOwnFirst => b": on its first square.",
+        Phrase::Each => b" Each",
+        Phrase::ElseEach => b" Else each",
+        Phrase::ToComeFrom => b" square to come from is occupied",
+        Phrase::Or => b", or ",
+        Phrase::AnySquare => b" from any square",
         Phrase::LastMove => b"the last move was ",
         Phrase::GaveCheck => b" gave check already",
         Phrase::Occupied => b"occupied",
@@ -54,16 +59,15 @@ fn phrase_of(p: Phrase) -> &'static [u8]
         Phrase::ByClock => b"the clock forbids it",
         Phrase::NotPassed => b"no double step came just before",
         Phrase::Illegal => b"no legal move",
-        Phrase::From => b" From",
-        Phrase::Quietly => b" Without a capture from",
-        Phrase::Capturing => b" Capturing from",
-        Phrase::EnPassant => b" En passant from",
+        Phrase::From => b" from",
+        Phrase::Quietly => b" without a capture from",
+        Phrase::Capturing => b" capturing from",
+        Phrase::EnPassant => b" en passant from",
         Phrase::AsPawn => b" (pawn)",
         Phrase::Also => b" and",
-        Phrase::AtOnce => b" give check at once, and no move gives both.\n",
+        Phrase::AtOnce => b" give check at once, and no move gives both.",
         Phrase::Is => b": ",
         Phrase::Stop => b".",
-        Phrase::End => b".\n",
     }
 }
 

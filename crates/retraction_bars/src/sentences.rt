@@ -1,8 +1,8 @@
-ghost use Rattle.std.specs.Prelude.{◌≡◌, ◌++◌, IfOk};
+ghost use Rattle.std.specs.Prelude.{◌≡◌, ◌∷◌, ◌++◌, IfOk, drop};
 ghost use Rattle.std.specs.List.{list_any};
 ghost use Rattle.retraction_bars.specs.Phrases.{phrase};
 ghost use Rattle.retraction_bars.specs.Numbers.{bar_at};
-ghost use Rattle.retraction_bars.specs.Sentences.{bar_words, bystander_initial, double_words, is_ground, label_words, manner_words, origin_words, origins_words, sentence_words, sentences_words, spaced, start_of, tells, text_if, whole_words};
+ghost use Rattle.retraction_bars.specs.Sentences.{bar_words, bystander_initial, double_words, is_ground, is_of_bar, is_whole, label_words, man_words, men_words, named_words, origin_words, origins_words, sentence_words, sentences_words, spaced, square_words, start_of, tells, text_if, ways_words, whole_words, wholes_words};
 
 use crate::bars::Bar;
 use crate::gathering::Clause;
@@ -13,7 +13,7 @@ use board_base::{Castle, Colour, Kind, Move, Square, is_of};
 use castle_history::home;
 use prose_words::{initial, place_initial, push_square, say, side_word};
 use query_base::Query;
-use std::alloc::AllocError;
+use std::alloc::{AllocError, Global};
 
 fn push_double(m: &Option<Move>, out: &mut Vec<u8>) -> Result<(), AllocError>
     ensures { IfOk result (λ _. out.new.items ≡ out.old.items ++ double_words m.now) }
@@ -89,18 +89,6 @@ pub fn push_bar(query: &Query, bar: Bar, out: &mut Vec<u8>) -> Result<(), AllocE
         Bar::Clock => say_phrase(Phrase::ByClock, out)?,
         Bar::Passed => say_phrase(Phrase::NotPassed, out)?,
         Bar::Otherwise => say_phrase(Phrase::Illegal, out)?,
-    }
-    Ok(())
-}
-
-/// What bars all ways of a man, in words.
-pub fn push_whole(query: &Query, bar: Bar, out: &mut Vec<u8>) -> Result<(), AllocError>
-    ensures { IfOk result (λ _. out.new.items ≡ out.old.items ++ whole_words query.now bar) }
-{
-    match bar {
-        Bar::Occupied => say_phrase(Phrase::AllOccupied, out)?,
-        Bar::Itself => say_phrase(Phrase::AllAttacked, out)?,
-        _ => push_bar(query, bar, out)?,
     }
     Ok(())
 }
@@ -197,68 +185,231 @@ fn push_origins(
     Ok(())
 }
 
-fn push_sentence(
+/// The ways of this manner of the man on t that the bar with this number bars, behind a comma.
+fn push_ways(
     query: &Query,
     cs: &[Clause],
+    n: u8,
     t: Square,
     manner: Manner,
+    out: &mut Vec<u8>,
+) -> Result<(), AllocError>
+    ensures { IfOk result (λ _. out.new.items ≡ out.old.items ++ 44 ∷ (label_words query.now t ++ phrase (start_of manner) ++ origins_words cs.now t manner n)) }
+{
+    say(b",", out)?;
+    push_label(query, t, out)?;
+    say_phrase(start_of(manner), out)?;
+    push_origins(cs, t, manner, n, out)?;
+    Ok(())
+}
+
+fn push_ways_if(
+    query: &Query,
+    cs: &[Clause],
+    n: u8,
+    t: Square,
+    manner: Manner,
+    out: &mut Vec<u8>,
+) -> Result<(), AllocError>
+    ensures { IfOk result (λ _. out.new.items ≡ out.old.items ++ ways_words query.now cs.now n t manner) }
+{
+    if has_ground(cs, t, manner, n) {
+        push_ways(query, cs, n, t, manner, out)?;
+    }
+    Ok(())
+}
+
+fn push_man(
+    query: &Query,
+    cs: &[Clause],
+    n: u8,
+    t: Square,
+    out: &mut Vec<u8>,
+) -> Result<(), AllocError>
+    ensures { IfOk result (λ _. out.new.items ≡ out.old.items ++ man_words query.now cs.now n t) }
+{
+    push_ways_if(query, cs, n, t, Manner::Origin, out)?;
+    push_ways_if(query, cs, n, t, Manner::Quiet, out)?;
+    push_ways_if(query, cs, n, t, Manner::Taking, out)?;
+    push_ways_if(query, cs, n, t, Manner::Passing, out)?;
+    Ok(())
+}
+
+fn push_men(query: &Query, cs: &[Clause], n: u8, out: &mut Vec<u8>) -> Result<(), AllocError>
+    ensures { IfOk result (λ _. out.new.items ≡ out.old.items ++ men_words query.now cs.now n) }
+{
+    for i in 0..64 {
+        push_man(query, cs, n, Square::known(i), out)?;
+    }
+    Ok(())
+}
+
+/// Of each man the ways that the bar with this number bars, each behind a comma.
+fn men_of(alloc: Global, query: &Query, cs: &[Clause], n: u8) -> Result<Vec<u8>, AllocError>
+    ensures { IfOk result (λ men. men.items ≡ men_words query.now cs.now n) }
+{
+    let mut men = Vec::new(alloc);
+    push_men(query, cs, n, &mut men)?;
+    Ok(men)
+}
+
+/// The list without its first letter.
+fn rest_of(list: &[u8]) -> &[u8]
+    ensures { result.now ≡ drop 1 list.now }
+{
+    if list.len() == 0 { list } else { &list[1..] }
+}
+
+/// From where, if the bar speaks of it.
+fn push_any_square(bar: Bar, out: &mut Vec<u8>) -> Result<(), AllocError>
+    ensures { IfOk result (λ _. out.new.items ≡ out.old.items ++ square_words bar) }
+{
+    match bar {
+        Bar::Itself => say_phrase(Phrase::AnySquare, out)?,
+        _ => {}
+    }
+    Ok(())
+}
+
+fn push_whole_if(
+    query: &Query,
+    cs: &[Clause],
+    n: u8,
+    t: Square,
+    out: &mut Vec<u8>,
+) -> Result<(), AllocError>
+    ensures { IfOk result (λ _. out.new.items ≡ out.old.items ++ whole_words query.now cs.now n t) }
+{
+    if has_ground(cs, t, Manner::Anywhere, n) {
+        push_label(query, t, out)?;
+    }
+    Ok(())
+}
+
+/// The men all of whose ways the bar with this number bars.
+fn push_wholes(query: &Query, cs: &[Clause], n: u8, out: &mut Vec<u8>) -> Result<(), AllocError>
+    ensures { IfOk result (λ _. out.new.items ≡ out.old.items ++ wholes_words query.now cs.now n) }
+{
+    for i in 0..64 {
+        push_whole_if(query, cs, n, Square::known(i), out)?;
+    }
+    Ok(())
+}
+
+/// Those, and then the men of whom it bars some ways.
+fn push_wholes_first(
+    query: &Query,
+    cs: &[Clause],
     n: u8,
     out: &mut Vec<u8>,
 ) -> Result<(), AllocError>
-    ensures { IfOk result (λ _. out.new.items ≡ out.old.items ++ (phrase (start_of manner) ++ origins_words cs.now t manner n ++ phrase Phrase.Is ++ bar_words query.now (bar_at n) ++ phrase Phrase.Stop)) }
+    ensures { IfOk result (λ _. out.new.items ≡ out.old.items ++ (wholes_words query.now cs.now n ++ square_words (bar_at n) ++ men_words query.now cs.now n)) }
 {
-    say_phrase(start_of(manner), out)?;
-    push_origins(cs, t, manner, n, out)?;
+    push_wholes(query, cs, n, out)?;
+    push_any_square(bar_at(n), out)?;
+    push_men(query, cs, n, out)?;
+    Ok(())
+}
+
+fn push_men_alone(
+    alloc: Global,
+    query: &Query,
+    cs: &[Clause],
+    n: u8,
+    out: &mut Vec<u8>,
+) -> Result<(), AllocError>
+    ensures { IfOk result (λ _. out.new.items ≡ out.old.items ++ drop 1 (men_words query.now cs.now n)) }
+{
+    let men = men_of(alloc, query, cs, n)?;
+    say(rest_of(men.as_slice()), out)?;
+    Ok(())
+}
+
+fn is_whole(n: u8, c: &Clause) -> bool
+    ensures { result ≡ is_whole n c.now }
+{
+    same_manner(Manner::Anywhere, c.scope.manner) && c.bar == n
+}
+
+fn has_whole(cs: &[Clause], n: u8) -> bool
+    ensures { result ≡ list_any (is_whole n) cs.now }
+{
+    cs.iter().any(|c| is_whole(n, c))
+}
+
+fn push_named(
+    alloc: Global,
+    query: &Query,
+    cs: &[Clause],
+    n: u8,
+    out: &mut Vec<u8>,
+) -> Result<(), AllocError>
+    ensures { IfOk result (λ _. out.new.items ≡ out.old.items ++ named_words query.now cs.now n) }
+{
+    if has_whole(cs, n) {
+        push_wholes_first(query, cs, n, out)?;
+    } else {
+        push_men_alone(alloc, query, cs, n, out)?;
+    }
+    Ok(())
+}
+
+/// The sentence of the bar with this number.
+fn push_sentence(
+    alloc: Global,
+    query: &Query,
+    cs: &[Clause],
+    n: u8,
+    out: &mut Vec<u8>,
+) -> Result<(), AllocError>
+    ensures { IfOk result (λ _. out.new.items ≡ out.old.items ++ (named_words query.now cs.now n ++ phrase Phrase.Is ++ bar_words query.now (bar_at n) ++ phrase Phrase.Stop)) }
+{
+    push_named(alloc, query, cs, n, out)?;
     say_phrase(Phrase::Is, out)?;
     push_bar(query, bar_at(n), out)?;
     say_phrase(Phrase::Stop, out)?;
     Ok(())
 }
 
+fn is_of_bar(n: u8, c: &Clause) -> bool
+    ensures { result ≡ is_of_bar n c.now }
+{
+    c.bar == n
+}
+
+fn has_bar(cs: &[Clause], n: u8) -> bool
+    ensures { result ≡ list_any (is_of_bar n) cs.now }
+{
+    cs.iter().any(|c| is_of_bar(n, c))
+}
+
 fn push_sentence_if(
+    alloc: Global,
     query: &Query,
     cs: &[Clause],
-    t: Square,
-    manner: Manner,
     n: u8,
     out: &mut Vec<u8>,
 ) -> Result<(), AllocError>
-    ensures { IfOk result (λ _. out.new.items ≡ out.old.items ++ sentence_words query.now cs.now t manner n) }
+    ensures { IfOk result (λ _. out.new.items ≡ out.old.items ++ sentence_words query.now cs.now n) }
 {
-    if has_ground(cs, t, manner, n) {
-        push_sentence(query, cs, t, manner, n, out)?;
+    if has_bar(cs, n) {
+        push_sentence(alloc, query, cs, n, out)?;
     }
     Ok(())
 }
 
-fn push_manner(
+/// Bar by bar, the men all of whose ways it bars, and those of whom it bars some, with these ways.
+pub fn push_sentences(
+    alloc: Global,
     query: &Query,
     cs: &[Clause],
-    t: Square,
-    manner: Manner,
     out: &mut Vec<u8>,
 ) -> Result<(), AllocError>
-    ensures { IfOk result (λ _. out.new.items ≡ out.old.items ++ manner_words query.now cs.now t manner) }
+    ensures { IfOk result (λ _. out.new.items ≡ out.old.items ++ sentences_words query.now cs.now) }
 {
     for n in 0..146 {
-        push_sentence_if(query, cs, t, manner, n, out)?;
+        push_sentence_if(alloc, query, cs, n, out)?;
     }
-    Ok(())
-}
-
-/// The sentences on the man on the square, whose ways are not barred by one thing.
-pub fn push_sentences(
-    query: &Query,
-    cs: &[Clause],
-    t: Square,
-    out: &mut Vec<u8>,
-) -> Result<(), AllocError>
-    ensures { IfOk result (λ _. out.new.items ≡ out.old.items ++ sentences_words query.now cs.now t) }
-{
-    push_manner(query, cs, t, Manner::Origin, out)?;
-    push_manner(query, cs, t, Manner::Quiet, out)?;
-    push_manner(query, cs, t, Manner::Taking, out)?;
-    push_manner(query, cs, t, Manner::Passing, out)?;
     Ok(())
 }
 
