@@ -1,5 +1,5 @@
 -- How large a whole search is.
-use Rattle.std.specs.Prelude.{ℕ, zero, suc, ◌+◌, ◌≡◌, ◌<◌, ◌≤◌, ◌⊎◌, List, [], ◌∷◌}
+use Rattle.std.specs.Prelude.{ℕ, zero, suc, ◌+◌, ◌≡◌, ◌<◌, ◌⊎◌, List, [], ◌∷◌}
 use Rattle.board_base.specs.declared.unmoves.Unmove.{Unmove}
 use Rattle.query_base.specs.Asked.{Asked}
 use Rattle.query_base.specs.Reach.{Reaches}
@@ -23,7 +23,3 @@ IsSearchSize q (suc depth) ancestors n =
 -- the whole search of the query to the depth is larger than the nodes
 abbrev pub IsLargeSearch : Asked → ℕ → ℕ → Type 0
 IsLargeSearch q depth nodes = (n : ℕ) → IsSearchSize q depth [] n → nodes < n
-
--- it is no larger
-abbrev pub IsSmallSearch : Asked → ℕ → ℕ → Type 0
-IsSmallSearch q depth nodes = (n : ℕ) × IsSearchSize q depth [] n × (n ≤ nodes)

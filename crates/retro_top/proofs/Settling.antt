@@ -10,7 +10,7 @@ use Rattle.balance_rule.proofs.Sound.{balance-unreached}
 use Rattle.cert_checker.specs.Proving.{ProvesClaim}
 use Rattle.cert_checker.proofs.Contradicted.{contradiction-reaches}
 use Rattle.command_answers.specs.Refutable.{IsRefutable}
-use Rattle.command_answers.specs.SearchSizes.{IsSmallSearch}
+use Rattle.retro_top.specs.SmallSearches.{IsSmallSearch}
 use Rattle.command_answers.specs.Settlements.{IsCounterable}
 use Rattle.command_answers.proofs.Unreached.{refutable-unreached}
 use Rattle.retro_top.specs.Answers.{IsUnspent, StatesCheap, StatesCounterable, StatesPriced, StatesProved, StatesRefutable, StatesSmall}

@@ -21,7 +21,7 @@ use Rattle.price_search.specs.FlatPrices.{FlatPricesSupport}
 use Rattle.command_answers.specs.Settlements.{IsCounterable}
 use Rattle.command_answers.specs.Answers.{IsProofOf}
 use Rattle.command_answers.specs.Refutable.{IsRefutable}
-use Rattle.command_answers.specs.SearchSizes.{IsSmallSearch}
+use Rattle.retro_top.specs.SmallSearches.{IsSmallSearch}
 use Rattle.codex_verdict.specs.Rights.{AreRights, claim_of}
 use Rattle.codex_verdict.specs.declared.kinds.Right.{Right}
 use Rattle.retro_top.specs.Commands.{Call, TakesMemory}
