@@ -24,7 +24,7 @@ use Rattle.cert_checker.specs.Sketching.{SketchState}
 use Rattle.cert_checker.specs.Stages.{bad, nodes, Stepped, Rest}
 use Rattle.cert_checker.specs.declared.counting.Counted.{Counted}
 use Rattle.cert_checker.specs.declared.counting.Counted.TheVariants as counted
-use Rattle.cert_checker.specs.declared.frames.Frame.{Frame}
+use Rattle.cert_checker.specs.Kept.{Frame}
 use Rattle.cert_checker.specs.declared.frames.FirstFault.{FirstFault}
 use Rattle.cert_checker.specs.declared.frames.FirstFault.TheVariants.{Unlisted, Unsupported}
 use Rattle.cert_checker.proofs.Opening.{rest_settled}

@@ -2,7 +2,7 @@
 use Rattle.std.proofs.Common.{◌≡◌, ℕ, List, refl}
 use Rattle.cert_checker.specs.Sketching.{SketchState}
 use Rattle.cert_checker.specs.Staging.{CanEnd, IsLow, IsReady, halted_at, stage_of, stop_at}
-use Rattle.cert_checker.specs.declared.frames.Frame.{Frame}
+use Rattle.cert_checker.specs.Kept.{Frame}
 use Rattle.cert_checker.specs.declared.stages.Step.{Step}
 use Rattle.cert_checker.specs.declared.stages.Step.TheVariants as at
 

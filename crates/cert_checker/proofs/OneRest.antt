@@ -37,7 +37,7 @@ use Rattle.cert_checker.specs.Reasons.{ReasonSupports}
 use Rattle.cert_checker.specs.Walk.{unlisted, unsupported}
 use Rattle.cert_checker.specs.Frames.{Sketched, Walking, going, sketching, stopped, as_sketched, first_sketched, go_on, ended, marks_due, Stays, Steps, Opens, OnBody, OnItem, OnLabel, OnFirst, OnNext, OnNodes, OnSaid, OnOpen, OnLine, fewer, query_of_frame}
 use Rattle.cert_checker.specs.Stages.{Stage, in_head, nodes, bad, headed, Begun, Rooted, Stepped, OnHead, NextStage, Rest, answer_at}
-use Rattle.cert_checker.specs.declared.frames.Frame.{Frame}
+use Rattle.cert_checker.specs.Kept.{Frame}
 use Rattle.cert_checker.specs.declared.refusals.Why.{Why}
 use Rattle.cert_checker.specs.declared.refusals.Why.TheVariants as why
 use Rattle.cert_checker.specs.Remains.{Checking, Remains, StandsFor}

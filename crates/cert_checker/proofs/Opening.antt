@@ -1,12 +1,12 @@
 -- Frames that are put on and taken off.
-use Rattle.std.proofs.Common.{◌≡◌, ℕ, zero, suc, ◌-◌, ◌<◌, ◌≤◌, Bool, cond, List, [], ◌∷◌, length, map, drop, reverse, get_or, refl, ap, ◌∙◌, subst, arith}
+use Rattle.std.proofs.Common.{◌≡◌, ℕ, zero, suc, ◌-◌, ◌<◌, ◌≤◌, Bool, cond, List, [], ◌∷◌, length, map, drop, reverse, get_or, IfSome, slice_get, refl, ap, ◌∙◌, subst, arith}
 use Rattle.std.proofs.lemmas.List.{length-reverse, get_or-reverse}
 use Rattle.std.proofs.lemmas.Option.{slice_get-map, slice_get-get_or}
 use Rattle.std.specs.Prelude.{Option, Some, None}
 use Rattle.std.specs.Option.{option_map}
 use Rattle.std.specs.List.{Contains}
 use Rattle.board_base.specs.declared.unmoves.Unmove.{Unmove}
-use Rattle.general_lemmas.proofs.Lists.{contains-later}
+use Rattle.general_lemmas.proofs.Lists.{contains-first, contains-later}
 use Rattle.query_base.specs.Asked.{Asked}
 use Rattle.query_base.specs.declared.claims.Claim.{Claim}
 use Rattle.unmove_gen.specs.Listed.{unmoves}
@@ -20,7 +20,7 @@ use Rattle.cert_checker.specs.Counting.{counts_with}
 use Rattle.cert_checker.specs.Frames.{Walking, going, sketching, stopped, go_on, ended, end_at, end_unmoves, query_of_frame, OnNext}
 use Rattle.cert_checker.specs.Framing.{popped, due_of, stopped_by, walking, with_body, IsOpen, IsStack}
 use Rattle.cert_checker.specs.Stages.{Stage, nodes, Stepped, answer_by, Rest}
-use Rattle.cert_checker.specs.declared.frames.Frame.{Frame}
+use Rattle.cert_checker.specs.Kept.{Frame}
 use Rattle.cert_checker.specs.declared.frames.FirstFault.{FirstFault}
 use Rattle.cert_checker.specs.declared.frames.FirstFault.TheVariants.{Unlisted, Unsupported}
 
@@ -101,6 +101,11 @@ stack_with (Rule r) q frames n room stack = stack
 stack_with (Back k) q frames n room stack = stack
 stack_with (Expand c) q frames n room stack = (room, λ u there. there, stack)
 stack_with (Sketch h) q frames n room stack = stack
+
+-- the first of unmoves that are the query's, if there is one
+pub first_listed : (us : List Unmove) (q : Asked) → ((u : Unmove) → Contains us u → Contains (unmoves q) u) → IfSome (slice_get us 0) (λ u. Contains (unmoves q) u)
+first_listed [] q all = tt
+first_listed (v ∷ us) q all = all v (contains-first v us)
 
 pub listed_rest : (us : List Unmove) (q : Asked) → ((u : Unmove) → Contains us u → Contains (unmoves q) u) → (u : Unmove) → Contains (drop 1 us) u → Contains (unmoves q) u
 listed_rest [] q all u there = all u there

@@ -16,7 +16,7 @@ use Rattle.cert_checker.specs.Framing.{behind, popped, due_of, stopped_by, walki
 use Rattle.cert_checker.specs.Sketching.{SketchState}
 use Rattle.cert_checker.specs.Stages.{Stage, bad, nodes, Begun, Rooted, Rest}
 use Rattle.cert_checker.specs.Staging.{IfGood, due_after, rooting, taken, walk_after}
-use Rattle.cert_checker.specs.declared.frames.Frame.{Frame}
+use Rattle.cert_checker.specs.Kept.{Frame}
 use Rattle.cert_checker.specs.declared.frames.FirstFault.{FirstFault}
 use Rattle.cert_checker.specs.declared.frames.NodeStep.{NodeStep}
 use Rattle.cert_checker.specs.declared.frames.NodeStep.TheVariants as comes

@@ -14,7 +14,7 @@ use Rattle.cert_checker.specs.Frames.{OnItem, OnLine, Walking, going, sketching}
 use Rattle.cert_checker.specs.Framing.{stopped_by}
 use Rattle.cert_checker.specs.Sketching.{IsReading, SketchState, Takes, behind_line}
 use Rattle.cert_checker.specs.Stages.{Rest, Stepped, bad, nodes}
-use Rattle.cert_checker.specs.declared.frames.Frame.{Frame}
+use Rattle.cert_checker.specs.Kept.{Frame}
 use Rattle.cert_checker.specs.declared.frames.FirstFault.{FirstFault}
 use Rattle.cert_checker.proofs.Counted.{refused_rest}
 use Rattle.cert_checker.proofs.SketchSteps.{says_item}

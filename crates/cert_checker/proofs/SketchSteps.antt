@@ -21,7 +21,7 @@ use Rattle.cert_text.proofs.SpelledLines.{said_back, said_read}
 use Rattle.cert_checker.specs.Frames.{OnNodes, Sketched, as_sketched, first_sketched, going, marks_due, sketching}
 use Rattle.cert_checker.specs.SketchLines.{StandsAt}
 use Rattle.cert_checker.specs.Sketching.{AreNext, IsInStep, frames_in, opened_in}
-use Rattle.cert_checker.specs.declared.frames.Frame.{Frame}
+use Rattle.cert_checker.specs.Kept.{Frame}
 use Rattle.cert_checker.proofs.SketchPlaces.{due-next, ends-over, over-ends}
 
 -- WHAT A LINE SAYS

@@ -28,7 +28,7 @@ use Rattle.cert_checker.specs.Frames.{OnNodes, Sketched, as_sketched, going, ske
 use Rattle.cert_checker.specs.Framing.{stopped_by}
 use Rattle.cert_checker.specs.SketchLines.{StandsAt}
 use Rattle.cert_checker.specs.Sketching.{GoesOn, IsInStep, IsReading, SketchState, Takes, TakesNode, behind_line, frames_in, opened_in}
-use Rattle.cert_checker.specs.declared.frames.Frame.{Frame}
+use Rattle.cert_checker.specs.Kept.{Frame}
 use Rattle.cert_checker.specs.declared.frames.FirstFault.{FirstFault}
 use Rattle.cert_checker.proofs.SketchPlaces.{due-comes}
 use Rattle.cert_checker.proofs.SketchSteps.{behind_as, nodes_kept, on_nodes, prices_kept, said_next, stands_here, stands_later}

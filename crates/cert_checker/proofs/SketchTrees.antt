@@ -28,7 +28,7 @@ use Rattle.cert_checker.specs.SketchLines.{StandsAt}
 use Rattle.cert_checker.specs.Sketches.{WalksSketch, files_of, why_of}
 use Rattle.cert_checker.specs.Sketching.{IsInStep, frames_in}
 use Rattle.cert_checker.specs.Walk.{unsupported}
-use Rattle.cert_checker.specs.declared.frames.Frame.{Frame}
+use Rattle.cert_checker.specs.Kept.{Frame}
 use Rattle.cert_checker.specs.declared.refusals.Why.TheVariants as why
 use Rattle.cert_checker.proofs.SketchNumbers.{node-count}
 use Rattle.cert_checker.proofs.SketchPlaces.{due-next, over-ends}

@@ -20,7 +20,7 @@ use Rattle.cert_checker.specs.Framing.{due_of, stopped_by, walking, with_body, I
 use Rattle.cert_checker.specs.Sketching.{SketchState}
 use Rattle.cert_checker.specs.Stages.{bad, Stepped}
 use Rattle.cert_checker.specs.Staging.{IfGood, due_after, taken, walk_after}
-use Rattle.cert_checker.specs.declared.frames.Frame.{Frame}
+use Rattle.cert_checker.specs.Kept.{Frame}
 use Rattle.cert_checker.specs.declared.frames.NodeStep.{NodeStep}
 use Rattle.cert_checker.specs.declared.frames.NodeStep.TheVariants as comes
 use Rattle.cert_checker.proofs.Opening.{due_with, listed_rest, open_stands, stack_with}

@@ -21,7 +21,7 @@ use Rattle.cert_checker.specs.Walk.{Walked, fault_at, next_line, unlisted, unsup
 use Rattle.cert_checker.specs.Frames.{Walking, going, sketching, stopped, first_sketched, query_of_frame, Stays, OnBody, OnLabel, OnKid, OnSaid, WalksOn}
 use Rattle.cert_checker.specs.declared.refusals.Why.{Why}
 use Rattle.cert_checker.specs.declared.refusals.Why.TheVariants as why
-use Rattle.cert_checker.specs.declared.frames.Frame.{Frame}
+use Rattle.cert_checker.specs.Kept.{Frame}
 use Rattle.cert_checker.proofs.SketchTrees.{SketchCarries, sketch_walk}
 use Rattle.cert_checker.proofs.Stopping.{stopped_on, stops}
 use Rattle.cert_checker.proofs.Walks.{WalksKid}

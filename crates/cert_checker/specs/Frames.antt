@@ -31,7 +31,7 @@ use Rattle.cert_checker.specs.Sketches.{files_of, why_of}
 use Rattle.cert_checker.specs.Walk.{Fault, unlisted, unsupported}
 use Rattle.cert_checker.specs.declared.refusals.Why.{Why}
 use Rattle.cert_checker.specs.declared.refusals.Why.TheVariants as why
-use Rattle.cert_checker.specs.declared.frames.Frame.{Frame}
+use Rattle.cert_checker.specs.Kept.{Frame}
 
 abbrev pub query_of_frame : Frame → Asked
 query_of_frame f = f.query

@@ -10,7 +10,7 @@ use Rattle.cert_text.specs.declared.node_lines.BodyLine.{BodyLine}
 use Rattle.cert_text.specs.declared.node_lines.BodyLine.TheVariants.{Rule, Back, Expand, Sketch}
 use Rattle.cert_checker.specs.Walk.{unlisted, unsupported}
 use Rattle.cert_checker.specs.Frames.{Walking, end_unmoves, first_sketched, going, sketching, stopped}
-use Rattle.cert_checker.specs.declared.frames.Frame.{Frame}
+use Rattle.cert_checker.specs.Kept.{Frame}
 use Rattle.cert_checker.specs.declared.frames.FirstFault.{FirstFault}
 use Rattle.cert_checker.specs.declared.frames.FirstFault.TheVariants as found
 

@@ -3,6 +3,7 @@ pub mod Sketches
 pub mod Proving
 pub mod Walk
 pub mod Answers
+pub mod Kept
 pub mod Frames
 pub mod Stages
 pub mod Remains
@@ -12,3 +13,4 @@ pub mod Framing
 pub mod Sketching
 pub mod Counting
 pub mod Staging
+pub mod Unused

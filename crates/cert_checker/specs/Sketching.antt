@@ -18,7 +18,7 @@ use Rattle.cert_text.specs.Lines.{said}
 use Rattle.cert_checker.specs.Frames.{OnItem, OnNodes, Sketched, Walking, going, sketching}
 use Rattle.cert_checker.specs.Framing.{stopped_by}
 use Rattle.cert_checker.specs.SketchLines.{StandsAt}
-use Rattle.cert_checker.specs.declared.frames.Frame.{Frame}
+use Rattle.cert_checker.specs.Kept.{Frame}
 use Rattle.cert_checker.specs.declared.frames.FirstFault.{FirstFault}
 
 -- the units of the sketches before, what is due of the one that is read, how far the walk over it has come, and what that walk rests on

@@ -11,7 +11,7 @@ use Rattle.cert_checker.specs.Frames.{Walking, going, sketching}
 use Rattle.cert_checker.specs.Framing.{IsOpen, IsStack, due_of, stopped_by, walking}
 use Rattle.cert_checker.specs.Sketching.{IsReading, SketchState}
 use Rattle.cert_checker.specs.Counting.{AreCounts, IsDue}
-use Rattle.cert_checker.specs.declared.frames.Frame.{Frame}
+use Rattle.cert_checker.specs.Kept.{Frame}
 use Rattle.cert_checker.specs.declared.frames.NodeStep.{NodeStep}
 use Rattle.cert_checker.specs.declared.frames.NodeStep.TheVariants as line
 use Rattle.cert_checker.specs.declared.stages.Step.{Step}

@@ -17,7 +17,8 @@ pub(crate) fn count_frames(frames: &[Frame], counts: &mut ArrayVec<u32, 256>)
 {
     counts.clear();
     for i in 0..frames.len() {
-        counts.push(frames[i].due);
+        let frame = &frames[i];
+        counts.push(frame.due);
     }
 }
 
@@ -79,6 +80,7 @@ fn count_sketch(sketching: &mut Sketching, head: &SketchHead) -> Counted
 
 /// Takes the line of a node below the root where the walk has met a fault. It is one where it says what a child at its depth says; then
 /// that child is due no more.
+#[inline(never)]
 pub(crate) fn count_line(
     counts: &mut ArrayVec<u32, 256>,
     sketching: &mut Sketching,
@@ -99,10 +101,11 @@ pub(crate) fn count_line(
     match read_kid_line(depth, line) {
         None => Counted::Bad,
         Some((_, body)) => {
-            put_counts(counts, &body);
             if let BodyLine::Sketch(head) = &body {
+                put_counts(counts, &body);
                 return count_sketch(sketching, head);
             }
+            put_counts(counts, &body);
             settle_counts(counts);
             Counted::Nodes
         }

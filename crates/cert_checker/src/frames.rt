@@ -13,7 +13,8 @@ ghost use Rattle.cert_checker.specs.Counting.{counts_with};
 ghost use Rattle.cert_checker.specs.Framing.{IsListed, IsOpen, IsStack, behind, due_of, end_unmoves_of, popped, walking, with_body};
 ghost use Rattle.cert_checker.specs.Stages.{Stepped};
 ghost use Rattle.cert_checker.specs.Staging.{IfGood, IfReading, due_after, taken, walk_after};
-ghost use Rattle.cert_checker.specs.declared.frames.Frame.{Frame as AnyFrame};
+ghost use Rattle.cert_checker.specs.Kept.{Frame as AnyFrame};
+ghost use Rattle.cert_checker.specs.Unused.{nobody};
 
 use crate::left_unmoves::LeftUnmoves;
 use crate::reasons::reason_supports;
@@ -25,14 +26,13 @@ use cert_text::{BodyLine, read_kid_line};
 use query_base::{Query, covers, is_array};
 use sketch_text::SketchHead;
 use std::cmp::Ordering;
+use std::marker::Model;
 use unmove_gen::pred;
 
 /// A node some of whose children may be due.
 #[derive(Drop)]
 pub struct Frame {
-    /// The node's query.
-    pub(crate) query: Query,
-    /// Its unmoves that no child had.
+    /// The node's query, and its unmoves that no child had.
     pub(crate) left: LeftUnmoves,
     /// How many of its children are due.
     pub(crate) due: u32,
@@ -40,8 +40,18 @@ pub struct Frame {
     pub(crate) line: u32,
 }
 
+impl Model for Frame {
+    ghost use Rattle.cert_checker.specs.Kept.{Frame as AFrame};
+
+    ghost Value = { AFrame };
+
+    ghost view = { λ f. record { query = f.left.query; left = f.left.left; due = f.due; line = f.line } };
+}
+
 /// A query of no man, for places where none stands.
-pub(crate) fn no_query() -> Query {
+pub(crate) fn no_query() -> Query
+    ensures { result ≡ nobody }
+{
     Query {
         board: Board::empty(),
         turn: Colour::White,
@@ -53,11 +63,19 @@ pub(crate) fn no_query() -> Query {
     }
 }
 
+impl Frame {
+    /// The node's query.
+    fn query(&self) -> Query
+        ensures { result ≡ self.now.query }
+    {
+        self.left.query()
+    }
+}
+
 impl Default for Frame {
     /// What stands in the unused places of an array of frames.
     fn default() -> Frame {
         Frame {
-            query: no_query(),
             left: LeftUnmoves::none(),
             due: 0,
             line: 0,
@@ -76,10 +94,32 @@ pub enum FirstFault {
 
 /// The first unmove that is left, which then is left no more.
 fn take_first(left: &mut LeftUnmoves) -> Option<Unmove>
-    ensures first { result ≡ slice_get left.old 0 }
-    ensures others { left.new ≡ drop 1 left.old }
+    ensures first { result ≡ slice_get left.old.left 0 }
+    ensures others { left.new.left ≡ drop 1 left.old.left }
+    ensures query { left.new.query ≡ left.old.query }
 {
     left.next()
+}
+
+/// The first unmove that is left of a frame, and the frame with a child less due, of which it then is left no more.
+#[inline(always)]
+fn next_child(top: Frame) -> (Option<Unmove>, Frame)
+    requires { 0 < top.due }
+    ensures first { result.0 ≡ slice_get top.left 0 }
+    ensures rest { result.1 ≡ record { query = top.query; left = drop 1 top.left; due = top.due - 1; line = top.line } }
+{
+    let Frame {
+        mut left,
+        due,
+        line,
+    } = top;
+    let first = take_first(&mut left);
+    let rest = Frame {
+        left,
+        due: due - 1,
+        line,
+    };
+    (first, rest)
 }
 
 /// The fault of a frame that has no child due, unless there was one before.
@@ -107,7 +147,9 @@ fn is_covered(frames: &[Frame], steps: u8, query: &Query) -> bool
     if steps == 0 || frames.len() < steps {
         return false;
     }
-    covers(&frames[frames.len() - steps].query, query)
+    let frame = &frames[frames.len() - steps];
+    let ancestor = frame.query();
+    covers(&ancestor, query)
 }
 
 /// The fault of a node with this body and query below these frames.
@@ -166,7 +208,6 @@ pub(crate) fn push_body(
 {
     if let BodyLine::Expand(due) = body {
         frames.push(Frame {
-            query: *query,
             left: LeftUnmoves::new(query),
             due: *due,
             line,
@@ -275,19 +316,9 @@ fn walk_kid(
     ensures stack { HasRoom (suc (array_vec_len frames.old)) body.now → IsStack (reverse frames.old.items) → IsStack (reverse frames.new.items) }
     ensures reading { (depth : ℕ) → HasRoom depth body.now → IfReading result sketching.new }
 {
-    let Frame {
-        query,
-        mut left,
-        due,
-        line: own,
-    } = top;
-    let first = take_first(&mut left);
-    frames.push(Frame {
-        query,
-        left,
-        due: due - 1,
-        line: own,
-    });
+    let query = top.query();
+    let (first, rest) = next_child(top);
+    frames.push(rest);
     let (found, before) = look_at(first, label, body, &query, frames.as_slice(), line);
     go_below(frames, sketching, body, &before, found, line)
 }
@@ -320,7 +351,11 @@ pub(crate) fn take_line(
 fn is_open(frames: &[Frame]) -> bool
     ensures { IsTrue result ↔ IsOpen (reverse frames.now) }
 {
-    frames.is_empty() || frames[frames.len() - 1].due > 0
+    if frames.is_empty() {
+        return true;
+    }
+    let frame = &frames[frames.len() - 1];
+    frame.due > 0
 }
 
 /// Takes off the frames that have no child due, up to the first that has one. None of their unmoves may be left.

@@ -1,47 +1,60 @@
 ghost use Rattle.std.specs.Prelude.{◌≡◌, ◌∷◌, [], MatchOption};
 ghost use Rattle.unmove_gen.specs.Listed.{unmoves};
 
+use crate::frames::no_query;
 use board_base::Unmove;
 use query_base::Query;
 use std::marker::Model;
-use unmove_gen::Unmoves;
+use unmove_gen::QueryUnmoves;
 
-/// The unmoves of a node's query that no child had, seen as their list. A frame that isn't used has none, and looks for
-/// none.
+/// A node's query, and its unmoves that no child had, seen as the two. A frame that isn't used has none, and looks for none.
+// The query stands here alone: there are many frames, and all of their bytes are cleared where a check begins.
 #[derive(Drop)]
 pub struct LeftUnmoves {
-    unmoves: Option<Unmoves>,
+    unmoves: Option<QueryUnmoves>,
 }
 
 impl Model for LeftUnmoves {
-    ghost use Rattle.std.specs.Prelude.{List, [], unwrap_or};
-    ghost use Rattle.board_base.specs.declared.unmoves.Unmove.{Unmove as AnUnmove};
+    ghost use Rattle.std.specs.Prelude.{unwrap_or};
+    ghost use Rattle.unmove_gen.specs.Listed.{AskedUnmoves};
+    ghost use Rattle.cert_checker.specs.Unused.{no_unmoves};
 
-    ghost Value = { List AnUnmove };
+    ghost Value = { AskedUnmoves };
 
-    ghost view = { λ l. unwrap_or l.unmoves [] };
+    ghost view = { λ l. unwrap_or l.unmoves no_unmoves };
 }
 
 impl LeftUnmoves {
     /// None at all.
     pub(crate) fn none() -> LeftUnmoves
-        ensures { result ≡ [] }
+        ensures { result.left ≡ [] }
     {
         LeftUnmoves { unmoves: None }
     }
 
     /// All unmoves of the query.
     pub(crate) fn new(query: &Query) -> LeftUnmoves
-        ensures { result ≡ unmoves query.now }
+        ensures { result ≡ record { query = query.now; left = unmoves query.now } }
     {
         LeftUnmoves {
-            unmoves: Some(Unmoves::new(query)),
+            unmoves: Some(QueryUnmoves::new(query)),
+        }
+    }
+
+    /// The query.
+    pub(crate) fn query(&self) -> Query
+        ensures { result ≡ self.now.query }
+    {
+        match &self.unmoves {
+            Some(unmoves) => unmoves.query(),
+            None => no_query(),
         }
     }
 
     /// The first unmove that is left, which then is left no more; None exactly where none is left.
     pub(crate) fn next(&mut self) -> Option<Unmove>
-        ensures { MatchOption result ((self.old ≡ []) × (self.new ≡ [])) (λ u. self.old ≡ u ∷ self.new) }
+        ensures left { MatchOption result ((self.old.left ≡ []) × (self.new.left ≡ [])) (λ u. self.old.left ≡ u ∷ self.new.left) }
+        ensures query { self.new.query ≡ self.old.query }
     {
         match &mut self.unmoves {
             Some(unmoves) => unmoves.next(),

@@ -10,7 +10,8 @@ ghost use Rattle.cert_checker.specs.Frames.{going, sketching as at_sketch};
 ghost use Rattle.cert_checker.specs.Sketching.{IsReading, SketchState};
 ghost use Rattle.cert_checker.specs.Stages.{Rest, answer_at, answer_by, in_head, nodes};
 ghost use Rattle.cert_checker.specs.Staging.{BarsNothing, CanEnd, IfGood, IfReading, IsReady, ReadsMore, rooting, stage_of, stop_at, taken};
-ghost use Rattle.cert_checker.specs.declared.frames.Frame.{Frame as AnyFrame};
+ghost use Rattle.cert_checker.specs.declared.frames.FirstFault.{FirstFault as AnyFault};
+ghost use Rattle.cert_checker.specs.Kept.{Frame as AnyFrame};
 
 use crate::counting::{Counted, count_frames, count_line, settle_counts};
 use crate::frames::{FirstFault, Frame, NodeStep, body_fault, go_below, settle, take_line};
@@ -294,15 +295,26 @@ fn take_read(
     }
 }
 
-/// The step where the lines of a sketch are counted.
+/// The step behind a line that was counted and is no node's: the lines of a sketch come next, or the text goes bad at this line.
+// It is changed in its place and out of the way: a line of a node would pay for a second step.
 #[inline(never)]
-fn skipping(claim: &Claim, query: &Query, found: &FirstFault) -> Step
-    ensures { result ≡ Step.Skipping claim.now query.now found.now }
+fn stop_counting(step: &mut Step, counted: Counted, number: u32)
+    ensures sketch { (claim : AnyClaim) (q : Asked) (found : AnyFault) → counted ≡ Counted.Sketch → step.old ≡ Step.Counting claim q found → step.new ≡ Step.Skipping claim q found }
+    ensures bad { counted ≡ Counted.Bad → step.new ≡ Step.Bad number }
 {
-    Step::Skipping(*claim, *query, *found)
+    match counted {
+        Counted::Nodes => {}
+        Counted::Sketch => {
+            if let Step::Counting(claim, query, found) = step {
+                *step = Step::Skipping(*claim, *query, *found);
+            }
+        }
+        Counted::Bad => *step = Step::Bad(number),
+    }
 }
 
 /// Takes a line, with its end. Where only children are counted, the step stays in its place.
+#[inline(always)]
 pub(crate) fn take(
     step: &mut Step,
     sketching: &mut Sketching,
@@ -317,14 +329,13 @@ pub(crate) fn take(
     ensures ready { IsReady step.new sketching.new (reverse frames.new.items) (reverse counts.new.items) }
 {
     match step {
-        Step::Counting(claim, query, found) => match count_line(counts, sketching, line) {
-            Counted::Nodes => {}
-            Counted::Sketch => {
-                let next = skipping(claim, query, found);
-                *step = next;
+        Step::Counting(_, _, _) => {
+            let counted = count_line(counts, sketching, line);
+            match counted {
+                Counted::Nodes => {}
+                Counted::Sketch | Counted::Bad => stop_counting(step, counted, number),
             }
-            Counted::Bad => *step = Step::Bad(number),
-        },
+        }
         _ => take_read(step, sketching, frames, counts, number, line),
     }
 }

@@ -134,3 +134,8 @@ is_listed q u = is_retraction q u && obeys_clock q u
 -- the unmoves of the query
 unfoldable pub unmoves : Asked → List Unmove
 unmoves q = filter (is_listed q) candidates
+
+-- a query, and those of its unmoves that are left
+pub record AskedUnmoves : Type 0 where
+  pub query : Asked
+  pub left : List Unmove

@@ -27,6 +27,6 @@ pub use laws::{
     unmoves_ascend, unmoves_have_texts,
 };
 pub use legality::{answered, is_listed};
-pub use lists::Unmoves;
+pub use lists::{QueryUnmoves, Unmoves};
 pub use predecessors::{is_unmove, pred};
 pub use taking_back::take_back;

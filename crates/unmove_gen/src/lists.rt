@@ -9,6 +9,71 @@ use board_base::{SquareSet, Unmove};
 use query_base::Query;
 use std::marker::Model;
 
+/// A query, and its unmoves that are left to be given, as `Unmoves` gives them; seen as the two.
+#[derive(Drop)]
+pub struct QueryUnmoves {
+    query: Query,
+    facts: Option<QueryFacts>,
+    targets: SquareSet,
+    stop: ListedMove,
+}
+
+impl Model for QueryUnmoves {
+    ghost use Rattle.std.specs.Prelude.{drop, IfSome};
+    ghost use Rattle.std.specs.List.{filter};
+    ghost use Rattle.unmove_gen.specs.Listed.{AskedUnmoves, candidates, is_listed};
+    ghost use Rattle.unmove_gen.specs.Cursors.{number_of};
+    ghost use Rattle.unmove_gen.specs.Plain.{AreFacts, KnowsAlone};
+    ghost use Rattle.unmove_gen.specs.Ready.{AreReady, AreTargets};
+
+    ghost Value = { AskedUnmoves };
+
+    ghost view = { λ s. record { query = s.query; left = filter (is_listed s.query) (drop (number_of s.stop.cursor) candidates) } };
+
+    ghost invariant = { λ s. IfSome s.facts (λ f. AreFacts s.query f) × AreTargets s.query s.targets × IfSome s.facts (λ f. KnowsAlone s.query f.king s.stop.cursor.to s.stop.alone) × AreReady s.query s.stop.cursor s.stop.listed };
+}
+
+impl QueryUnmoves {
+    /// The query, and all its unmoves.
+    #[tactic(auto, unfolding(crate::specs::Listed::unmoves))]
+    pub fn new(query: &Query) -> QueryUnmoves
+        ensures { result ≡ record { query = query.now; left = unmoves query.now } }
+    {
+        let facts = facts_of(query);
+        let targets = targets_of(query, arrivals_by(query, &facts));
+        let stop = stop_from(query, &facts, targets, Cursor::first(), 64, false);
+        QueryUnmoves {
+            query: *query,
+            facts,
+            targets,
+            stop,
+        }
+    }
+
+    /// The query.
+    pub fn query(&self) -> Query
+        ensures { result ≡ self.now.query }
+    {
+        self.query
+    }
+
+    /// The first unmove that is left, which then is left no more; None exactly where none is left.
+    pub fn next(&mut self) -> Option<Unmove>
+        ensures left { MatchOption result ((self.old.left ≡ []) × (self.new.left ≡ [])) (λ u. self.old.left ≡ u ∷ self.new.left) }
+        ensures query { self.new.query ≡ self.old.query }
+    {
+        while self.stop.cursor.to < 64 {
+            let u = self.stop.cursor.candidate();
+            let is_listed = self.stop.listed[self.stop.cursor.capture as usize];
+            self.stop = stop_after(&self.query, &self.facts, self.targets, &self.stop);
+            if is_listed {
+                return Some(u);
+            }
+        }
+        None
+    }
+}
+
 /// The unmoves of a query that are left to be given, seen as their list. An unmove is a move that the side not to move may have made
 /// last in a game that reaches the query, with the kind of the man that it captured; it captured en passant only where it is so
 /// marked. Its origin is empty, and a man of that side stands on its target. On the board before it, the move is legal where every
@@ -22,42 +87,25 @@ use std::marker::Model;
 /// There are at most 143,360.
 #[derive(Drop)]
 pub struct Unmoves {
-    query: Query,
-    facts: Option<QueryFacts>,
-    targets: SquareSet,
-    stop: ListedMove,
+    unmoves: QueryUnmoves,
 }
 
 impl Model for Unmoves {
-    ghost use Rattle.std.specs.Prelude.{List, drop, IfSome};
-    ghost use Rattle.std.specs.List.{filter};
+    ghost use Rattle.std.specs.Prelude.{List};
     ghost use Rattle.board_base.specs.declared.unmoves.Unmove.{Unmove as AnUnmove};
-    ghost use Rattle.unmove_gen.specs.Listed.{candidates, is_listed};
-    ghost use Rattle.unmove_gen.specs.Cursors.{number_of};
-    ghost use Rattle.unmove_gen.specs.Plain.{AreFacts, KnowsAlone};
-    ghost use Rattle.unmove_gen.specs.Ready.{AreReady, AreTargets};
 
     ghost Value = { List AnUnmove };
 
-    ghost view = { λ s. filter (is_listed s.query) (drop (number_of s.stop.cursor) candidates) };
-
-    ghost invariant = { λ s. IfSome s.facts (λ f. AreFacts s.query f) × AreTargets s.query s.targets × IfSome s.facts (λ f. KnowsAlone s.query f.king s.stop.cursor.to s.stop.alone) × AreReady s.query s.stop.cursor s.stop.listed };
+    ghost view = { λ s. s.unmoves.left };
 }
 
 impl Unmoves {
     /// All unmoves of the query. The last move of each game that reaches it is among them.
-    #[tactic(auto, unfolding(crate::specs::Listed::unmoves))]
     pub fn new(query: &Query) -> Unmoves
         ensures { result ≡ unmoves query.now }
     {
-        let facts = facts_of(query);
-        let targets = targets_of(query, arrivals_by(query, &facts));
-        let stop = stop_from(query, &facts, targets, Cursor::first(), 64, false);
         Unmoves {
-            query: *query,
-            facts,
-            targets,
-            stop,
+            unmoves: QueryUnmoves::new(query),
         }
     }
 
@@ -65,14 +113,6 @@ impl Unmoves {
     pub fn next(&mut self) -> Option<Unmove>
         ensures { MatchOption result ((self.old ≡ []) × (self.new ≡ [])) (λ u. self.old ≡ u ∷ self.new) }
     {
-        while self.stop.cursor.to < 64 {
-            let u = self.stop.cursor.candidate();
-            let is_listed = self.stop.listed[self.stop.cursor.capture as usize];
-            self.stop = stop_after(&self.query, &self.facts, self.targets, &self.stop);
-            if is_listed {
-                return Some(u);
-            }
-        }
-        None
+        self.unmoves.next()
     }
 }

@@ -37,12 +37,12 @@ returns-in_default c =
     let deep : c.len-depth.result ≡ length olds = omega (arith, length-reverse c.args.counts.now.items, c.len-depth.ensures.value) in
     let some : 0 < length olds = search rules in
     let says = sym c.read_kid_line.ensures ∙ c.in-Some.is in
-    let kid = counted_kid c.args.sketching.now.units olds (reverse c.put_counts.new.counts.items) _ c.args.line.now _ _ some c.requires.open deep says c.put_counts.ensures in
+    let kid = counted_kid c.args.sketching.now.units olds (reverse c.put_counts-in-Some.new.counts.items) _ c.args.line.now _ _ some c.requires.open deep says c.put_counts-in-Some.ensures in
     let plain : IsPlain c.in-Some.body = search rules in
     let room = kid_room _ (length olds) c.args.line.now _ _ deep says in
     record {
-      step = nodes_counted c.args.sketching.now.units c.args.sketching.now c.in-Some.body _ kid.0 (reverse c.put_counts.new.counts.items) (reverse c.settle_counts.new.counts.items) plain refl kid.1 kid.2 c.settle_counts.ensures.due;
-      counts = subst AreCounts (sym c.settle_counts.ensures.due) (counts_popped (reverse c.put_counts.new.counts.items) (counts_kept c.in-Some.body olds (reverse c.put_counts.new.counts.items) some c.requires.open room c.requires.counts c.put_counts.ensures));
+      step = nodes_counted c.args.sketching.now.units c.args.sketching.now c.in-Some.body _ kid.0 (reverse c.put_counts-in-Some.new.counts.items) (reverse c.settle_counts.new.counts.items) plain refl kid.1 kid.2 c.settle_counts.ensures.due;
+      counts = subst AreCounts (sym c.settle_counts.ensures.due) (counts_popped (reverse c.put_counts-in-Some.new.counts.items) (counts_kept c.in-Some.body olds (reverse c.put_counts-in-Some.new.counts.items) some c.requires.open room c.requires.counts c.put_counts-in-Some.ensures));
       «open» = λ _. c.settle_counts.ensures.open;
       few = tt;
       units = refl;
