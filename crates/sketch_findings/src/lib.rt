@@ -8,4 +8,4 @@ mod files;
 mod finding;
 
 pub use finding::find_body;
-pub use sketch_search::{LARGE, Limits as SketchLimits, SMALL, SketchDesk};
+pub use sketch_search::{LARGE, Limits as SketchLimits, QUICK, SMALL, SketchDesk};

@@ -183,9 +183,31 @@ impl AccountDesk {
         }
     }
 
+    /// What the men cost at equal prices, which is kept.
+    fn flat_accounts(&mut self, basis: &mut Basis) -> Option<BothAccounts> {
+        if basis.flat.is_none() {
+            let kept = self.terrains.get_mut(basis.terrain)?;
+            let fees = kept.flat_fees();
+            let books = Books {
+                terrain: &kept.terrain,
+                fees: &fees,
+                rows: &basis.rows,
+            };
+            basis.flat = Some(BothAccounts::new(books));
+        }
+        basis.flat
+    }
+
+    /// By how much the men of a sketch cost more at equal prices than their true homes can.
+    pub fn flat_above(&mut self, basis: &mut Basis) -> Option<i32> {
+        let flat = self.flat_accounts(basis)?;
+        Some(flat.above())
+    }
+
     /// Prices at which the account is above 0, or forces the target's mark, if some are found. What the men cost at equal prices is kept; a
     /// target that costs no more then if its mark is false is given up if they cost far too little.
     pub fn seek(&mut self, basis: &mut Basis, target: Option<Target>) -> Option<PriceRow> {
+        let flat = self.flat_accounts(basis)?;
         let kept = self.terrains.get_mut(basis.terrain)?;
         let fees = kept.flat_fees();
         let books = Books {
@@ -193,11 +215,6 @@ impl AccountDesk {
             fees: &fees,
             rows: &basis.rows,
         };
-        let flat = match basis.flat {
-            Some(flat) => flat,
-            None => BothAccounts::new(books),
-        };
-        basis.flat = Some(flat);
         let accounts = flat.forced(books, target);
         if target.is_some() && flat.above() < FAR_BELOW && accounts.above() <= flat.above() {
             return None;

@@ -6,15 +6,16 @@ ghost use Rattle.sketch_found.specs.Roots.{IsRoot};
 ghost use Rattle.sketch_found.specs.Found.{IsProofOf, IsWithin};
 ghost use Rattle.sketch_found.specs.Plain.{IsPlain, IsPlainNode};
 
+use crate::beginnings::{Beginning, first_look, plain_root_if};
 use crate::desks::SketchDesk;
 use crate::writing::written;
 use board_base::{Kind, Memory, pawn_rank};
 use figures::Sketch;
 use home_ways::{file_set, squares_of};
 use query_base::Query;
-use sketch_found::{FoundSketch, if_proved, plain_root, root_of};
+use sketch_found::{FoundSketch, if_proved, root_of};
 use sketch_text::Label;
-use sketch_trees::{Child, Limits, MOST_BELOW, Search, Setting};
+use sketch_trees::{Child, Fingerprint, Limits, MOST_BELOW, Search, Setting, fingerprint_beside};
 use std::alloc::Global;
 
 /// Whether a pawn on this file has moved.
@@ -31,6 +32,42 @@ fn has_moved_pawn(sketch: &Sketch, file: usize) -> bool {
     false
 }
 
+/// What is asked of the query's sketch before a search.
+#[derive(Clone, Copy)]
+enum Opening {
+    /// A search is made. Nothing is noted if nothing is found.
+    Free,
+    /// None is made.
+    Shut,
+    /// One is made. If nothing is found, it is noted from which closed sketch.
+    Noted(Fingerprint),
+}
+
+/// What is asked of the query's sketch before a search, of which this closed one isn't the array: in haste or with little to spend, whether
+/// there is one, and whether nothing was found from it before.
+fn opening_for(query: &Query, wide: &Option<Sketch>, limits: Limits, desk: &SketchDesk) -> Opening {
+    if desk.is_spent(limits) {
+        return Opening::Shut;
+    }
+    if !limits.thrifty {
+        let shut = limits.hasty && wide.is_none();
+        return if shut { Opening::Shut } else { Opening::Free };
+    }
+    let Some(wide) = wide else {
+        return if limits.hasty {
+            Opening::Shut
+        } else {
+            Opening::Free
+        };
+    };
+    let print = fingerprint_beside(wide, query.held);
+    if desk.has_failed(print, query.odds, limits) {
+        Opening::Shut
+    } else {
+        Opening::Noted(print)
+    }
+}
+
 /// What a search has found that refutes this root, if the desk can keep the prices.
 fn found_by(
     alloc: Global,
@@ -40,7 +77,7 @@ fn found_by(
 ) -> Result<Option<FoundSketch>, Memory> {
     desk.lend(search)?;
     let refuted = search.refutes(root, MOST_BELOW)?;
-    desk.count(search);
+    desk.count(search, refuted);
     if !refuted {
         return Ok(None);
     }
@@ -66,7 +103,7 @@ fn found_with(
         held: query.held,
         exact,
     };
-    let mut search = Search::new(alloc, setting, limits);
+    let mut search = Search::new(alloc, setting, desk.left_of(limits));
     let root = Child {
         label: Label::Now,
         sketch: sketch.copied(),
@@ -105,7 +142,7 @@ fn found_on_files(
 }
 
 /// What the searches find, first without exact files.
-fn found_further(
+fn found_by_all(
     alloc: Global,
     query: &Query,
     sketch: &Sketch,
@@ -121,6 +158,32 @@ fn found_further(
         return Ok(found);
     }
     found_on_files(alloc, query, sketch, limits.for_file(), desk)
+}
+
+/// The same, but with little to spend nothing if the sketch can be the array, or if nothing was found before from the same closed one.
+fn found_further(
+    alloc: Global,
+    query: &Query,
+    sketch: &Sketch,
+    wide: &Option<Sketch>,
+    limits: Limits,
+    desk: &mut SketchDesk,
+) -> Result<Option<FoundSketch>, Memory>
+    ensures proves { IfOk result (λ r. IfSome r (λ found. IsProofOf query.now found)) }
+    ensures games { IfOk result (λ r. IfSome r (λ found. (m : List Move) → LeadsTo query.now.odds m query.now → ⊥)) }
+    ensures within { IfOk result (λ r. IfSome r (λ found. IsWithin limits.steps found)) }
+{
+    let opening = opening_for(query, wide, limits, desk);
+    if matches!(opening, Opening::Shut) {
+        return Ok(None);
+    }
+    let found = found_by_all(alloc, query, sketch, limits, desk)?;
+    if let Opening::Noted(print) = opening {
+        if found.is_none() {
+            desk.note_failed(print, query.odds, limits)?;
+        }
+    }
+    Ok(found)
 }
 
 /// Looks for a sketch that shows that no game comes to the query: for prices that close its sketch, marks that they force, and trees over
@@ -144,8 +207,9 @@ pub fn find_sketch(
     let Some(sketch) = root_of(query) else {
         return Ok(None);
     };
-    match plain_root(alloc, query, limits.steps)? {
+    let Beginning { may_be_plain, wide } = first_look(query, &sketch);
+    match plain_root_if(alloc, query, limits.steps, may_be_plain)? {
         Some(found) => Ok(Some(found)),
-        None => found_further(alloc, query, &sketch, limits, desk),
+        None => found_further(alloc, query, &sketch, &wide, limits, desk),
     }
 }

@@ -4,6 +4,7 @@
 //! Articles are those of the FIDE Laws of Chess, in force from 1 January 2023.
 #![tactic(auto)]
 
+mod beginnings;
 mod desks;
 mod finding;
 mod writing;
@@ -11,4 +12,4 @@ mod writing;
 pub use desks::SketchDesk;
 pub use finding::find_sketch;
 pub use sketch_found::{FoundSketch, SketchLine};
-pub use sketch_trees::{LARGE, Limits, SMALL};
+pub use sketch_trees::{LARGE, Limits, QUICK, SMALL};

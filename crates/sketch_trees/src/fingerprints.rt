@@ -1,9 +1,9 @@
-use board_base::{Colour, Kind};
+use board_base::{Castle, CastleSet, Colour, Kind};
 use figures::{Figure, Sketch};
 
 /// A number for the figures of a sketch, in whatever order: sketches with other figures have another one, but for a chance.
 #[derive(Clone, Copy, PartialEq, Eq, Hash)]
-pub(crate) struct Fingerprint {
+pub struct Fingerprint {
     digits: [Digit; 16],
 }
 
@@ -70,20 +70,47 @@ fn tag_of(sketch: &Sketch, figure: &Figure) -> u64 {
     tag
 }
 
-/// The fingerprint of a sketch.
-pub(crate) fn fingerprint_of(sketch: &Sketch) -> Fingerprint {
-    let mut first = 0u64;
-    let mut second = 0u64;
-    for figure in sketch.figures() {
-        let number = stirred(figure.squares.bits()).wrapping_add(tag_of(sketch, figure));
-        let once = stirred(number);
-        first = first.wrapping_add(once);
-        second = second.wrapping_add(stirred(once ^ 0x9e37_79b9_7f4a_7c15));
-    }
+/// A fingerprint from two numbers.
+fn digits_of(first: u64, second: u64) -> Fingerprint {
     let mut digits = [Digit { value: 0 }; 16];
     for k in 0..8usize {
         digits[k].value = (first >> (8 * k) & 255) as u8;
         digits[8 + k].value = (second >> (8 * k) & 255) as u8;
     }
     Fingerprint { digits }
+}
+
+/// The fingerprint of a sketch, counted from this number.
+fn fingerprint_from(sketch: &Sketch, start: u64) -> Fingerprint {
+    let mut first = start;
+    let mut second = stirred(start);
+    for figure in sketch.figures() {
+        let number = stirred(figure.squares.bits()).wrapping_add(tag_of(sketch, figure));
+        let once = stirred(number);
+        first = first.wrapping_add(once);
+        second = second.wrapping_add(stirred(once ^ 0x9e37_79b9_7f4a_7c15));
+    }
+    digits_of(first, second)
+}
+
+/// The fingerprint of a sketch.
+pub(crate) fn fingerprint_of(sketch: &Sketch) -> Fingerprint {
+    fingerprint_from(sketch, 0)
+}
+
+/// The fingerprint of a sketch with these held rights: another one if they are others, but for a chance.
+pub fn fingerprint_beside(sketch: &Sketch, held: CastleSet) -> Fingerprint {
+    let castles = [
+        Castle::WhiteShort,
+        Castle::WhiteLong,
+        Castle::BlackShort,
+        Castle::BlackLong,
+    ];
+    let mut rights = 0u64;
+    for k in 0..4usize {
+        if held.has(castles[k]) {
+            rights |= 1 << k;
+        }
+    }
+    fingerprint_from(sketch, stirred(rights))
 }

@@ -6,6 +6,7 @@
 #![tactic(auto)]
 
 mod children;
+mod counting;
 mod fingerprints;
 mod limits;
 mod looking;
@@ -15,7 +16,8 @@ mod search;
 mod trees;
 
 pub use children::{Child, Setting, cases_of, closed_above, steps_of};
-pub use limits::{LARGE, Limits, SMALL};
+pub use fingerprints::{Fingerprint, fingerprint_beside};
+pub use limits::{LARGE, Limits, QUICK, SMALL};
 pub use marking::{Marking, with_marks, with_marks_of};
 pub use search::{Close, Reason, Search};
 pub use sketch_prices::{Basis, Survey};

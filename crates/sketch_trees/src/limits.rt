@@ -11,6 +11,10 @@ pub struct Limits {
     pub ascents: u32,
     /// Whether pawns' moves on one file are taken back one by one if nothing else is found.
     pub files: bool,
+    /// Whether it gives up at the first sketch if this can be the array, before prices are sought.
+    pub hasty: bool,
+    /// Whether prices aren't sought, nor many steps followed, if the men cost so little at equal prices that this seldom leads to anything.
+    pub thrifty: bool,
 }
 
 impl Limits {
@@ -23,6 +27,8 @@ impl Limits {
             states: (self.states / 8).max(20),
             ascents: (self.ascents / 8).max(40),
             files: false,
+            hasty: self.hasty,
+            thrifty: self.thrifty,
         }
     }
 }
@@ -33,6 +39,18 @@ pub const SMALL: Limits = Limits {
     states: 20,
     ascents: 40,
     files: false,
+    hasty: false,
+    thrifty: false,
+};
+
+/// The same for positions of which there are many: little is spent on those that seldom close.
+pub const QUICK: Limits = Limits {
+    steps: 100,
+    states: 20,
+    ascents: 40,
+    files: false,
+    hasty: true,
+    thrifty: true,
 };
 
 /// For the positions that matter most.
@@ -41,4 +59,6 @@ pub const LARGE: Limits = Limits {
     states: 1_500,
     ascents: 1_500,
     files: true,
+    hasty: false,
+    thrifty: false,
 };

@@ -1,10 +1,18 @@
 use crate::children::{Child, closed_above, steps_of};
+use crate::counting::about_steps;
 use crate::marking::{Marking, with_marks_of};
-use crate::marks::Marked;
+use crate::marks::{Marked, SELDOM_MARKED};
 use crate::search::{Close, Search};
 use board_base::Memory;
 use figures::Sketch;
 use sketch_prices::{Basis, Survey, Target};
+
+/// Below this, what the men cost at equal prices beyond their true homes, prices seldom close a sketch: eight captures fewer than there may
+/// be.
+const SELDOM_CLOSED: i32 = -192;
+
+/// So many steps are followed even if marks are seldom forced.
+const FEW_STEPS: u32 = 24;
 
 /// What a look at a sketch came to.
 #[derive(Drop)]
@@ -89,6 +97,29 @@ impl Search {
         }
     }
 
+    /// The line of prices that closes a sketch, if some are sought and found: not with little to spend if the men cost far too little.
+    fn line_above(&mut self, basis: &mut Basis, flat: i32) -> Result<Option<u32>, Memory> {
+        if self.limits.thrifty && flat < SELDOM_CLOSED {
+            return Ok(None);
+        }
+        self.climb(basis, None)
+    }
+
+    /// Whether so many steps are followed with little to spend, before marks are sought.
+    fn follows(&self, wide: &Sketch, flat: i32) -> bool {
+        let many = about_steps(self.setting.odds, wide) > FEW_STEPS;
+        !self.limits.thrifty || flat >= SELDOM_MARKED || !many
+    }
+
+    /// What comes before the steps of a closed sketch; None if there are too many.
+    fn children_of(&self, wide: &Sketch) -> Result<Option<Vec<Child>>, Memory> {
+        let most = self.limits.steps;
+        if self.limits.thrifty && about_steps(self.setting.odds, wide) as usize > most {
+            return Ok(None);
+        }
+        steps_of(self.alloc, wide, &self.setting, most)
+    }
+
     /// The same if the sketch isn't void, and no line of the pool closes it. A sketch is given up that no prices close, and that can be the
     /// array: marks would seldom help.
     fn look_closer(
@@ -97,20 +128,25 @@ impl Search {
         mut basis: Basis,
         above: u8,
     ) -> Result<Look, Memory> {
-        if let Some(line) = self.climb(&mut basis, None)? {
+        let Some(flat) = self.accounts.flat_above(&mut basis) else {
+            return self.fail(sketch);
+        };
+        if let Some(line) = self.line_above(&mut basis, flat)? {
             self.note_refuted(sketch, Marking::new(), Close::Priced(line))?;
             return Ok(Look::Refuted);
         }
         let Some(wide) = closed_above(sketch, &self.setting) else {
             return self.fail(sketch);
         };
+        if !self.follows(&with_marks_of(&wide, sketch), flat) {
+            return self.fail(sketch);
+        }
         let mut marked = Marked::new(sketch, basis);
-        if let Some(close) = self.mark(&mut marked, above)? {
+        if let Some(close) = self.mark(&mut marked, above, flat)? {
             self.note_leaf(sketch, marked.marking, close)?;
             return Ok(Look::Refuted);
         }
-        let wide = with_marks_of(&wide, &marked.sketch);
-        match steps_of(self.alloc, &wide, &self.setting, self.limits.steps)? {
+        match self.children_of(&with_marks_of(&wide, &marked.sketch))? {
             Some(children) => Ok(Look::Open(marked.marking, children)),
             None => self.fail(sketch),
         }

@@ -7,6 +7,9 @@ use sketch_prices::{Basis, Survey};
 /// With fewer nodes above, marks are sought by ascents of their own.
 const MOST_MARKED: u8 = 2;
 
+/// Below this, what the men cost at equal prices beyond their true homes, marks are seldom forced: four captures fewer than there may be.
+pub(crate) const SELDOM_MARKED: i32 = -96;
+
 /// A sketch with the marks so far, the lines that gave them, and what its account stands on.
 #[derive(Drop)]
 pub(crate) struct Marked {
@@ -95,11 +98,18 @@ impl Search {
         Ok(None)
     }
 
-    /// Marks figures of a sketch that has so many above it, and says how the node ends if the marked sketch is void or closed. Near the top
-    /// marks are sought by ascents of their own, and those of pawns at the top alone.
-    pub(crate) fn mark(&mut self, marked: &mut Marked, above: u8) -> Result<Option<Close>, Memory> {
+    /// Marks figures of a sketch that has so many above it and whose men cost so much at equal prices, and says how the node ends if the
+    /// marked sketch is void or closed. Near the top marks are sought by ascents of their own, and those of pawns at the top alone: with
+    /// little to spend not if they are seldom forced.
+    pub(crate) fn mark(
+        &mut self,
+        marked: &mut Marked,
+        above: u8,
+        flat: i32,
+    ) -> Result<Option<Close>, Memory> {
         let close = self.mark_by_pool(marked)?;
-        if close.is_some() || above >= MOST_MARKED {
+        let seldom = self.limits.thrifty && flat < SELDOM_MARKED;
+        if close.is_some() || above >= MOST_MARKED || seldom {
             return Ok(close);
         }
         let close = self.mark_side(marked, Colour::White, above == 0)?;

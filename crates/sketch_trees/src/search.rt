@@ -56,7 +56,7 @@ pub struct Search {
     /// How many sketches were looked at that weren't closed at once.
     pub states: u32,
     /// How often prices were sought.
-    pub(crate) ascents: u32,
+    pub ascents: u32,
 }
 
 impl Search {
