@@ -1,5 +1,4 @@
 pub mod Runs
 pub mod Movers
 pub mod Trees
-pub mod Wraps
-pub mod OneText
+pub mod Paths

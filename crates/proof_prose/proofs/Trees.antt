@@ -21,22 +21,22 @@ use Rattle.proof_prose.specs.Standing.{LineStands, Stands}
 use Rattle.proof_prose.specs.declared.nodes.Told.{Told}
 
 -- the nodes of a child and of those after it
-nodes_next : (prefix : List ℕ) (q : Asked) (above : List Asked) (f : Forest) (i k : ℕ) (label : Unmove) (t : Tree) → kid_at f i ≡ Some (label, t) → kid_nodes prefix q above k (rest_of f i) ≡ own_node prefix k label q (predecessor q label) (q ∷ above) t ∷ (below (prefix_below prefix k) (predecessor q label) (q ∷ above) t ++ kid_nodes prefix q above (k + 1) (rest_of f (i + 1)))
-nodes_next prefix q above f i k label t e =
+nodes_next : (prefix : List ℕ) (path : List Unmove) (q : Asked) (above : List Asked) (f : Forest) (i k : ℕ) (label : Unmove) (t : Tree) → kid_at f i ≡ Some (label, t) → kid_nodes prefix path q above k (rest_of f i) ≡ own_node prefix k path label q (predecessor q label) (q ∷ above) t ∷ (below (prefix_below prefix k) (path ++ label ∷ []) (predecessor q label) (q ∷ above) t ++ kid_nodes prefix path q above (k + 1) (rest_of f (i + 1)))
+nodes_next prefix path q above f i k label t e =
     let next : suc i ≡ i + 1 = omega arith in
-    ap (λ (g : Forest). kid_nodes prefix q above k g) (rest-more f i label t e)
-    ∙ ap (λ (j : ℕ). own_node prefix k label q (predecessor q label) (q ∷ above) t ∷ (below (prefix_below prefix k) (predecessor q label) (q ∷ above) t ++ kid_nodes prefix q above (k + 1) (rest_of f j))) next
+    ap (λ (g : Forest). kid_nodes prefix path q above k g) (rest-more f i label t e)
+    ∙ ap (λ (j : ℕ). own_node prefix k path label q (predecessor q label) (q ∷ above) t ∷ (below (prefix_below prefix k) (path ++ label ∷ []) (predecessor q label) (q ∷ above) t ++ kid_nodes prefix path q above (k + 1) (rest_of f j))) next
 
 regrouped : (o : List Told) (a : Told) (b r : List Told) → ((o ++ a ∷ []) ++ b) ++ r ≡ o ++ (a ∷ (b ++ r))
 regrouped o a b r = simp append_assoc
 
 -- where a child and the nodes below it were put after others, those of the other children are still to come
-pub after_node : (prefix : List ℕ) (q : Asked) (above : List Asked) (f : Forest) (i k : ℕ) (label : Unmove) (t : Tree) (out own now : List Told) → kid_at f i ≡ Some (label, t) → own ≡ out ++ own_node prefix k label q (predecessor q label) (q ∷ above) t ∷ [] → now ≡ own ++ below (prefix_below prefix k) (predecessor q label) (q ∷ above) t → now ++ kid_nodes prefix q above (k + 1) (rest_of f (i + 1)) ≡ out ++ kid_nodes prefix q above k (rest_of f i)
-after_node prefix q above f i k label t out own now e first second =
-    let a : Told = own_node prefix k label q (predecessor q label) (q ∷ above) t in
-    let b : List Told = below (prefix_below prefix k) (predecessor q label) (q ∷ above) t in
-    let r : List Told = kid_nodes prefix q above (k + 1) (rest_of f (i + 1)) in
-    ap (λ (l : List Told). l ++ r) (second ∙ ap (λ (l : List Told). l ++ b) first) ∙ regrouped out a b r ∙ ap (λ (l : List Told). out ++ l) (sym (nodes_next prefix q above f i k label t e))
+pub after_node : (prefix : List ℕ) (path : List Unmove) (q : Asked) (above : List Asked) (f : Forest) (i k : ℕ) (label : Unmove) (t : Tree) (out own now : List Told) → kid_at f i ≡ Some (label, t) → own ≡ out ++ own_node prefix k path label q (predecessor q label) (q ∷ above) t ∷ [] → now ≡ own ++ below (prefix_below prefix k) (path ++ label ∷ []) (predecessor q label) (q ∷ above) t → now ++ kid_nodes prefix path q above (k + 1) (rest_of f (i + 1)) ≡ out ++ kid_nodes prefix path q above k (rest_of f i)
+after_node prefix path q above f i k label t out own now e first second =
+    let a : Told = own_node prefix k path label q (predecessor q label) (q ∷ above) t in
+    let b : List Told = below (prefix_below prefix k) (path ++ label ∷ []) (predecessor q label) (q ∷ above) t in
+    let r : List Told = kid_nodes prefix path q above (k + 1) (rest_of f (i + 1)) in
+    ap (λ (l : List Told). l ++ r) (second ∙ ap (λ (l : List Told). l ++ b) first) ∙ regrouped out a b r ∙ ap (λ (l : List Told). out ++ l) (sym (nodes_next prefix path q above f i k label t e))
 
 -- a child of a tree that proves a query proves the query before its label
 pub kid_proves : (f : Forest) (i : ℕ) (label : Unmove) (t : Tree) (q : Asked) (us : List Unmove) (above : List Asked) → ProvesEach f q us above → kid_at f i ≡ Some (label, t) → (a : List Asked) × Proves t (predecessor q label) a
@@ -76,18 +76,18 @@ line_stands q (sketch b) above p = p
 line_stands q (expand kids) above p = as_many kids q (unmoves q) above p.1
 
 mutual
-  below_stand : (prefix : List ℕ) (q : Asked) (t : Tree) (above : List Asked) → Proves t q above → All Stands (below prefix q above t)
-  below_stand prefix q (rule r) above p = All-nil Stands
-  below_stand prefix q (back k) above p = All-nil Stands
-  below_stand prefix q (sketch b) above p = All-nil Stands
-  below_stand prefix q (expand kids) above p = kids_stand prefix q 1 kids (unmoves q) above p.1
+  below_stand : (prefix : List ℕ) (path : List Unmove) (q : Asked) (t : Tree) (above : List Asked) → Proves t q above → All Stands (below prefix path q above t)
+  below_stand prefix path q (rule r) above p = All-nil Stands
+  below_stand prefix path q (back k) above p = All-nil Stands
+  below_stand prefix path q (sketch b) above p = All-nil Stands
+  below_stand prefix path q (expand kids) above p = kids_stand prefix path q 1 kids (unmoves q) above p.1
 
-  kids_stand : (prefix : List ℕ) (q : Asked) (k : ℕ) (f : Forest) (us : List Unmove) (above : List Asked) → ProvesEach f q us above → All Stands (kid_nodes prefix q above k f)
-  kids_stand prefix q k none us above p = All-nil Stands
-  kids_stand prefix q k (more l t rest) us above p =
+  kids_stand : (prefix : List ℕ) (path : List Unmove) (q : Asked) (k : ℕ) (f : Forest) (us : List Unmove) (above : List Asked) → ProvesEach f q us above → All Stands (kid_nodes prefix path q above k f)
+  kids_stand prefix path q k none us above p = All-nil Stands
+  kids_stand prefix path q k (more l t rest) us above p =
       All-cons Stands _ _ (line_stands (predecessor q l) t (q ∷ above) p.2)
-      (All-append Stands _ _ (below_stand (prefix_below prefix k) (predecessor q l) t (q ∷ above) p.2) (kids_stand prefix q (k + 1) rest p.0 above p.3))
+      (All-append Stands _ _ (below_stand (prefix_below prefix k) (path ++ l ∷ []) (predecessor q l) t (q ∷ above) p.2) (kids_stand prefix path q (k + 1) rest p.0 above p.3))
 
 -- each node of a tree that proves its query stands
 pub stand_all : (q : Asked) (t : Tree) → Proves t q [] → All Stands (nodes_from q t)
-stand_all q t p = All-cons Stands _ _ (line_stands q t [] p) (below_stand [] q t [] p)
+stand_all q t p = All-cons Stands _ _ (line_stands q t [] p) (below_stand [] [] q t [] p)

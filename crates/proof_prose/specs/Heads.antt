@@ -18,9 +18,10 @@ use Rattle.fen_text.specs.OddsLines.{is_no_odds}
 use Rattle.query_base.specs.Asked.{Asked}
 use Rattle.query_base.specs.declared.claims.Claim.{Claim}
 use Rattle.query_base.specs.declared.claims.Claim.TheVariants.{Illegal, Last, Lost, Ep}
-use Rattle.proof_prose.specs.Rows.{rows_of}
+use Rattle.proof_story.specs.Movers.{became, mover_initial}
+use Rattle.proof_story.specs.Rows.{rows_of}
 use Rattle.proof_sentences.specs.Phrases.{unmoved_words}
-use Rattle.prose_words.specs.Words.{initial, kind_word, place_initial, place_letter, side_word, squares_words, wing_word}
+use Rattle.prose_words.specs.Words.{kind_word, place_letter, side_word, squares_words, wing_word}
 
 -- a place of the diagram after a space
 abbrev pub place_text : Places → ℕ → List ℕ
@@ -105,16 +106,6 @@ has_givens q = not (is_no_odds q.odds) || is_some q.clock || is_some q.only || h
 -- the diagram with what is given
 abbrev pub given_words : Asked → List ℕ
 given_words q = cond (has_givens q) (codes " with what is given below it") []
-
--- the letter of the man who made the move that ends on this place; a pawn that was promoted has none
-abbrev pub mover_initial : Option Man → Option Kind → List ℕ
-mover_initial place None = place_initial place
-mover_initial place (Some k) = []
-
--- what a pawn became, as in `=Q`
-abbrev pub became : Option Kind → List ℕ
-became None = []
-became (Some k) = codes "=" ++ initial k
 
 -- a move that led to this board, in long notation, with this sign between its squares
 abbrev pub move_words : Places → Move → ℕ → List ℕ

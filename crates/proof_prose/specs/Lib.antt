@@ -1,7 +1,6 @@
 pub mod Heads
 pub mod Labels
 pub mod Nodes
-pub mod Rows
 pub mod Bodies
 pub mod Paragraphs
 pub mod Prose

@@ -28,28 +28,28 @@ abbrev pub prefix_below : List ℕ → ℕ → List ℕ
 prefix_below prefix place = prefix ++ decimal place ++ codes "."
 
 -- a child, to which this retraction leads
-abbrev pub own_node : List ℕ → ℕ → Unmove → Asked → Asked → List Asked → Tree → Told
-own_node prefix place label whence q above tree =
-    record { prefix = prefix; place = place; label = Some label; whence = whence; query = q; line = line_of q above tree }
+abbrev pub own_node : List ℕ → ℕ → List Unmove → Unmove → Asked → Asked → List Asked → Tree → Told
+own_node prefix place path label whence q above tree =
+    record { prefix = prefix; place = place; path = path ++ label ∷ []; label = Some label; whence = whence; query = q; line = line_of q above tree }
 
 abbrev mutual
-  -- the nodes below a node that has these ancestors, whose children's numbers begin so
-  pub below : List ℕ → Asked → List Asked → Tree → List Told
-  below prefix q above (rule r) = []
-  below prefix q above (back k) = []
-  below prefix q above (sketch b) = []
-  below prefix q above (expand kids) = kid_nodes prefix q above 1 kids
+  -- the nodes below a node that has these ancestors and to which these retractions lead, whose children's numbers begin so
+  pub below : List ℕ → List Unmove → Asked → List Asked → Tree → List Told
+  below prefix path q above (rule r) = []
+  below prefix path q above (back k) = []
+  below prefix path q above (sketch b) = []
+  below prefix path q above (expand kids) = kid_nodes prefix path q above 1 kids
 
   -- children from this place on, each with the nodes below it
-  pub kid_nodes : List ℕ → Asked → List Asked → ℕ → Forest → List Told
-  kid_nodes prefix q above i none = []
-  kid_nodes prefix q above i (more label tree rest) =
-      own_node prefix i label q (predecessor q label) (q ∷ above) tree ∷ (below (prefix_below prefix i) (predecessor q label) (q ∷ above) tree ++ kid_nodes prefix q above (i + 1) rest)
+  pub kid_nodes : List ℕ → List Unmove → Asked → List Asked → ℕ → Forest → List Told
+  kid_nodes prefix path q above i none = []
+  kid_nodes prefix path q above i (more label tree rest) =
+      own_node prefix i path label q (predecessor q label) (q ∷ above) tree ∷ (below (prefix_below prefix i) (path ++ label ∷ []) (predecessor q label) (q ∷ above) tree ++ kid_nodes prefix path q above (i + 1) rest)
 
 -- the root, which speaks of this query, and the nodes below it
 abbrev pub nodes_from : Asked → Tree → List Told
 nodes_from q tree =
-    record { prefix = []; place = 0; label = None; whence = q; query = q; line = line_of q [] tree } ∷ below [] q [] tree
+    record { prefix = []; place = 0; path = []; label = None; whence = q; query = q; line = line_of q [] tree } ∷ below [] [] q [] tree
 
 -- the nodes of a certificate's tree
 abbrev pub nodes_of : Certificate → List Told

@@ -9,7 +9,7 @@ use Rattle.board_base.specs.declared.unmoves.Unmove.{Unmove}
 use Rattle.query_base.specs.Asked.{Asked}
 use Rattle.proof_prose.specs.Labels.{label_words}
 use Rattle.prose_words.specs.Words.{kind_word}
-use Rattle.proof_prose.specs.Rows.{rows_of}
+use Rattle.proof_story.specs.Rows.{rows_of}
 use Rattle.proof_prose.specs.declared.bodies.Spoken.{Spoken}
 use Rattle.proof_prose.specs.declared.nodes.Line.{Line}
 use Rattle.proof_prose.specs.declared.nodes.Line.TheVariants.{Because, Sketched, Back, Moves}

@@ -1,14 +1,25 @@
 -- The proof of a certificate in plain words.
-use Rattle.std.specs.Prelude.{ℕ, ◌≡◌, List, ◌++◌}
+use Rattle.std.specs.Prelude.{ℕ, ◌≡◌, List, ◌++◌, ◌⊎◌, map}
 use Rattle.cert_text.specs.Certificate.{Certificate}
 use Rattle.proof_prose.specs.Bodies.{AreSpoken}
 use Rattle.proof_prose.specs.Heads.{closing_text, opening_text}
 use Rattle.proof_prose.specs.Nodes.{nodes_of}
 use Rattle.proof_prose.specs.Paragraphs.{told_text}
 use Rattle.proof_prose.specs.declared.bodies.Spoken.{Spoken}
+use Rattle.proof_story.specs.Reading.{TellsPoints}
+use Rattle.proof_story.specs.declared.stories.Point.{Point}
+
+-- a node for a story: the retractions that lead to it, and what is said of it
+abbrev pub point_of : Spoken → Point
+point_of s = record { path = s.node.path; whence = s.node.whence; body = s.body }
+
+-- The nodes are told: by a story in which each is found by the retractions that lead to it, or one after another, each under its number.
+abbrev pub TellsNodes : List Spoken → List ℕ → Type 0
+TellsNodes spoken text = TellsPoints (map point_of spoken) text ⊎ (text ≡ told_text spoken)
 
 -- The text begins with the diagram, what is given beside it, the claim and what is supposed against it, and ends with the claim again.
--- Between them stand the paragraphs that tell the nodes of the certificate's tree in preorder, each one once, by sentences that hold.
+-- Between them the nodes of the certificate's tree are told, by sentences that hold.
 abbrev pub Explains : Certificate → List ℕ → Type 0
 Explains cert text =
-    (spoken : List Spoken) × AreSpoken (nodes_of cert) spoken × (text ≡ (opening_text cert.claim cert.query ++ told_text spoken) ++ closing_text cert.claim cert.query)
+    (spoken : List Spoken) × AreSpoken (nodes_of cert) spoken ×
+    (middle : List ℕ) × TellsNodes spoken middle × (text ≡ (opening_text cert.claim cert.query ++ middle) ++ closing_text cert.claim cert.query)

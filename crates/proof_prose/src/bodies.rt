@@ -7,9 +7,9 @@ ghost use Rattle.proof_sentences.specs.Reasons.{Adds};
 ghost use Rattle.unmove_gen.specs.Listed.{unmoves};
 ghost use Rattle.proof_prose.specs.Standing.{Stands};
 
-use crate::letters::{Letters, kept};
 use crate::nodes::{Line, Told};
 use proof_sentences::{Sentence, push_one, push_reason};
+use proof_story::{Letters, kept};
 use query_base::Query;
 use retraction_bars::{bars_hold, pairs_hold, ways_are_told};
 use sketch_prose::push_sketch;

@@ -1,20 +1,17 @@
 //! The diagram, the claim and what is supposed.
 
 ghost use Rattle.std.specs.Prelude.{◌≡◌, ◌++◌, ◌<◌, ◌||◌, IfOk, codes, cond, not};
-ghost use Rattle.proof_prose.specs.Heads.{became, claim_words, clock_given, clock_words, closing_text, diagram_text, given_words, givens_text, going_words, has_givens, has_rights, kept_words, last_words, left_out, legal_words, lost_words, lower_text, move_words, mover_initial, not_words, odds_given, odds_line, odds_words, only_given, opening_text, other_words, place_text, promotion_words, rank_line, rank_text, reached_words, right_given, right_words, supposed_words, upper_text};
+ghost use Rattle.proof_prose.specs.Heads.{claim_words, clock_given, clock_words, closing_text, diagram_text, given_words, givens_text, going_words, has_givens, has_rights, kept_words, last_words, left_out, legal_words, lost_words, lower_text, move_words, not_words, odds_given, odds_line, odds_words, only_given, opening_text, other_words, place_text, promotion_words, rank_line, rank_text, reached_words, right_given, right_words, supposed_words, upper_text};
 ghost use Rattle.proof_sentences.specs.Phrases.{unmoved_words};
 ghost use Rattle.board_base.specs.Board.{at};
 ghost use Rattle.fen_text.specs.OddsLines.{is_no_odds};
 ghost use Rattle.prose_words.specs.Words.{kind_word, squares_words};
 
-use crate::wrapping::push_wrapped;
 use board_base::{Board, Castle, Colour, Kind, Man, Move, Odds, Square};
 use ep_history::{double_of, ep_fits};
 use proof_sentences::{push_either, push_unmoved, set_squares};
-use prose_words::{
-    initial, kind_word, place_initial, place_letter, push_number, push_square, say, side_word,
-    wing_word,
-};
+use proof_story::{mover_initial, push_became, push_wrapped};
+use prose_words::{kind_word, place_letter, push_number, push_square, say, side_word, wing_word};
 use query_base::{Claim, Query};
 use std::alloc::{AllocError, Global};
 
@@ -234,25 +231,6 @@ fn push_given(query: &Query, out: &mut Vec<u8>) -> Result<(), AllocError>
     ensures { IfOk result (λ _. out.new.items ≡ out.old.items ++ given_words query.now) }
 {
     push_either(has_givens(query), b" with what is given below it", b"", out)
-}
-
-fn mover_initial(place: Option<Man>, promo: Option<Kind>) -> &'static [u8]
-    ensures { result.now ≡ mover_initial place promo }
-{
-    match promo {
-        None => place_initial(place),
-        Some(_) => b"",
-    }
-}
-
-fn push_became(promo: Option<Kind>, out: &mut Vec<u8>) -> Result<(), AllocError>
-    ensures { IfOk result (λ _. out.new.items ≡ out.old.items ++ became promo) }
-{
-    if let Some(kind) = promo {
-        say(b"=", out)?;
-        say(initial(kind), out)?;
-    }
-    Ok(())
 }
 
 /// A move that led to this board, in long notation, with this sign between its squares.

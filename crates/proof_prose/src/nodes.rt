@@ -12,10 +12,10 @@ ghost use Rattle.proof_prose.specs.Standing.{Stands};
 ghost use Rattle.proof_prose.specs.declared.nodes.Line.TheVariants.{Sketched};
 ghost use Rattle.unmove_gen.specs.Listed.{unmoves};
 
-use crate::letters::{Letters, copied};
-use board_base::Unmove;
+use board_base::{Unmove, UnmoveList};
 use cert_text::{Body, Cert, Kids, Node, Reason};
 use ep_history::{double_of, ep_fits};
+use proof_story::{Letters, copied};
 use prose_words::{push_number, say};
 use query_base::{Claim, Query};
 use sketch_body::SketchBody;
@@ -42,6 +42,8 @@ pub struct Told {
     pub prefix: Letters,
     /// The last part of its number: its place among the children of one node, from 1 on; 0 at the root.
     pub place: usize,
+    /// The retractions that lead to it, the first one first.
+    pub path: UnmoveList,
     /// The retraction that leads to it, or None at the root.
     pub label: Option<Unmove>,
     /// The query from which the retraction leads; at the root its own.
@@ -50,6 +52,19 @@ pub struct Told {
     pub query: Query,
     /// Why no game reaches that.
     pub line: Line,
+}
+
+/// A retraction behind the others, if there is one.
+fn push_unmove(unmove: Option<Unmove>, out: &mut UnmoveList) -> Result<(), AllocError>
+    ensures { IfOk result (λ _. out.new ≡ elim unmove [ None ↦ out.old | Some u ↦ out.old ++ u ∷ [] ]) }
+{
+    match unmove {
+        None => Ok(()),
+        Some(u) => match out.push(u) {
+            Ok(()) => Ok(()),
+            Err(_) => Err(AllocError),
+        },
+    }
 }
 
 /// The query of the ancestor so many steps above, of which the parent comes last; or this one, where there is none.
@@ -99,6 +114,26 @@ fn prefix_below(alloc: Global, prefix: &[u8], place: usize) -> Result<Vec<u8>, A
     Ok(own)
 }
 
+/// The same retractions.
+pub(crate) fn copied_path(alloc: Global, path: &UnmoveList) -> Result<UnmoveList, AllocError>
+    ensures { IfOk result (λ own. own ≡ path.now) }
+{
+    let mut own = UnmoveList::new(alloc);
+    for i in 0..path.len() {
+        push_unmove(path.get(i), &mut own)?;
+    }
+    Ok(own)
+}
+
+/// The retractions, and this one behind them.
+fn longer(alloc: Global, path: &UnmoveList, label: &Unmove) -> Result<UnmoveList, AllocError>
+    ensures { IfOk result (λ own. own ≡ path.now ++ label.now ∷ []) }
+{
+    let mut own = copied_path(alloc, path)?;
+    push_unmove(Some(*label), &mut own)?;
+    Ok(own)
+}
+
 /// Puts the child of a node after the others.
 fn push_own(
     alloc: Global,
@@ -108,14 +143,16 @@ fn push_own(
     label: &Unmove,
     prefix: &[u8],
     place: usize,
+    path: &UnmoveList,
     ancestors: &[Query],
     out: &mut Vec<Told>,
 ) -> Result<(), AllocError>
-    ensures { IfOk result (λ _. out.new.items ≡ out.old.items ++ own_node prefix.now place label.now whence.now query.now (reverse ancestors.now) (tree_of node.now) ∷ []) }
+    ensures { IfOk result (λ _. out.new.items ≡ out.old.items ++ own_node prefix.now place path.now label.now whence.now query.now (reverse ancestors.now) (tree_of node.now) ∷ []) }
 {
     let told = Told {
         prefix: copied(alloc, prefix)?,
         place,
+        path: longer(alloc, path, label)?,
         label: Some(*label),
         whence: *whence,
         query: *query,
@@ -132,16 +169,17 @@ fn push_below(
     query: &Query,
     node: &Node,
     prefix: &[u8],
+    path: &UnmoveList,
     ancestors: &mut Vec<Query>,
     out: &mut Vec<Told>,
 ) -> Result<(), AllocError>
     requires { (above : List Asked) × Proves (tree_of node.now) query.now above }
-    ensures nodes { IfOk result (λ _. out.new.items ≡ out.old.items ++ below prefix.now query.now (reverse ancestors.old.items) (tree_of node.now)) }
+    ensures nodes { IfOk result (λ _. out.new.items ≡ out.old.items ++ below prefix.now path.now query.now (reverse ancestors.old.items) (tree_of node.now)) }
     ensures kept { IfOk result (λ _. ancestors.new.items ≡ ancestors.old.items) }
 {
     match &node.body {
         Body::Rule(_) | Body::Back(_) | Body::Sketch(_) => Ok(()),
-        Body::Expand(kids) => push_kids(alloc, query, kids, prefix, ancestors, out),
+        Body::Expand(kids) => push_kids(alloc, query, kids, prefix, path, ancestors, out),
     }
 }
 
@@ -152,11 +190,12 @@ fn push_kids(
     query: &Query,
     kids: &Kids,
     prefix: &[u8],
+    path: &UnmoveList,
     ancestors: &mut Vec<Query>,
     out: &mut Vec<Told>,
 ) -> Result<(), AllocError>
     requires { (above : List Asked) × ProvesEach kids.now query.now (unmoves query.now) above }
-    ensures nodes { IfOk result (λ _. out.new.items ≡ out.old.items ++ kid_nodes prefix.now query.now (reverse ancestors.old.items) 1 kids.now) }
+    ensures nodes { IfOk result (λ _. out.new.items ≡ out.old.items ++ kid_nodes prefix.now path.now query.now (reverse ancestors.old.items) 1 kids.now) }
     ensures kept { IfOk result (λ _. ancestors.new.items ≡ ancestors.old.items) }
 {
     ancestors.push(*query)?;
@@ -171,11 +210,21 @@ fn push_kids(
             &kid.label,
             prefix,
             i + 1,
+            path,
             ancestors.as_slice(),
             out,
         )?;
         let own = prefix_below(alloc, prefix, i + 1)?;
-        push_below(alloc, &next, &kid.node, own.as_slice(), ancestors, out)?;
+        let further = longer(alloc, path, &kid.label)?;
+        push_below(
+            alloc,
+            &next,
+            &kid.node,
+            own.as_slice(),
+            &further,
+            ancestors,
+            out,
+        )?;
     }
     let _ = ancestors.pop();
     Ok(())
@@ -208,6 +257,7 @@ fn listed(alloc: Global, query: &Query, root: &Node) -> Result<Vec<Told>, AllocE
     let told = Told {
         prefix: copied(alloc, b"")?,
         place: 0,
+        path: UnmoveList::new(alloc),
         label: None,
         whence: *query,
         query: *query,
@@ -215,7 +265,8 @@ fn listed(alloc: Global, query: &Query, root: &Node) -> Result<Vec<Told>, AllocE
     };
     nodes.push(told)?;
     let mut ancestors = Vec::new(alloc);
-    push_below(alloc, query, root, b"", &mut ancestors, &mut nodes)?;
+    let path = UnmoveList::new(alloc);
+    push_below(alloc, query, root, b"", &path, &mut ancestors, &mut nodes)?;
     Ok(nodes)
 }
 

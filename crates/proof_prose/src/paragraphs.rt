@@ -6,10 +6,9 @@ ghost use Rattle.proof_prose.specs.Runs.{IsRun, run_of};
 
 use crate::bodies::Spoken;
 use crate::labels::push_label;
-use crate::letters::{Letters, are_same, copied, kept};
 use crate::nodes::{Line, Told};
-use crate::wrapping::push_wrapped;
 use board_base::{Kind, Unmove, is_move};
+use proof_story::{Letters, are_same, copied, kept, push_wrapped};
 use prose_words::{kind_word, push_number, say};
 use query_base::Query;
 use std::alloc::{AllocError, Global};

@@ -1,32 +1,60 @@
 //! The proof of a certificate in plain words.
 
-ghost use Rattle.std.specs.Prelude.{◌≡◌, IfOk, List};
+ghost use Rattle.std.specs.Prelude.{◌≡◌, IfOk, List, map};
 ghost use Rattle.cert_checker.specs.Proving.{ProvesClaim};
 ghost use Rattle.cert_text.specs.SeenCert.{cert_of};
 ghost use Rattle.proof_prose.specs.Bodies.{AreSpoken};
 ghost use Rattle.proof_prose.specs.Nodes.{nodes_of};
-ghost use Rattle.proof_prose.specs.Paragraphs.{told_text};
-ghost use Rattle.proof_prose.specs.Prose.{Explains};
+ghost use Rattle.proof_prose.specs.Prose.{Explains, TellsNodes, point_of};
 ghost use Rattle.proof_prose.specs.declared.bodies.Spoken.{Spoken as ASpoken};
 
-use crate::bodies::spoken_of;
+use crate::bodies::{Spoken, spoken_of};
 use crate::heads::{push_closing, push_opening};
-use crate::nodes::nodes_of;
+use crate::nodes::{copied_path, nodes_of};
 use crate::paragraphs::push_paragraphs;
 use cert_text::Cert;
+use proof_story::{Point, copied, tell as tell_story};
 use prose_words::say;
 use std::alloc::{AllocError, Global};
+
+/// The nodes for a story.
+fn points_of(alloc: Global, spoken: &[Spoken]) -> Result<Vec<Point>, AllocError>
+    ensures { IfOk result (λ points. points.items ≡ map point_of spoken.now) }
+{
+    let mut points = Vec::new(alloc);
+    for s in spoken {
+        points.push(Point {
+            path: copied_path(alloc, &s.node.path)?,
+            whence: s.node.whence,
+            body: copied(alloc, s.body.text())?,
+        })?;
+    }
+    Ok(points)
+}
+
+/// The nodes, told as a story, or one after another if there is none.
+fn told_of(alloc: Global, spoken: &[Spoken]) -> Result<Vec<u8>, AllocError>
+    ensures { IfOk result (λ text. TellsNodes spoken.now text.items) }
+{
+    let points = points_of(alloc, spoken)?;
+    match tell_story(alloc, points.as_slice())? {
+        Some(text) => Ok(text),
+        None => {
+            let mut text = Vec::new(alloc);
+            push_paragraphs(alloc, spoken, &mut text)?;
+            Ok(text)
+        }
+    }
+}
 
 /// The nodes below the claim of a certificate, in preorder.
 fn told(alloc: Global, cert: &Cert) -> Result<Vec<u8>, AllocError>
     requires { ProvesClaim (cert_of cert.now) }
-    ensures { IfOk result (λ text. (spoken : List ASpoken) × AreSpoken (nodes_of (cert_of cert.now)) spoken × (text.items ≡ told_text spoken)) }
+    ensures { IfOk result (λ text. (spoken : List ASpoken) × AreSpoken (nodes_of (cert_of cert.now)) spoken × TellsNodes spoken text.items) }
 {
     let nodes = nodes_of(alloc, cert)?;
     let spoken = spoken_of(alloc, nodes)?;
-    let mut text = Vec::new(alloc);
-    push_paragraphs(alloc, spoken.as_slice(), &mut text)?;
-    Ok(text)
+    told_of(alloc, spoken.as_slice())
 }
 
 /// The proof of a certificate in plain words: the diagram, the claim and what is supposed, then the nodes, and the claim again.

@@ -12,6 +12,6 @@ decreases-push_kids l = size_all l.kids.now
 
 abbrev pub invariant-push_kids-loop-i : goal.invariant-push_kids-loop-i
 invariant-push_kids-loop-i l = record {
-  nodes : l.out.items ++ kid_nodes l.prefix l.query (reverse l.fn.ancestors.items) (l.i + 1) (rest_of l.kids l.i) ≡ l.fn.out.items ++ kid_nodes l.prefix l.query (reverse l.fn.ancestors.items) 1 l.kids;
+  nodes : l.out.items ++ kid_nodes l.prefix l.path l.query (reverse l.fn.ancestors.items) (l.i + 1) (rest_of l.kids l.i) ≡ l.fn.out.items ++ kid_nodes l.prefix l.path l.query (reverse l.fn.ancestors.items) 1 l.kids;
   kept : l.ancestors.items ≡ l.fn.ancestors.items ++ l.query ∷ [];
 }

@@ -1,6 +1,6 @@
 use Rattle.std.proofs.Common.{◌≡◌, ℕ, List, ◌++◌, ◌∙◌, ap}
 use Rattle.proof_prose.specs.Paragraphs.{heading_at, kinds_words, name_from, said_words}
-use Rattle.proof_prose.specs.Rows.{rows_of}
+use Rattle.proof_story.specs.Rows.{rows_of}
 use Rattle.proof_prose.specs.declared.paragraphs.Said.{Said}
 use Rattle.proof_prose.proofs.paragraphs.push_rows.Goals as goal
 

@@ -1,7 +1,0 @@
-use Rattle.std.proofs.Common.{◌≡◌, ◌+◌, ◌≤◌, ◌++◌, drop}
-use Rattle.proof_prose.specs.Rows.{cut_from}
-use Rattle.proof_prose.proofs.wrapping.push_cut.Given as goal
-
-abbrev pub invariant-loop-i : goal.invariant-loop-i
-invariant-loop-i l =
-    record { cut : l.out.items ++ cut_from l.column (drop l.i l.line) ≡ l.fn.out.items ++ cut_from 0 l.line; few : l.column ≤ l.i + 4 }

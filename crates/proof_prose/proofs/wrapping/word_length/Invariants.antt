@@ -1,6 +1,0 @@
-use Rattle.std.proofs.Common.{◌≡◌, ◌+◌, drop}
-use Rattle.proof_prose.specs.Rows.{word_length}
-use Rattle.proof_prose.proofs.wrapping.word_length.Given as goal
-
-abbrev pub invariant-loop-i : goal.invariant-loop-i
-invariant-loop-i l = word_length l.line ≡ l.i + word_length (drop l.i l.line)
