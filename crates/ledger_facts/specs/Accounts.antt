@@ -95,9 +95,11 @@ gone_if (AtLeast side squares n) p set c first h = gone p set c first h
 unfoldable pub stand_row_if : Supposition → PriceList → List Bool → Colour → Places → Places → ℕ → List ℕ
 stand_row_if x p set c first board s = map (λ j. stands_if x p set c (at first (home_of c j)) (home_of c j) (at board s) s) (range_with_len 0 16)
 
+-- what it costs that the man of each of its homes is gone
 unfoldable pub gone_row_if : Supposition → PriceList → List Bool → Colour → Places → List ℕ
 gone_row_if x p set c first = map (λ j. gone_if x p set c (at first (home_of c j)) (home_of c j)) (range_with_len 0 16)
 
+-- both together
 unfoldable pub cost_table_if : Supposition → PriceList → List Bool → Colour → Places → Places → List (List ℕ)
 cost_table_if x p set c first board = map (stand_row_if x p set c first board) (men_squares c board) ++ replicate (men_on c first - men_on c board) (gone_row_if x p set c first)
 
@@ -137,6 +139,7 @@ paid_over (Gone k promoted struck) = 0
 paid_over (AtMost side squares n) = charge * n
 paid_over (AtLeast side squares n) = 0
 
+-- how much more is earned than paid, at least
 abbrev pub earned_over : Supposition → ℕ
 earned_over (Began t homes) = 0
 earned_over (Went t straight) = 0

@@ -1,7 +1,8 @@
 -- A side's pawns took no more men than the other side lacks.
-use Rattle.std.proofs.Common.{◌≡◌, ℕ, ◌≤◌, true, false, List, [], ◌∷◌, length, refl, ap, sym, ◌∙◌, arith}
+use Rattle.std.proofs.Common.{◌≡◌, ℕ, ◌≤◌, Bool, true, false, List, [], ◌∷◌, length, refl, ap, sym, ◌∙◌, arith}
 use Rattle.std.proofs.lemmas.Bool.{both_ways, leb-true}
 use Rattle.std.proofs.lemmas.List.{length-map}
+use Rattle.std.proofs.lemmas.List.Sums.{count_by-le-length, length-filter}
 use Rattle.board_base.specs.Board.{Places, opponent}
 use Rattle.board_base.specs.declared.men.Colour.{Colour}
 use Rattle.board_base.specs.declared.moves.Move.{Move}
@@ -13,9 +14,10 @@ use Rattle.query_base.specs.Asked.{Asked}
 use Rattle.cage_rules.specs.Reach.{LeadsTo}
 use Rattle.men_fates.specs.Deeds.{Strike, strikes}
 use Rattle.men_fates.proofs.Strikes.{strikes-take}
-use Rattle.ledger_facts.specs.Supposed.{captures}
+use Rattle.capture_prices.specs.Prices.{class_of}
+use Rattle.ledger_facts.specs.Supposed.{captures, has_class}
 use Rattle.ledger_facts.specs.declared.suppositions.Squares.{Squares}
-use Rattle.ledger_facts.specs.declared.suppositions.Squares.TheVariants.{All, Dark, Light, Class}
+use Rattle.ledger_facts.specs.declared.suppositions.Squares.TheVariants.{All}
 use Rattle.ledger_facts.proofs.Raised.{counted}
 use Rattle.ledger_lines.specs.Known.{are_lacking, lacking}
 
@@ -33,8 +35,13 @@ few-captured q c g leads =
     let same = ap (λ (b : Places). men_of (opponent c) is_any b) leads.board in
     omega (arith, none, same, taken-are q c g leads)
 
-pub lacking-most : (q : Asked) (c : Colour) (squares : Squares) (n : ℕ) (g : List Move) → LeadsTo q.odds g q → are_lacking q c squares n ≡ true → captures q.odds g c squares ≤ n
-lacking-most q c All n g leads lack = omega (arith, few-captured q c g leads, leb-true (lacking q (opponent c)) n lack)
-lacking-most q c Dark n g leads lack = absurd (both_ways false refl lack)
-lacking-most q c Light n g leads lack = absurd (both_ways false refl lack)
-lacking-most q c (Class k) n g leads lack = absurd (both_ways false refl lack)
+some-counted : (squares : Squares) (all : List Strike) → counted squares all ≤ length all
+some-counted squares all = omega (arith, length-filter (λ (x : Strike). has_class squares (class_of x.on)) all, count_by-le-length (λ (x : Strike). has_class squares (class_of x.on)) all)
+
+-- they made no more on some squares than in all
+pub some-captured : (o : List Bool) (g : List Move) (c : Colour) (squares : Squares) → captures o g c squares ≤ captures o g c All
+some-captured o g c squares = omega (arith, some-counted squares (strikes o g c), all-counted (strikes o g c))
+
+pub lacking-most : (q : Asked) (c : Colour) (squares : Squares) (n : ℕ) (g : List Move) → LeadsTo q.odds g q → are_lacking q c n ≡ true → captures q.odds g c squares ≤ n
+lacking-most q c squares n g leads lack =
+    omega (arith, few-captured q c g leads, some-captured q.odds g c squares, leb-true (lacking q (opponent c)) n lack)

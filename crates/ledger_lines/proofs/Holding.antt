@@ -1,10 +1,11 @@
 -- What a ledger knows holds of every game.
 use Rattle.std.proofs.Common.{◌≡◌, ℕ, ◌+◌, ◌<◌, ◌≤◌, inl, inr, Bool, true, false, not, List, [], length, zero, suc, refl, ap, sym, subst, ◌∙◌, ◌⊎◌, append-nil, arith}
-use Rattle.std.specs.Prelude.{IsTrue, Option, None, Some, nat_le, nat_lt}
+use Rattle.std.specs.Prelude.{◌&&◌, IsTrue, Option, None, Some, is_none, nat_le, nat_lt, slice_index_or}
 use Rattle.std.specs.Bool.{beq}
-use Rattle.std.proofs.lemmas.Bool.{and_parts, both_ways, cases_Bool, leb-true, ltb-false, ltb-true, or_cases}
+use Rattle.std.proofs.lemmas.Bool.{and_from, and_parts, both_ways, cases_Bool, leb-true, ltb-false, ltb-true, or_cases}
 use Rattle.std.proofs.lemmas.List.{get_or-set_same}
-use Rattle.board_base.specs.Board.{Places, array_of, at, is_a, is_in, is_of, same_colour}
+use Rattle.general_lemmas.proofs.Ranges.{any-found}
+use Rattle.board_base.specs.Board.{Places, array_of, at, is_a, is_empty, is_in, is_of, same_colour}
 use Rattle.board_base.specs.Game.{board_after}
 use Rattle.board_base.specs.SquareNumbers.{length-squares_of}
 use Rattle.board_base.specs.declared.men.Colour.{Colour}
@@ -19,7 +20,7 @@ use Rattle.men_fates.specs.Ways.{captures_on}
 use Rattle.men_fates.proofs.Goings.{pawn-ends}
 use Rattle.men_fates.proofs.Roads.{way-past}
 use Rattle.men_account.proofs.FilesLeft.{array-inside}
-use Rattle.men_account.proofs.Labelled.{labels-colours}
+use Rattle.men_account.proofs.Labelled.{labels-colours, labels-each_man}
 use Rattle.query_base.specs.Asked.{Asked}
 use Rattle.query_base.specs.Reach.{Reaches}
 use Rattle.cage_rules.specs.Frozen.{IsFrozen}
@@ -38,14 +39,18 @@ use Rattle.ledger_facts.proofs.Known.{gone-so, has-captured, kept-file, less-tha
 use Rattle.ledger_facts.proofs.Sound.{refuted}
 use Rattle.ledger_search.specs.Ledgers.{AreCounts, IsLeast, IsLedger, IsLedgerOf, IsMost}
 use Rattle.ledger_search.specs.Questions.{IsFlatlyRefuted, is_asked, is_man, only, shares_side}
+use Rattle.ledger_search.specs.declared.counts.Range.{Range}
 use Rattle.ledger_search.specs.declared.ledgers.Ledger.{Ledger}
 use Rattle.ledger_search.specs.declared.questions.Question.TheVariants.{Home}
-use Rattle.ledger_lines.specs.Facts.{Says}
-use Rattle.ledger_lines.specs.Known.{AreRuledOut, IsKnown, IsOnBoard, are_lacking, counts_of, is_class, is_fallen, is_most, least_of}
-use Rattle.ledger_lines.proofs.FewTaken.{lacking-most}
+use Rattle.ledger_lines.specs.Facts.{Says, began_as_pawns}
+use Rattle.ledger_lines.specs.Known.{AreMen, AreRuledOut, IsKnown, IsOnBoard, are_lacking, counts_of, is_class, is_fallen, is_few, is_few_on, is_most, is_piece_home, is_piece_home_of, least_of, most_aside, number_in, piece_homes}
+use Rattle.ledger_lines.specs.Losses.{losses_of}
+use Rattle.ledger_lines.proofs.FewTaken.{lacking-most, some-captured}
 use Rattle.ledger_lines.proofs.FilesCrossed.{captured-once, files-crossed}
+use Rattle.ledger_lines.proofs.MostAside.{most-captured}
+use Rattle.ledger_lines.proofs.Promotions.{pawns-among}
 use Rattle.ledger_lines.specs.declared.facts.Fact.{Fact}
-use Rattle.ledger_lines.specs.declared.facts.Fact.TheVariants.{Began, Original, Promoted, Captured, Took, Straight, Fell, FellToPawn, EscapedPawns, Became, NeverBecame, AtLeast, AtMost}
+use Rattle.ledger_lines.specs.declared.facts.Fact.TheVariants.{Began, Original, Promoted, Captured, Took, TookAtMost, Straight, Fell, FellToPawn, EscapedPawns, Became, NeverBecame, AtLeast, AtMost, Lacks, Among}
 
 pawn-man : (place : Option Man) → is_a Pawn place ≡ true → is_man place ≡ true
 pawn-man None h = absurd (both_ways false refl h)
@@ -76,23 +81,53 @@ module _ (q : Asked) (l : Ledger) (set : List Bool) (frozen : IsFrozen q set) (i
   out : (x : Supposition) → IsFlatlyRefuted x q set → IsRuledOut x q
   out x it = (set, flat_prices it.0, it.1)
 
-  -- whoever stands on a square didn't begin on a home that is ruled out
+  -- whoever stands on a square began on a home of his side that isn't ruled out
+  not-barred : (s h : ℕ) → s < 64 → is_man (at q.board s) ≡ true → label_at (labels_after q.odds g) s ≡ Some h → (h < 64) × (is_asked (Home s) q.board (array_of q.odds) h ≡ true) × (is_in (slice_index_or l.homes s []) h ≡ false)
+  not-barred s h inside here label =
+      let m = man-on (at q.board s) here in
+      let on : at (board_after q.odds g) s ≡ Some m.0 = ap (λ (b : Places). at b s) leads.board ∙ m.1 in
+      let home = labels-colours q.odds g leads.game s h m.0 label on in
+      let low : h < 64 = array-inside q.odds (is_of m.0.colour) h refl home in
+      let asked : is_asked (Home s) q.board (array_of q.odds) h ≡ true = ap (λ (p : Option Man). shares_side p (at (array_of q.odds) h)) m.1 ∙ home in (
+        low,
+        asked,
+        elim (cases_Bool (is_in (slice_index_or l.homes s []) h)) [
+          | inl barred ↦
+              let found = ((is.homes s inside h low).0 barred).1 in
+              absurd (refuted (BeganAt s (only h)) q set (flat_prices found.0) found.1 g leads (h, label, in-only h low))
+          | inr open_to ↦ open_to
+        ],
+      )
+
   not-ruled-out : (s h : ℕ) (test : ℕ → Bool) → s < 64 → AreRuledOut q l s test → label_at (labels_after q.odds g) s ≡ Some h → test h ≡ false
   not-ruled-out s h test inside (here, all) label = elim (cases_Bool (test h)) [
-    | inl passes ↦
-        let m = man-on (at q.board s) here in
-        let on : at (board_after q.odds g) s ≡ Some m.0 = ap (λ (b : Places). at b s) leads.board ∙ m.1 in
-        let home = labels-colours q.odds g leads.game s h m.0 label on in
-        let low : h < 64 = array-inside q.odds (is_of m.0.colour) h refl home in
-        let asked : is_asked (Home s) q.board (array_of q.odds) h ≡ true = ap (λ (p : Option Man). shares_side p (at (array_of q.odds) h)) m.1 ∙ home in
-        let found = ((is.homes s inside h low).0 (all h low asked passes)).1 in
-        absurd (refuted (BeganAt s (only h)) q set (flat_prices found.0) found.1 g leads (h, label, in-only h low))
+    | inl passes ↦ let may = not-barred s h inside here label in absurd (both_ways _ may.2 (all h may.0 may.1 passes))
     | inr fails ↦ fails
   ]
 
-  -- the pawn of a square came to it over as many files as it lies from his home
-  came-far : (s h : ℕ) → is_a Pawn (at q.board s) ≡ true → label_at (labels_after q.odds g) s ≡ Some h → files_apart h s ≤ length (captures_on h (way_of q.odds g h))
-  came-far s h pawn label =
+  -- if he began as no pawn, that home counts
+  piece-home : (men : List Bool) (s h : ℕ) → s < 64 → is_in men s ≡ true → is_man (at q.board s) ≡ true → label_at (labels_after q.odds g) s ≡ Some h → is_a Pawn (at (array_of q.odds) h) ≡ false → (h < 64) × (is_piece_home_of q l men h ≡ true)
+  unfolding is_piece_home_of
+  piece-home men s h inside there here label piece =
+      let may = not-barred s h inside here label in (
+        may.0,
+        any-found (λ t. is_in men t && is_piece_home q l t h) 0 64 s (omega arith) (omega arith) (and_from _ _ there (and_from _ _ (and_from _ _ may.1 (ap not piece)) (ap not may.2))),
+      )
+
+  has-label : (s : ℕ) → is_man (at q.board s) ≡ true → is_none (label_at (labels_after q.odds g) s) ≡ false
+  has-label s here =
+      let m = man-on (at q.board s) here in
+      labels-each_man q.odds g leads.game s ∙ ap (λ (b : Places). is_empty (at b s)) leads.board ∙ ap is_empty m.1
+
+  among-holds : (men : List Bool) (n : ℕ) → AreMen q men → n + piece_homes q l men ≤ number_in men → n ≤ began_as_pawns q.odds g men
+  unfolding piece_homes
+  among-holds men n all few =
+      let whole = pawns-among q.odds g men (is_piece_home_of q l men) leads.game (λ s h low there label piece. piece-home men s h low there (all s low there) label piece) (λ s low there. has-label s (all s low there)) in
+      omega (arith, few, whole)
+
+  -- the way of the pawn of a square leads to it, over as many files as it lies from his home, and over no more ranks
+  came : (s h : ℕ) → is_a Pawn (at q.board s) ≡ true → label_at (labels_after q.odds g) s ≡ Some h → (files_apart h s ≤ length (captures_on h (way_of q.odds g h))) × (length (captures_on h (way_of q.odds g h)) ≤ most_aside h s)
+  came s h pawn label =
       let there : is_man (at q.board s) ≡ true = pawn-man (at q.board s) pawn in
       let m = man-on (at q.board s) there in
       let on : at (board_after q.odds g) s ≡ Some m.0 = ap (λ (b : Places). at b s) leads.board ∙ m.1 in
@@ -101,12 +136,13 @@ module _ (q : Asked) (l : Ledger) (set : List Bool) (frozen : IsFrozen q set) (i
       let way = way-past q.odds g g [] set m.0.colour h (caged-walled q.odds g q set caged) (sym (append-nil g)) home in
       let ends = pawn-ends q.odds g leads.game s h label (ap (λ (b : Places). is_a Pawn (at b s)) leads.board ∙ pawn) in
       let far = files-crossed m.0.colour set h (way_of q.odds g h) way in
-      subst (λ (t : ℕ). files_apart h t ≤ length (captures_on h (way_of q.odds g h))) ends far
+      let few = most-captured m.0.colour set h (way_of q.odds g h) way in
+      subst (λ (t : ℕ). (files_apart h t ≤ length (captures_on h (way_of q.odds g h))) × (length (captures_on h (way_of q.odds g h)) ≤ most_aside h t)) ends (far, few)
 
   took-holds : (s n : ℕ) → s < 64 → IsTrue (is_a Pawn (at q.board s)) → (AreRuledOut q l s (λ h. nat_lt (files_apart h s) n) ⊎ (IsTrue (nat_le n 1) × IsTrue (is_in l.captured s))) → (h : ℕ) → label_at (labels_after q.odds g) s ≡ Some h → n ≤ length (captures_on h (way_of q.odds g h))
   took-holds s n low pawn (inl far) h label =
       let near = not-ruled-out s h (λ k. nat_lt (files_apart k s) n) low far label in
-      omega (arith, ltb-false (files_apart h s) n near, came-far s h pawn label)
+      omega (arith, ltb-false (files_apart h s) n near, (came s h pawn label).0)
   took-holds s n low pawn (inr once) h label =
       let it = (is.captured s low).0 once.1 in
       let aside = has-captured q s (out (Went s true) it.1) it.0 g leads h label in
@@ -133,11 +169,23 @@ module _ (q : Asked) (l : Ledger) (set : List Bool) (frozen : IsFrozen q set) (i
   least-known c Light k = (in-counts c).light.least
   least-known c (Class n) k = (in-counts c).least_on n (ltb-true n 16 k)
 
+  few-known : (c : Colour) (squares : Squares) (range : Range) (n : ℕ) → IsMost c squares q set range.most → is_few range n ≡ true → captures q.odds g c squares ≤ n
+  few-known c squares range n most few = let both = and_parts _ (nat_lt n 16) few in most-holds c squares n range.most most (leb-true range.most n both.0) (ltb-true n 16 both.1)
+
+  all-few : (c : Colour) (squares : Squares) (n : ℕ) → is_few (counts_of l c).all n ≡ true → captures q.odds g c squares ≤ n
+  all-few c squares n few = omega (arith, some-captured q.odds g c squares, few-known c All (counts_of l c).all n (in-counts c).all.most few)
+
+  few-on-known : (c : Colour) (squares : Squares) (n : ℕ) → is_few_on (counts_of l c) squares n ≡ true → captures q.odds g c squares ≤ n
+  few-on-known c All n k = few-known c All (counts_of l c).all n (in-counts c).all.most k
+  few-on-known c Dark n k = few-known c Dark (counts_of l c).dark n (in-counts c).dark.most k
+  few-on-known c Light n k = few-known c Light (counts_of l c).light n (in-counts c).light.most k
+  few-on-known c (Class j) n k = all-few c (Class j) n k
+
   most-known : (c : Colour) (squares : Squares) (n : ℕ) → is_most (counts_of l c) squares n ≡ true → captures q.odds g c squares ≤ n
-  most-known c All n k = let both = and_parts _ (nat_lt n 16) k in most-holds c All n _ (in-counts c).all.most (leb-true _ n both.0) (ltb-true n 16 both.1)
-  most-known c Dark n k = let both = and_parts _ (nat_lt n 16) k in most-holds c Dark n _ (in-counts c).dark.most (leb-true _ n both.0) (ltb-true n 16 both.1)
-  most-known c Light n k = let both = and_parts _ (nat_lt n 16) k in most-holds c Light n _ (in-counts c).light.most (leb-true _ n both.0) (ltb-true n 16 both.1)
-  most-known c (Class j) n k = absurd (both_ways false refl k)
+  most-known c squares n k = elim (or_cases (is_few_on (counts_of l c) squares n) (is_few (counts_of l c).all n) k) [
+    | inl some ↦ few-on-known c squares n some
+    | inr all ↦ all-few c squares n all
+  ]
 
   module _ (h : ℕ) (inside : h < 64) where
     up : is_in l.fates.stands_promoted h ≡ true → IsRuledOut (Stands h true) q
@@ -168,6 +216,9 @@ module _ (q : Asked) (l : Ledger) (set : List Bool) (frozen : IsFrozen q set) (i
   holds (Promoted s) on known = λ h label. not-not true (is_a Pawn (at (array_of q.odds) h)) (not-ruled-out s h (λ k. not (beq true (is_a Pawn (at (array_of q.odds) k)))) on known label)
   holds (Captured s) on known = let it = (is.captured s on).0 known in has-captured q s (out (Went s true) it.1) it.0 g leads
   holds (Took s n) on known = took-holds s n on known.0 known.1
+  holds (TookAtMost s n) on known = λ h label.
+      let near = not-ruled-out s h (λ k. nat_lt n (most_aside k s)) on known.1 label in
+      omega (arith, ltb-false n (most_aside h s) near, (came s h known.0 label).1)
   holds (Straight s) on known = let it = (is.straight s on).0 known in kept-file q s (out (Went s false) it.1) it.0 g leads
   holds (Fell h) on known =
       let b = and_parts _ (is_in l.fates.stands_promoted h) known in
@@ -195,10 +246,12 @@ module _ (q : Asked) (l : Ledger) (set : List Bool) (frozen : IsFrozen q set) (i
       let a = and_parts (is_man (at (array_of q.odds) h)) (is_in l.fates.stands_promoted h) b.0 in
       never-promoted q c h home g leads (up h on a.1) (struck-later h on e.1) (taken-later h on b.1)
   holds (AtLeast c squares n) on known = least-holds c squares n (least_of (counts_of l c) squares) (least-known c squares on) (leb-true n _ known)
-  holds (AtMost c squares n) on known = elim (or_cases (is_most (counts_of l c) squares n) (are_lacking q c squares n) known) [
+  holds (AtMost c squares n) on known = elim (or_cases (is_most (counts_of l c) squares n) (are_lacking q c n) known) [
     | inl most ↦ most-known c squares n most
     | inr lack ↦ lacking-most q c squares n g leads lack
   ]
+  holds (Among men n) on known = among-holds men n known.0 known.1
+  holds (Lacks c losses) on known = known ∙ ap (losses_of c (array_of q.odds)) (sym leads.board)
 
 pub known-holds : (x : Fact) (q : Asked) (l : Ledger) → IsOnBoard x → IsLedgerOf q l → IsKnown x q l → (g : List Move) → LeadsTo q.odds g q → Says x q.odds g
 known-holds x q l on is known g leads = holds q l is.set is.frozen is.ledger g leads x on known

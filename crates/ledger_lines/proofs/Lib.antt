@@ -1,5 +1,9 @@
+pub mod Counted
 pub mod FewTaken
 pub mod FilesCrossed
 pub mod Homes
+pub mod MostAside
+pub mod Promotions
+pub mod SameLosses
 pub mod Holding
 pub mod LinesHolding

@@ -1,8 +1,9 @@
 -- Which facts a ledger knows.
-use Rattle.std.specs.Prelude.{ℕ, ◌≡◌, ◌-◌, ◌<◌, ◌&&◌, ◌||◌, ◌⊎◌, Bool, true, false, not, IsTrue, [], nat_le, nat_lt, slice_index, slice_index_or}
+use Rattle.std.specs.Prelude.{ℕ, ◌≡◌, ◌+◌, ◌-◌, ◌%◌, ◌<◌, ◌≤◌, ◌&&◌, ◌||◌, ◌⊎◌, Bool, true, false, not, IsTrue, List, [], nat_le, nat_lt, slice_index, slice_index_or}
 use Rattle.std.specs.Bool.{beq}
+use Rattle.std.specs.List.{count_by, list_any, range_with_len}
 use Rattle.board_base.specs.Board.{Places, array_of, at, is_a, is_in, opponent}
-use Rattle.board_base.specs.Attacks.{files_apart}
+use Rattle.board_base.specs.Attacks.{files_apart, ranks_apart}
 use Rattle.board_base.specs.declared.men.Colour.{Colour}
 use Rattle.board_base.specs.declared.men.Colour.TheVariants.{White, Black}
 use Rattle.board_base.specs.declared.men.Kind.TheVariants.{Pawn}
@@ -13,15 +14,21 @@ use Rattle.ledger_facts.specs.declared.suppositions.Squares.{Squares}
 use Rattle.ledger_facts.specs.declared.suppositions.Squares.TheVariants.{All, Dark, Light, Class}
 use Rattle.ledger_search.specs.Questions.{is_asked, is_man}
 use Rattle.ledger_search.specs.declared.counts.Counts.{Counts}
+use Rattle.ledger_search.specs.declared.counts.Range.{Range}
 use Rattle.ledger_search.specs.declared.ledgers.Fates.{Fates}
 use Rattle.ledger_search.specs.declared.ledgers.Ledger.{Ledger}
 use Rattle.ledger_search.specs.declared.questions.Question.TheVariants.{Home}
+use Rattle.ledger_lines.specs.Losses.{losses_of}
 use Rattle.ledger_lines.specs.declared.facts.Fact.{Fact}
-use Rattle.ledger_lines.specs.declared.facts.Fact.TheVariants.{Began, Original, Promoted, Captured, Took, Straight, Fell, FellToPawn, EscapedPawns, Became, NeverBecame, AtLeast, AtMost}
+use Rattle.ledger_lines.specs.declared.facts.Fact.TheVariants.{Began, Original, Promoted, Captured, Took, TookAtMost, Straight, Fell, FellToPawn, EscapedPawns, Became, NeverBecame, AtLeast, AtMost, Lacks, Among}
 
 -- a man stands on s, and each home of his side that passes the test is ruled out for him
 abbrev pub AreRuledOut : Asked → Ledger → ℕ → (ℕ → Bool) → Type 0
 AreRuledOut q l s test = IsTrue (is_man (at q.board s)) × ((h : ℕ) → h < 64 → IsTrue (is_asked (Home s) q.board (array_of q.odds) h) → test h ≡ true → IsTrue (is_in (slice_index_or l.homes s []) h))
+
+-- Article 3.7: from h to s a pawn makes at most so many captures: one a rank, or one fewer if so many don't lead to the file of s
+abbrev pub most_aside : ℕ → ℕ → ℕ
+most_aside h s = ranks_apart h s - (ranks_apart h s + files_apart h s) % 2
 
 -- a man began on h, and he doesn't stand
 abbrev pub is_fallen : Places → Fates → ℕ → Bool
@@ -31,6 +38,7 @@ is_fallen first f h = is_man (at first h) && is_in f.stands h && is_in f.stands_
 abbrev pub is_struck : Places → Fates → ℕ → Bool
 is_struck first f h = is_fallen first f h && is_in f.taken h && is_in f.taken_promoted h
 
+-- those with a pawn who takes him are
 abbrev pub is_unstruck : Places → Fates → ℕ → Bool
 is_unstruck first f h = is_man (at first h) && is_in f.struck h && is_in f.struck_promoted h
 
@@ -38,6 +46,7 @@ is_unstruck first f h = is_man (at first h) && is_in f.struck h && is_in f.struc
 abbrev pub is_promoted : Places → Fates → ℕ → Bool
 is_promoted first f h = is_man (at first h) && is_in f.stands h && is_in f.taken h && is_in f.struck h
 
+-- those with a promotion are
 abbrev pub is_unpromoted : Places → Fates → ℕ → Bool
 is_unpromoted first f h = is_man (at first h) && is_in f.stands_promoted h && is_in f.taken_promoted h && is_in f.struck_promoted h
 
@@ -46,29 +55,55 @@ abbrev pub counts_of : Ledger → Colour → Counts
 counts_of l White = l.white
 counts_of l Black = l.black
 
+-- how many they made on some squares at least
 abbrev pub least_of : Counts → Squares → ℕ
 least_of c All = c.all.least
 least_of c Dark = c.dark.least
 least_of c Light = c.light.least
 least_of c (Class k) = slice_index c.least_on k
 
--- at most so many, fewer than 16, are known; nothing is known of the most captures on a class
+-- at most so many, fewer than 16, are known
+abbrev pub is_few : Range → ℕ → Bool
+is_few r n = nat_le r.most n && nat_lt n 16
+
+-- so it is on these squares; of a class no more is known than of all
+abbrev pub is_few_on : Counts → Squares → ℕ → Bool
+is_few_on c All n = is_few c.all n
+is_few_on c Dark n = is_few c.dark n
+is_few_on c Light n = is_few c.light n
+is_few_on c (Class k) n = is_few c.all n
+
+-- so it is on these or on all squares
 abbrev pub is_most : Counts → Squares → ℕ → Bool
-is_most c All n = nat_le c.all.most n && nat_lt n 16
-is_most c Dark n = nat_le c.dark.most n && nat_lt n 16
-is_most c Light n = nat_le c.light.most n && nat_lt n 16
-is_most c (Class k) n = false
+is_most c squares n = is_few_on c squares n || is_few c.all n
 
 -- how many men fewer a side has than it began with
 abbrev pub lacking : Asked → Colour → ℕ
 lacking q c = men_of c is_any (array_of q.odds) - men_of c is_any q.board
 
 -- the other side lacks at most so many men, whom this side's pawns can have taken
-abbrev pub are_lacking : Asked → Colour → Squares → ℕ → Bool
-are_lacking q c All n = nat_le (lacking q (opponent c)) n
-are_lacking q c Dark n = false
-are_lacking q c Light n = false
-are_lacking q c (Class k) n = false
+abbrev pub are_lacking : Asked → Colour → ℕ → Bool
+are_lacking q c n = nat_le (lacking q (opponent c)) n
+
+-- how many squares are in the set
+unfoldable pub number_in : List Bool → ℕ
+number_in set = count_by (is_in set) (range_with_len 0 64)
+
+-- the man on s may have begun on h, and as no pawn: this home of his side isn't ruled out for him
+abbrev pub is_piece_home : Asked → Ledger → ℕ → ℕ → Bool
+is_piece_home q l s h = is_asked (Home s) q.board (array_of q.odds) h && not (is_a Pawn (at (array_of q.odds) h)) && not (is_in (slice_index_or l.homes s []) h)
+
+-- so it is of some man on the set
+unfoldable pub is_piece_home_of : Asked → Ledger → List Bool → ℕ → Bool
+is_piece_home_of q l set h = list_any (λ s. is_in set s && is_piece_home q l s h) (range_with_len 0 64)
+
+-- how many such homes there are
+unfoldable pub piece_homes : Asked → Ledger → List Bool → ℕ
+piece_homes q l set = count_by (is_piece_home_of q l set) (range_with_len 0 64)
+
+-- a man stands on each square of the set
+abbrev pub AreMen : Asked → List Bool → Type 0
+AreMen q set = (s : ℕ) → s < 64 → IsTrue (is_in set s) → IsTrue (is_man (at q.board s))
 
 -- the ledger of a query knows the fact
 abbrev pub IsKnown : Fact → Asked → Ledger → Type 0
@@ -77,6 +112,7 @@ IsKnown (Original s) q l = AreRuledOut q l s (λ h. not (beq false (is_a Pawn (a
 IsKnown (Promoted s) q l = AreRuledOut q l s (λ h. not (beq true (is_a Pawn (at (array_of q.odds) h))))
 IsKnown (Captured s) q l = IsTrue (is_in l.captured s)
 IsKnown (Took s n) q l = IsTrue (is_a Pawn (at q.board s)) × (AreRuledOut q l s (λ h. nat_lt (files_apart h s) n) ⊎ (IsTrue (nat_le n 1) × IsTrue (is_in l.captured s)))
+IsKnown (TookAtMost s n) q l = IsTrue (is_a Pawn (at q.board s)) × AreRuledOut q l s (λ h. nat_lt n (most_aside h s))
 IsKnown (Straight s) q l = IsTrue (is_in l.straight s)
 IsKnown (Fell h) q l = IsTrue (is_fallen (array_of q.odds) l.fates h)
 IsKnown (FellToPawn h) q l = IsTrue (is_struck (array_of q.odds) l.fates h)
@@ -84,7 +120,9 @@ IsKnown (EscapedPawns h) q l = IsTrue (is_unstruck (array_of q.odds) l.fates h)
 IsKnown (Became h) q l = IsTrue (is_promoted (array_of q.odds) l.fates h)
 IsKnown (NeverBecame h) q l = IsTrue (is_unpromoted (array_of q.odds) l.fates h)
 IsKnown (AtLeast c squares n) q l = IsTrue (nat_le n (least_of (counts_of l c) squares))
-IsKnown (AtMost c squares n) q l = IsTrue (is_most (counts_of l c) squares n || are_lacking q c squares n)
+IsKnown (AtMost c squares n) q l = IsTrue (is_most (counts_of l c) squares n || are_lacking q c n)
+IsKnown (Lacks c losses) q l = losses ≡ losses_of c (array_of q.odds) q.board
+IsKnown (Among set n) q l = AreMen q set × (n + piece_homes q l set ≤ number_in set)
 
 -- the square of which the fact speaks is one of the board, and the class one of sixteen
 abbrev pub is_class : Squares → Bool
@@ -99,6 +137,7 @@ IsOnBoard (Original s) = s < 64
 IsOnBoard (Promoted s) = s < 64
 IsOnBoard (Captured s) = s < 64
 IsOnBoard (Took s n) = s < 64
+IsOnBoard (TookAtMost s n) = s < 64
 IsOnBoard (Straight s) = s < 64
 IsOnBoard (Fell h) = h < 64
 IsOnBoard (FellToPawn h) = h < 64
@@ -107,3 +146,5 @@ IsOnBoard (Became h) = h < 64
 IsOnBoard (NeverBecame h) = h < 64
 IsOnBoard (AtLeast c squares n) = IsTrue (is_class squares)
 IsOnBoard (AtMost c squares n) = IsTrue (is_class squares)
+IsOnBoard (Lacks c losses) = Unit {0}
+IsOnBoard (Among set n) = Unit {0}

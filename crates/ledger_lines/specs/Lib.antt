@@ -1,4 +1,6 @@
+pub mod Losses
 pub mod Facts
 pub mod Known
 pub mod Lines
 pub mod LineTexts
+pub mod SameLosses

@@ -1,3 +1,4 @@
+use crate::losses::Losses;
 use board_base::{Colour, Square, SquareSet};
 use ledger_facts::Squares;
 
@@ -14,6 +15,8 @@ pub enum Fact {
     Captured(Square),
     /// The pawn on this square made at least so many captures.
     Took(Square, u8),
+    /// He made at most so many.
+    TookAtMost(Square, u8),
     /// The pawn on this square has never left his file.
     Straight(Square),
     /// The man who began on this square was taken.
@@ -30,4 +33,8 @@ pub enum Fact {
     AtLeast(Colour, Squares, u8),
     /// They made at most so many there.
     AtMost(Colour, Squares, u8),
+    /// This side has so many men of each kind fewer than it began with.
+    Lacks(Colour, Losses),
+    /// At least so many of the men on these squares began as pawns.
+    Among(SquareSet, u8),
 }

@@ -5,20 +5,23 @@ ghost use Rattle.board_base.specs.Board.{array_of, at, is_a, is_in};
 ghost use Rattle.board_base.specs.declared.men.Kind.TheVariants.{Pawn};
 ghost use Rattle.ledger_search.specs.Questions.{is_asked, is_man};
 ghost use Rattle.ledger_search.specs.declared.questions.Question.TheVariants.{Home};
-ghost use Rattle.ledger_lines.specs.declared.facts.Fact.TheVariants.{Took};
-ghost use Rattle.ledger_lines.specs.Known.{AreRuledOut, IsKnown, IsOnBoard, are_lacking, counts_of, is_class, is_fallen, is_most, is_promoted, is_struck, is_unpromoted, is_unstruck, lacking, least_of};
+ghost use Rattle.ledger_lines.specs.declared.facts.Fact.TheVariants.{Took, TookAtMost};
+ghost use Rattle.ledger_lines.specs.Known.{AreRuledOut, IsKnown, IsOnBoard, are_lacking, counts_of, is_class, is_fallen, is_few, is_few_on, is_most, is_promoted, is_struck, is_unpromoted, is_unstruck, lacking, least_of, most_aside};
 
+use crate::among::is_among;
 use crate::facts::Fact;
+use crate::losses::are_losses;
 use board_base::{
     Board, Colour, Kind, Man, Square, SquareSet, array_of, files_between, is_a, is_of,
+    ranks_between,
 };
 use ledger_facts::Squares;
-use ledger_search::{Counts, Fates, Ledger};
+use ledger_search::{Counts, Fates, Ledger, Range};
 use men_account::men_of;
 use query_base::Query;
 
 /// Whether the place has a man.
-fn is_man(place: Option<Man>) -> bool
+pub(crate) fn is_man(place: Option<Man>) -> bool
     ensures { result ≡ is_man place }
 {
     match place {
@@ -28,7 +31,7 @@ fn is_man(place: Option<Man>) -> bool
 }
 
 /// Whether the home is one of the side of the man on a square.
-fn is_asked(board: &Board, first: &Board, s: Square, h: Square) -> bool
+pub(crate) fn is_asked(board: &Board, first: &Board, s: Square, h: Square) -> bool
     ensures { result ≡ is_asked (Home s) board.now first.now h }
 {
     match board.at(s) {
@@ -107,6 +110,36 @@ fn has_taken(query: &Query, ledger: &Ledger, s: Square, number: u8) -> bool
         && (has_come_far(query, ledger, s, number) || (number <= 1 && ledger.captured.has(s)))
 }
 
+/// How many captures a pawn makes at most between two squares: one a rank, or one fewer if so many don't lead to the file.
+fn most_aside(h: Square, s: Square) -> u8
+    ensures { result ≡ most_aside h s }
+{
+    let ranks = ranks_between(h, s);
+    ranks.saturating_sub((ranks + files_between(h, s)) % 2)
+}
+
+/// Whether each home of his side that isn't ruled out for the man on a square allows at most so many.
+fn has_come_near(query: &Query, ledger: &Ledger, s: Square, number: u8) -> bool
+    ensures { IsTrue result ↔ AreRuledOut query.now ledger.now s (λ h. nat_lt number (most_aside h s)) }
+{
+    let first = array_of(query.odds);
+    let ruled_out = ledger.homes[s.index() as usize];
+    for i in 0..64 {
+        let h = Square::known(i);
+        if is_asked(&query.board, &first, s, h) && number < most_aside(h, s) && !ruled_out.has(h) {
+            return false;
+        }
+    }
+    is_man(query.board.at(s))
+}
+
+/// Whether it is known of the pawn on a square that he made at most so many captures.
+fn has_taken_few(query: &Query, ledger: &Ledger, s: Square, number: u8) -> bool
+    ensures { IsTrue result ↔ IsKnown (TookAtMost s number) query.now ledger.now }
+{
+    is_a(Kind::Pawn, query.board.at(s)) && has_come_near(query, ledger, s, number)
+}
+
 /// Whether the man who began on the square doesn't stand.
 pub fn is_fallen(first: &Board, fates: &Fates, h: Square) -> bool
     ensures { result ≡ is_fallen first.now fates.now h }
@@ -173,16 +206,30 @@ fn least_of(counts: &Counts, squares: Squares) -> u8
     }
 }
 
-/// Whether they made at most so many there, fewer than 16.
+/// Whether they made at most so many, fewer than 16.
+fn is_few(range: &Range, number: u8) -> bool
+    ensures { result ≡ is_few range.now number }
+{
+    range.most <= number && number < 16
+}
+
+/// Whether they did there; of a class no more is known than of all squares.
+fn is_few_on(counts: &Counts, squares: Squares, number: u8) -> bool
+    ensures { result ≡ is_few_on counts.now squares number }
+{
+    match squares {
+        Squares::All => is_few(&counts.all, number),
+        Squares::Dark => is_few(&counts.dark, number),
+        Squares::Light => is_few(&counts.light, number),
+        Squares::Class(_) => is_few(&counts.all, number),
+    }
+}
+
+/// Whether they did there or in all.
 fn is_most(counts: &Counts, squares: Squares, number: u8) -> bool
     ensures { result ≡ is_most counts.now squares number }
 {
-    match squares {
-        Squares::All => counts.all.most <= number && number < 16,
-        Squares::Dark => counts.dark.most <= number && number < 16,
-        Squares::Light => counts.light.most <= number && number < 16,
-        Squares::Class(_) => false,
-    }
+    is_few_on(counts, squares, number) || is_few(&counts.all, number)
 }
 
 /// How many men fewer a side has than it began with.
@@ -193,16 +240,11 @@ pub fn lacking(query: &Query, side: Colour) -> u8
     men_of(&array_of(query.odds), side).saturating_sub(men_of(&query.board, side))
 }
 
-/// Whether the other side lacks at most so many men; squares of one kind don't count.
-fn are_lacking(query: &Query, side: Colour, squares: Squares, number: u8) -> bool
-    ensures { result ≡ are_lacking query.now side squares number }
+/// Whether the other side lacks at most so many men.
+fn are_lacking(query: &Query, side: Colour, number: u8) -> bool
+    ensures { result ≡ are_lacking query.now side number }
 {
-    match squares {
-        Squares::All => lacking(query, side.other()) <= number,
-        Squares::Dark => false,
-        Squares::Light => false,
-        Squares::Class(_) => false,
-    }
+    lacking(query, side.other()) <= number
 }
 
 /// Whether the ledger of the query knows the fact.
@@ -217,6 +259,7 @@ pub fn is_known(query: &Query, ledger: &Ledger, fact: &Fact) -> bool
         Fact::Promoted(s) => has_begun_as(query, ledger, s, true),
         Fact::Captured(s) => ledger.captured.has(s),
         Fact::Took(s, number) => has_taken(query, ledger, s, number),
+        Fact::TookAtMost(s, number) => has_taken_few(query, ledger, s, number),
         Fact::Straight(s) => ledger.straight.has(s),
         Fact::Fell(h) => is_fallen(&first, &ledger.fates, h),
         Fact::FellToPawn(h) => is_struck(&first, &ledger.fates, h),
@@ -227,8 +270,9 @@ pub fn is_known(query: &Query, ledger: &Ledger, fact: &Fact) -> bool
             number <= least_of(&counts_of(ledger, side), squares)
         }
         Fact::AtMost(side, squares, number) => {
-            is_most(&counts_of(ledger, side), squares, number)
-                || are_lacking(query, side, squares, number)
+            is_most(&counts_of(ledger, side), squares, number) || are_lacking(query, side, number)
         }
+        Fact::Lacks(side, losses) => are_losses(&first, &query.board, side, &losses),
+        Fact::Among(set, number) => is_among(query, ledger, set, number),
     }
 }

@@ -4,16 +4,20 @@
 //! Articles are those of the FIDE Laws of Chess, in force from 1 January 2023.
 #![tactic(auto)]
 
+mod among;
 mod facts;
 mod knowing;
 mod laws;
 mod lines;
+mod losses;
 mod writing;
 
+pub use among::{number_in, piece_homes};
 pub use facts::Fact;
 pub use knowing::{
     counts_of, is_fallen, is_known, is_promoted, is_struck, is_unpromoted, is_unstruck, lacking,
 };
 pub use laws::{known_facts_hold, known_lines_hold};
-pub use lines::{Line, Manner, Taker};
+pub use lines::{Line, Manner, Taker, Takings};
+pub use losses::{Losses, losses_of};
 pub use writing::write_line;

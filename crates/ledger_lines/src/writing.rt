@@ -1,11 +1,13 @@
-ghost use Rattle.std.specs.Prelude.{◌≡◌, ◌||◌, ◌++◌, IfOk};
+ghost use Rattle.std.specs.Prelude.{◌≡◌, ◌||◌, ◌++◌, ◌<◌, IfOk};
 ghost use Rattle.board_base.specs.Board.{is_in};
 ghost use Rattle.prose_words.specs.Words.{squares_words};
-ghost use Rattle.ledger_lines.specs.declared.lines.Line.TheVariants.{Became, Captures, Fell, Man, Pawn};
-ghost use Rattle.ledger_lines.specs.LineTexts.{home_word, homes_words, line_text, manner_word, side_letter, spaced_number, spaced_square, taker_word};
+ghost use Rattle.ledger_lines.specs.declared.lines.Line.TheVariants.{Among, Became, Captures, Fell, Lacks, Man, Pawn, Promoted};
+ghost use Rattle.ledger_lines.specs.LineTexts.{class_words, classes_words, dark_words, home_word, homes_words, line_text, losses_words, manner_word, more_word, range_words, repeated, shade_word, side_letter, spaced_number, spaced_square, taker_word, takings_words};
 
-use crate::lines::{Line, Manner, Taker};
+use crate::lines::{Line, Manner, Taker, Takings};
+use crate::losses::Losses;
 use board_base::{Colour, Square, SquareSet};
+use ledger_search::Range;
 use prose_words::{push_number, push_square, push_squares, say};
 use std::alloc::AllocError;
 
@@ -57,21 +59,99 @@ fn push_spaced_square(s: Square, out: &mut Vec<u8>) -> Result<(), AllocError>
     push_square(s, out)
 }
 
+/// Adds a word so many times.
+fn push_repeated(word: &[u8], number: u8, out: &mut Vec<u8>) -> Result<(), AllocError>
+    ensures { IfOk result (λ _. out.new.items ≡ out.old.items ++ repeated word.now number) }
+{
+    for _ in 0..number {
+        say(word, out)?;
+    }
+    Ok(())
+}
+
+/// Adds a word for each man who is lacking.
+fn push_losses(losses: &Losses, out: &mut Vec<u8>) -> Result<(), AllocError>
+    ensures { IfOk result (λ _. out.new.items ≡ out.old.items ++ losses_words losses.now) }
+{
+    push_repeated(b" q", losses.queens, out)?;
+    push_repeated(b" r", losses.rooks, out)?;
+    push_repeated(b" bd", losses.dark_bishops, out)?;
+    push_repeated(b" bl", losses.light_bishops, out)?;
+    push_repeated(b" n", losses.knights, out)?;
+    push_repeated(b" p", losses.pawns, out)
+}
+
+/// Adds which men a side lacks.
+fn push_lacking(side: Colour, losses: &Losses, out: &mut Vec<u8>) -> Result<(), AllocError>
+    ensures { IfOk result (λ _. out.new.items ≡ out.old.items ++ line_text (Lacks side losses.now)) }
+{
+    say(b"lacks ", out)?;
+    say(side_letter(side), out)?;
+    push_losses(losses, out)
+}
+
+/// The shade of squares, behind their file.
+fn shade_word(dark: bool) -> &'static [u8]
+    ensures { result.now ≡ shade_word dark }
+{
+    if dark { b"-dark" } else { b"-light" }
+}
+
+/// Adds how many captures were made on a class at least, if some were.
+fn push_class(k: u8, number: u8, out: &mut Vec<u8>) -> Result<(), AllocError>
+    requires { k < 16 }
+    ensures { IfOk result (λ _. out.new.items ≡ out.old.items ++ class_words k number) }
+{
+    if number == 0 {
+        return Ok(());
+    }
+    say(b" on ", out)?;
+    out.push(b'a' + k / 2)?;
+    say(shade_word(k % 2 == 0), out)?;
+    push_spaced_number(number, out)
+}
+
+/// Adds how many were made on each class.
+fn push_classes(numbers: &[u8; 16], out: &mut Vec<u8>) -> Result<(), AllocError>
+    ensures { IfOk result (λ _. out.new.items ≡ out.old.items ++ classes_words numbers.now) }
+{
+    for k in 0..16 {
+        push_class(k, numbers[k as usize], out)?;
+    }
+    Ok(())
+}
+
+/// Adds two numbers, each after a space.
+fn push_range(range: &Range, out: &mut Vec<u8>) -> Result<(), AllocError>
+    ensures { IfOk result (λ _. out.new.items ≡ out.old.items ++ range_words range.now) }
+{
+    push_spaced_number(range.least, out)?;
+    push_spaced_number(range.most, out)
+}
+
+/// Adds how many captures were made on dark squares, if it is told.
+fn push_dark(dark: &Option<Range>, out: &mut Vec<u8>) -> Result<(), AllocError>
+    ensures { IfOk result (λ _. out.new.items ≡ out.old.items ++ dark_words dark.now) }
+{
+    match dark {
+        None => Ok(()),
+        Some(range) => {
+            say(b" dark", out)?;
+            push_range(range, out)
+        }
+    }
+}
+
 /// Adds the numbers of captures of a side.
-fn push_captures(
-    side: Colour,
-    least: u8,
-    most: u8,
-    lacking: u8,
-    out: &mut Vec<u8>,
-) -> Result<(), AllocError>
-    ensures { IfOk result (λ _. out.new.items ≡ out.old.items ++ line_text (Captures side least most lacking)) }
+fn push_captures(side: Colour, takings: &Takings, out: &mut Vec<u8>) -> Result<(), AllocError>
+    ensures { IfOk result (λ _. out.new.items ≡ out.old.items ++ line_text (Captures side takings.now)) }
 {
     say(b"captures ", out)?;
     say(side_letter(side), out)?;
-    push_spaced_number(least, out)?;
-    push_spaced_number(most, out)?;
-    push_spaced_number(lacking, out)
+    push_range(&takings.all, out)?;
+    push_spaced_number(takings.lacking, out)?;
+    push_dark(&takings.dark, out)?;
+    push_classes(&takings.least_on, out)
 }
 
 fn either(first: bool, second: bool) -> bool
@@ -105,15 +185,28 @@ fn push_homes(homes: SquareSet, out: &mut Vec<u8>) -> Result<(), AllocError>
     Ok(())
 }
 
-/// Adds where a pawn began, and how often he captured at least.
-fn push_pawn(s: Square, homes: SquareSet, number: u8, out: &mut Vec<u8>) -> Result<(), AllocError>
-    ensures { IfOk result (λ _. out.new.items ≡ out.old.items ++ line_text (Pawn s homes number)) }
+/// A sign behind a number that may be greater.
+fn more_word(exact: bool) -> &'static [u8]
+    ensures { result.now ≡ more_word exact }
+{
+    if exact { b"" } else { b"+" }
+}
+
+/// Adds where a pawn began, and how often he captured.
+fn push_pawn(
+    s: Square,
+    homes: SquareSet,
+    number: u8,
+    exact: bool,
+    out: &mut Vec<u8>,
+) -> Result<(), AllocError>
+    ensures { IfOk result (λ _. out.new.items ≡ out.old.items ++ line_text (Pawn s homes number exact)) }
 {
     say(b"pawn", out)?;
     push_spaced_square(s, out)?;
     push_homes(homes, out)?;
     push_spaced_number(number, out)?;
-    say(b"+", out)
+    say(more_word(exact), out)
 }
 
 /// Adds where a man began.
@@ -133,6 +226,24 @@ fn push_fall(h: Square, taker: Taker, manner: Manner, out: &mut Vec<u8>) -> Resu
     push_spaced_square(h, out)?;
     say(taker_word(taker), out)?;
     say(manner_word(manner), out)
+}
+
+/// Adds that a man was promoted, and where he began.
+fn push_officer(s: Square, homes: SquareSet, out: &mut Vec<u8>) -> Result<(), AllocError>
+    ensures { IfOk result (λ _. out.new.items ≡ out.old.items ++ line_text (Promoted s homes)) }
+{
+    say(b"promoted", out)?;
+    push_spaced_square(s, out)?;
+    push_homes(homes, out)
+}
+
+/// Adds how many of some men began as pawns at least.
+fn push_among(number: u8, set: SquareSet, out: &mut Vec<u8>) -> Result<(), AllocError>
+    ensures { IfOk result (λ _. out.new.items ≡ out.old.items ++ line_text (Among number set)) }
+{
+    say(b"among", out)?;
+    push_spaced_number(number, out)?;
+    push_squares(set, out)
 }
 
 /// Adds who was promoted.
@@ -156,14 +267,15 @@ pub fn write_line(line: &Line, out: &mut Vec<u8>) -> Result<(), AllocError>
     ensures { IfOk result (λ _. out.new.items ≡ out.old.items ++ line_text line.now) }
 {
     match *line {
-        Line::Captures(side, least, most, lacking) => {
-            push_captures(side, least, most, lacking, out)
-        }
         Line::Unmoved(set) => push_set(b"unmoved", set, out),
-        Line::Pawn(s, homes, number) => push_pawn(s, homes, number, out),
+        Line::Lacks(side, losses) => push_lacking(side, &losses, out),
+        Line::Captures(side, takings) => push_captures(side, &takings, out),
+        Line::Pawn(s, homes, number, exact) => push_pawn(s, homes, number, exact, out),
         Line::Man(s, h) => push_man(s, h, out),
         Line::Ahead(set) => push_set(b"ahead", set, out),
         Line::Original(set) => push_set(b"original", set, out),
+        Line::Promoted(s, homes) => push_officer(s, homes, out),
+        Line::Among(number, set) => push_among(number, set, out),
         Line::Fell(h, taker, manner) => push_fall(h, taker, manner, out),
         Line::Became(h) => push_promoted(h, out),
     }

@@ -34,6 +34,7 @@ IsContradictedAt q l s = IsHomeless q l s ⊎ IsTrue (is_torn l s || has_no_fate
 abbrev pub is_void : Range → Bool
 is_void r = nat_lt r.most r.least
 
+-- so it is in all, on dark or on light squares
 abbrev pub are_void : Counts → Bool
 are_void c = is_void c.all || is_void c.dark || is_void c.light
 

@@ -27,10 +27,12 @@ pub record IsMost (side : Colour) (squares : Squares) (q : Asked) (set : List Bo
   pub refuted : (m : ℕ) → n < m → m ≤ 16 → IsFlatlyRefuted (AtLeast side squares m) q set
   pub last : 0 < n → IsFlatlyRefuted (AtLeast side squares n) q set → ⊥
 
+-- both of these
 pub record IsRange (side : Colour) (squares : Squares) (q : Asked) (set : List Bool) (range : Range) : Type 0 where
   pub least : IsLeast side squares q set range.least
   pub most : IsMost side squares q set range.most
 
+-- in all, on dark and on light squares, and the least on each class
 pub record AreCounts (side : Colour) (q : Asked) (set : List Bool) (counts : Counts) : Type 0 where
   pub all : IsRange side All q set counts.all
   pub dark : IsRange side Dark q set counts.dark
@@ -41,6 +43,7 @@ pub record AreCounts (side : Colour) (q : Asked) (set : List Bool) (counts : Cou
 abbrev pub AreHomes : Asked → List Bool → List (List Bool) → Type 0
 AreHomes q set homes = (s : ℕ) → s < 64 → AreAnswered (Home s) q set (slice_index_or homes s [])
 
+-- of each fate the homes whose men didn't meet it
 pub record AreFates (q : Asked) (set : List Bool) (fates : Fates) : Type 0 where
   pub stands : AreAnswered (Stay false) q set fates.stands
   pub stands_promoted : AreAnswered (Stay true) q set fates.stands_promoted

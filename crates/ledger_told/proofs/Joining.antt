@@ -2,6 +2,7 @@
 use Rattle.std.proofs.Common.{◌≡◌, ℕ, ◌+◌, inl, inr, suc, List, [], ◌++◌, refl, ap, sym, subst, ◌∙◌, arith, append_assoc, append-nil}
 use Rattle.std.specs.Prelude.{Bool, Option, Some, Result, Ok, Err, IfOk, OnOk}
 use Rattle.std.proofs.lemmas.List.Concat.{flat_map-append}
+use Rattle.board_base.specs.declared.men.Colour.{Colour}
 use Rattle.board_base.specs.declared.men.Colour.TheVariants.{White, Black}
 use Rattle.query_base.specs.Asked.{Asked}
 use Rattle.ledger_search.specs.Contradictions.{IsContradictory}
@@ -9,11 +10,12 @@ use Rattle.ledger_search.specs.Ledgers.{IsLedgerOf}
 use Rattle.ledger_search.specs.declared.ledgers.Ledger.{Ledger}
 use Rattle.ledger_lines.specs.declared.lines.Line.{Line}
 use Rattle.ledger_told.specs.Due.{IsSquareLine}
-use Rattle.ledger_told.specs.Told.{IsGreatest, TellsAll, TellsFirst, TellsLedger, TellsWhole, lines_text, one_line, whole_text}
+use Rattle.ledger_told.specs.Told.{IsGreatest, TellsAll, TellsAmong, TellsFirst, TellsLedger, TellsWhole, Then, lines_text, one_line, whole_text}
+use Rattle.ledger_told.specs.declared.topics.Breed.TheVariants.{Queens, Rooks, DarkBishops, LightBishops, Knights}
 use Rattle.ledger_told.specs.declared.topics.Group.TheVariants.{Ahead, Original}
-use Rattle.ledger_told.specs.declared.topics.Whole.TheVariants.{Unmoved, Captures, Those}
+use Rattle.ledger_told.specs.declared.topics.Whole.TheVariants.{Unmoved, Lacks, Captures, Those, Among}
 use Rattle.ledger_told.specs.declared.topics.Topic.{Topic}
-use Rattle.ledger_told.specs.declared.topics.Topic.TheVariants.{Pawns, Men, Falls, Promotions}
+use Rattle.ledger_told.specs.declared.topics.Topic.TheVariants.{Pawns, Men, Officers, Falls, Promotions}
 
 pub lines-append : (xs ys : List Line) → lines_text (xs ++ ys) ≡ lines_text xs ++ lines_text ys
 unfolding lines_text
@@ -56,47 +58,32 @@ first-more topic q l n line old mid new before here last =
 pub first-whole : (topic : Topic) (q : Asked) (l : Ledger) (n m : ℕ) (old new : List ℕ) → n ≡ m → Adds (TellsFirst topic q l n) old new → Adds (TellsFirst topic q l m) old new
 first-whole topic q l n m old new e told = subst (λ (k : ℕ). Adds (TellsFirst topic q l k) old new) e told
 
-pub all-told : (q : Asked) (l : Ledger) (set : List Bool) (a b c d v w e f g h i j : List ℕ) → Adds (TellsWhole Unmoved q l set) a b → Adds (TellsWhole (Captures White) q l set) b c → Adds (TellsWhole (Captures Black) q l set) c d → Adds (TellsFirst (Pawns White) q l 64) d v → Adds (TellsFirst (Pawns Black) q l 64) v w → Adds (TellsFirst (Men White) q l 64) w e → Adds (TellsFirst (Men Black) q l 64) e f
-    → Adds (TellsWhole (Those Ahead) q l set) f g → Adds (TellsWhole (Those Original) q l set) g h → Adds (TellsFirst Falls q l 64) h i → Adds (TellsFirst Promotions q l 64) i j → Adds (TellsAll q l set) a j
-all-told q l set a b c d v w e f g h i j unmoved white_captures black_captures white_pawns black_pawns white_men black_men ahead original falls promotions =
-    let two = joined-lines unmoved.0 white_captures.0 a b c unmoved.2 white_captures.2 in
-    let three = joined-lines (unmoved.0 ++ white_captures.0) black_captures.0 a c d two black_captures.2 in
-    let white = joined-lines (unmoved.0 ++ white_captures.0 ++ black_captures.0) white_pawns.0 a d v three white_pawns.2 in
-    let black = joined-lines (unmoved.0 ++ white_captures.0 ++ black_captures.0 ++ white_pawns.0) black_pawns.0 a v w white black_pawns.2 in
-    let four = joined-lines (unmoved.0 ++ white_captures.0 ++ black_captures.0 ++ white_pawns.0 ++ black_pawns.0) white_men.0 a w e black white_men.2 in
-    let five = joined-lines (unmoved.0 ++ white_captures.0 ++ black_captures.0 ++ white_pawns.0 ++ black_pawns.0 ++ white_men.0) black_men.0 a e f four black_men.2 in
-    let six = joined-lines (unmoved.0 ++ white_captures.0 ++ black_captures.0 ++ white_pawns.0 ++ black_pawns.0 ++ white_men.0 ++ black_men.0) ahead.0 a f g five ahead.2 in
-    let seven = joined-lines (unmoved.0 ++ white_captures.0 ++ black_captures.0 ++ white_pawns.0 ++ black_pawns.0 ++ white_men.0 ++ black_men.0 ++ ahead.0) original.0 a g h six original.2 in
-    let eight = joined-lines (unmoved.0 ++ white_captures.0 ++ black_captures.0 ++ white_pawns.0 ++ black_pawns.0 ++ white_men.0 ++ black_men.0 ++ ahead.0 ++ original.0) falls.0 a h i seven falls.2 in
-    let nine = joined-lines (unmoved.0 ++ white_captures.0 ++ black_captures.0 ++ white_pawns.0 ++ black_pawns.0 ++ white_men.0 ++ black_men.0 ++ ahead.0 ++ original.0 ++ falls.0) promotions.0 a i j eight promotions.2 in (
-      unmoved.0 ++ white_captures.0 ++ black_captures.0 ++ white_pawns.0 ++ black_pawns.0 ++ white_men.0 ++ black_men.0 ++ ahead.0 ++ original.0 ++ falls.0 ++ promotions.0,
-      record {
-        unmoved = unmoved.0;
-        white_captures = white_captures.0;
-        black_captures = black_captures.0;
-        white_pawns = white_pawns.0;
-        black_pawns = black_pawns.0;
-        white_men = white_men.0;
-        black_men = black_men.0;
-        ahead = ahead.0;
-        original = original.0;
-        falls = falls.0;
-        promotions = promotions.0;
-        unmoved_told = unmoved.1;
-        white_captures_told = white_captures.1;
-        black_captures_told = black_captures.1;
-        white_pawns_told = white_pawns.1;
-        black_pawns_told = black_pawns.1;
-        white_men_told = white_men.1;
-        black_men_told = black_men.1;
-        ahead_told = ahead.1;
-        original_told = original.1;
-        falls_told = falls.1;
-        promotions_told = promotions.1;
-        all = refl;
-      },
-      nine,
-    )
+-- some lines, and others behind them
+pub then-adds : (P Q : List Line → Type 0) (a b c : List ℕ) → Adds P a b → Adds Q b c → Adds (Then P Q) a c
+then-adds P Q a b c first last = (first.0 ++ last.0, record { front = first.0; rest = last.0; first = first.1; last = last.1; all = refl }, joined-lines first.0 last.0 a b c first.2 last.2)
+
+pub among-told : (c : Colour) (q : Asked) (l : Ledger) (set : List Bool) (t0 t1 t2 t3 t4 t5 : List ℕ) → Adds (TellsWhole (Among c Queens) q l set) t0 t1 → Adds (TellsWhole (Among c Rooks) q l set) t1 t2 → Adds (TellsWhole (Among c DarkBishops) q l set) t2 t3 → Adds (TellsWhole (Among c LightBishops) q l set) t3 t4 → Adds (TellsWhole (Among c Knights) q l set) t4 t5 → Adds (TellsAmong c q l set) t0 t5
+among-told c q l set t0 t1 t2 t3 t4 t5 queens rooks dark light knights = then-adds _ _ _ _ _ queens (then-adds _ _ _ _ _ rooks (then-adds _ _ _ _ _ dark (then-adds _ _ _ _ _ light knights)))
+
+pub all-told : (q : Asked) (l : Ledger) (set : List Bool) (t0 t1 t2 t3 t4 t5 t6 t7 t8 t9 t10 t11 t12 t13 t14 t15 t16 t17 : List ℕ) → Adds (TellsWhole Unmoved q l set) t0 t1 → Adds (TellsWhole (Lacks White) q l set) t1 t2 → Adds (TellsWhole (Lacks Black) q l set) t2 t3 → Adds (TellsWhole (Captures White) q l set) t3 t4 → Adds (TellsWhole (Captures Black) q l set) t4 t5 → Adds (TellsFirst (Pawns White) q l 64) t5 t6 → Adds (TellsFirst (Pawns Black) q l 64) t6 t7 → Adds (TellsFirst (Men White) q l 64) t7 t8 → Adds (TellsFirst (Men Black) q l 64) t8 t9 → Adds (TellsWhole (Those Ahead) q l set) t9 t10 → Adds (TellsWhole (Those Original) q l set) t10 t11 → Adds (TellsFirst (Officers White) q l 64) t11 t12 → Adds (TellsFirst (Officers Black) q l 64) t12 t13 → Adds (TellsAmong White q l set) t13 t14 → Adds (TellsAmong Black q l set) t14 t15 → Adds (TellsFirst Falls q l 64) t15 t16 → Adds (TellsFirst Promotions q l 64) t16 t17 → Adds (TellsAll q l set) t0 t17
+all-told q l set t0 t1 t2 t3 t4 t5 t6 t7 t8 t9 t10 t11 t12 t13 t14 t15 t16 t17 a0 a1 a2 a3 a4 a5 a6 a7 a8 a9 a10 a11 a12 a13 a14 a15 a16 =
+    then-adds _ _ _ _ _ a0
+    (then-adds _ _ _ _ _ a1
+    (then-adds _ _ _ _ _ a2
+    (then-adds _ _ _ _ _ a3
+    (then-adds _ _ _ _ _ a4
+    (then-adds _ _ _ _ _ a5
+    (then-adds _ _ _ _ _ a6
+    (then-adds _ _ _ _ _ a7
+    (then-adds _ _ _ _ _ a8
+    (then-adds _ _ _ _ _ a9
+    (then-adds _ _ _ _ _ a10
+    (then-adds _ _ _ _ _ a11
+    (then-adds _ _ _ _ _ a12
+    (then-adds _ _ _ _ _ a13
+    (then-adds _ _ _ _ _ a14
+    (then-adds _ _ _ _ _ a15
+    a16)))))))))))))))
 
 -- the text of the ledger, behind what stood there
 abbrev pub Told : Asked → List ℕ → List ℕ → Type 0

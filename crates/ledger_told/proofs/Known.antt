@@ -2,36 +2,42 @@
 use Rattle.std.proofs.Common.{◌≡◌, ℕ, ◌<◌, ◌≤◌, inl, inr, Bool, true, false, cond, ◌&&◌, ◌||◌, not, List, [], zero, suc, refl, ap, sym, subst, ◌∙◌, arith}
 use Rattle.std.specs.Prelude.{IsTrue, Option, None, Some, nat_le, nat_lt, slice_index_or}
 use Rattle.std.specs.List.{All}
-use Rattle.std.proofs.lemmas.Bool.{and_from, and_parts, both_ways, cases_Bool, le-leb, or_left, or_right}
+use Rattle.std.proofs.lemmas.Bool.{and_from, and_parts, both_ways, cases_Bool, le-leb, ltb-true, or_left, or_right}
 use Rattle.std.proofs.lemmas.List.Elements.{All-append, All-cons, All-nil}
 use Rattle.std.proofs.lemmas.Option.{cond_some}
-use Rattle.board_base.specs.Board.{array_of, at, is_a, is_in, is_like, opponent}
+use Rattle.board_base.specs.Board.{array_of, at, is_a, is_in, is_like, is_the, opponent}
 use Rattle.board_base.specs.declared.men.Colour.{Colour}
 use Rattle.board_base.specs.declared.men.Colour.TheVariants.{White, Black}
 use Rattle.board_base.specs.declared.men.Man.{Man}
-use Rattle.board_base.specs.declared.men.Kind.TheVariants.{Pawn as APawn}
+use Rattle.board_base.specs.declared.men.Kind.{Kind}
+use Rattle.board_base.specs.declared.men.Kind.TheVariants.{Pawn as APawn, Knight, Bishop, Rook, Queen}
+use Rattle.men_account.specs.Account.{is_dark, is_light}
 use Rattle.query_base.specs.Asked.{Asked}
 use Rattle.cage_rules.specs.Frozen.{IsFrozen}
 use Rattle.ledger_search.specs.Ledgers.{IsLedgerOf}
 use Rattle.ledger_search.specs.Questions.{is_man}
 use Rattle.ledger_search.specs.declared.ledgers.Ledger.{Ledger}
-use Rattle.ledger_facts.specs.declared.suppositions.Squares.TheVariants.{All as AllSquares}
-use Rattle.ledger_lines.specs.Known.{IsKnown, are_lacking, counts_of as captures_of, is_fallen, is_most, is_promoted, is_struck, is_unpromoted, is_unstruck, lacking}
-use Rattle.ledger_lines.specs.declared.facts.Fact.TheVariants.{Began}
-use Rattle.ledger_lines.specs.Lines.{IsLineKnown, IsLineOnBoard, OfManner, OfTaker}
+use Rattle.ledger_facts.specs.declared.suppositions.Squares.{Squares}
+use Rattle.ledger_facts.specs.declared.suppositions.Squares.TheVariants.{All as AllSquares, Dark, Class}
+use Rattle.ledger_lines.specs.Known.{IsKnown, counts_of as captures_of, is_fallen, is_few_on, is_promoted, is_struck, is_unpromoted, is_unstruck, lacking, least_of, number_in, piece_homes}
+use Rattle.ledger_lines.specs.Losses.{losses_of}
+use Rattle.ledger_lines.specs.declared.facts.Fact.TheVariants.{Began, AtLeast, AtMost}
+use Rattle.ledger_lines.specs.Lines.{IsLineKnown, IsLineOnBoard, OfDark, OfManner, OfTaker}
 use Rattle.ledger_lines.specs.declared.lines.Line.{Line}
 use Rattle.ledger_lines.specs.declared.lines.Line.TheVariants.{Captures as CapturesLine}
 use Rattle.ledger_lines.specs.declared.lines.Taker.TheVariants as taker
 use Rattle.ledger_lines.specs.declared.lines.Manner.TheVariants as manner
 use Rattle.ledger_lines.proofs.LinesHolding.{known-line-reached}
-use Rattle.ledger_told.specs.Due.{AreLeft, IsChosen, IsSquareLine, IsWhole, TellsPawn, is_moving, is_pawn_news, is_news, most_made, of_group}
-use Rattle.ledger_told.specs.Told.{IsLineTrue, TellsAll, TellsFirst, TellsLedger, TellsWhole, lines_text, one_line}
+use Rattle.ledger_told.specs.Due.{AreLeft, IsAmongLine, IsChosen, IsSquareLine, IsWhole, TellsPawn, is_moving, is_of_breed, is_somebody, is_pawn_news, is_news, most_dark, most_made, of_group, takings}
+use Rattle.ledger_told.specs.Told.{IsLineTrue, TellsAll, TellsAmong, TellsFirst, TellsLedger, TellsWhole, Then, lines_text, one_line}
+use Rattle.ledger_told.specs.declared.topics.Breed.{Breed}
+use Rattle.ledger_told.specs.declared.topics.Breed.TheVariants.{Queens, Rooks, DarkBishops, LightBishops, Knights}
 use Rattle.ledger_told.specs.declared.topics.Group.{Group}
 use Rattle.ledger_told.specs.declared.topics.Group.TheVariants.{Ahead, Original}
 use Rattle.ledger_told.specs.declared.topics.Whole.{Whole}
-use Rattle.ledger_told.specs.declared.topics.Whole.TheVariants.{Unmoved, Captures, Those}
+use Rattle.ledger_told.specs.declared.topics.Whole.TheVariants.{Unmoved, Lacks, Captures, Those, Among}
 use Rattle.ledger_told.specs.declared.topics.Topic.{Topic}
-use Rattle.ledger_told.specs.declared.topics.Topic.TheVariants.{Pawns, Men, Falls, Promotions}
+use Rattle.ledger_told.specs.declared.topics.Topic.TheVariants.{Pawns, Men, Officers, Falls, Promotions}
 
 not-so : (b : Bool) → not b ≡ true → b ≡ false
 not-so true h = absurd (both_ways false refl h)
@@ -49,21 +55,62 @@ module _ (q : Asked) (l : Ledger) where
   within : (a b n : ℕ) → (nat_lt a b && nat_lt a 16) ≡ true → n ≡ a → (nat_le a n && nat_lt n 16) ≡ true
   within a b n low e = let parts = and_parts (nat_lt a b) (nat_lt a 16) low in ap (λ (m : ℕ). nat_le a m && nat_lt m 16) e ∙ ap (λ (t : Bool). t && nat_lt a 16) (le-leb a a (omega arith)) ∙ parts.1
 
-  most-known : (c : Colour) (low : Bool) → (nat_lt (captures_of l c).all.most (lacking q (opponent c)) && nat_lt (captures_of l c).all.most 16) ≡ low
-      → (is_most (captures_of l c) AllSquares (cond low (captures_of l c).all.most (lacking q (opponent c))) || are_lacking q c AllSquares (cond low (captures_of l c).all.most (lacking q (opponent c)))) ≡ true
-  most-known c true is = or_left _ _ (within (captures_of l c).all.most (lacking q (opponent c)) (captures_of l c).all.most is refl)
-  most-known c false is = or_right _ _ (le-leb (lacking q (opponent c)) (lacking q (opponent c)) (omega arith))
+  -- a number that is known, or else one that is
+  lesser-known : (c : Colour) (squares : Squares) (low : Bool) (a n : ℕ) → (low ≡ true → is_few_on (captures_of l c) squares a ≡ true) → IsKnown (AtMost c squares n) q l → IsKnown (AtMost c squares (cond low a n)) q l
+  lesser-known c squares true a n few known = or_left _ _ (or_left _ _ (few refl))
+  lesser-known c squares false a n few known = known
 
-  captures-known : (c : Colour) → Is (CapturesLine c (captures_of l c).all.least (most_made q l c) (lacking q (opponent c)))
-  captures-known c = (tt, (le-leb (captures_of l c).all.least (captures_of l c).all.least (omega arith), most-known c (nat_lt (captures_of l c).all.most (lacking q (opponent c)) && nat_lt (captures_of l c).all.most 16) refl))
+  as-many-lack : (c : Colour) (squares : Squares) → IsKnown (AtMost c squares (lacking q (opponent c))) q l
+  as-many-lack c squares = or_right _ _ (le-leb (lacking q (opponent c)) (lacking q (opponent c)) (omega arith))
+
+  -- at most so many on any squares as in all
+  most-known : (c : Colour) (squares : Squares) (low : Bool) → (nat_lt (captures_of l c).all.most (lacking q (opponent c)) && nat_lt (captures_of l c).all.most 16) ≡ low → IsKnown (AtMost c squares (cond low (captures_of l c).all.most (lacking q (opponent c)))) q l
+  most-known c squares true is = or_left _ _ (or_right _ _ (within (captures_of l c).all.most (lacking q (opponent c)) (captures_of l c).all.most is refl))
+  most-known c squares false is = as-many-lack c squares
+
+  made-known : (c : Colour) (squares : Squares) → IsKnown (AtMost c squares (most_made q l c)) q l
+  made-known c squares = most-known c squares (nat_lt (captures_of l c).all.most (lacking q (opponent c)) && nat_lt (captures_of l c).all.most 16) refl
+
+  least-known : (c : Colour) (squares : Squares) → IsKnown (AtLeast c squares (least_of (captures_of l c) squares)) q l
+  least-known c squares = le-leb (least_of (captures_of l c) squares) (least_of (captures_of l c) squares) (omega arith)
+
+  dark-known : (c : Colour) (told : Bool) → OfDark (λ f. IsKnown f q l) c (cond told (Some (record { least = (captures_of l c).dark.least; most = most_dark q l c })) None)
+  dark-known c false = tt
+  dark-known c true = (
+    least-known c Dark,
+    lesser-known c Dark (nat_lt (captures_of l c).dark.most (most_made q l c) && nat_lt (captures_of l c).dark.most 16) (captures_of l c).dark.most (most_made q l c) (λ low. within (captures_of l c).dark.most (most_made q l c) (captures_of l c).dark.most low refl) (made-known c Dark),
+  )
+
+  captures-known : (c : Colour) → Is (CapturesLine c (takings q l c))
+  captures-known c = (tt, ((least-known c AllSquares, made-known c AllSquares), dark-known c (nat_lt 0 (captures_of l c).all.least && (nat_lt 0 (captures_of l c).dark.least || nat_lt (most_dark q l c) (most_made q l c))), λ k low. least-known c (Class k)))
 
   group-known : (group : Group) (set named : List Bool) → ((s : ℕ) → s < 64 → IsTrue (is_in named s) → IsChosen group q l set s) → Is (of_group group named)
   group-known Ahead set named each = (tt, λ s low there. (and_parts (is_in l.straight s) (not (is_like (at q.board s) (at (array_of q.odds) s))) (each s low there)).0)
   group-known Original set named each = (tt, λ s low there. (each s low there).1)
 
+  -- men of a kind stand on their squares
+  a-man : (c : Colour) (k : Kind) (place : Option Man) → is_the c k place ≡ true → is_man place ≡ true
+  a-man c k None h = absurd (both_ways false refl h)
+  a-man c k (Some m) h = refl
+
+  breed-man : (c : Colour) (breed : Breed) (s : ℕ) → is_of_breed c breed q.board s ≡ true → is_man (at q.board s) ≡ true
+  breed-man c Queens s h = a-man c Queen (at q.board s) h
+  breed-man c Rooks s h = a-man c Rook (at q.board s) h
+  breed-man c DarkBishops s h = a-man c Bishop (at q.board s) (and_parts (is_the c Bishop (at q.board s)) (is_dark s) h).0
+  breed-man c LightBishops s h = a-man c Bishop (at q.board s) (and_parts (is_the c Bishop (at q.board s)) (is_light s) h).0
+  breed-man c Knights s h = a-man c Knight (at q.board s) h
+
+  among-known : (c : Colour) (breed : Breed) (x : Line) → IsAmongLine q l c breed (Some x) → Is x
+  among-known c breed x is =
+      let y = cond_some (nat_lt (piece_homes q l is.0) (number_in is.0)) _ x (sym is.2) in
+      let more = ltb-true (piece_homes q l is.0) (number_in is.0) y.0 in
+      subst Is y.1 (tt, (λ s low there. breed-man c breed s ((is.1 s low).0 there).0, omega arith))
+
   whole-known : (whole : Whole) (set : List Bool) (x : Line) → IsFrozen q set → IsWhole whole q l set (Some x) → Is x
   whole-known Unmoved set x frozen is = subst Is (sym is.0) (tt, frozen)
+  whole-known (Lacks c) set x frozen is = let y = cond_some (is_somebody (losses_of c (array_of q.odds) q.board)) _ x (sym is) in subst Is y.1 (tt, refl)
   whole-known (Captures c) set x frozen is = let y = cond_some _ _ x (sym is) in subst Is y.1 (captures-known c)
+  whole-known (Among c breed) set x frozen is = among-known c breed x is
   whole-known (Those group) set x frozen is = subst Is (sym is.1) (group-known group set is.0 (λ s low. (is.2 s low).0))
 
   taker-known : (h : ℕ) (struck unstruck : Bool) → is_struck (array_of q.odds) l.fates h ≡ struck → is_unstruck (array_of q.odds) l.fates h ≡ unstruck → OfTaker (λ f. IsKnown f q l) h (cond struck taker.Pawn (cond unstruck taker.Officer taker.Anyone))
@@ -92,7 +139,7 @@ module _ (q : Asked) (l : Ledger) where
   pawn-known : (c : Colour) (s : ℕ) (x : Line) → s < 64 → IsTrue (is_moving q l c s) → TellsPawn q l s (Some x) → Is x
   pawn-known c s x low moving told =
       let y = cond_some (is_pawn_news told.homes s told.number) _ x (sym told.line_is) in
-      subst Is y.1 (low, (left-known s told.homes (a-pawn (at q.board s) told.took.0) told.left, told.took))
+      subst Is y.1 (low, (left-known s told.homes (a-pawn (at q.board s) told.took.0) told.left, told.took, told.exact_is.0))
 
   square-known : (topic : Topic) (s : ℕ) (x : Line) → s < 64 → IsSquareLine topic q l s (Some x) → Is x
   square-known (Pawns c) s x low is = elim (cases_Bool (is_moving q l c s)) [
@@ -100,6 +147,7 @@ module _ (q : Asked) (l : Ledger) where
     | inr other ↦ cc (is.1 other)
   ]
   square-known (Men c) s x low is = subst Is (sym is.2) (low, is.3.1)
+  square-known (Officers c) s x low is = subst Is (sym is.3) (low, (is.1.1, left-known s is.0 is.1.1.0 is.2))
   square-known Falls s x low is =
       let y = cond_some (is_fallen (array_of q.odds) l.fates s && is_news q l s) _ x (sym is) in
       subst Is y.1 (low, ((and_parts (is_fallen (array_of q.odds) l.fates s) (is_news q l s) y.0).0, taker-known s (is_struck (array_of q.odds) l.fates s) (is_unstruck (array_of q.odds) l.fates s) refl refl, manner-known s (is_a APawn (at (array_of q.odds) s)) (is_unpromoted (array_of q.odds) l.fates s) (is_promoted (array_of q.odds) l.fates s) refl refl))
@@ -125,22 +173,35 @@ module _ (q : Asked) (l : Ledger) where
         subst (All (IsLineTrue q)) (sym told.4)
         (All-append (IsLineTrue q) told.0 (one_line told.1) (true-first topic n told.0 (omega arith) told.2) (true-one told.1 (λ x e. square-known topic n x (omega arith) (subst (IsSquareLine topic q l n) e told.3))))
 
+    true-then : (P Q : List Line → Type 0) → ((xs : List Line) → P xs → All (IsLineTrue q) xs) → ((xs : List Line) → Q xs → All (IsLineTrue q) xs) → (xs : List Line) → Then P Q xs → All (IsLineTrue q) xs
+    true-then P Q first last xs told = subst (All (IsLineTrue q)) (sym told.all) (All-append (IsLineTrue q) told.front told.rest (first told.front told.first) (last told.rest told.last))
+
+    -- what is told square by square, and the rest
+    true-squares : (topic : Topic) (xs : List Line) → TellsFirst topic q l 64 xs → All (IsLineTrue q) xs
+    true-squares topic xs told = true-first topic 64 xs (omega arith) told
+
+    true-among : (c : Colour) (xs : List Line) → TellsAmong c q l set xs → All (IsLineTrue q) xs
+    true-among c = true-then _ _ (true-whole (Among c Queens)) (true-then _ _ (true-whole (Among c Rooks)) (true-then _ _ (true-whole (Among c DarkBishops)) (true-then _ _ (true-whole (Among c LightBishops)) (true-whole (Among c Knights)))))
+
     true-all : (xs : List Line) → TellsAll q l set xs → All (IsLineTrue q) xs
-    true-all xs told =
-        let P : Line → Type 0 = IsLineTrue q in
-        subst (All P) (sym told.all)
-        (All-append P _ told.promotions (All-append P _ told.falls (All-append P _ told.original (All-append P _ told.ahead (All-append P _ told.black_men (All-append P _ told.white_men (All-append P _ told.black_pawns (All-append P _ told.white_pawns (All-append P _ told.black_captures (All-append P told.unmoved told.white_captures
-        (true-whole Unmoved told.unmoved told.unmoved_told)
-        (true-whole (Captures White) told.white_captures told.white_captures_told))
-        (true-whole (Captures Black) told.black_captures told.black_captures_told))
-        (true-first (Pawns White) 64 told.white_pawns (omega arith) told.white_pawns_told))
-        (true-first (Pawns Black) 64 told.black_pawns (omega arith) told.black_pawns_told))
-        (true-first (Men White) 64 told.white_men (omega arith) told.white_men_told))
-        (true-first (Men Black) 64 told.black_men (omega arith) told.black_men_told))
-        (true-whole (Those Ahead) told.ahead told.ahead_told))
-        (true-whole (Those Original) told.original told.original_told))
-        (true-first Falls 64 told.falls (omega arith) told.falls_told))
-        (true-first Promotions 64 told.promotions (omega arith) told.promotions_told))
+    true-all =
+        true-then _ _ (true-whole Unmoved)
+        (true-then _ _ (true-whole (Lacks White))
+        (true-then _ _ (true-whole (Lacks Black))
+        (true-then _ _ (true-whole (Captures White))
+        (true-then _ _ (true-whole (Captures Black))
+        (true-then _ _ (true-squares (Pawns White))
+        (true-then _ _ (true-squares (Pawns Black))
+        (true-then _ _ (true-squares (Men White))
+        (true-then _ _ (true-squares (Men Black))
+        (true-then _ _ (true-whole (Those Ahead))
+        (true-then _ _ (true-whole (Those Original))
+        (true-then _ _ (true-squares (Officers White))
+        (true-then _ _ (true-squares (Officers Black))
+        (true-then _ _ (true-among White)
+        (true-then _ _ (true-among Black)
+        (true-then _ _ (true-squares Falls)
+        (true-squares Promotions))))))))))))))))
 
 -- each line of what is told of a query's ledger is true
 pub all-true : (q : Asked) (text : List ℕ) → TellsLedger q text → (xs : List Line) × All (IsLineTrue q) xs × (text ≡ lines_text xs)

@@ -1,44 +1,75 @@
 -- Which lines of a ledger are told: those that say more than the board and the lines before them do.
 use Rattle.std.specs.Prelude.{ℕ, ◌≡◌, ◌+◌, ◌-◌, ◌*◌, ◌<◌, ◌==◌, ◌&&◌, ◌||◌, ◌↔◌, Bool, false, cond, not, slice_index_or, IsTrue, List, [], nat_le, nat_lt, Option, Some, None}
-use Rattle.std.specs.List.{count_by, range_with_len}
 use Rattle.board_base.specs.Board.{Places, array_of, at, file, is_a, is_in, is_like, is_of, is_the, opponent, rank}
 use Rattle.board_base.specs.declared.men.Colour.{Colour}
-use Rattle.board_base.specs.declared.men.Kind.TheVariants.{Pawn, Rook, Knight, King}
+use Rattle.board_base.specs.declared.men.Kind.TheVariants.{Pawn, Knight, Bishop, Rook, Queen, King}
 use Rattle.board_base.specs.declared.men.Man.{Man}
-use Rattle.men_account.specs.Account.{counts_of}
+use Rattle.men_account.specs.Account.{counts_of, is_dark, is_light}
 use Rattle.query_base.specs.Asked.{Asked}
 use Rattle.ledger_search.specs.Questions.{is_asked, only}
 use Rattle.ledger_search.specs.declared.questions.Question.TheVariants.{Home}
+use Rattle.ledger_search.specs.declared.counts.Range.{Range}
 use Rattle.ledger_search.specs.declared.ledgers.Fates.{Fates}
 use Rattle.ledger_search.specs.declared.ledgers.Ledger.{Ledger}
-use Rattle.ledger_lines.specs.Known.{IsKnown, counts_of as captures_of, is_fallen, is_promoted, is_struck, is_unpromoted, is_unstruck, lacking}
-use Rattle.ledger_lines.specs.declared.facts.Fact.TheVariants.{Took, Began, Original as BeganOriginal}
+use Rattle.ledger_lines.specs.Known.{IsKnown, counts_of as captures_of, is_fallen, is_promoted, is_struck, is_unpromoted, is_unstruck, lacking, number_in, piece_homes}
+use Rattle.ledger_lines.specs.Losses.{losses_of}
+use Rattle.ledger_lines.specs.declared.losses.Losses.{Losses}
+use Rattle.ledger_lines.specs.declared.facts.Fact.TheVariants.{Took, TookAtMost, Began, Original as BeganOriginal, Promoted as BeganPawn}
 use Rattle.ledger_lines.specs.declared.lines.Line.{Line}
-use Rattle.ledger_lines.specs.declared.lines.Line.TheVariants.{Unmoved as UnmovedLine, Captures as CapturesLine, Pawn as PawnLine, Man as ManLine, Ahead as AheadLine, Original as OriginalLine, Fell, Became}
+use Rattle.ledger_lines.specs.declared.lines.Line.TheVariants.{Unmoved as UnmovedLine, Lacks as LacksLine, Captures as CapturesLine, Pawn as PawnLine, Man as ManLine, Ahead as AheadLine, Original as OriginalLine, Promoted as PromotedLine, Among as AmongLine, Fell, Became}
+use Rattle.ledger_lines.specs.declared.lines.Takings.{Takings}
 use Rattle.ledger_lines.specs.declared.lines.Taker.{Taker}
 use Rattle.ledger_lines.specs.declared.lines.Taker.TheVariants as taker
 use Rattle.ledger_lines.specs.declared.lines.Manner.{Manner}
 use Rattle.ledger_lines.specs.declared.lines.Manner.TheVariants as manner
+use Rattle.ledger_told.specs.declared.topics.Breed.{Breed}
+use Rattle.ledger_told.specs.declared.topics.Breed.TheVariants.{Queens, Rooks, DarkBishops, LightBishops, Knights}
 use Rattle.ledger_told.specs.declared.topics.Group.{Group}
 use Rattle.ledger_told.specs.declared.topics.Group.TheVariants.{Ahead, Original}
 use Rattle.ledger_told.specs.declared.topics.Whole.{Whole}
-use Rattle.ledger_told.specs.declared.topics.Whole.TheVariants.{Unmoved, Captures, Those}
+use Rattle.ledger_told.specs.declared.topics.Whole.TheVariants.{Unmoved, Lacks, Captures, Those, Among}
 use Rattle.ledger_told.specs.declared.topics.Topic.{Topic}
-use Rattle.ledger_told.specs.declared.topics.Topic.TheVariants.{Pawns, Men, Falls, Promotions}
+use Rattle.ledger_told.specs.declared.topics.Topic.TheVariants.{Pawns, Men, Officers, Falls, Promotions}
 
 -- who stands on the set, some men at least, never moved
 abbrev pub IsUnmovedLine : List Bool → Option Line → Type 0
 IsUnmovedLine set None = (s : ℕ) → s < 64 → is_in set s ≡ false
 IsUnmovedLine set (Some x) = (x ≡ UnmovedLine set) × ((s : ℕ) × (s < 64) × IsTrue (is_in set s))
 
+-- somebody is lacking
+abbrev pub is_somebody : Losses → Bool
+is_somebody x = nat_lt 0 x.queens || nat_lt 0 x.rooks || nat_lt 0 x.dark_bishops || nat_lt 0 x.light_bishops || nat_lt 0 x.knights || nat_lt 0 x.pawns
+
+-- the men whom a side lacks, if it lacks somebody
+abbrev pub lacks_line : Asked → Colour → Option Line
+lacks_line q c =
+    cond (is_somebody (losses_of c (array_of q.odds) q.board)) (Some (LacksLine c (losses_of c (array_of q.odds) q.board))) None
+
 -- how many captures a side's pawns made at most: as many as the other side lacks men if no less is known
 abbrev pub most_made : Asked → Ledger → Colour → ℕ
 most_made q l c = cond (nat_lt (captures_of l c).all.most (lacking q (opponent c)) && nat_lt (captures_of l c).all.most 16) (captures_of l c).all.most (lacking q (opponent c))
 
+-- how many they made on dark squares at most: as many as in all if no less is known
+abbrev pub most_dark : Asked → Ledger → Colour → ℕ
+most_dark q l c = cond (nat_lt (captures_of l c).dark.most (most_made q l c) && nat_lt (captures_of l c).dark.most 16) (captures_of l c).dark.most (most_made q l c)
+
+-- those on dark squares are told if they made some in all, and if they made some there, or fewer than they may have made in all
+abbrev pub told_dark : Asked → Ledger → Colour → Option Range
+told_dark q l c =
+    cond (nat_lt 0 (captures_of l c).all.least && (nat_lt 0 (captures_of l c).dark.least || nat_lt (most_dark q l c) (most_made q l c))) (Some (record { least = (captures_of l c).dark.least; most = most_dark q l c })) None
+
+-- what is told of their captures: on a class, at least so many if they made some there
+abbrev pub takings : Asked → Ledger → Colour → Takings
+takings q l c = record {
+  all = record { least = (captures_of l c).all.least; most = most_made q l c };
+  lacking = lacking q (opponent c);
+  dark = told_dark q l c;
+  least_on = (captures_of l c).least_on;
+}
+
 -- that is told if they made some, or fewer than the other side lacks
 abbrev pub captures_line : Asked → Ledger → Colour → Option Line
-captures_line q l c =
-    cond (nat_lt 0 (captures_of l c).all.least || nat_lt (most_made q l c) (lacking q (opponent c))) (Some (CapturesLine c (captures_of l c).all.least (most_made q l c) (lacking q (opponent c)))) None
+captures_line q l c = cond (nat_lt 0 (captures_of l c).all.least || nat_lt (most_made q l c) (lacking q (opponent c))) (Some (CapturesLine c (takings q l c))) None
 
 -- the pawn on s has left the square on which he began, and never his file
 abbrev pub is_ahead : Asked → Ledger → ℕ → Bool
@@ -65,11 +96,30 @@ IsGroupLine group q l set None = (s : ℕ) → s < 64 → IsChosen group q l set
 IsGroupLine group q l set (Some x) =
     (named : List Bool) × (x ≡ of_group group named) × ((s : ℕ) → s < 64 → IsTrue (is_in named s) ↔ IsChosen group q l set s) × ((s : ℕ) × (s < 64) × IsChosen group q l set s)
 
+-- a man of this side and kind stands on s; bishops are told apart by the colour of their squares
+abbrev pub is_of_breed : Colour → Breed → Places → ℕ → Bool
+is_of_breed c Queens board s = is_the c Queen (at board s)
+is_of_breed c Rooks board s = is_the c Rook (at board s)
+is_of_breed c DarkBishops board s = is_the c Bishop (at board s) && is_dark s
+is_of_breed c LightBishops board s = is_the c Bishop (at board s) && is_light s
+is_of_breed c Knights board s = is_the c Knight (at board s)
+
+-- and it isn't known of him that he began as a pawn
+abbrev pub IsUnsure : Asked → Ledger → Colour → Breed → ℕ → Type 0
+IsUnsure q l c breed s = IsTrue (is_of_breed c breed q.board s) × (IsKnown (BeganPawn s) q l → ⊥)
+
+-- those of this side and kind of whom that isn't known are more than the homes that are left for them as pieces; so many of them began as pawns
+abbrev pub IsAmongLine : Asked → Ledger → Colour → Breed → Option Line → Type 0
+IsAmongLine q l c breed line =
+    (set : List Bool) × ((s : ℕ) → s < 64 → IsTrue (is_in set s) ↔ IsUnsure q l c breed s) × (line ≡ cond (nat_lt (piece_homes q l set) (number_in set)) (Some (AmongLine (number_in set - piece_homes q l set) set)) None)
+
 -- what is told by one line, or that none is due
 abbrev pub IsWhole : Whole → Asked → Ledger → List Bool → Option Line → Type 0
 IsWhole Unmoved q l set line = IsUnmovedLine set line
+IsWhole (Lacks c) q l set line = line ≡ lacks_line q c
 IsWhole (Captures c) q l set line = line ≡ captures_line q l c
 IsWhole (Those group) q l set line = IsGroupLine group q l set line
+IsWhole (Among c breed) q l set line = IsAmongLine q l c breed line
 
 -- on s stands a rook or a knight of this side, who began on another square h and nowhere else
 abbrev pub is_moved_man : Asked → Colour → ℕ → ℕ → Bool
@@ -83,12 +133,9 @@ IsManLine q l c s h = IsTrue (is_moved_man q c s h) × IsKnown (Began s (only h)
 abbrev pub is_left : Asked → Ledger → ℕ → ℕ → Bool
 is_left q l s h = is_asked (Home s) q.board (array_of q.odds) h && not (is_in (slice_index_or l.homes s []) h)
 
+-- these are the homes that are left
 abbrev pub AreLeft : Asked → Ledger → ℕ → List Bool → Type 0
 AreLeft q l s homes = (h : ℕ) → h < 64 → IsTrue (is_in homes h) ↔ IsTrue (is_left q l s h)
-
--- how many squares are in the set
-unfoldable pub number_in : List Bool → ℕ
-number_in set = count_by (is_in set) (range_with_len 0 64)
 
 -- on s stands a pawn of this side of whom it isn't known that he never left his file
 abbrev pub is_moving : Asked → Ledger → Colour → ℕ → Bool
@@ -98,14 +145,21 @@ is_moving q l c s = is_the c Pawn (at q.board s) && not (is_in l.straight s)
 abbrev pub is_pawn_news : List Bool → ℕ → ℕ → Bool
 is_pawn_news homes s n = ((number_in homes == 1) && not (is_in homes s)) || (nat_lt 1 (number_in homes) && nat_lt (number_in homes) 4 && nat_lt 0 n)
 
--- the homes that are left for him, and the greatest number, up to 7, of captures that he is known to have made at least
+-- the homes that are left for him, the greatest number, up to 7, of captures that he is known to have made at least, and whether he is known to
+-- have made no more
 pub record TellsPawn (q : Asked) (l : Ledger) (s : ℕ) (line : Option Line) : Type 0 where
   pub homes : List Bool
   pub left : AreLeft q l s homes
   pub number : ℕ
   pub took : IsKnown (Took s number) q l
   pub most : number < 7 → IsKnown (Took s (number + 1)) q l → ⊥
-  pub line_is : line ≡ cond (is_pawn_news homes s number) (Some (PawnLine s homes number)) None
+  pub exact : Bool
+  pub exact_is : IsTrue exact ↔ IsKnown (TookAtMost s number) q l
+  pub line_is : line ≡ cond (is_pawn_news homes s number) (Some (PawnLine s homes number exact)) None
+
+-- on s stands a man of this side, no pawn, who is known to have begun as one
+abbrev pub IsPromotedMan : Asked → Ledger → Colour → ℕ → Type 0
+IsPromotedMan q l c s = IsTrue (is_of c (at q.board s) && not (is_a Pawn (at q.board s))) × IsKnown (BeganPawn s) q l
 
 -- who took the man of h, as far as it is known
 abbrev pub taker_of : Places → Fates → ℕ → Taker
@@ -160,5 +214,7 @@ abbrev pub IsSquareLine : Topic → Asked → Ledger → ℕ → Option Line →
 IsSquareLine (Pawns c) q l s line = (IsTrue (is_moving q l c s) → TellsPawn q l s line) × (is_moving q l c s ≡ false → line ≡ None)
 IsSquareLine (Men c) q l s None = (h : ℕ) → h < 64 → IsManLine q l c s h → ⊥
 IsSquareLine (Men c) q l s (Some x) = (h : ℕ) × (h < 64) × (x ≡ ManLine s h) × IsManLine q l c s h
+IsSquareLine (Officers c) q l s None = IsPromotedMan q l c s → ⊥
+IsSquareLine (Officers c) q l s (Some x) = (homes : List Bool) × IsPromotedMan q l c s × AreLeft q l s homes × (x ≡ PromotedLine s homes)
 IsSquareLine Falls q l s line = line ≡ fall_line q l s
 IsSquareLine Promotions q l s line = line ≡ promotion_line q l s

@@ -1,6 +1,7 @@
 -- What is told of a position's ledger.
 use Rattle.std.specs.Prelude.{ℕ, ◌≡◌, ◌⊎◌, zero, suc, List, [], ◌∷◌, ◌++◌, Bool, Option, Some, None}
 use Rattle.std.specs.List.{flat_map}
+use Rattle.board_base.specs.declared.men.Colour.{Colour}
 use Rattle.board_base.specs.declared.men.Colour.TheVariants.{White, Black}
 use Rattle.board_base.specs.declared.moves.Move.{Move}
 use Rattle.play_rules.specs.Reach.{IsWithin}
@@ -14,11 +15,12 @@ use Rattle.ledger_lines.specs.Lines.{LineSays}
 use Rattle.ledger_lines.specs.LineTexts.{line_text}
 use Rattle.ledger_lines.specs.declared.lines.Line.{Line}
 use Rattle.ledger_told.specs.Due.{IsSquareLine, IsWhole}
+use Rattle.ledger_told.specs.declared.topics.Breed.TheVariants.{Queens, Rooks, DarkBishops, LightBishops, Knights}
 use Rattle.ledger_told.specs.declared.topics.Group.TheVariants.{Ahead, Original}
 use Rattle.ledger_told.specs.declared.topics.Whole.{Whole}
-use Rattle.ledger_told.specs.declared.topics.Whole.TheVariants.{Unmoved, Captures, Those}
+use Rattle.ledger_told.specs.declared.topics.Whole.TheVariants.{Unmoved, Lacks, Captures, Those, Among}
 use Rattle.ledger_told.specs.declared.topics.Topic.{Topic}
-use Rattle.ledger_told.specs.declared.topics.Topic.TheVariants.{Pawns, Men, Falls, Promotions}
+use Rattle.ledger_told.specs.declared.topics.Topic.TheVariants.{Pawns, Men, Officers, Falls, Promotions}
 
 -- a line with its end
 abbrev pub whole_text : Line → List ℕ
@@ -42,31 +44,43 @@ unfoldable pub TellsFirst : Topic → Asked → Ledger → ℕ → List Line →
 TellsFirst topic q l zero xs = xs ≡ []
 TellsFirst topic q l (suc n) xs = (front : List Line) × (line : Option Line) × TellsFirst topic q l n front × IsSquareLine topic q l n line × (xs ≡ front ++ one_line line)
 
+-- some lines, and others behind them
+pub record Then (P Q : List Line → Type 0) (xs : List Line) : Type 0 where
+  pub front : List Line
+  pub rest : List Line
+  pub first : P front
+  pub last : Q rest
+  pub all : xs ≡ front ++ rest
+
+-- how many officers of a side began as pawns, kind by kind
+abbrev pub TellsAmong : Colour → Asked → Ledger → List Bool → List Line → Type 0
+TellsAmong c q l set =
+    Then (TellsWhole (Among c Queens) q l set)
+    (Then (TellsWhole (Among c Rooks) q l set)
+    (Then (TellsWhole (Among c DarkBishops) q l set)
+    (Then (TellsWhole (Among c LightBishops) q l set)
+    (TellsWhole (Among c Knights) q l set))))
+
 -- the lines that are told, in order: what is one line of the whole board is told once, and the rest square by square
-pub record TellsAll (q : Asked) (l : Ledger) (set : List Bool) (xs : List Line) : Type 0 where
-  pub unmoved : List Line
-  pub white_captures : List Line
-  pub black_captures : List Line
-  pub white_pawns : List Line
-  pub black_pawns : List Line
-  pub white_men : List Line
-  pub black_men : List Line
-  pub ahead : List Line
-  pub original : List Line
-  pub falls : List Line
-  pub promotions : List Line
-  pub unmoved_told : TellsWhole Unmoved q l set unmoved
-  pub white_captures_told : TellsWhole (Captures White) q l set white_captures
-  pub black_captures_told : TellsWhole (Captures Black) q l set black_captures
-  pub white_pawns_told : TellsFirst (Pawns White) q l 64 white_pawns
-  pub black_pawns_told : TellsFirst (Pawns Black) q l 64 black_pawns
-  pub white_men_told : TellsFirst (Men White) q l 64 white_men
-  pub black_men_told : TellsFirst (Men Black) q l 64 black_men
-  pub ahead_told : TellsWhole (Those Ahead) q l set ahead
-  pub original_told : TellsWhole (Those Original) q l set original
-  pub falls_told : TellsFirst Falls q l 64 falls
-  pub promotions_told : TellsFirst Promotions q l 64 promotions
-  pub all : xs ≡ unmoved ++ white_captures ++ black_captures ++ white_pawns ++ black_pawns ++ white_men ++ black_men ++ ahead ++ original ++ falls ++ promotions
+abbrev pub TellsAll : Asked → Ledger → List Bool → List Line → Type 0
+TellsAll q l set =
+    Then (TellsWhole Unmoved q l set)
+    (Then (TellsWhole (Lacks White) q l set)
+    (Then (TellsWhole (Lacks Black) q l set)
+    (Then (TellsWhole (Captures White) q l set)
+    (Then (TellsWhole (Captures Black) q l set)
+    (Then (TellsFirst (Pawns White) q l 64)
+    (Then (TellsFirst (Pawns Black) q l 64)
+    (Then (TellsFirst (Men White) q l 64)
+    (Then (TellsFirst (Men Black) q l 64)
+    (Then (TellsWhole (Those Ahead) q l set)
+    (Then (TellsWhole (Those Original) q l set)
+    (Then (TellsFirst (Officers White) q l 64)
+    (Then (TellsFirst (Officers Black) q l 64)
+    (Then (TellsAmong White q l set)
+    (Then (TellsAmong Black q l set)
+    (Then (TellsFirst Falls q l 64)
+    (TellsFirst Promotions q l 64))))))))))))))))
 
 -- the greatest frozen set that is as in the array at the query's odds
 pub record IsGreatest (q : Asked) (set : List Bool) : Type 0 where

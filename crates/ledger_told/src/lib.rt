@@ -3,6 +3,7 @@
 //! Articles are those of the FIDE Laws of Chess, in force from 1 January 2023.
 #![tactic(auto)]
 
+mod breeds;
 mod laws;
 mod pawns;
 mod squares;
@@ -12,4 +13,4 @@ mod wholes;
 
 pub use laws::told_lines_hold;
 pub use telling::tell_ledger;
-pub use topics::{Topic, Whole};
+pub use topics::{Breed, Topic, Whole};

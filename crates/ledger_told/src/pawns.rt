@@ -1,4 +1,4 @@
-ghost use Rattle.std.specs.Prelude.{◌≡◌, ◌+◌, ◌<◌, ◌≤◌, cond, slice_set, true, IsTrue, None, Some};
+ghost use Rattle.std.specs.Prelude.{◌≡◌, ◌+◌, ◌<◌, cond, slice_set, true, IsTrue, None, Some};
 ghost use Rattle.board_base.specs.Board.{array_of, at, is_a, is_in};
 ghost use Rattle.board_base.specs.declared.men.Kind.TheVariants.{Pawn};
 ghost use Rattle.ledger_search.specs.Questions.{is_asked};
@@ -6,11 +6,11 @@ ghost use Rattle.ledger_search.specs.declared.questions.Question.TheVariants.{Ho
 ghost use Rattle.ledger_lines.specs.Known.{IsKnown};
 ghost use Rattle.ledger_lines.specs.declared.facts.Fact.TheVariants.{Took};
 ghost use Rattle.ledger_lines.specs.declared.lines.Line.TheVariants.{Pawn as PawnLine};
-ghost use Rattle.ledger_told.specs.Due.{AreLeft, IsSquareLine, TellsPawn, is_left, is_moving, is_pawn_news, number_in};
+ghost use Rattle.ledger_told.specs.Due.{AreLeft, IsSquareLine, TellsPawn, is_left, is_moving, is_pawn_news};
 
 use crate::topics::Topic;
 use board_base::{Colour, Kind, Square, SquareSet, array_of, is_of, is_the};
-use ledger_lines::{Fact, Line, is_known};
+use ledger_lines::{Fact, Line, is_known, number_in};
 use ledger_search::Ledger;
 use query_base::Query;
 
@@ -40,7 +40,7 @@ fn with_if(set: SquareSet, s: Square, more: bool) -> SquareSet
 }
 
 /// The homes that are left for him.
-fn homes_left(query: &Query, ledger: &Ledger, s: Square) -> SquareSet
+pub(crate) fn homes_left(query: &Query, ledger: &Ledger, s: Square) -> SquareSet
     ensures { AreLeft query.now ledger.now s result }
 {
     let mut squares = SquareSet::from_bits(0);
@@ -49,25 +49,6 @@ fn homes_left(query: &Query, ledger: &Ledger, s: Square) -> SquareSet
         squares = with_if(squares, h, is_left(query, ledger, s, h));
     }
     squares
-}
-
-/// One more if the square is in the set.
-fn with_square(so_far: u8, set: SquareSet, s: Square) -> u8
-    requires { so_far < 64 }
-    ensures { result ≡ so_far + cond (is_in set s) 1 0 }
-{
-    if set.has(s) { so_far + 1 } else { so_far }
-}
-
-/// How many squares are in the set.
-fn number_in(set: SquareSet) -> u8
-    ensures { result ≡ number_in set }
-{
-    let mut n = 0;
-    for i in 0..64 {
-        n = with_square(n, set, Square::known(i));
-    }
-    n
 }
 
 /// How many captures, up to 7, the pawn on a square is known to have made at least.
@@ -100,11 +81,11 @@ fn is_news(homes: SquareSet, s: Square, number: u8) -> bool
 }
 
 /// The line of where he began, if it is news.
-fn line_if(news: bool, s: Square, homes: SquareSet, number: u8) -> Option<Line>
-    ensures { result ≡ cond news (Some (PawnLine s homes number)) None }
+fn line_if(news: bool, s: Square, homes: SquareSet, number: u8, exact: bool) -> Option<Line>
+    ensures { result ≡ cond news (Some (PawnLine s homes number exact)) None }
 {
     if news {
-        Some(Line::Pawn(s, homes, number))
+        Some(Line::Pawn(s, homes, number, exact))
     } else {
         None
     }
@@ -117,8 +98,9 @@ fn told_pawn(query: &Query, ledger: &Ledger, s: Square) -> Option<Line>
 {
     let homes = homes_left(query, ledger, s);
     let number = most_taken(query, ledger, s);
+    let exact = is_known(query, ledger, &Fact::TookAtMost(s, number));
     let news = is_news(homes, s, number);
-    line_if(news, s, homes, number)
+    line_if(news, s, homes, number, exact)
 }
 
 /// The line of the pawn on a square.

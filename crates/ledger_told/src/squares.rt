@@ -1,8 +1,8 @@
 ghost use Rattle.std.specs.Prelude.{◌≡◌, ◌↔◌, IsTrue};
 ghost use Rattle.board_base.specs.Board.{array_of, at};
-ghost use Rattle.ledger_told.specs.Due.{IsManLine, IsSquareLine, are_all_taken, fall_line, is_moved_man, is_news, is_one_of_two, manner_of, mirrored, most_made, promotion_line, taker_of, tells_manner, tells_taker, told_manner};
+ghost use Rattle.ledger_told.specs.Due.{IsManLine, IsPromotedMan, IsSquareLine, are_all_taken, fall_line, is_moved_man, is_news, is_one_of_two, manner_of, mirrored, most_made, promotion_line, taker_of, tells_manner, tells_taker, told_manner};
 
-use crate::pawns::pawn_line;
+use crate::pawns::{homes_left, pawn_line};
 use crate::topics::Topic;
 use crate::wholes::{all_taken, most_made};
 use board_base::{Board, Colour, Kind, Square, SquareSet, array_of, is_a, is_of, is_the};
@@ -46,6 +46,25 @@ fn man_line(query: &Query, ledger: &Ledger, side: Colour, s: Square) -> Option<L
         }
     }
     None
+}
+
+/// Whether the man on a square is an officer of this side who is known to have begun as a pawn.
+fn is_promoted_man(query: &Query, ledger: &Ledger, side: Colour, s: Square) -> bool
+    ensures { IsTrue result ↔ IsPromotedMan query.now ledger.now side s }
+{
+    let place = query.board.at(s);
+    is_of(side, place) && !is_a(Kind::Pawn, place) && is_known(query, ledger, &Fact::Promoted(s))
+}
+
+/// The line of the officer on a square who began as a pawn.
+fn officer_line(query: &Query, ledger: &Ledger, side: Colour, s: Square) -> Option<Line>
+    ensures { IsSquareLine (Topic.Officers side) query.now ledger.now s result }
+{
+    if is_promoted_man(query, ledger, side, s) {
+        Some(Line::Promoted(s, homes_left(query, ledger, s)))
+    } else {
+        None
+    }
 }
 
 /// Who took the man of a home, as far as it is known.
@@ -166,6 +185,7 @@ pub(crate) fn square_line(topic: Topic, query: &Query, ledger: &Ledger, s: Squar
     match topic {
         Topic::Pawns(side) => pawn_line(query, ledger, side, s),
         Topic::Men(side) => man_line(query, ledger, side, s),
+        Topic::Officers(side) => officer_line(query, ledger, side, s),
         Topic::Falls => fall_line(query, ledger, s),
         Topic::Promotions => promotion_line(query, ledger, s),
     }

@@ -1,9 +1,9 @@
 ghost use Rattle.std.specs.Prelude.{List, ℕ, ◌≡◌, ◌++◌, IfOk, OnOk};
 ghost use Rattle.ledger_lines.specs.declared.lines.Line.{Line as ALine};
-ghost use Rattle.ledger_told.specs.Told.{TellsAll, TellsFirst, TellsLedger, TellsWhole, lines_text, one_line, whole_text};
+ghost use Rattle.ledger_told.specs.Told.{TellsAll, TellsAmong, TellsFirst, TellsLedger, TellsWhole, lines_text, one_line, whole_text};
 
 use crate::squares::square_line;
-use crate::topics::{Group, Topic, Whole};
+use crate::topics::{Breed, Group, Topic, Whole};
 use crate::wholes::whole_line;
 use board_base::{Colour, Square, SquareSet};
 use cage_rules::greatest_as_array;
@@ -63,6 +63,36 @@ fn push_each(
     Ok(())
 }
 
+/// Adds how many officers of a side began as pawns, kind by kind.
+fn push_among(
+    side: Colour,
+    query: &Query,
+    ledger: &Ledger,
+    set: SquareSet,
+    out: &mut Vec<u8>,
+) -> Result<(), AllocError>
+    ensures { OnOk result ((xs : List ALine) × TellsAmong side query.now ledger.now set xs
+        × (out.new.items ≡ out.old.items ++ lines_text xs)) }
+{
+    push_whole(Whole::Among(side, Breed::Queens), query, ledger, set, out)?;
+    push_whole(Whole::Among(side, Breed::Rooks), query, ledger, set, out)?;
+    push_whole(
+        Whole::Among(side, Breed::DarkBishops),
+        query,
+        ledger,
+        set,
+        out,
+    )?;
+    push_whole(
+        Whole::Among(side, Breed::LightBishops),
+        query,
+        ledger,
+        set,
+        out,
+    )?;
+    push_whole(Whole::Among(side, Breed::Knights), query, ledger, set, out)
+}
+
 /// Adds the lines that are due, in order.
 fn push_all(
     query: &Query,
@@ -74,6 +104,8 @@ fn push_all(
         × (out.new.items ≡ out.old.items ++ lines_text xs)) }
 {
     push_whole(Whole::Unmoved, query, ledger, set, out)?;
+    push_whole(Whole::Lacks(Colour::White), query, ledger, set, out)?;
+    push_whole(Whole::Lacks(Colour::Black), query, ledger, set, out)?;
     push_whole(Whole::Captures(Colour::White), query, ledger, set, out)?;
     push_whole(Whole::Captures(Colour::Black), query, ledger, set, out)?;
     push_each(Topic::Pawns(Colour::White), query, ledger, out)?;
@@ -82,13 +114,18 @@ fn push_all(
     push_each(Topic::Men(Colour::Black), query, ledger, out)?;
     push_whole(Whole::Those(Group::Ahead), query, ledger, set, out)?;
     push_whole(Whole::Those(Group::Original), query, ledger, set, out)?;
+    push_each(Topic::Officers(Colour::White), query, ledger, out)?;
+    push_each(Topic::Officers(Colour::Black), query, ledger, out)?;
+    push_among(Colour::White, query, ledger, set, out)?;
+    push_among(Colour::Black, query, ledger, set, out)?;
     push_each(Topic::Falls, query, ledger, out)?;
     push_each(Topic::Promotions, query, ledger, out)
 }
 
-/// Adds the lines of the query's ledger that say more than the board does: of who never moved, of the captures of White's pawns and of
-/// Black's, of where pawns, rooks and knights began, of the pawns who never left their files, of the officers who began as no pawns, of who fell,
-/// and of who was promoted. It adds nothing if the ledger contradicts itself, so that no game leads to the query.
+/// Adds the lines of the query's ledger that say more than the board does: of who never moved, of the men who are lacking, of the captures of
+/// White's pawns and of Black's, of where pawns, rooks and knights began, of the pawns who never left their files, of the officers who began as
+/// no pawns, of those who did, of who fell, and of who was promoted. It adds nothing if the ledger contradicts itself, so that no game leads to
+/// the query.
 pub fn tell_ledger(query: &Query, out: &mut Vec<u8>) -> Result<(), AllocError>
     ensures { OnOk result ((own : List ℕ) × TellsLedger query.now own
         × (out.new.items ≡ out.old.items ++ own)) }

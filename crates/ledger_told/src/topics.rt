@@ -9,15 +9,29 @@ pub enum Group {
     Original,
 }
 
+/// Officers of one kind, the bishops told apart by the colour of the squares on which they stand.
+#[derive(Clone, Copy, PartialEq, Eq, Debug)]
+pub enum Breed {
+    Queens,
+    Rooks,
+    DarkBishops,
+    LightBishops,
+    Knights,
+}
+
 /// Of what one line tells.
 #[derive(Clone, Copy, PartialEq, Eq, Debug)]
 pub enum Whole {
     /// Who never moved.
     Unmoved,
+    /// Which men this side lacks.
+    Lacks(Colour),
     /// How many captures this side's pawns made.
     Captures(Colour),
     /// Of whom this holds.
     Those(Group),
+    /// How many of this side's men of a kind began as pawns, though it isn't known which.
+    Among(Colour, Breed),
 }
 
 /// Of what lines tell square by square.
@@ -27,6 +41,8 @@ pub enum Topic {
     Pawns(Colour),
     /// Where this side's rooks and knights began.
     Men(Colour),
+    /// Which of this side's officers began as pawns, and where.
+    Officers(Colour),
     /// Who fell, and how.
     Falls,
     /// Who was promoted.

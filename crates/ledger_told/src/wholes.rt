@@ -1,11 +1,12 @@
 ghost use Rattle.std.specs.Prelude.{◌≡◌, ◌↔◌, ◌<◌, ◌≤◌, ℕ, IsTrue, cond, slice_set, true};
 ghost use Rattle.board_base.specs.Board.{is_in, is_like};
-ghost use Rattle.ledger_told.specs.Due.{IsChosen, IsGroupLine, IsUnmovedLine, IsWhole, are_all_taken, captures_line, is_ahead, is_promotable, most_made, of_group};
+ghost use Rattle.ledger_told.specs.Due.{IsChosen, IsGroupLine, IsUnmovedLine, IsWhole, are_all_taken, captures_line, is_ahead, is_promotable, is_somebody, lacks_line, most_dark, most_made, of_group, takings, told_dark};
 
+use crate::breeds::among_line;
 use crate::topics::{Group, Whole};
 use board_base::{Colour, Kind, Man, Square, SquareSet, array_of, is_a, is_the};
-use ledger_lines::{Fact, Line, counts_of, is_known, lacking};
-use ledger_search::Ledger;
+use ledger_lines::{Fact, Line, Losses, Takings, counts_of, is_known, lacking, losses_of};
+use ledger_search::{Ledger, Range};
 use men_account::counts;
 use query_base::Query;
 
@@ -15,6 +16,30 @@ fn unmoved_line(set: SquareSet) -> Option<Line>
 {
     if set.next_from(0) < 64 {
         Some(Line::Unmoved(set))
+    } else {
+        None
+    }
+}
+
+/// Whether somebody is lacking.
+fn is_somebody(losses: &Losses) -> bool
+    ensures { result ≡ is_somebody losses.now }
+{
+    losses.queens > 0
+        || losses.rooks > 0
+        || losses.dark_bishops > 0
+        || losses.light_bishops > 0
+        || losses.knights > 0
+        || losses.pawns > 0
+}
+
+/// The line of the men whom a side lacks, if it lacks somebody.
+fn lacks_line(query: &Query, side: Colour) -> Option<Line>
+    ensures { result ≡ lacks_line query.now side }
+{
+    let losses = losses_of(&array_of(query.odds), &query.board, side);
+    if is_somebody(&losses) {
+        Some(Line::Lacks(side, losses))
     } else {
         None
     }
@@ -40,15 +65,53 @@ pub(crate) fn all_taken(query: &Query, ledger: &Ledger, side: Colour) -> bool
     lacking(query, side.other()) <= counts_of(ledger, side).all.least
 }
 
+/// How many captures they made on dark squares at most.
+fn most_dark(query: &Query, ledger: &Ledger, side: Colour) -> u8
+    ensures { result ≡ most_dark query.now ledger.now side }
+{
+    let made = most_made(query, ledger, side);
+    let most = counts_of(ledger, side).dark.most;
+    if most < made && most < 16 { most } else { made }
+}
+
+/// How many they made there, if that says more than how many they made in all.
+fn told_dark(query: &Query, ledger: &Ledger, side: Colour) -> Option<Range>
+    ensures { result ≡ told_dark query.now ledger.now side }
+{
+    let counts = counts_of(ledger, side);
+    let least = counts.dark.least;
+    let most = most_dark(query, ledger, side);
+    if counts.all.least > 0 && (least > 0 || most < most_made(query, ledger, side)) {
+        Some(Range { least, most })
+    } else {
+        None
+    }
+}
+
+/// What is told of their captures.
+fn takings(query: &Query, ledger: &Ledger, side: Colour) -> Takings
+    ensures { result ≡ takings query.now ledger.now side }
+{
+    let counts = counts_of(ledger, side);
+    let least = counts.all.least;
+    let most = most_made(query, ledger, side);
+    let least_on = counts.least_on;
+    Takings {
+        all: Range { least, most },
+        lacking: lacking(query, side.other()),
+        dark: told_dark(query, ledger, side),
+        least_on,
+    }
+}
+
 /// The line of the captures of a side's pawns.
 fn captures_line(query: &Query, ledger: &Ledger, side: Colour) -> Option<Line>
     ensures { result ≡ captures_line query.now ledger.now side }
 {
     let least = counts_of(ledger, side).all.least;
     let most = most_made(query, ledger, side);
-    let lacking = lacking(query, side.other());
-    if least > 0 || most < lacking {
-        Some(Line::Captures(side, least, most, lacking))
+    if least > 0 || most < lacking(query, side.other()) {
+        Some(Line::Captures(side, takings(query, ledger, side)))
     } else {
         None
     }
@@ -151,7 +214,9 @@ pub(crate) fn whole_line(
 {
     match whole {
         Whole::Unmoved => unmoved_line(set),
+        Whole::Lacks(side) => lacks_line(query, side),
         Whole::Captures(side) => captures_line(query, ledger, side),
         Whole::Those(group) => group_line(group, query, ledger, set),
+        Whole::Among(side, breed) => among_line(query, ledger, side, breed),
     }
 }

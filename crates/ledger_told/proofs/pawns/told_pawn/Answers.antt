@@ -10,5 +10,7 @@ returns c = record {
   number = c.most_taken-number.result;
   took = c.most_taken-number.ensures.took;
   most = c.most_taken-number.ensures.most;
-  line_is = c.line_if.ensures ∙ ap (λ (b : Bool). cond b (Some (PawnLine c.args.s c.homes_left-homes.result c.most_taken-number.result)) None) c.is_news-news.ensures;
+  exact = c.is_known-exact.result;
+  exact_is = c.is_known-exact.ensures;
+  line_is = c.line_if.ensures ∙ ap (λ (b : Bool). cond b (Some (PawnLine c.args.s c.homes_left-homes.result c.most_taken-number.result c.is_known-exact.result)) None) c.is_news-news.ensures;
 }
