@@ -1,5 +1,5 @@
 -- What the searches for a proof of a claim come to.
-use Rattle.std.specs.Prelude.{ℕ, ◌≡◌, ◌≤◌, ◌<◌, Bool, true, false, List, []}
+use Rattle.std.specs.Prelude.{ℕ, ◌≡◌, ◌≤◌, ◌<◌, ◌⊎◌, Bool, true, false, List, []}
 use Rattle.board_base.specs.declared.moves.Move.{Move}
 use Rattle.query_base.specs.Asked.{Asked}
 use Rattle.query_base.specs.Reach.{Contradicts, Holds}
@@ -8,6 +8,7 @@ use Rattle.query_base.specs.declared.claims.Claim.{Claim}
 use Rattle.price_search.specs.FlatPrices.{FlatPricesSupport}
 use Rattle.retro_search.specs.Costs.{IsCost}
 use Rattle.retro_search.specs.Outcomes.{HasProof}
+use Rattle.retro_search.specs.Plain.{HasPlainSketch}
 use Rattle.retro_search.specs.Refutable.{IsRefutable}
 use Rattle.retro_search.specs.SearchSizes.{IsLargeSearch}
 use Rattle.retro_search.specs.Unsettled.{WhereRefutable}
@@ -21,18 +22,22 @@ pub record IsProvedAt (q : Asked) (claim : Claim) (depth height : ℕ) : Type 0 
   pub proof : HasProof (target q claim) height depth
   pub holds : Holds claim q
 
--- where any query may be visited, flat prices don't support the claim's target
-abbrev pub LacksFlatPrices : Asked → Claim → ℕ → Type 0
-LacksFlatPrices q claim nodes = 1 ≤ nodes → FlatPricesSupport (target q claim) → ⊥
+-- flat prices support the query, or one node of a sketch refutes it without exact files, prices and marks
+abbrev pub HasPlainReason : Asked → Type 0
+HasPlainReason q = FlatPricesSupport q ⊎ HasPlainSketch q
+
+-- where any query may be visited, the claim's target has no plain reason
+abbrev pub LacksPlainReasons : Asked → Claim → ℕ → Type 0
+LacksPlainReasons q claim nodes = 1 ≤ nodes → HasPlainReason (target q claim) → ⊥
 
 -- What one search to a depth comes to: it proves the claim; or rule lines don't refute its target at the depth; or the whole search to
 -- the depth is larger than the nodes, and wherever rule lines refute the target, there or at a lower depth, its cost is above them. What
--- isn't proved lacks flat prices.
+-- isn't proved lacks plain reasons.
 abbrev pub IsOutcome : Asked → Claim → ℕ → ℕ → Outcome → Type 0
 IsOutcome q claim depth nodes (outcome.Refuted height) = IsProvedAt q claim depth height
-IsOutcome q claim depth nodes outcome.Open = (IsRefutable (target q claim) depth [] → ⊥) × LacksFlatPrices q claim nodes
+IsOutcome q claim depth nodes outcome.Open = (IsRefutable (target q claim) depth [] → ⊥) × LacksPlainReasons q claim nodes
 IsOutcome q claim depth nodes outcome.Spent =
-    WhereRefutable (target q claim) depth (λ n. nodes < n) × LacksFlatPrices q claim nodes × IsLargeSearch (target q claim) depth nodes
+    WhereRefutable (target q claim) depth (λ n. nodes < n) × LacksPlainReasons q claim nodes × IsLargeSearch (target q claim) depth nodes
 
 -- the search refuted the target
 abbrev pub is_refuted : Outcome → Bool
@@ -45,12 +50,12 @@ abbrev pub IsUnprovedBelow : Asked → Claim → ℕ → ℕ → Type 0
 IsUnprovedBelow q claim nodes depth =
     (k n : ℕ) → k < depth → IsRefutable (target q claim) k [] → IsCost (target q claim) k [] n → nodes < n
 
--- The claim is proved at this depth, which is at most the greatest, and the least at which the search proves it: 0 where flat prices
--- support its target.
+-- The claim is proved at this depth, which is at most the greatest, and the least at which the search proves it: 0 where its target
+-- has a plain reason.
 pub record IsProof (q : Asked) (claim : Claim) (most nodes depth : ℕ) : Type 0 where
   pub proved : IsProvedAt q claim most depth
   pub least : IsUnprovedBelow q claim nodes depth
-  pub priced : 1 ≤ nodes → FlatPricesSupport (target q claim) → depth ≡ 0
+  pub plain : 1 ≤ nodes → HasPlainReason (target q claim) → depth ≡ 0
 
 -- some game contradicts the claim
 abbrev pub IsContradicted : Claim → Asked → Type 0
@@ -58,13 +63,13 @@ IsContradicted claim q = (g : List Move) × Contradicts g claim q
 
 -- What was found of a claim about a query. Where it is countered, some game contradicts it. Where it is open, rule lines don't refute its
 -- target at the greatest depth nor at any lower one; where the search was spent, the whole search is larger than the nodes, and the
--- target's cost is above them wherever rule lines refute it. What isn't proved lacks flat prices.
+-- target's cost is above them wherever rule lines refute it. What isn't proved lacks plain reasons.
 abbrev pub IsFound : Asked → Claim → ℕ → ℕ → Finding → Type 0
 IsFound q claim most nodes (Proved depth) = IsProof q claim most nodes depth
 IsFound q claim most nodes Countered = IsContradicted claim q
-IsFound q claim most nodes Open = ((k : ℕ) → k ≤ most → IsRefutable (target q claim) k [] → ⊥) × LacksFlatPrices q claim nodes
+IsFound q claim most nodes Open = ((k : ℕ) → k ≤ most → IsRefutable (target q claim) k [] → ⊥) × LacksPlainReasons q claim nodes
 IsFound q claim most nodes Spent =
-    WhereRefutable (target q claim) most (λ n. nodes < n) × LacksFlatPrices q claim nodes × IsLargeSearch (target q claim) most nodes
+    WhereRefutable (target q claim) most (λ n. nodes < n) × LacksPlainReasons q claim nodes × IsLargeSearch (target q claim) most nodes
 
 -- a proof was found
 abbrev pub is_proved : Finding → Bool

@@ -69,6 +69,7 @@ pub fn seek(
     ensures unlooked { IfOk result (λ finding. finding ≢ Finding.Countered) }
 {
     deeper_searches_refute_more();
+    searchers.allow_large();
     let outcome = search_at(searchers, subject, claim)?;
     match outcome {
         Outcome::Refuted { height } => {

@@ -1,5 +1,6 @@
 pub mod Settlements
 pub use Rattle.retro_search.specs.Answers
+pub use Rattle.retro_search.specs.Plain
 pub use Rattle.retro_search.specs.Lone
 pub use Rattle.retro_search.specs.SearchSizes
 pub use Rattle.retro_search.specs.Unsettled

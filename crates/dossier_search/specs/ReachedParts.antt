@@ -11,6 +11,7 @@ use Rattle.line_claims.specs.declared.claims.LineClaim.{LineClaim}
 use Rattle.price_search.specs.FlatPrices.{FlatPricesSupport}
 use Rattle.retro_search.specs.Answers.{IsProofOf}
 use Rattle.retro_search.specs.Lone.{IsAfforded, IsDear}
+use Rattle.retro_search.specs.Plain.{HasPlainSketch}
 use Rattle.retro_search.specs.Refutable.{IsRefutable}
 
 -- what a game reaches exactly where it contradicts the part
@@ -25,6 +26,10 @@ IsPartRefutable depth part = IsRefutable (part_target part) depth []
 abbrev pub IsPartPriced : Claim × Asked → Type 0
 IsPartPriced part = FlatPricesSupport (part_target part)
 
+-- one node of a sketch shows that no game comes to the part's target, without exact files, prices and marks
+abbrev pub IsPartSketched : Claim × Asked → Type 0
+IsPartSketched part = HasPlainSketch (part_target part)
+
 -- a certificate of at most 500,000 nodes, which goes back no further than the depth, proves the part
 abbrev pub IsPartProved : ℕ → Claim × Asked → Type 0
 IsPartProved depth part = (cert : Certificate) × IsProofOf depth cert part.0 part.1
@@ -33,15 +38,17 @@ IsPartProved depth part = (cert : Certificate) × IsProofOf depth cert part.0 pa
 abbrev pub IsPartAfforded : ℕ → ℕ → Claim × Asked → Type 0
 IsPartAfforded depth nodes part = IsAfforded depth nodes part.0 part.1 ⊎ IsPartProved 0 part
 
--- rule lines don't refute the part's target at the depth, and flat prices don't support it
+-- rule lines don't refute the part's target at the depth, nor does one node of a sketch, and flat prices don't support it
 pub record IsPartOpen (depth : ℕ) (part : Claim × Asked) : Type 0 where
   pub unrefuted : IsPartRefutable depth part → ⊥
   pub unpriced : IsPartPriced part → ⊥
+  pub unsketched : IsPartSketched part → ⊥
 
--- the part's target costs more than the nodes, and flat prices don't support it
+-- the part's target costs more than the nodes, one node of a sketch doesn't refute it, and flat prices don't support it
 pub record IsPartDear (depth nodes : ℕ) (part : Claim × Asked) : Type 0 where
   pub dear : IsDear depth nodes part.0 part.1
   pub unpriced : IsPartPriced part → ⊥
+  pub unsketched : IsPartSketched part → ⊥
 
 -- The part with this number, counted from 1, is as P says, and each part before it is proved.
 pub record IsReachedPart (depth : ℕ) (P : Claim × Asked → Type 0) (claim : LineClaim) (q : Asked) (number : ℕ) : Type 0 where

@@ -3,23 +3,30 @@ ghost use Rattle.cert_text.specs.Certificate.{HasText, IsTextOf};
 ghost use Rattle.cert_text.specs.ClaimLines.{promotes_well};
 ghost use Rattle.cert_text.specs.SeenCert.{cert_of};
 ghost use Rattle.retro_search.specs.Answers.{IsShort};
-ghost use Rattle.dossier_search.specs.ReachedParts.{IsPartDear, IsPartOpen, IsPartPriced};
+ghost use Rattle.retro_search.specs.declared.runs.Reasons.TheVariants.{All};
+ghost use Rattle.dossier_search.specs.ReachedParts.{IsPartDear, IsPartOpen, IsPartPriced, IsPartSketched};
 ghost use Rattle.dossier_search.specs.PartAnswers.{IfDear, IfOpen, IfProof, IsPartProof, IsPartText};
 
 use board_base::Memory;
 use cert_text::{Cert, write_cert};
 use query_base::{Claim, Query};
-use retro_search::{Found, Limits, Reasons, Searcher, solve};
+use retro_search::{Found, LARGE, Limits, Reasons, SMALL, Searcher, SketchLimits, solve};
 use std::alloc::Global;
+
+/// How many small searches for a sketch may find nothing.
+const SMALL_FAILURES: u32 = 100;
+
+/// How many large ones may.
+const LARGE_FAILURES: u32 = 10;
 
 /// What the search of one part comes to.
 #[derive(Drop)]
 pub(crate) enum PartAnswer {
     /// The text of a certificate that proves it.
     Proved(Vec<u8>),
-    /// Rule lines don't refute its target at the depth, and no prices were found.
+    /// Rule lines don't refute its target at the depth, and neither prices nor sketches were found.
     Open,
-    /// To prove it by rule lines more queries would have to be visited than were allowed, and no prices were found.
+    /// To prove it by rule lines more queries would have to be visited than were allowed, and neither prices nor sketches were found.
     Dear,
 }
 
@@ -35,7 +42,53 @@ fn cert_bytes(alloc: Global, cert: &Cert) -> Result<Vec<u8>, Memory>
     Ok(text)
 }
 
-/// Searches for a certificate of the part by all reasons within these limits. None comes only where flat prices don't support its target.
+/// Searches for a certificate of the part with sketches, within these limits.
+fn solve_with(
+    alloc: Global,
+    searcher: &mut Searcher,
+    query: &Query,
+    claim: &Claim,
+    limits: Limits,
+    sketches: SketchLimits,
+    failures: u32,
+) -> Result<Option<Vec<u8>>, Memory>
+    requires unbarred { query.now.barred ≡ None }
+    requires promotion { IsTrue (promotes_well claim.now) }
+    requires all { searcher.old ≡ All }
+    requires some_failures { 1 ≤ failures }
+    ensures proof { IfOk result (λ found. IfSome found (λ text. IsPartText limits.depth text.items (claim.now, query.now))) }
+    ensures unsketched { IfOk result (λ found. found ≡ None → IsPartSketched (claim.now, query.now) → ⊥) }
+    ensures reasons { searcher.new ≡ searcher.old }
+{
+    match searcher.settle_with_sketches(query, claim, limits, sketches, failures)? {
+        Found::Proved(cert) => Ok(Some(cert_bytes(alloc, &cert)?)),
+        Found::Undecided(_) | Found::Countered(_) | Found::Spent { .. } => Ok(None),
+    }
+}
+
+/// The same, first with small ones and then with large ones.
+fn solve_by_sketches(
+    alloc: Global,
+    searcher: &mut Searcher,
+    query: &Query,
+    claim: &Claim,
+    limits: Limits,
+) -> Result<Option<Vec<u8>>, Memory>
+    requires unbarred { query.now.barred ≡ None }
+    requires promotion { IsTrue (promotes_well claim.now) }
+    requires all { searcher.old ≡ All }
+    ensures proof { IfOk result (λ found. IfSome found (λ text. IsPartText limits.depth text.items (claim.now, query.now))) }
+    ensures unsketched { IfOk result (λ found. found ≡ None → IsPartSketched (claim.now, query.now) → ⊥) }
+{
+    let small = solve_with(alloc, searcher, query, claim, limits, SMALL, SMALL_FAILURES)?;
+    if small.is_some() {
+        return Ok(small);
+    }
+    solve_with(alloc, searcher, query, claim, limits, LARGE, LARGE_FAILURES)
+}
+
+/// Searches for a certificate of the part by all reasons within these limits, with sketches only if it stays open without. None comes only
+/// where flat prices don't support its target, and one node of a sketch doesn't refute it.
 fn solve_by_all(
     alloc: Global,
     query: &Query,
@@ -46,11 +99,16 @@ fn solve_by_all(
     requires promotion { IsTrue (promotes_well claim.now) }
     ensures proof { IfOk result (λ found. IfSome found (λ text. IsPartText limits.depth text.items (claim.now, query.now))) }
     ensures unpriced { IfOk result (λ found. found ≡ None → IsPartPriced (claim.now, query.now) → ⊥) }
+    ensures unsketched { IfOk result (λ found. found ≡ None → IsPartSketched (claim.now, query.now) → ⊥) }
 {
     let mut searcher = Searcher::new(alloc, Reasons::All);
     match searcher.settle(query, claim, limits)? {
         Found::Proved(cert) => Ok(Some(cert_bytes(alloc, &cert)?)),
-        Found::Undecided(_) | Found::Countered(_) | Found::Spent { .. } => Ok(None),
+        Found::Countered(_) => Ok(None),
+        Found::Undecided(_) | Found::Spent { .. } => {
+            let found = solve_by_sketches(alloc, &mut searcher, query, claim, limits)?;
+            Ok(found)
+        }
     }
 }
 

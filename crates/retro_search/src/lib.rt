@@ -28,5 +28,5 @@ pub use laws::{
 pub use limits::Limits;
 pub use runs::Reasons;
 pub use searchers::{Outcome, Searcher};
-pub use sketch_findings::{LARGE, SMALL, SketchLimits};
+pub use sketch_findings::{LARGE, QUICK, SMALL, SketchLimits};
 pub use solving::solve;

@@ -19,6 +19,8 @@ pub struct SketchQuest {
     pub limits: SketchLimits,
     /// How many more of them may find nothing.
     pub left: u32,
+    /// How many have found nothing, and looked at sketches that weren't closed at once.
+    pub vain: u32,
 }
 
 impl SketchQuest {
@@ -30,6 +32,7 @@ impl SketchQuest {
             desk: SketchDesk::new(alloc),
             limits: SMALL,
             left: 0,
+            vain: 0,
         }
     }
 
@@ -54,9 +57,13 @@ impl SketchQuest {
         if self.left == 0 {
             return Ok(None);
         }
+        let seen = self.desk.states();
         let found = find_body(alloc, query, self.limits, &mut self.desk)?;
         if found.is_none() {
             self.left -= 1;
+            if self.desk.states() != seen {
+                self.vain = self.vain.saturating_add(1);
+            }
         }
         Ok(found)
     }

@@ -1,21 +1,19 @@
-ghost use Rattle.std.specs.Prelude.{◌≡◌, ◌≤◌, ◌<◌, ◌↔◌, [], IfErr, IfOk, None};
+ghost use Rattle.std.specs.Prelude.{◌≡◌, ◌≤◌, ◌<◌, ◌↔◌, [], IfOk, None};
 ghost use Rattle.query_base.specs.Targets.{target};
 ghost use Rattle.price_search.specs.FlatPrices.{FlatPricesSupport};
 ghost use Rattle.sketch_findings.specs.Plain.{HasPlainSketch};
 ghost use Rattle.cert_text.specs.SeenCert.{cert_of};
 ghost use Rattle.retro_search.specs.Answers.{IfCountered, IfProved, IfSpentAt, IfUndecided, IfUnspent, IsAnswer, IsProved, IsShort};
-ghost use Rattle.retro_search.specs.Attempts.{ComesTo};
 ghost use Rattle.retro_search.specs.Outcomes.{HasProof, IfRefuted, IsRefuted};
 ghost use Rattle.retro_search.specs.Refutable.{IsRefutable};
+ghost use Rattle.retro_search.specs.Runs.{IsReady, IsSeeking};
 ghost use Rattle.retro_search.specs.SearchSizes.{IsLargeSearch};
-ghost use Rattle.retro_search.specs.Unrefuted.{IfTooLarge};
 ghost use Rattle.retro_search.specs.Unsettled.{IsAgainst, IsUnpriced, StaysUnsettled, WhereRefutable};
 
 use crate::answering::answer;
 use crate::answers::Found;
 use crate::attempts::refute;
 use crate::limits::Limits;
-use crate::refutations::Refutation;
 use crate::runs::{Reasons, Run};
 use crate::unrefuted::Unrefuted;
 use board_base::Memory;
@@ -36,6 +34,38 @@ pub enum Outcome {
     Open,
     /// All the nodes that were allowed were visited.
     Spent,
+}
+
+/// What a search for a refutation of the query within these limits comes to, by what the run has at hand.
+fn outcome_of(
+    alloc: Global,
+    query: &Query,
+    limits: Limits,
+    run: &mut Run,
+) -> Result<Outcome, Memory>
+    requires ready { IsReady run.old }
+    ensures refuted { IfOk result (λ outcome. IfRefuted outcome (λ height. HasProof query.now height limits.depth)) }
+    ensures low { run.old.reasons ≡ Reasons.RuleLines → IfOk result (λ outcome. IfRefuted outcome (λ height. IsRefutable query.now height [])) }
+    ensures open { IfOk result (λ outcome. outcome ≡ Outcome.Open → IsRefutable query.now limits.depth [] → ⊥) }
+    ensures spent { IfOk result (λ outcome. outcome ≡ Outcome.Spent → WhereRefutable query.now limits.depth (λ n. limits.nodes < n)) }
+    ensures large { IfOk result (λ outcome. outcome ≡ Outcome.Spent → IsLargeSearch query.now limits.depth limits.nodes) }
+    ensures never_weaker { IfOk result (λ outcome. WhereRefutable query.now limits.depth (λ n. n ≤ limits.nodes → IsRefuted outcome)) }
+    ensures priced { run.old.reasons ≡ Reasons.All → 1 ≤ limits.nodes → FlatPricesSupport query.now → IfOk result IsRefuted }
+    ensures sketched { run.old.reasons ≡ Reasons.All → IsSeeking run.old → HasPlainSketch query.now → IfOk result IsRefuted }
+    ensures exactly { run.old.reasons ≡ Reasons.RuleLines → IfOk result (λ outcome. (outcome ≡ Outcome.Spent → ⊥) → (IsRefuted outcome ↔ IsRefutable query.now limits.depth [])) }
+    ensures ready { IsReady run.new }
+    ensures on { run.new.memo.on ≡ run.old.memo.on }
+    ensures reasons { run.new.reasons ≡ run.old.reasons }
+{
+    match refute(alloc, query, limits, run) {
+        Ok(found) => Ok(Outcome::Refuted {
+            height: found.height,
+        }),
+        Err(Unrefuted::Open(_)) => Ok(Outcome::Open),
+        Err(Unrefuted::Spent) => Ok(Outcome::Spent),
+        Err(Unrefuted::TooLarge) => unreachable!(),
+        Err(Unrefuted::Memory) => Err(Memory),
+    }
 }
 
 /// A search for refutations that keeps those which lean on no query above them from one question to the next, and looks for the
@@ -69,14 +99,9 @@ impl Searcher {
         }
     }
 
-    /// Refutes the query within these limits; else says what stopped it.
-    fn refutation(&mut self, query: &Query, limits: Limits) -> Result<Refutation, Unrefuted>
-        ensures comes { ComesTo result query.now limits.depth limits.nodes self.old }
-        ensures small { IfErr result (λ why. IfTooLarge why ⊥) }
-        ensures reasons { self.new ≡ self.old }
-    {
-        let alloc = self.alloc;
-        refute(alloc, query, limits, &mut self.run)
+    /// How many searches for a sketch have found nothing, and looked at sketches that weren't closed at once.
+    pub fn vain_sketches(&self) -> u32 {
+        self.run.quest.vain
     }
 
     /// Searches for a refutation of the query within these limits: takes moves back from it. What earlier questions kept serves this one,
@@ -102,15 +127,36 @@ impl Searcher {
         ensures exactly { self.old ≡ Reasons.RuleLines → IfOk result (λ outcome. (outcome ≡ Outcome.Spent → ⊥) → (IsRefuted outcome ↔ IsRefutable query.now limits.depth [])) }
         ensures reasons { self.new ≡ self.old }
     {
-        match self.refutation(query, limits) {
-            Ok(found) => Ok(Outcome::Refuted {
-                height: found.height,
-            }),
-            Err(Unrefuted::Open(_)) => Ok(Outcome::Open),
-            Err(Unrefuted::Spent) => Ok(Outcome::Spent),
-            Err(Unrefuted::TooLarge) => unreachable!(),
-            Err(Unrefuted::Memory) => Err(Memory),
-        }
+        let alloc = self.alloc;
+        outcome_of(alloc, query, limits, &mut self.run)
+    }
+
+    /// The same by all reasons, and where neither rule lines nor prices refute a query, a sketch is sought within these limits, until so many
+    /// searches for one have found nothing. `Refuted` comes also wherever one node of a sketch refutes the query, without exact files,
+    /// prices and marks.
+    pub fn refute_with_sketches(
+        &mut self,
+        query: &Query,
+        limits: Limits,
+        sketches: SketchLimits,
+        failures: u32,
+    ) -> Result<Outcome, Memory>
+        requires all { self.old ≡ Reasons.All }
+        requires some_failures { 1 ≤ failures }
+        ensures refuted { IfOk result (λ outcome. IfRefuted outcome (λ height. HasProof query.now height limits.depth)) }
+        ensures open { IfOk result (λ outcome. outcome ≡ Outcome.Open → IsRefutable query.now limits.depth [] → ⊥) }
+        ensures spent { IfOk result (λ outcome. outcome ≡ Outcome.Spent → WhereRefutable query.now limits.depth (λ n. limits.nodes < n)) }
+        ensures large { IfOk result (λ outcome. outcome ≡ Outcome.Spent → IsLargeSearch query.now limits.depth limits.nodes) }
+        ensures never_weaker { IfOk result (λ outcome. WhereRefutable query.now limits.depth (λ n. n ≤ limits.nodes → IsRefuted outcome)) }
+        ensures priced { 1 ≤ limits.nodes → FlatPricesSupport query.now → IfOk result IsRefuted }
+        ensures sketched { HasPlainSketch query.now → IfOk result IsRefuted }
+        ensures reasons { self.new ≡ self.old }
+    {
+        let alloc = self.alloc;
+        self.run.quest.begin(sketches, failures);
+        let came = outcome_of(alloc, query, limits, &mut self.run);
+        self.run.quest.left = 0;
+        came
     }
 
     /// Searches for a certificate of the claim about the query within these limits, as `solve` does: takes moves back from the claim's
