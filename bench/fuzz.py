@@ -86,9 +86,14 @@ WORD = r"(?:proved \d+|countered|open|spent)"
 RIGHT = r"(?:lost [KQkq]|notboth [KQkq] [KQkq]|ep [a-h][1-8][a-h][1-8])"
 # A claim that isn't proved, with where the search for a proof of an open one got stuck.
 UNPROVED = lambda claim: rf"(?:(?:countered|spent) {claim}\n|open {claim}\n(?:stuck {claim}(?: {UNMOVE}){{0,8}}\n)?)"
+SQUARE = r"(?: [a-h][1-8])"
+LEDGER = (
+    rf"(?:unmoved{SQUARE}+\n)?(?:lacks [wb](?: q)*(?: r)*(?: bd)*(?: bl)*(?: n)*(?: p)*\n){{0,2}}(?:captures [wb] \d+ \d+ \d+(?: dark \d+ \d+)?(?: on [a-h]-(?:dark|light) \d+)*\n){{0,2}}(?:pawn{SQUARE} [a-h][1-8](?:,[a-h][1-8])* \d\+?\n)*(?:man{SQUARE}{{2}}\n)*(?:ahead{SQUARE}+\n)?(?:original{SQUARE}+\n)?(?:promoted{SQUARE} [a-h][1-8](?:,[a-h][1-8])*\n)*(?:among \d+{SQUARE}+\n)*"
+    rf"(?:fell{SQUARE}(?: pawn| officer)?(?: as-pawn| as-promoted)?\n)*(?:became{SQUARE}\n)*"
+)
 STUDY = (
     rf"(?:proved \d+ illegal\nother side {WORD} illegal\n|{UNPROVED('illegal')}(?:proved \d+ {RIGHT}\n|{UNPROVED(RIGHT)})*"
-    rf"(?:proved \d+ last {MOVE}\n)?(?:proved \d+ line {UNMOVE}(?: {UNMOVE}){{1,15}}\n)?left \d+ of \d+(?: {UNMOVE}){{0,24}}\n(?:possible [0-8] of [1-8](?: {UNMOVE}){{0,8}}\n)?(?:atleast \d+\n)?)"
+    rf"(?:proved \d+ last {MOVE}\n)?(?:proved \d+ line {UNMOVE}(?: {UNMOVE}){{1,15}}\n)?left \d+ of \d+(?: {UNMOVE}){{0,24}}\n(?:possible [0-8] of [1-8](?: {UNMOVE}){{0,8}}\n)?{LEDGER}(?:atleast \d+\n)?)"
 )
 FORMS |= {("study", 0): rf"{STUDY}(?:without demands\n{STUDY})?", ("--help", 0): r"usage:\n[^\0]+", ("--version", 0): r"retractor \d+\.\d+\n"}
 FORMS |= {("settle", status): FORMS["solve", status] for status in (0, 2, 4)}

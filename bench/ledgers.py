@@ -20,6 +20,8 @@ from chess_rules import CASTLINGS, Position, name
 FATES = ("stands", "stands_promoted", "taken", "struck", "taken_promoted", "struck_promoted")
 # Of each ledger: homes for each square, pawns who captured or didn't, fates; for each side three ranges and the least of each class.
 WIDTH, COUNTS = 64 + 2 + len(FATES), 3 * 2 + 16
+# The first words of the lines of a ledger that `study` writes.
+LINES = ("unmoved", "lacks", "captures", "pawn", "man", "ahead", "original", "promoted", "among", "fell", "became")
 
 
 class Labelled:
@@ -101,6 +103,17 @@ def false_facts(words, game):
     return false, facts
 
 
+def lacking_words(board, white):
+    """A word for each man whom a side lacks, by kinds, in the order of the line."""
+    men = {"q": 1, "r": 2, "bd": 1, "bl": 1, "n": 2, "p": 8}
+    for s in range(64):
+        letter = board[s].lower()
+        kind = letter + "dl"[class_of(s) % 2] if letter == "b" else letter
+        if board[s].isupper() == white and kind in men:
+            men[kind] -= 1
+    return [kind for kind, number in men.items() for _ in range(number)]
+
+
 def is_false_line(line, game):
     """Whether a line of the ledger that `study` tells isn't so of a game."""
     word, *words = line.split()
@@ -109,18 +122,28 @@ def is_false_line(line, game):
     board, homes = game.position.board, [game.labels.get(s) for s in squares]
     if word == "unmoved":
         return bool(game.touched & set(squares))
+    if word == "lacks":
+        return words[1:] != lacking_words(board, words[0] == "w")
     if word == "captures":
-        white, (least, most, lacking) = words[0] == "w", numbers
+        white, (least, most, lacking) = words[0] == "w", numbers[:3]
+        made = [class_of(s) for s in game.strikes[white]]
+        dark = [int(one) for one in words[words.index("dark") + 1 :][:2]] if "dark" in words else [0, 16]
+        several = [2 * "abcdefgh".index(words[i + 1][0]) + words[i + 1].endswith("light") for i, one in enumerate(words) if one == "on" for _ in range(int(words[i + 2]))]
         standing = sum(1 for s in range(64) if board[s] != "." and board[s].isupper() != white)
-        return not least <= len(game.strikes[white]) <= most or lacking != 16 - standing
+        few = any(several.count(k) > made.count(k) for k in several) or not dark[0] <= sum(k % 2 == 0 for k in made) <= dark[1]
+        return few or not least <= len(made) <= most or lacking != 16 - standing
     if word == "pawn":
-        return name(homes[0]) not in words[1].split(",") or len(game.captures[homes[0]]) < int(words[2][:-1])
+        return name(homes[0]) not in words[1].split(",") or (len(game.captures[homes[0]]) < int(words[2][:-1]) if words[2].endswith("+") else len(game.captures[homes[0]]) != int(words[2]))
     if word == "man":
         return homes[0] != squares[1]
     if word == "ahead":
         return any(home is None or bool(game.captures[home]) or board[s] not in "Pp" for s, home in zip(squares, homes))
     if word == "original":
         return any(home is None or home // 8 in (1, 6) for home in homes)
+    if word == "promoted":
+        return homes[0] // 8 not in (1, 6) or name(homes[0]) not in words[1].split(",") or board[squares[0]] in "Pp"
+    if word == "among":
+        return sum(home // 8 in (1, 6) for home in homes) < numbers[0]
     if word == "became":
         return squares[0] not in game.promoted
     home = squares[0]

@@ -12,7 +12,7 @@ asked:
 - `unmoves`, which has to list the last move;
 - `settle`, one claim that the game contradicts: that there is none, that another move was the last, that a right which the game holds is
   lost, that a capture en passant is legal which isn't. None may be proved, and none answered by a game that isn't legal;
-- `study`, at one ply of ten: no line may say what the game contradicts.
+- `study`, at one ply of ten: no line may say what the game contradicts. Those of the ledger are compared with where the men began.
 
 Without a number it goes through 2,000 positions.
 
@@ -33,6 +33,7 @@ import sys
 import time
 
 from chess_rules import Position, name
+from ledgers import LINES, Labelled, is_false_line
 from two_answers import changed, run
 from two_answers import tried as tried_diagram
 
@@ -125,6 +126,14 @@ def false_claims(position, moves, listed, rng):
             yield f"ep {move}", position.rights
 
 
+def labelled(moves):
+    """The game of these moves, with labels."""
+    game = Labelled()
+    for move in moves:
+        game.play(move)
+    return game
+
+
 def wrong_line(line, position, moves, legal_passings):
     """What a line of `study` says that the game contradicts."""
     words = line.split()
@@ -135,6 +144,8 @@ def wrong_line(line, position, moves, legal_passings):
         return bool(moves) and words[1] == words[3] and moves[-1].retraction() not in words[4:]
     if words[0] == "atleast":
         return int(words[1]) > len(moves)
+    if words[0] in LINES:
+        return is_false_line(line, labelled(moves))
     if words[0] != "proved":
         return False
     claim, *given = words[2:]

@@ -7,7 +7,7 @@ use Rattle.line_claims.specs.Due.{parts_due}
 use Rattle.line_claims.specs.Listing.{HasParts, LacksStep}
 use Rattle.line_claims.specs.declared.claims.LineClaim.{LineClaim}
 use Rattle.dossier_checker.specs.Proving.{IsDossier}
-use Rattle.dossier_search.specs.ReachedParts.{IsDearPart, IsFirstOpenPart, IsPartAfforded, IsPartPriced, IsPartProved, IsPartRefutable}
+use Rattle.dossier_search.specs.ReachedParts.{IsDearPart, IsFirstOpenPart, IsPartAfforded, IsPartPriced, IsPartProved, IsPartRefutable, IsPartSketched}
 use Rattle.question_text.specs.declared.faults.InputFault.{InputFault}
 use Rattle.command_answers.specs.Lines.{step_line}
 use Rattle.command_answers.specs.Plays.{number_line}
@@ -22,17 +22,21 @@ use Rattle.command_answers.specs.declared.statuses.Status.TheVariants as status
 abbrev pub AreProved : ℕ → LineClaim → Asked → Type 0
 AreProved depth claim q = All (IsPartProved depth) (parts_due claim q)
 
--- the part's target has a cost of at most so many nodes, or flat prices support it
+-- flat prices support the part's target, or one node of a sketch refutes it, without exact files, prices and marks
+abbrev pub IsPlainPart : Claim × Asked → Type 0
+IsPlainPart part = IsPartPriced part ⊎ IsPartSketched part
+
+-- the part's target has a cost of at most so many nodes, or there is such a plain reason
 abbrev pub IsCheapPart : ℕ → ℕ → Claim × Asked → Type 0
-IsCheapPart depth nodes part = IsCheap depth nodes part.0 part.1 ⊎ IsPartPriced part
+IsCheapPart depth nodes part = IsCheap depth nodes part.0 part.1 ⊎ IsPlainPart part
 
 -- so it is of the target of each part due
 abbrev pub AreCheapParts : ℕ → ℕ → LineClaim → Asked → Type 0
 AreCheapParts depth nodes claim q = All (IsCheapPart depth nodes) (parts_due claim q)
 
--- rule lines refute the part's target at the depth, or flat prices support it
+-- rule lines refute the part's target at the depth, or there is a plain reason
 abbrev pub IsClearPart : ℕ → Claim × Asked → Type 0
-IsClearPart depth part = IsPartRefutable depth part ⊎ IsPartPriced part
+IsClearPart depth part = IsPartRefutable depth part ⊎ IsPlainPart part
 
 -- so it is of the target of each part due
 abbrev pub AreClearParts : ℕ → LineClaim → Asked → Type 0
@@ -63,12 +67,12 @@ AnswersDossier depth nodes input ending text =
 abbrev pub StatesProvedLine : ℕ → List ℕ → Type 0
 StatesProvedLine depth input = (claim : LineClaim) × (q : Asked) × StatesLine input claim q × HasParts claim q × AreProved depth claim q
 
--- The input states a claim of several steps whose parts are defined. Rule lines refute the target of each at the depth, or flat prices
--- support it.
+-- The input states a claim of several steps whose parts are defined. Rule lines refute the target of each at the depth, or there is a plain
+-- reason.
 abbrev pub StatesClearLine : ℕ → List ℕ → Type 0
 StatesClearLine depth input = (claim : LineClaim) × (q : Asked) × StatesLine input claim q × HasParts claim q × AreClearParts depth claim q
 
--- The input states a claim of several steps whose parts are defined. The target of each has a cost of at most so many nodes, or flat prices
--- support it.
+-- The input states a claim of several steps whose parts are defined. The target of each has a cost of at most so many nodes, or there is a
+-- plain reason.
 abbrev pub StatesCheapLine : ℕ → ℕ → List ℕ → Type 0
 StatesCheapLine depth nodes input = (claim : LineClaim) × (q : Asked) × StatesLine input claim q × HasParts claim q × AreCheapParts depth nodes claim q

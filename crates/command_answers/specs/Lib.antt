@@ -26,6 +26,7 @@ pub use Rattle.diagram_study.specs.Studies as DiagramStudyStudies
 pub use Rattle.claim_search.specs.Settlements
 pub use Rattle.proof_prose.specs.Prose
 pub use Rattle.claim_search.specs.Answers
+pub use Rattle.claim_search.specs.Plain
 pub use Rattle.claim_search.specs.Refutable
 pub use Rattle.claim_search.specs.SearchSizes
 pub use Rattle.claim_search.specs.Lines as ClaimSearchLines

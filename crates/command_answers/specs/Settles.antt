@@ -10,6 +10,7 @@ use Rattle.cert_text.specs.Certificate.{Certificate, IsTextOf}
 use Rattle.price_search.specs.FlatPrices.{FlatPricesSupport}
 use Rattle.claim_search.specs.Settlements.{IsCounterable}
 use Rattle.claim_search.specs.Answers.{IsProofOf}
+use Rattle.claim_search.specs.Plain.{HasPlainSketch}
 use Rattle.claim_search.specs.SearchSizes.{IsLargeSearch}
 use Rattle.claim_search.specs.Unsettled.{IsUnpriced, StaysUnsettled, WhereRefutable}
 use Rattle.command_answers.specs.Limits.{most_bytes}
@@ -18,7 +19,7 @@ use Rattle.command_answers.specs.Solves.{countered_line, spent_line, undecided_l
 use Rattle.command_answers.specs.Statements.{IsNoStatement, States}
 use Rattle.question_text.specs.declared.faults.InputFault.{InputFault}
 use Rattle.command_answers.specs.declared.statuses.Status.{Status}
-use Rattle.command_answers.specs.declared.statuses.Status.TheVariants.{BadInput, Countered}
+use Rattle.command_answers.specs.declared.statuses.Status.TheVariants.{BadInput, Countered, Done}
 use Rattle.command_answers.specs.declared.statuses.Status.TheVariants as status
 
 -- The text is that of a certificate of the claim about the query, which proves it, goes back no further than the depth, and has at most
@@ -64,8 +65,9 @@ AnswersSettling depth nodes claim q status.Spent text = TellsSpentThere depth no
 AnswersSettling depth nodes claim q _ text = ⊥
 
 -- The status and the text with which `settle` answers these bytes. Where a search by rule lines alone comes to a game within the same depth
--- and nodes, as that of `solve` does, a game is told.
+-- and nodes, as that of `solve` does, a game is told. Where one node of a sketch refutes the target, without exact files, prices and marks, a
+-- certificate is.
 abbrev pub AnswersSettle : ℕ → ℕ → List ℕ → Status → List ℕ → Type 0
 AnswersSettle depth nodes input status text =
-    ((claim : Claim) × (q : Asked) × States input claim q × AnswersSettling depth nodes claim q status text × (IsCounterable depth nodes claim q → status ≡ Countered))
+    ((claim : Claim) × (q : Asked) × States input claim q × AnswersSettling depth nodes claim q status text × (IsCounterable depth nodes claim q → status ≡ Countered) × (HasPlainSketch (target q claim) → status ≡ Done))
     ⊎ ((why : InputFault) × IsNoStatement input why × (status ≡ BadInput) × (text ≡ fault_line why))

@@ -158,14 +158,14 @@ joined_found q but most nodes h Open plain found unproved proof =
     record {
       proved = record { proof = here; holds = λ g against. here.unreached g (contradiction-reaches g (claim_but but) q against) };
       least = λ k n below refutable cost. absurd (found.0 k (omega (arith, below, here.low)) refutable);
-      priced = λ some e. absurd (found.1 some e);
+      plain = λ some e. absurd (found.1 some e);
     }
 joined_found q but most nodes h Spent plain found unproved proof =
     let here : HasProof (target q (claim_but but)) h most = subst (λ (a : Asked). HasProof a h most) (target_but q but plain) proof in
     record {
       proved = record { proof = here; holds = λ g against. here.unreached g (contradiction-reaches g (claim_but but) q against) };
       least = λ k n below refutable cost. found.0 k n (omega (arith, below, here.low)) refutable cost;
-      priced = λ some e. absurd (found.1 some e);
+      plain = λ some e. absurd (found.1 some e);
     }
 
 pub all_none : (P : Unmove → Type 0) (left : List Unmove) → left ≡ [] → All P left

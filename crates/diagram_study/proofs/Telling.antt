@@ -21,6 +21,7 @@ use Rattle.diagram_study.specs.Pairs.{ArePairsFound}
 use Rattle.diagram_study.specs.Retractions.{HasLeft, TellsLast, one_move}
 use Rattle.diagram_study.specs.Forced.{AreForced, TellsForced, TellsSteps}
 use Rattle.diagram_study.specs.Possible.{TellsPossible}
+use Rattle.ledger_told.specs.Told.{TellsLedger}
 use Rattle.diagram_study.specs.Studies.{IsStudy, TellsAgain, TellsBehind, TellsLength, TellsMore, TellsOther, TellsPlain, TellsPosition, makes_demands, other_side, without_demands}
 use Rattle.diagram_study.specs.Texts.{capture_lines, castling_lines, left_line, other_line, pair_lines, plain_line}
 use Rattle.claim_findings.specs.Lines.{decided_lines, found_line, steps_line}
@@ -69,9 +70,9 @@ forced_untold q most nodes steps text forced few =
     ([], record { steps = steps; forced = forced; several = λ more. absurd (omega (arith, few, more)); few = λ _. refl }, sym (append-nil text))
 
 -- the texts of a study so far, one behind the other
-pub more_told : (q : Asked) (most nodes : ℕ) (by : List (List Move)) (found : List RightFound) (pairs : List PairFound) (left : List Unmove) (all : ℕ) (t u v w x y z a e : List ℕ) → AreFound q most nodes by found → ArePairsFound q most nodes by (open_castlings found) pairs → HasLeft q most nodes left → (1 ≤ most → left ≡ [] → Reaches [] q) → all ≡ length (unmoves q) → u ≡ t ++ castling_lines found
-    → v ≡ u ++ pair_lines pairs → w ≡ v ++ capture_lines found → Told (TellsLast q most nodes (one_move left)) w x → Told (TellsForced q most nodes) x y → z ≡ y ++ left_line left all → Told (TellsPossible q by left) z a → ((own : List ℕ) × (said : Option LengthText) × TellsLength q said own × (e ≡ a ++ own)) → Told (TellsMore q most nodes by) t e
-more_told q most nodes by found pairs left all t u v w x y z a e are pairs_are has array counted castlings twos captures last line lefts possible games =
+pub more_told : (q : Asked) (most nodes : ℕ) (by : List (List Move)) (found : List RightFound) (pairs : List PairFound) (left : List Unmove) (all : ℕ) (t u v w x y z a b e : List ℕ) → AreFound q most nodes by found → ArePairsFound q most nodes by (open_castlings found) pairs → HasLeft q most nodes left → (1 ≤ most → left ≡ [] → Reaches [] q) → all ≡ length (unmoves q) → u ≡ t ++ castling_lines found
+    → v ≡ u ++ pair_lines pairs → w ≡ v ++ capture_lines found → Told (TellsLast q most nodes (one_move left)) w x → Told (TellsForced q most nodes) x y → z ≡ y ++ left_line left all → Told (TellsPossible q by left) z a → Told (TellsLedger q) a b → ((own : List ℕ) × (said : Option LengthText) × TellsLength q said own × (e ≡ b ++ own)) → Told (TellsMore q most nodes by) t e
+more_told q most nodes by found pairs left all t u v w x y z a b e are pairs_are has array counted castlings twos captures last line lefts possible ledger games =
     let first = castling_lines found in
     let both = pair_lines pairs in
     let second = capture_lines found in
@@ -82,8 +83,9 @@ more_told q most nodes by found pairs left all t u v w x y z a e are pairs_are h
     let to_line = joins t (first ++ both ++ second ++ last.0) line.0 x y to_last line.2 in
     let to_left = joins t (first ++ both ++ second ++ last.0 ++ line.0) third y z to_line lefts in
     let to_possible = joins t (first ++ both ++ second ++ last.0 ++ line.0 ++ third) possible.0 z a to_left possible.2 in
-    let whole = joins t (first ++ both ++ second ++ last.0 ++ line.0 ++ third ++ possible.0) games.0 a e to_possible games.3 in (
-      first ++ both ++ second ++ last.0 ++ line.0 ++ third ++ possible.0 ++ games.0,
+    let to_ledger = joins t (first ++ both ++ second ++ last.0 ++ line.0 ++ third ++ possible.0) ledger.0 a b to_possible ledger.2 in
+    let whole = joins t (first ++ both ++ second ++ last.0 ++ line.0 ++ third ++ possible.0 ++ ledger.0) games.0 b e to_ledger games.3 in (
+      first ++ both ++ second ++ last.0 ++ line.0 ++ third ++ possible.0 ++ ledger.0 ++ games.0,
       record {
         found = found;
         rights = are;
@@ -98,10 +100,12 @@ more_told q most nodes by found pairs left all t u v w x y z a e are pairs_are h
         line_told = line.1;
         possible = possible.0;
         possible_told = possible.1;
+        ledger = ledger.0;
+        ledger_told = ledger.1;
         said = games.1;
         games = games.0;
         games_told = games.2;
-        text_is = ap (λ (n : ℕ). first ++ both ++ second ++ last.0 ++ line.0 ++ left_line left n ++ possible.0 ++ games.0) counted;
+        text_is = ap (λ (n : ℕ). first ++ both ++ second ++ last.0 ++ line.0 ++ left_line left n ++ possible.0 ++ ledger.0 ++ games.0) counted;
       },
       whole,
     )

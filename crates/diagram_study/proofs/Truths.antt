@@ -19,7 +19,10 @@ use Rattle.length_bound.specs.declared.texts.LengthText.{LengthText}
 use Rattle.line_claims.specs.declared.claims.LineClaim.{LineClaim}
 use Rattle.line_claims.specs.declared.claims.LineClaim.TheVariants.{Line, NotBoth}
 use Rattle.unmove_gen.specs.Listed.{unmoves}
-use Rattle.diagram_study.specs.Facts.{Fact, GoesBy, IsSo, IsTrueOf, SaysTrue, at_least, found, left, line_of, other, possible, steps, stuck}
+use Rattle.ledger_told.specs.Line.{Line as LedgerLine}
+use Rattle.ledger_told.specs.Told.{IsLineTrue, TellsLedger, lines_text, whole_text}
+use Rattle.ledger_told.proofs.Known.{all-true}
+use Rattle.diagram_study.specs.Facts.{AreClaimWords, Fact, GoesBy, IsSo, IsTrueOf, SaysOf, SaysTrue, at_least, found, known, left, line_of, other, possible, steps, stuck}
 use Rattle.claim_findings.specs.Findings.{IsContradicted, IsFound, is_proved}
 use Rattle.diagram_study.specs.Forced.{TellsForced}
 use Rattle.claim_findings.specs.Games.{AgreesWith}
@@ -27,7 +30,7 @@ use Rattle.diagram_study.specs.Possible.{TellsPossible}
 use Rattle.diagram_study.specs.Pairs.{IsPairFound}
 use Rattle.diagram_study.specs.Retractions.{TellsLast, one_move}
 use Rattle.diagram_study.specs.Rights.{IsRightFound}
-use Rattle.diagram_study.specs.Studies.{IsStudy, TellsAgain, TellsBehind, TellsLength, TellsMore, TellsPosition, makes_demands, other_side}
+use Rattle.diagram_study.specs.Studies.{IsStudy, TellsAgain, TellsBehind, TellsLength, TellsMore, TellsPosition, makes_demands, other_side, without_demands}
 use Rattle.diagram_study.specs.Texts.{capture_line, capture_lines, castling_line, castling_lines, left_line, pair_lines, plain_line}
 use Rattle.claim_findings.specs.Lines.{decided_lines, decided_steps, steps_words, stuck_line}
 use Rattle.claim_findings.specs.declared.findings.Finding.{Finding}
@@ -89,12 +92,12 @@ says_both q by a b s t = record {
 }
 
 -- the line behind an open claim
-says_stuck : (q : Asked) (by : List (List Move)) (words : List ℕ) (front : Option (List Unmove)) → Says q by (stuck_line words front)
-says_stuck q by words None = says_none q by [] refl
-says_stuck q by words (Some front) = says_one q by _ (stuck words front) tt tt refl
+says_stuck : (q : Asked) (by : List (List Move)) (words : List ℕ) (front : Option (List Unmove)) → AreClaimWords words → Says q by (stuck_line words front)
+says_stuck q by words None of_claim = says_none q by [] refl
+says_stuck q by words (Some front) of_claim = says_one q by _ (stuck words front) of_claim tt refl
 
 says_claim : (q : Asked) (claim : Claim) (most nodes : ℕ) (by : List (List Move)) (finding : Finding) (front : Option (List Unmove)) → IsFound q claim most nodes finding → AgreesWith by claim q finding → Says q by (decided_lines finding front claim)
-says_claim q claim most nodes by finding front is agrees = says_both q by _ _ (says_one q by _ (found finding claim) (found_so q claim most nodes finding is) agrees refl) (says_stuck q by (claim_words claim) front)
+says_claim q claim most nodes by finding front is agrees = says_both q by _ _ (says_one q by _ (found finding claim) (found_so q claim most nodes finding is) agrees refl) (says_stuck q by (claim_words claim) front (inl (claim, refl)))
 
 -- the lines of rights
 castling_says : (q : Asked) (most nodes : ℕ) (by : List (List Move)) (f : RightFound) (right : Right) → right ≡ f.right → IsRightFound q most nodes by f → Says q by (castling_line f.finding f.stuck right)
@@ -127,7 +130,7 @@ says_if q by false line text is own = says_none q by text is
 pair_says : (q : Asked) (most nodes : ℕ) (by : List (List Move)) (f : PairFound) → IsPairFound q most nodes by f → Says q by (decided_steps f.finding f.stuck (NotBoth f.first f.second))
 pair_says q most nodes by f is =
     let claim : LineClaim = NotBoth f.first f.second in
-    says_both q by _ _ (says_one q by _ (steps f.finding claim) (said_so f.finding _ _ is.holds is.countered) tt refl) (says_stuck q by (steps_words claim) f.stuck)
+    says_both q by _ _ (says_one q by _ (steps f.finding claim) (said_so f.finding _ _ is.holds is.countered) tt refl) (says_stuck q by (steps_words claim) f.stuck (inr (claim, refl)))
 
 pairs_say : (q : Asked) (most nodes : ℕ) (by : List (List Move)) (fs : List PairFound) → All (IsPairFound q most nodes by) fs → Says q by (pair_lines fs)
 unfolding pair_lines
@@ -159,16 +162,29 @@ possible_says q by us text told = elim (few_or_not q us) [
   | inr many ↦ says_none q by text (told.untold many)
 ]
 
+-- the lines of the ledger
+known_say : (q : Asked) (by : List (List Move)) (xs : List LedgerLine) → All (IsLineTrue q) xs → Says q by (lines_text xs)
+unfolding lines_text
+known_say q by [] all = says_none q by [] refl
+known_say q by (x ∷ xs) all =
+    says_both q by (whole_text x) (lines_text xs) (says_one q by (whole_text x) (known x) (All-head (IsLineTrue q) x xs all) tt refl) (known_say q by xs (All-tail (IsLineTrue q) x xs all))
+
+ledger_says : (q : Asked) (by : List (List Move)) (text : List ℕ) → TellsLedger q text → Says q by text
+ledger_says q by text told =
+    let all = all-true q text told in
+    subst (Says q by) (sym all.2) (known_say q by all.0 all.1)
+
 more_says : (q : Asked) (most nodes : ℕ) (by : List (List Move)) (text : List ℕ) → TellsMore q most nodes by text → Says q by text
 more_says q most nodes by text told =
     subst (Says q by) (sym told.text_is)
-    (says_both q by _ told.games (says_both q by _ told.possible (says_both q by _ (left_line told.left (length (unmoves q))) (says_both q by _ told.line (says_both q by _ told.last (says_both q by _ (capture_lines told.found) (says_both q by (castling_lines told.found) (pair_lines told.pairs)
+    (says_both q by _ told.games (says_both q by _ told.ledger (says_both q by _ told.possible (says_both q by _ (left_line told.left (length (unmoves q))) (says_both q by _ told.line (says_both q by _ told.last (says_both q by _ (capture_lines told.found) (says_both q by (castling_lines told.found) (pair_lines told.pairs)
     (castlings_say q most nodes by told.found told.rights.each) (pairs_say q most nodes by told.pairs told.pairs_found.each))
     (captures_say q most nodes by told.found told.rights.each))
     (last_says q most nodes by (one_move told.left) told.last told.last_told))
     (line_says q most nodes by told.line told.line_told))
     (says_one q by _ (left told.left (length (unmoves q))) tt tt refl))
     (possible_says q by told.left told.possible told.possible_told))
+    (ledger_says q by told.ledger told.ledger_told))
     (games_say q by told.said told.games told.games_told))
 
 behind_says : (q : Asked) (most nodes : ℕ) (by : List (List Move)) (finding : Finding) (text : List ℕ) → TellsBehind q most nodes by finding text → Says q by text
@@ -182,13 +198,18 @@ position_says q most nodes finding text told =
     subst (Says q told.by) (sym told.text_is)
     (says_both q told.by (decided_lines finding told.stuck Illegal) told.behind (says_claim q Illegal most nodes told.by finding told.stuck told.found told.agrees) (behind_says q most nodes told.by finding told.behind told.behind_told))
 
-again_is : (q : Asked) (most nodes : ℕ) (finding : Finding) (text : List ℕ) → TellsAgain q most nodes finding text → (text ≡ []) ⊎ ((more : List ℕ) × (text ≡ plain_line ++ more))
+-- the text of a position says what is so of it
+position_is_so : (q : Asked) (most nodes : ℕ) (finding : Finding) (text : List ℕ) → TellsPosition q most nodes finding text → SaysOf q text
+position_is_so q most nodes finding text told =
+    let says = position_says q most nodes finding text told in
+    record { facts = says.facts; true_ = says.all; games = told.by; agreed = says.agreed; text_is = says.is }
+
+again_is : (q : Asked) (most nodes : ℕ) (finding : Finding) (text : List ℕ) → TellsAgain q most nodes finding text → (text ≡ []) ⊎ ((more : List ℕ) × SaysOf (without_demands q) more × (text ≡ plain_line ++ more))
 again_is q most nodes finding text told = elim (test (is_proved finding && makes_demands q)) [
-  | inl demanded ↦ let t = told.0 demanded in inr (t.1, t.3)
+  | inl demanded ↦ let t = told.0 demanded in inr (t.1, position_is_so (without_demands q) most nodes t.0 t.1 t.2, t.3)
   | inr none ↦ inl (told.1 none)
 ]
 
 pub study_says : (q : Asked) (most nodes : ℕ) (text : List ℕ) → IsStudy q most nodes text → SaysTrue q text
 study_says q most nodes text s =
-    let own = position_says q most nodes s.finding s.own s.told in
-    record { facts = own.facts; true_ = own.all; games = s.told.by; agreed = own.agreed; behind = s.plain; text_is = s.text_is ∙ ap (λ (t : List ℕ). t ++ s.plain) own.is; plain = again_is q most nodes s.finding s.plain s.again }
+    record { own = s.own; said = position_is_so q most nodes s.finding s.own s.told; behind = s.plain; plain = again_is q most nodes s.finding s.plain s.again; text_is = s.text_is }

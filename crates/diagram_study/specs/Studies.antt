@@ -12,6 +12,7 @@ use Rattle.query_base.specs.declared.claims.Claim.TheVariants.{Illegal}
 use Rattle.length_bound.specs.Longest.{IsBest, longer_side, side_length}
 use Rattle.length_bound.specs.declared.texts.LengthText.{LengthText}
 use Rattle.unmove_gen.specs.Listed.{unmoves}
+use Rattle.ledger_told.specs.Told.{TellsLedger}
 use Rattle.claim_findings.specs.Ends.{IsStuck}
 use Rattle.claim_findings.specs.Findings.{IsFound, is_proved}
 use Rattle.diagram_study.specs.Rights.{AreFound, open_castlings}
@@ -40,8 +41,8 @@ TellsLength q (Some said) text = IsLength q said × (text ≡ length_line said.a
 
 -- What is told of a position that isn't proved to be illegal: what was found of the castlings that it seems to give and that aren't
 -- demanded, of each two of them that aren't proved to be lost, of captures en passant, of the last move and of those before it, which
--- retractions are left, with which of them games end, and how long games are. These games decide which claims are countered and which ends
--- are possible. Where a move may be taken back and no retraction is left, it is the array.
+-- retractions are left, with which of them games end, the lines of its ledger, and how long games are. These games decide which claims
+-- are countered and which ends are possible. Where a move may be taken back and no retraction is left, it is the array.
 pub record TellsMore (q : Asked) (most nodes : ℕ) (by : List (List Move)) (text : List ℕ) : Type 0 where
   pub found : List RightFound
   pub rights : AreFound q most nodes by found
@@ -56,10 +57,12 @@ pub record TellsMore (q : Asked) (most nodes : ℕ) (by : List (List Move)) (tex
   pub line_told : TellsForced q most nodes line
   pub possible : List ℕ
   pub possible_told : TellsPossible q by left possible
+  pub ledger : List ℕ
+  pub ledger_told : TellsLedger q ledger
   pub said : Option LengthText
   pub games : List ℕ
   pub games_told : TellsLength q said games
-  pub text_is : text ≡ castling_lines found ++ pair_lines pairs ++ capture_lines found ++ last ++ line ++ left_line left (length (unmoves q)) ++ possible ++ games
+  pub text_is : text ≡ castling_lines found ++ pair_lines pairs ++ capture_lines found ++ last ++ line ++ left_line left (length (unmoves q)) ++ possible ++ ledger ++ games
 
 -- The same board with the other side to move, at the same odds, with the same rights and the same clock demanded. The double step that
 -- an en passant square demands belongs to the side to move: it isn't demanded.

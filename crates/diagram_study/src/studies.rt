@@ -20,6 +20,7 @@ use board_base::{Castle, CastleSet};
 use claim_findings::{
     Finding, Games, Limits, Searchers, Subject, decide, push_decided, push_found, seek,
 };
+use ledger_told::tell_ledger;
 use length_bound::{longest, shown_lengths_hold};
 use query_base::{Claim, Query};
 use std::alloc::{AllocError, Global};
@@ -60,6 +61,7 @@ fn tell_more(
     tell_forced(searchers, subject, &seen.left, text)?;
     push_left(text, &seen.left, seen.all)?;
     tell_possible(searchers.alloc, games, &subject.query, &seen.left, text)?;
+    tell_ledger(&subject.query, text)?;
     tell_length(&subject.query, text)
 }
 
@@ -234,12 +236,12 @@ fn tell_again(
 }
 
 /// The study of the position: its text has a line for each fact. For each claim `most` moves are taken back at most, 0 to 64, and each
-/// search visits at most `nodes` queries, 1 to 500,000: by rule lines, and, where these settle nothing, by the balance of captures too. The
-/// query bars no move of its own.
+/// search visits at most `nodes` queries, 1 to 500,000: by rule lines, and, where these settle nothing, by the balance of captures and then
+/// by sketches too. The query bars no move of its own.
 ///
 /// - `proved D` before a claim says that it holds of every game, and that D is the least depth at which the search proves it, 0 where
-///   flat prices support its target; `open` that rule lines don't refute its target at `most` nor at any lower depth; `spent` that the
-///   whole search is larger than the nodes.
+///   flat prices support its target, or one node of a sketch refutes it without exact files, prices and marks; `open` that rule lines don't
+///   refute its target at `most` nor at any lower depth; `spent` that the whole search is larger than the nodes.
 /// - First comes what was found of the claim `illegal`. Where the search alone leaves that open, but refutes what is before each retraction,
 ///   it is proved all the same, at one more than the greatest depth there; but not with no move taken back, nor of the array. So is the
 ///   claim that a move was the last, where no other is left. Where `illegal` is proved, every claim about the position holds, so nothing more is
@@ -247,8 +249,8 @@ fn tell_again(
 ///   without them, behind a line that says so.
 /// - Else come the castlings that it seems to give and doesn't demand; each two of them of which neither is proved to be lost; the
 ///   captures en passant; the last move, where it is proved, and two to sixteen last moves, where they follow one from another; how
-///   many of the retractions are left whose predecessors the search doesn't refute, and which, where they are at most 24; and how many
-///   half-moves each game has at least.
+///   many of the retractions are left whose predecessors the search doesn't refute, and which, where they are at most 24; the ledger; and
+///   how many half-moves each game has at least.
 pub fn study(alloc: Global, query: &Query, most: u8, nodes: u32) -> Result<Vec<u8>, AllocError>
     requires plain { query.now.barred ≡ None }
     requires budget { IsBudget most nodes }

@@ -82,7 +82,7 @@ line_claim-unspent depth nodes claim q Spent text answers has cheap =
     let first = answers.1 in
     elim (of_one (IsCheapPart depth nodes) first.before first.part first.after (subst (All (IsCheapPart depth nodes)) first.whole cheap)) [
       | inl enough ↦ absurd (omega (arith, first.here.dear.cost enough.0 enough.1, enough.2))
-      | inr priced ↦ absurd (first.here.unpriced priced)
+      | inr plain ↦ absurd (elim plain [ inl priced ↦ first.here.unpriced priced | inr sketched ↦ first.here.unsketched sketched ])
     ]
 line_claim-unspent depth nodes claim q _ text answers has cheap = absurd answers
 
@@ -92,13 +92,13 @@ line_claim-done depth nodes claim q Undecided text answers unspent clear =
     let first = answers.1 in
     elim (of_one (IsClearPart depth) first.before first.part first.after (subst (All (IsClearPart depth)) first.whole clear)) [
       | inl refutable ↦ absurd (first.here.unrefuted refutable)
-      | inr priced ↦ absurd (first.here.unpriced priced)
+      | inr plain ↦ absurd (elim plain [ inl priced ↦ first.here.unpriced priced | inr sketched ↦ first.here.unsketched sketched ])
     ]
 line_claim-done depth nodes claim q Refused text answers unspent clear = absurd unspent
 line_claim-done depth nodes claim q Spent text answers unspent clear = absurd unspent
 line_claim-done depth nodes claim q _ text answers unspent clear = absurd answers
 
--- a claim of several steps whose parts are defined, and cheap or supported by flat prices
+-- a claim of several steps whose parts are defined, and cheap or with a plain reason
 abbrev IsCheapLine : ℕ → ℕ → LineClaim → Asked → Type 0
 IsCheapLine depth nodes claim q = HasParts claim q × AreCheapParts depth nodes claim q
 

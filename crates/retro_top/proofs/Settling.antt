@@ -9,11 +9,12 @@ use Rattle.price_search.specs.FlatPrices.{FlatPricesSupport, flat_prices}
 use Rattle.balance_rule.proofs.Sound.{balance-unreached}
 use Rattle.cert_checker.specs.Proving.{ProvesClaim}
 use Rattle.cert_checker.proofs.Contradicted.{contradiction-reaches}
+use Rattle.command_answers.specs.Plain.{HasPlainSketch}
 use Rattle.command_answers.specs.Refutable.{IsRefutable}
 use Rattle.retro_top.specs.SmallSearches.{IsSmallSearch}
 use Rattle.command_answers.specs.Settlements.{IsCounterable}
 use Rattle.command_answers.proofs.Unreached.{refutable-unreached}
-use Rattle.retro_top.specs.Answers.{IsUnspent, StatesCheap, StatesCounterable, StatesPriced, StatesProved, StatesRefutable, StatesSmall}
+use Rattle.retro_top.specs.Answers.{IsUnspent, StatesCheap, StatesCounterable, StatesPriced, StatesProved, StatesRefutable, StatesSketched, StatesSmall}
 use Rattle.command_answers.specs.Settles.{AnswersSettle, AnswersSettling}
 use Rattle.command_answers.specs.Solves.{IsCheap}
 use Rattle.command_answers.specs.declared.statuses.Status.{Status}
@@ -54,10 +55,20 @@ settle-priced depth nodes input ending text answers good = elim answers [
   | inr none ↦ absurd (states-some input good.0 good.1 none.0 good.2 none.1)
 ]
 
-pub settle-done : (depth nodes : ℕ) (input : List ℕ) (ending : Status) (text : List ℕ) → AnswersSettle depth nodes input ending text → (StatesRefutable depth input × StatesCheap depth nodes input) ⊎ StatesPriced input → ending ≡ Done
+-- and where one node of a sketch refutes it
+settle-sketched : (depth nodes : ℕ) (input : List ℕ) (ending : Status) (text : List ℕ) → AnswersSettle depth nodes input ending text → StatesSketched input → ending ≡ Done
+settle-sketched depth nodes input ending text answers good = elim answers [
+  | inl said ↦ said.5 (stated (λ claim q. HasPlainSketch (target q claim)) input good.0 said.0 good.1 said.1 good.2 said.2 good.3)
+  | inr none ↦ absurd (states-some input good.0 good.1 none.0 good.2 none.1)
+]
+
+pub settle-done : (depth nodes : ℕ) (input : List ℕ) (ending : Status) (text : List ℕ) → AnswersSettle depth nodes input ending text → (StatesRefutable depth input × StatesCheap depth nodes input) ⊎ StatesPriced input ⊎ StatesSketched input → ending ≡ Done
 settle-done depth nodes input ending text answers good = elim good [
   | inl enough ↦ settle-refuted depth nodes input ending text answers enough.0 enough.1
-  | inr priced ↦ settle-priced depth nodes input ending text answers priced
+  | inr plain ↦ elim plain [
+    | inl priced ↦ settle-priced depth nodes input ending text answers priced
+    | inr sketched ↦ settle-sketched depth nodes input ending text answers sketched
+  ]
 ]
 
 -- where the whole search is no larger than the nodes, it comes to its end
@@ -74,12 +85,15 @@ settle-small depth nodes input ending text answers good = elim answers [
   | inr none ↦ absurd (states-some input good.0 good.1 none.0 good.2 none.1)
 ]
 
-pub settle-unspent : (depth nodes : ℕ) (input : List ℕ) (ending : Status) (text : List ℕ) → AnswersSettle depth nodes input ending text → (StatesRefutable depth input × StatesCheap depth nodes input) ⊎ StatesPriced input ⊎ StatesSmall depth nodes input → IsUnspent ending
+pub settle-unspent : (depth nodes : ℕ) (input : List ℕ) (ending : Status) (text : List ℕ) → AnswersSettle depth nodes input ending text → (StatesRefutable depth input × StatesCheap depth nodes input) ⊎ StatesPriced input ⊎ StatesSketched input ⊎ StatesSmall depth nodes input → IsUnspent ending
 settle-unspent depth nodes input ending text answers good = elim good [
   | inl enough ↦ subst IsUnspent (sym (settle-refuted depth nodes input ending text answers enough.0 enough.1)) tt
   | inr others ↦ elim others [
     | inl priced ↦ subst IsUnspent (sym (settle-priced depth nodes input ending text answers priced)) tt
-    | inr small ↦ settle-small depth nodes input ending text answers small
+    | inr rest ↦ elim rest [
+      | inl sketched ↦ subst IsUnspent (sym (settle-sketched depth nodes input ending text answers sketched)) tt
+      | inr small ↦ settle-small depth nodes input ending text answers small
+    ]
   ]
 ]
 

@@ -20,6 +20,7 @@ use Rattle.command_answers.specs.Prose.{Explains}
 use Rattle.price_search.specs.FlatPrices.{FlatPricesSupport}
 use Rattle.command_answers.specs.Settlements.{IsCounterable}
 use Rattle.command_answers.specs.Answers.{IsProofOf}
+use Rattle.command_answers.specs.Plain.{HasPlainSketch}
 use Rattle.command_answers.specs.Refutable.{IsRefutable}
 use Rattle.retro_top.specs.SmallSearches.{IsSmallSearch}
 use Rattle.codex_verdict.specs.Rights.{AreRights, claim_of}
@@ -159,6 +160,10 @@ StatesCheap depth nodes input =
 abbrev pub StatesPriced : List ℕ → Type 0
 StatesPriced input = (claim : Claim) × (q : Asked) × States input claim q × FlatPricesSupport (target q claim)
 
+-- the input states a claim whose target one node of a sketch refutes, without exact files, prices and marks
+abbrev pub StatesSketched : List ℕ → Type 0
+StatesSketched input = (claim : Claim) × (q : Asked) × States input claim q × HasPlainSketch (target q claim)
+
 -- the input states a claim whose target has a whole search, to the depth, of at most so many nodes
 abbrev pub StatesSmall : ℕ → ℕ → List ℕ → Type 0
 StatesSmall depth nodes input =
@@ -187,11 +192,11 @@ Succeeds Line input = ProvesLine input
 Succeeds (Dossier depth nodes) input = StatesProvedLine depth input
 Succeeds (Sample start games plies) input = Unit {0}
 
--- with such an input the command succeeds: a search, where the nodes suffice; `settle` and `dossier` also where flat prices support the
--- target
+-- With such an input the command succeeds: a search, where the nodes suffice; `settle` and `dossier` also where flat prices support the
+-- target, or one node of a sketch refutes it.
 abbrev pub MustSucceed : Command → List ℕ → Type 0
 MustSucceed (Solve depth nodes) input = StatesRefutable depth input × StatesCheap depth nodes input
-MustSucceed (Settle depth nodes) input = (StatesRefutable depth input × StatesCheap depth nodes input) ⊎ StatesPriced input
+MustSucceed (Settle depth nodes) input = (StatesRefutable depth input × StatesCheap depth nodes input) ⊎ StatesPriced input ⊎ StatesSketched input
 MustSucceed (Dossier depth nodes) input = StatesClearLine depth input × StatesCheapLine depth nodes input
 MustSucceed (Verdict depth nodes) input = AsksForCheap depth nodes input
 MustSucceed command input = Succeeds command input
@@ -233,7 +238,7 @@ WritesVerdicts depth input old new =
 abbrev pub WritesStudy : ℕ → ℕ → List ℕ → Option (List ℕ) → Option (List ℕ) → Type 0
 WritesStudy depth nodes input old new = (q : Asked) × (text : List ℕ) × AsksAlone input q × IsStudy q depth nodes text × Appends old new text
 
--- What was taken grew by a text whose lines say what is so of the query that the input asks, up to what was found without its demands.
+-- What was taken grew by a text whose lines say what is so of the query that the input asks, and then perhaps of it without its demands.
 abbrev pub WritesTruths : List ℕ → Option (List ℕ) → Option (List ℕ) → Type 0
 WritesTruths input old new = (q : Asked) × (text : List ℕ) × AsksAlone input q × SaysTrue q text × Appends old new text
 
@@ -263,7 +268,7 @@ StatesTrueLine input = (claim : LineClaim) × (q : Asked) × StatesLine input cl
 -- the nodes suffice for what the command searches with this input
 abbrev pub Suffices : Command → List ℕ → Type 0
 Suffices (Solve depth nodes) input = StatesCheap depth nodes input
-Suffices (Settle depth nodes) input = (StatesRefutable depth input × StatesCheap depth nodes input) ⊎ StatesPriced input ⊎ StatesSmall depth nodes input
+Suffices (Settle depth nodes) input = (StatesRefutable depth input × StatesCheap depth nodes input) ⊎ StatesPriced input ⊎ StatesSketched input ⊎ StatesSmall depth nodes input
 Suffices (Verdict depth nodes) input = AsksForCheap depth nodes input
 Suffices (Dossier depth nodes) input = StatesCheapLine depth nodes input
 Suffices (Study depth nodes) input = AsksForOne input

@@ -1,7 +1,9 @@
 use Rattle.std.proofs.Common.{ℕ, ◌≡◌, ◌∙◌, List, inl, refl, ap}
 use Rattle.std.proofs.lemmas.Result.{IfOk-weaker}
 use Rattle.cert_text.specs.SeenCert.{cert_of}
+use Rattle.query_base.specs.Targets.{target}
 use Rattle.cert_text.proofs.CertTexts.{text_written}
+use Rattle.claim_search.specs.Plain.{HasPlainSketch}
 use Rattle.claim_search.specs.Settlements.{IsCounterable}
 use Rattle.command_answers.specs.Settles.{AnswersSettling}
 use Rattle.command_answers.specs.Solves.{spent_line}
@@ -26,20 +28,21 @@ pub returns-in-Ok-settle : goal.returns-in-Ok-settle
 returns-in-Ok-settle c =
     let of = c.in-Ok-settle.ensures.settlement in
     let counters = c.in-Ok-settle.ensures.counterable in
+    let sketched = c.in-Ok-settle.ensures.sketched in
     let claim = c.in-Ok.statement.claim in
     let query = c.in-Ok.statement.query in
-    let Said = λ (s : Status) (text : List ℕ). AnswersSettling c.args.limits.depth c.args.limits.nodes claim query s text × (IsCounterable c.args.limits.depth c.args.limits.nodes claim query → s ≡ status.Countered) in
+    let Said = λ (s : Status) (text : List ℕ). AnswersSettling c.args.limits.depth c.args.limits.nodes claim query s text × (IsCounterable c.args.limits.depth c.args.limits.nodes claim query → s ≡ status.Countered) × (HasPlainSketch (target query claim) → s ≡ status.Done) in
     IfOk-weaker c.write_found.result _ _
     (λ a told.
     let said = found-told Said c.in-Ok-settle.found a.0 a.1
     (λ cert is text.
     let whole = text_written (cert_of cert) _ (rw is at (of.written c.in-Ok.ensures.promotion)) text in
-    (record { cert = cert_of cert; is_proof = rw is at of.proved; is_text = whole; short = (rw is at of.short) _ whole }, λ can. absurd ((rw is at counters) can)))
+    (record { cert = cert_of cert; is_proof = rw is at of.proved; is_text = whole; short = (rw is at of.short) _ whole }, λ can. absurd ((rw is at counters) can), λ has. refl))
     (λ line is text.
-    (record { line = line; unsettled = rw is at of.undecided; few = rw is at of.short_line; unpriced = λ e. rw is at of.priced c.args.limits.some e; line_unpriced = rw is at of.unpriced; text_is = text }, λ can. absurd ((rw is at counters) can)))
-    (λ game is text. (record { game = game; contradicts = rw is at of.countered; few = rw is at of.short_game; text_is = text }, λ can. refl))
+    (record { line = line; unsettled = rw is at of.undecided; few = rw is at of.short_line; unpriced = λ e. rw is at of.priced c.args.limits.some e; line_unpriced = rw is at of.unpriced; text_is = text }, λ can. absurd ((rw is at counters) can), λ has. absurd ((rw is at sketched) has)))
+    (λ game is text. (record { game = game; contradicts = rw is at of.countered; few = rw is at of.short_game; text_is = text }, λ can. refl, λ has. absurd ((rw is at sketched) has)))
     (λ n is text.
-    (record { large = rw is at of.large; dear = rw is at of.spent; unpriced = λ e. rw is at of.priced c.args.limits.some e; text_is = text ∙ ap (λ (k : ℕ). spent_line k) (rw is at of.visited) }, λ can. absurd ((rw is at counters) can)))
+    (record { large = rw is at of.large; dear = rw is at of.spent; unpriced = λ e. rw is at of.priced c.args.limits.some e; text_is = text ∙ ap (λ (k : ℕ). spent_line k) (rw is at of.visited) }, λ can. absurd ((rw is at counters) can), λ has. absurd ((rw is at sketched) has)))
     told in
-    inl (claim, query, c.in-Ok.ensures.states, said.0, said.1))
+    inl (claim, query, c.in-Ok.ensures.states, said.0, said.1, said.2))
     c.write_found.ensures

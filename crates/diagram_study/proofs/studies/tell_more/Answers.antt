@@ -38,7 +38,7 @@ tell_possible-requires-clause-listed c = let has = c.requires.seen.left in left_
 pub returns : goal.returns
 returns c =
     ok_then c.tell_length.result _ _
-    (more_told c.args.subject.now.query c.args.subject.now.limits.depth c.args.subject.now.limits.nodes c.args.games.now.found.items c.args.gathered.now.rights.items c.args.gathered.now.pairs.items c.args.seen.now.left c.args.seen.now.all _ _ _ _ _ _ _ _ _
+    (more_told c.args.subject.now.query c.args.subject.now.limits.depth c.args.subject.now.limits.nodes c.args.games.now.found.items c.args.gathered.now.rights.items c.args.gathered.now.pairs.items c.args.seen.now.left c.args.seen.now.all _ _ _ _ _ _ _ _ _ _
     c.requires.gathered.rights
     c.requires.gathered.pairs
     c.requires.seen.left
@@ -50,5 +50,6 @@ returns c =
     c.in_ok-tell_last.ensures
     c.in_ok-tell_forced.ensures
     c.in_ok-push_left.ensures
-    c.in_ok-tell_possible.ensures)
+    c.in_ok-tell_possible.ensures
+    c.in_ok-tell_ledger.ensures)
     c.tell_length.ensures
