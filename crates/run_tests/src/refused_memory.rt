@@ -66,12 +66,12 @@ const ROWS: [Row; 13] = [
         status: Status::Done,
         text: b"proved 0 illegal\nother side proved 0 illegal\n",
     },
-    // Of this position every line is told but those of castlings, and the ledger has one.
+    // Of this position every line is told but those of castlings, and of the ledger who never moved and who is lacking.
     Row {
         words: &["study", "2", "1000"],
         input: b"6nk/2p4p/3B1P1P/5KpP/8/8/8/8 w - -\n",
         status: Status::Done,
-        text: b"countered illegal\nproved 2 ep h5g6\nproved 2 last g7g5\nleft 1 of 6 g7g5\npossible 1 of 1 g7g5\nunmoved c7 h7\natleast 24\n",
+        text: b"countered illegal\nproved 2 ep h5g6\nproved 2 last g7g5\nleft 1 of 6 g7g5\npossible 1 of 1 g7g5\nunmoved c7 h7\nlacks w q r r bl n n p p p p p\nlacks b q r r bd bl n p p p p p\natleast 24\n",
     },
     Row {
         words: &["verdict", "1", "100"],
