@@ -10,13 +10,15 @@ use Rattle.board_base.specs.Texts.{square_text}
 use Rattle.board_base.specs.declared.men.Colour.{Colour}
 use Rattle.board_base.specs.declared.men.Colour.TheVariants.{White, Black}
 use Rattle.board_base.specs.declared.men.Man.{Man}
-use Rattle.capture_prices.specs.Prices.{PriceList, takes}
+use Rattle.capture_prices.specs.Prices.{PriceList, all_gates, takes}
 use Rattle.capture_prices.specs.declared.prices.Gate.{Gate}
 use Rattle.prose_words.specs.Words.{place_initial, side_word}
 use Rattle.query_base.specs.Asked.{Asked}
 use Rattle.balance_prose.specs.Accounts.{all_counted, all_made_up, counted_of, table_of}
 use Rattle.balance_prose.specs.Counted.{is_counted}
 use Rattle.balance_prose.specs.Pricing.{around}
+use Rattle.balance_prose.specs.declared.numbers.Numbers.{Numbers}
+use Rattle.balance_prose.specs.declared.numbers.Numbers.TheVariants.{Exact, Enough}
 
 -- where a man came from, if he moved, and where he stands
 abbrev pub moved_words : ℕ → Option Man → ℕ → List ℕ
@@ -104,7 +106,14 @@ either_words men idle n gates =
 abbrev pub end_words : ℕ → List ℕ → ℕ → List Gate → List ℕ
 end_words men idle n gates = either_words men idle n gates ++ codes "."
 
+-- what the men count at best: exactly, with their ways; or a number that is at most that, and more than is made up for
+abbrev pub counted_words : Numbers → Asked → PriceList → List Bool → List ℕ → List ℕ → List ℕ
+counted_words Exact q p set white black =
+    codes "At best these are " ++ decimal (all_counted q p set white black) ++ codes ":" ++ ways_words q p set white black
+counted_words Enough q p set white black =
+    codes "At best these are " ++ decimal (all_made_up q p set white black + all_gates p + 1) ++ codes " or more"
+
 -- what the men count at best, with how many men each side lacks, and who makes up for how much
-abbrev pub best_words : Bool → Asked → PriceList → List Bool → List ℕ → List ℕ → List ℕ
-best_words first q p set white black =
-    (codes "At best these are " ++ decimal (all_counted q p set white black) ++ codes ":" ++ ways_words q p set white black) ++ (codes ". But " ++ cond first [] (codes "before this move ")) ++ lack_words first q p ++ end_words (all_missing q p) (all_idle q p set white black) (all_made_up q p set white black) p.gates
+abbrev pub best_words : Numbers → Bool → Asked → PriceList → List Bool → List ℕ → List ℕ → List ℕ
+best_words numbers first q p set white black =
+    counted_words numbers q p set white black ++ (codes ". But " ++ cond first [] (codes "before this move ")) ++ lack_words first q p ++ end_words (all_missing q p) (all_idle q p set white black) (all_made_up q p set white black) p.gates

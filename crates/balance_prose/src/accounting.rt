@@ -1,15 +1,19 @@
 //! What the men count at best, and who makes up for it, in words.
 
-ghost use Rattle.std.specs.Prelude.{◌≡◌, ◌++◌, ◌<◌, ◌==◌, [], IfOk, codes, cond, drop};
+ghost use Rattle.std.specs.Prelude.{◌≡◌, ◌+◌, ◌++◌, ◌<◌, ◌==◌, [], IfOk, codes, cond, drop};
 ghost use Rattle.std.specs.List.{All, flat_map};
 ghost use Rattle.std.specs.Fmt.{decimal};
 ghost use Rattle.balance_prose.specs.Accounts.{CountTooMany, all_counted, all_made_up};
 ghost use Rattle.balance_prose.specs.Pricing.{around};
-ghost use Rattle.balance_prose.specs.AccountWords.{best_words, either_words, end_words, gate_alone, gate_too, made_up_words, ways_words, whom_words};
+ghost use Rattle.balance_prose.specs.declared.numbers.Numbers.TheVariants.{Exact, Enough};
+ghost use Rattle.capture_prices.specs.Prices.{all_gates};
+ghost use Rattle.balance_prose.specs.AccountWords.{best_words, counted_words, either_words, end_words, gate_alone, gate_too, made_up_words, ways_words, whom_words};
 
 use crate::accounts::{Tally, count_men, table_of};
 use crate::lacking::{all_missing, idle_of, push_lacks};
 use crate::making::push_men;
+use crate::numbers::Numbers;
+use crate::pricing::all_gates;
 use crate::words::{either, push_around, rest_of};
 use board_base::{Colour, Square, SquareSet};
 use capture_prices::{Gate, Prices};
@@ -229,6 +233,72 @@ fn push_best(n: u32, ways: &[u8], out: &mut Vec<u8>) -> Result<(), AllocError>
     Ok(())
 }
 
+/// The same, with the ways of the men who count.
+fn push_exactly(
+    alloc: Global,
+    query: &Query,
+    prices: &Prices,
+    set: SquareSet,
+    white: &[u8],
+    black: &[u8],
+    out: &mut Vec<u8>,
+) -> Result<(), AllocError>
+    requires { CountTooMany query.now prices.now set white.now black.now }
+    ensures { IfOk result (λ _. out.new.items ≡ out.old.items ++ counted_words Exact query.now prices.now set white.now black.now) }
+{
+    let tally = tally_of(query, prices, set, white, black);
+    let ways = ways_of(alloc, query, prices, set, white, black)?;
+    push_best(tally.counted, ways.as_slice(), out)?;
+    Ok(())
+}
+
+/// One more than men and gates make up for.
+fn enough_of(tally: Tally, gates: u32) -> u32
+    requires { tally.made_up + gates < tally.counted }
+    ensures { result ≡ tally.made_up + gates + 1 }
+{
+    tally.made_up + gates + 1
+}
+
+/// A number of captures that is at most what the men count at best, and more than is made up for.
+fn push_enough(
+    query: &Query,
+    prices: &Prices,
+    set: SquareSet,
+    white: &[u8],
+    black: &[u8],
+    out: &mut Vec<u8>,
+) -> Result<(), AllocError>
+    requires { CountTooMany query.now prices.now set white.now black.now }
+    ensures { IfOk result (λ _. out.new.items ≡ out.old.items ++ counted_words Enough query.now prices.now set white.now black.now) }
+{
+    let tally = tally_of(query, prices, set, white, black);
+    say(b"At best these are ", out)?;
+    push_number(enough_of(tally, all_gates(prices)) as usize, out)?;
+    say(b" or more", out)?;
+    Ok(())
+}
+
+/// What the men count at best.
+fn push_counted(
+    alloc: Global,
+    numbers: Numbers,
+    query: &Query,
+    prices: &Prices,
+    set: SquareSet,
+    white: &[u8],
+    black: &[u8],
+    out: &mut Vec<u8>,
+) -> Result<(), AllocError>
+    requires { CountTooMany query.now prices.now set white.now black.now }
+    ensures { IfOk result (λ _. out.new.items ≡ out.old.items ++ counted_words numbers query.now prices.now set white.now black.now) }
+{
+    match numbers {
+        Numbers::Exact => push_exactly(alloc, query, prices, set, white, black, out),
+        Numbers::Enough => push_enough(query, prices, set, white, black, out),
+    }
+}
+
 /// Before how many men each side lacks.
 fn push_but(first: bool, out: &mut Vec<u8>) -> Result<(), AllocError>
     ensures { IfOk result (λ _. out.new.items ≡ out.old.items ++ (codes ". But " ++ cond first [] (codes "before this move "))) }
@@ -241,6 +311,7 @@ fn push_but(first: bool, out: &mut Vec<u8>) -> Result<(), AllocError>
 /// What the men count at best, with how many men each side lacks, and who makes up for how much.
 pub fn push_account(
     alloc: Global,
+    numbers: Numbers,
     first: bool,
     query: &Query,
     prices: &Prices,
@@ -250,12 +321,11 @@ pub fn push_account(
     out: &mut Vec<u8>,
 ) -> Result<(), AllocError>
     requires { CountTooMany query.now prices.now set white.now black.now }
-    ensures { IfOk result (λ _. out.new.items ≡ out.old.items ++ best_words first query.now prices.now set white.now black.now) }
+    ensures { IfOk result (λ _. out.new.items ≡ out.old.items ++ best_words numbers first query.now prices.now set white.now black.now) }
 {
     let tally = tally_of(query, prices, set, white, black);
-    let ways = ways_of(alloc, query, prices, set, white, black)?;
     let idle = idle_of(alloc, query, prices, set, white, black)?;
-    push_best(tally.counted, ways.as_slice(), out)?;
+    push_counted(alloc, numbers, query, prices, set, white, black, out)?;
     push_but(first, out)?;
     push_lacks(first, query, prices, out)?;
     push_end(

@@ -159,10 +159,14 @@ supposed_words (Last m) q = codes "the last move was another"
 supposed_words (Lost x) q = kept_words x
 supposed_words (Ep m) q = cond (ep_fits q.board q.turn m) (other_words (double_of m q.turn) q) (reached_words q)
 
--- the diagram, what is given, the claim and what is supposed
-abbrev pub opening_text : Claim → Asked → List ℕ
-opening_text claim q =
-    diagram_text q.board q.turn ++ givens_text q ++ codes "Claim: " ++ claim_words claim q ++ ended (codes ".") ++ codes "Suppose that " ++ supposed_words claim q ++ ended (codes ".")
+-- the diagram, and what is given beside it
+abbrev pub drawn_text : Asked → List ℕ
+drawn_text q = diagram_text q.board q.turn ++ givens_text q
+
+-- the claim, and what is supposed
+abbrev pub supposition_text : Claim → Asked → List ℕ
+supposition_text claim q =
+    codes "Claim: " ++ claim_words claim q ++ ended (codes ".") ++ codes "Suppose that " ++ supposed_words claim q ++ ended (codes ".")
 
 -- the last line, which states the claim again
 abbrev pub closing_text : Claim → Asked → List ℕ

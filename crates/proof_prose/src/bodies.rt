@@ -1,18 +1,14 @@
-//! What is said of nodes.
+//! What is said of nodes. Children of one node of which the same is said by numbers that are enough, and not by exact ones, are told by those,
+//! so that they can share a paragraph; every other node is told by exact numbers.
 
-ghost use Rattle.std.specs.Prelude.{◌≡◌, ◌∷◌, [], IfOk, is_none, length};
+ghost use Rattle.std.specs.Prelude.{◌≡◌, ◌<◌, IfOk, length, map};
 ghost use Rattle.std.specs.List.{All};
-ghost use Rattle.proof_prose.specs.Bodies.{AddsLine, AreSpoken, IsBody, moves_sentence};
-ghost use Rattle.proof_sentences.specs.Reasons.{Adds};
-ghost use Rattle.unmove_gen.specs.Listed.{unmoves};
-ghost use Rattle.proof_prose.specs.Standing.{Stands};
+ghost use Rattle.proof_prose.specs.Bodies.{AreSpoken, IsSpoken};
+ghost use Rattle.proof_prose.specs.Standing.{IsPhrased, Stands};
 
-use crate::nodes::{Line, Told};
-use proof_sentences::{Sentence, push_one, push_reason};
-use proof_story::{Letters, kept};
-use query_base::Query;
-use retraction_bars::{bars_hold, pairs_hold, ways_are_told};
-use sketch_prose::push_sketch;
+use crate::nodes::Told;
+use crate::phrases::{Phrased, phrased_of};
+use proof_story::{Letters, are_same};
 use std::alloc::{AllocError, Global};
 
 /// A node of a certificate's tree, and what is said of it.
@@ -24,57 +20,94 @@ pub struct Spoken {
     pub body: Letters,
 }
 
-fn moves_sentence(count: usize, first: bool) -> Sentence
-    ensures { result ≡ moves_sentence count first }
-{
-    if count == 0 {
-        Sentence::Still(first)
-    } else {
-        Sentence::Moved(first)
-    }
-}
-
-/// Whether there are retractions; where there are none, what is told of each man is so.
-fn push_moves(
-    alloc: Global,
-    query: &Query,
-    count: usize,
-    first: bool,
-    out: &mut Vec<u8>,
-) -> Result<(), AllocError>
-    requires { length (unmoves query.now) ≡ count }
-    ensures { IfOk result (λ _. Adds query.now (moves_sentence count first ∷ []) out.old.items out.new.items) }
-{
-    bars_hold();
-    pairs_hold();
-    ways_are_told();
-    push_one(alloc, query, &moves_sentence(count, first), out)
-}
-
-/// Why no game reaches the query of a node.
-fn push_line(alloc: Global, node: &Told, out: &mut Vec<u8>) -> Result<(), AllocError>
-    requires { Stands node.now }
-    ensures { IfOk result (λ _. AddsLine node.now.label node.now.line node.now.query out.old.items out.new.items) }
-{
-    let first = node.label.is_none();
-    match &node.line {
-        Line::Because(reason) => push_reason(alloc, &node.query, first, reason, out),
-        Line::Sketched(body) => push_sketch(alloc, &node.query, body, out),
-        Line::Back(steps, above) => {
-            push_one(alloc, &node.query, &Sentence::Back(*steps, *above), out)
+/// Whether both nodes are children of one, and told alike by numbers that are enough, but not by exact ones.
+fn are_joined(a: &Phrased, b: &Phrased) -> bool {
+    match (&a.enough, &b.enough) {
+        (Some(x), Some(y)) => {
+            are_same(a.node.prefix.text(), b.node.prefix.text())
+                && are_same(x.text(), y.text())
+                && !are_same(a.exact.text(), b.exact.text())
         }
-        Line::Moves(count) => push_moves(alloc, &node.query, *count, first, out),
+        _ => false,
     }
 }
 
-/// What is said of a node.
-fn body_of(alloc: Global, node: &Told) -> Result<Letters, AllocError>
-    requires { Stands node.now }
-    ensures { IfOk result (λ body. IsBody node.now body) }
+fn mark(joined: &mut Vec<bool>, i: usize) {
+    if let Some(mark) = joined.get_mut(i) {
+        *mark = true;
+    }
+}
+
+/// Marks the node at a place and those of its later siblings with which it is joined. All that comes behind the last of these has a shorter
+/// number.
+fn mark_joined(all: &[Phrased], i: usize, joined: &mut Vec<bool>)
+    requires { i < length all.now }
 {
-    let mut body = Vec::new(alloc);
-    push_line(alloc, node, &mut body)?;
-    Ok(kept(body))
+    let prefix = all[i].node.prefix.text().len();
+    for j in i + 1..all.len() {
+        if all[j].node.prefix.text().len() < prefix {
+            return;
+        }
+        if are_joined(&all[i], &all[j]) {
+            mark(joined, i);
+            mark(joined, j);
+        }
+    }
+}
+
+/// Which of the nodes are joined with a sibling.
+fn joined_ones(alloc: Global, all: &[Phrased]) -> Result<Vec<bool>, AllocError> {
+    let mut joined = vec![in alloc; false; all.len()]?;
+    for i in 0..all.len() {
+        if all[i].enough.is_some() {
+            mark_joined(all, i, &mut joined);
+        }
+    }
+    Ok(joined)
+}
+
+/// What is said of a node: by numbers that are enough if it is joined with another, and if there are any.
+fn spoken_as(phrased: Phrased, is_joined: bool) -> Spoken
+    requires { IsPhrased phrased }
+    ensures node { result.node ≡ phrased.node }
+    ensures said { IsSpoken result }
+{
+    let Phrased {
+        node,
+        exact,
+        enough,
+    } = phrased;
+    match enough {
+        Some(body) => {
+            if is_joined {
+                Spoken { node, body }
+            } else {
+                Spoken { node, body: exact }
+            }
+        }
+        None => Spoken { node, body: exact },
+    }
+}
+
+/// Whether there is a mark at this place.
+fn is_marked(joined: &[bool], i: usize) -> bool {
+    match joined.get(i) {
+        Some(mark) => *mark,
+        None => false,
+    }
+}
+
+/// The nodes, each with what is said of it.
+fn chosen(alloc: Global, all: Vec<Phrased>, joined: &[bool]) -> Result<Vec<Spoken>, AllocError>
+    requires { All IsPhrased all.items }
+    ensures { IfOk result (λ spoken. AreSpoken (map (λ p. p.node) all.items) spoken.items) }
+{
+    let mut told = Vec::new(alloc);
+    for phrased in all {
+        let own = spoken_as(phrased, is_marked(joined, told.len()));
+        told.push(own)?;
+    }
+    Ok(told)
 }
 
 /// The nodes, each with what is said of it.
@@ -82,10 +115,7 @@ pub(crate) fn spoken_of(alloc: Global, nodes: Vec<Told>) -> Result<Vec<Spoken>, 
     requires { All Stands nodes.items }
     ensures { IfOk result (λ spoken. AreSpoken nodes.items spoken.items) }
 {
-    let mut spoken = Vec::new(alloc);
-    for node in nodes {
-        let body = body_of(alloc, &node)?;
-        spoken.push(Spoken { node, body })?;
-    }
-    Ok(spoken)
+    let all = phrased_of(alloc, nodes)?;
+    let joined = joined_ones(alloc, all.as_slice())?;
+    chosen(alloc, all, joined.as_slice())
 }

@@ -1,7 +1,7 @@
 //! The diagram, the claim and what is supposed.
 
 ghost use Rattle.std.specs.Prelude.{◌≡◌, ◌++◌, ◌<◌, ◌||◌, IfOk, codes, cond, not};
-ghost use Rattle.proof_prose.specs.Heads.{claim_words, clock_given, clock_words, closing_text, diagram_text, given_words, givens_text, going_words, has_givens, has_rights, kept_words, last_words, left_out, legal_words, lost_words, lower_text, move_words, not_words, odds_given, odds_line, odds_words, only_given, opening_text, other_words, place_text, promotion_words, rank_line, rank_text, reached_words, right_given, right_words, supposed_words, upper_text};
+ghost use Rattle.proof_prose.specs.Heads.{claim_words, clock_given, clock_words, closing_text, diagram_text, drawn_text, given_words, givens_text, going_words, has_givens, has_rights, kept_words, last_words, left_out, legal_words, lost_words, lower_text, move_words, not_words, odds_given, odds_line, odds_words, only_given, other_words, place_text, promotion_words, rank_line, rank_text, reached_words, right_given, right_words, supposed_words, supposition_text, upper_text};
 ghost use Rattle.proof_sentences.specs.Phrases.{unmoved_words};
 ghost use Rattle.board_base.specs.Board.{at};
 ghost use Rattle.fen_text.specs.OddsLines.{is_no_odds};
@@ -395,17 +395,23 @@ fn push_position(query: &Query, out: &mut Vec<u8>) -> Result<(), AllocError>
     push_diagram(&query.board, query.turn, out)
 }
 
-/// The diagram, what is given, the claim and what is supposed.
-pub(crate) fn push_opening(
-    alloc: Global,
+/// Adds the diagram, and what is given beside it.
+pub fn draw(alloc: Global, query: &Query, out: &mut Vec<u8>) -> Result<(), AllocError>
+    ensures { IfOk result (λ _. out.new.items ≡ out.old.items ++ drawn_text query.now) }
+{
+    push_position(query, out)?;
+    push_givens(alloc, query, out)?;
+    Ok(())
+}
+
+/// The claim, and what is supposed.
+pub(crate) fn push_supposition(
     claim: &Claim,
     query: &Query,
     out: &mut Vec<u8>,
 ) -> Result<(), AllocError>
-    ensures { IfOk result (λ _. out.new.items ≡ out.old.items ++ opening_text claim.now query.now) }
+    ensures { IfOk result (λ _. out.new.items ≡ out.old.items ++ supposition_text claim.now query.now) }
 {
-    push_position(query, out)?;
-    push_givens(alloc, query, out)?;
     say(b"Claim: ", out)?;
     push_claim(claim, query, out)?;
     say(b".\n", out)?;

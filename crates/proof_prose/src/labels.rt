@@ -79,8 +79,8 @@ fn push_plain(query: &Query, u: &Unmove, out: &mut Vec<u8>) -> Result<(), AllocE
     }
 }
 
-/// The retraction of this query in long notation, with what it captured.
-pub(crate) fn push_label(query: &Query, u: &Unmove, out: &mut Vec<u8>) -> Result<(), AllocError>
+/// Adds the move that a retraction of this query takes back, in long notation, with what it captured.
+pub fn push_label(query: &Query, u: &Unmove, out: &mut Vec<u8>) -> Result<(), AllocError>
     ensures { IfOk result (λ _. out.new.items ≡ out.old.items ++ label_words query.now u.now) }
 {
     if u.ep {

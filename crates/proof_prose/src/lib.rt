@@ -6,9 +6,12 @@ mod heads;
 mod labels;
 mod nodes;
 mod paragraphs;
+mod phrases;
 mod prose;
 
 pub use bodies::Spoken;
+pub use heads::draw;
+pub use labels::push_label;
 pub use nodes::{Line, Told};
 pub use paragraphs::Said;
-pub use prose::explain;
+pub use prose::{explain, retell};

@@ -5,11 +5,11 @@ ghost use Rattle.cert_checker.specs.Proving.{ProvesClaim};
 ghost use Rattle.cert_text.specs.SeenCert.{cert_of};
 ghost use Rattle.proof_prose.specs.Bodies.{AreSpoken};
 ghost use Rattle.proof_prose.specs.Nodes.{nodes_of};
-ghost use Rattle.proof_prose.specs.Prose.{Explains, TellsNodes, point_of};
+ghost use Rattle.proof_prose.specs.Prose.{Explains, Retells, TellsNodes, point_of};
 ghost use Rattle.proof_prose.specs.declared.bodies.Spoken.{Spoken as ASpoken};
 
 use crate::bodies::{Spoken, spoken_of};
-use crate::heads::{push_closing, push_opening};
+use crate::heads::{draw, push_closing, push_supposition};
 use crate::nodes::{copied_path, nodes_of};
 use crate::paragraphs::push_paragraphs;
 use cert_text::Cert;
@@ -54,18 +54,31 @@ fn told(alloc: Global, cert: &Cert) -> Result<Vec<u8>, AllocError>
 {
     let nodes = nodes_of(alloc, cert)?;
     let spoken = spoken_of(alloc, nodes)?;
-    told_of(alloc, spoken.as_slice())
+    let text = told_of(alloc, spoken.as_slice())?;
+    Ok(text)
 }
 
-/// The proof of a certificate in plain words: the diagram, the claim and what is supposed, then the nodes, and the claim again.
+/// The proof of a certificate in plain words, without the diagram: the claim and what is supposed, then the nodes, and the claim again.
+pub fn retell(alloc: Global, cert: &Cert) -> Result<Vec<u8>, AllocError>
+    requires { ProvesClaim (cert_of cert.now) }
+    ensures { IfOk result (λ text. Retells (cert_of cert.now) text.items) }
+{
+    let nodes = told(alloc, cert)?;
+    let mut out = Vec::new(alloc);
+    push_supposition(&cert.claim, &cert.query, &mut out)?;
+    say(nodes.as_slice(), &mut out)?;
+    push_closing(&cert.claim, &cert.query, &mut out)?;
+    Ok(out)
+}
+
+/// The proof of a certificate in plain words: the diagram with what is given beside it, and then what `retell` says.
 pub fn explain(alloc: Global, cert: &Cert) -> Result<Vec<u8>, AllocError>
     requires { ProvesClaim (cert_of cert.now) }
     ensures { IfOk result (λ text. Explains (cert_of cert.now) text.items) }
 {
-    let nodes = told(alloc, cert)?;
+    let proof = retell(alloc, cert)?;
     let mut out = Vec::new(alloc);
-    push_opening(alloc, &cert.claim, &cert.query, &mut out)?;
-    say(nodes.as_slice(), &mut out)?;
-    push_closing(&cert.claim, &cert.query, &mut out)?;
+    draw(alloc, &cert.query, &mut out)?;
+    say(proof.as_slice(), &mut out)?;
     Ok(out)
 }

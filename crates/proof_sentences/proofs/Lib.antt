@@ -3,5 +3,3 @@ pub mod Changes
 pub mod Parts
 pub mod Astray
 pub mod Homeless
-pub mod OneLeast
-pub mod OneReason

@@ -38,7 +38,7 @@ use Rattle.prose_words.specs.Words.{man_words, side_word, squares_words}
 use Rattle.proof_sentences.specs.Firsts.{is_astray}
 use Rattle.proof_sentences.specs.Phrases.{unmoved_words}
 use Rattle.proof_sentences.specs.declared.sentences.Sentence.{Sentence}
-use Rattle.proof_sentences.specs.declared.sentences.Sentence.TheVariants.{Kings, Ranks, Check, Rights, Count, Caged, Changed, Settled, Gone, Promoted, Way, Lacks, Priced, Balanced, Counted, Best, Homeless, Back, Still, Moved}
+use Rattle.proof_sentences.specs.declared.sentences.Sentence.TheVariants.{Kings, Ranks, Check, Rights, Count, Caged, Changed, Settled, Gone, Promoted, Way, AtLeast, Lacks, Priced, Balanced, Counted, Best, Homeless, Back, Still, Moved}
 
 -- an officer's home of this side, on which somebody began of whom nobody is left
 abbrev pub is_gone : Asked → Colour → List Bool → ℕ → Bool
@@ -66,7 +66,7 @@ is_homeless q set c = nat_le never (side_cost q.odds q.board free set c)
 -- many pawns, with the men who must have been promoted so many, and began with so many, which is fewer. The men on the set shut each other
 -- in; this square of the set doesn't hold what it held in the array. The men on the set never moved; meanwhile nobody is left of those who
 -- began on the homes that are named; so the side has more pawns and promoted men than it had pawns; its pawns have made at least so many
--- captures, as many as where they began on these files; the side lacks so many men, of whom no pawn took those of the homes that are
+-- captures, as many as where they began on these files, or so many without a way; the side lacks so many men, of whom no pawn took those of the homes that are
 -- named, and the enemy's pawns need more than the others. Captures have these prices, and at these prices the men of both sides cost so
 -- much at least, which is more than the gates make up for. Captures count as these plain prices say, and of the two pawns of a file who
 -- keep to it at most one treads each square, in every game; with these homes, at which both sides cost the least, the men count more than
@@ -88,13 +88,14 @@ Says (Promoted c set pawns began first) q =
     (pawns ≡ men c Pawn is_any q.board) × (began ≡ men c Pawn is_any (array_of q.odds)) × HasTooMany q.odds q set c
 Says (Way c captures files) q =
     (length (pawn_squares c q.board) ≤ 8) × IsInjection 8 (length (pawn_squares c q.board)) files.items × (captures ≡ assignment_cost (pawn_costs q.odds c q.board) files.items) × (captures ≡ least_cost 8 (pawn_costs q.odds c q.board))
+Says (AtLeast c captures) q = (length (pawn_squares c q.board) ≤ 8) × (captures ≤ least_cost 8 (pawn_costs q.odds c q.board))
 Says (Lacks c set missing first) q =
     NeverMoved q set × (missing ≡ men_of c is_any (array_of q.odds) - men_of c is_any q.board) × ((p : Duals) × NeedTooMany q.odds q set (opponent c) p.u p.v)
 Says (Priced set p) q = NeverMoved q set
 Says (Balanced set p white black) q =
     NeverMoved q set × (white ≡ side_cost q.odds q.board p set White) × (black ≡ side_cost q.odds q.board p set Black) × (most_cost q.odds p < white + black) × HasNoMore q White × HasNoMore q Black
 Says (Counted set p) q = NeverMoved q set × IsTrue (is_plain p) × ((s : ℕ) → OneTreads q.odds s)
-Says (Best set p white black first) q = NeverMoved q set × CountTooMany q p set white.items black.items
+Says (Best set p white black first numbers) q = NeverMoved q set × CountTooMany q p set white.items black.items
 Says (Homeless c set) q = NeverMoved q set × HasNoMore q c × IsTrue (is_homeless q set c)
 Says (Back k above) q = Covers above q
 Says (Still first) q = NobodyMoved q
@@ -191,6 +192,10 @@ abbrev pub some_words : Asked → Colour → ℕ → List ℕ → List ℕ
 some_words q c captures files =
     codes "'s pawns have made at least " ++ counted captures (codes " capture") (codes " captures") ++ codes ". A cheapest way:" ++ drop 1 (ways_words q c files) ++ codes ". "
 
+-- how many captures the side's pawns made at least
+abbrev pub least_words : ℕ → List ℕ
+least_words captures = codes "'s pawns have made at least " ++ counted captures (codes " capture") (codes " captures") ++ codes ". "
+
 -- with how many captures the side's pawns came, where the least number is this one, and where they began on these files
 abbrev pub captures_words : Asked → Colour → ℕ → List ℕ → List ℕ
 captures_words q c captures files =
@@ -258,11 +263,12 @@ words_of (Settled set) q = settled_words set
 words_of (Gone c set) q = gone_words q c set
 words_of (Promoted c set pawns began first) q = count_words first c pawns (began + 1 - pawns) began
 words_of (Way c captures files) q = side_word c ++ captures_words q c captures files.items
+words_of (AtLeast c captures) q = side_word c ++ least_words captures
 words_of (Lacks c set missing first) q = lacks_words first q c set missing
 words_of (Priced set p) q = priced_words p
 words_of (Balanced set p white black) q = account_words q.odds (all_gates p) white black
 words_of (Counted set p) q = counting_words p
-words_of (Best set p white black first) q = best_words first q p set white.items black.items
+words_of (Best set p white black first numbers) q = best_words numbers first q p set white.items black.items
 words_of (Homeless c set) q = homeless_words c
 words_of (Back k above) q = back_words k
 words_of (Still first) q = barred_words q first

@@ -10,7 +10,7 @@ ghost use Rattle.proof_sentences.specs.declared.sentences.Sentence.TheVariants.{
 
 use crate::sentences::Sentence;
 use crate::telling::push_sentence;
-use balance_prose::{balance_counts_too_many, is_plain, least_homes, lowered, one_treads};
+use balance_prose::{Numbers, balance_counts_too_many, is_plain, least_homes, lowered, one_treads};
 use balance_rule::{balances, side_cost};
 use board_base::{Colour, SquareSet};
 use capture_prices::Prices;
@@ -71,19 +71,20 @@ fn counts_for(query: &Query, set: SquareSet, prices: &Prices) -> bool
 fn push_counted(
     alloc: Global,
     query: &Query,
+    numbers: Numbers,
     first: bool,
     set: SquareSet,
     prices: &Prices,
     out: &mut Vec<u8>,
 ) -> Result<(), AllocError>
     requires { CountsFor query.now set prices.now }
-    ensures { IfOk result (λ _. TellsCounted first query.now set prices.now out.old.items out.new.items) }
+    ensures { IfOk result (λ _. TellsCounted numbers first query.now set prices.now out.old.items out.new.items) }
 {
     balance_counts_too_many();
     one_treads();
     let white = least_homes(query, prices, set, Colour::White);
     let black = least_homes(query, prices, set, Colour::Black);
-    let best = Sentence::Best(set, *prices, white, black, first);
+    let best = Sentence::Best(set, *prices, white, black, first, numbers);
     push_sentence(alloc, query, &Sentence::Settled(set), out)?;
     push_sentence(alloc, query, &Sentence::Counted(set, *prices), out)?;
     push_sentence(alloc, query, &best, out)?;
@@ -118,17 +119,18 @@ fn push_priced(
 fn push_by_prices(
     alloc: Global,
     query: &Query,
+    numbers: Numbers,
     first: bool,
     set: SquareSet,
     prices: &Prices,
     out: &mut Vec<u8>,
 ) -> Result<(), AllocError>
     requires { BalanceSupports query.now set prices.now }
-    ensures { IfOk result (λ _. TellsBalance first query.now set prices.now out.old.items out.new.items) }
+    ensures { IfOk result (λ _. TellsBalance numbers first query.now set prices.now out.old.items out.new.items) }
 {
     let plain = lowered(prices);
     if counts_for(query, set, &plain) {
-        push_counted(alloc, query, first, set, &plain, out)?;
+        push_counted(alloc, query, numbers, first, set, &plain, out)?;
         return Ok(());
     }
     push_priced(alloc, query, set, prices, out)?;
@@ -139,18 +141,19 @@ fn push_by_prices(
 pub(crate) fn push_balance(
     alloc: Global,
     query: &Query,
+    numbers: Numbers,
     first: bool,
     set: SquareSet,
     prices: &Prices,
     out: &mut Vec<u8>,
 ) -> Result<(), AllocError>
     requires { BalanceSupports query.now set prices.now }
-    ensures { IfOk result (λ _. TellsBy (homeless_side query.now set) first query.now set prices.now out.old.items out.new.items) }
+    ensures { IfOk result (λ _. TellsBy numbers (homeless_side query.now set) first query.now set prices.now out.old.items out.new.items) }
 {
     if let Some(side) = homeless_side(query, set) {
         push_homeless(alloc, query, set, prices, side, out)?;
         return Ok(());
     }
-    push_by_prices(alloc, query, first, set, prices, out)?;
+    push_by_prices(alloc, query, numbers, first, set, prices, out)?;
     Ok(())
 }

@@ -9,7 +9,8 @@ ghost use Rattle.pawn_assign.specs.PawnCosts.{pawn_squares};
 ghost use Rattle.static_rules.specs.SetRules.{CapsSupports, FrozenSupports, PromoSupports};
 ghost use Rattle.static_rules.specs.Supports.{Supports};
 ghost use Rattle.proof_sentences.specs.Firsts.{IsFirst, is_changed};
-ghost use Rattle.proof_sentences.specs.Reasons.{Adds, AddsReason, IsWayOf, TellsReason, TellsRule};
+ghost use Rattle.balance_prose.specs.declared.numbers.Numbers.TheVariants.{Exact, Enough};
+ghost use Rattle.proof_sentences.specs.Reasons.{Adds, AddsReason, IsCheapest, IsWayOf, TellsReason, TellsRule};
 ghost use Rattle.proof_sentences.specs.Sentences.{NeverMoved, Says};
 
 use crate::balancing::push_balance;
@@ -19,6 +20,7 @@ use crate::sentences::Sentence;
 use crate::squares::{king_in_check, pawn_on_end};
 use crate::telling::push_sentence;
 use crate::ways::cheapest_way;
+use balance_prose::Numbers;
 use board_base::{Colour, Potentials, Square, SquareSet, array_of, is_same_place};
 use cert_text::Reason;
 use men_account::{allowance, counts, excess, men_of};
@@ -51,7 +53,7 @@ fn changed_square(query: &Query, set: SquareSet) -> Option<Square>
 /// With how few captures the side's pawns, at most eight, came to where they stand, by the first of the cheapest ways.
 fn way_of(query: &Query, side: Colour) -> Option<Sentence>
     ensures says { IfSome result (λ s. Says s query.now) }
-    ensures shape { IfSome result (IsWayOf query.now side) }
+    ensures shape { IfSome result (IsCheapest query.now side) }
     ensures some { length (pawn_squares side query.now.board) ≤ 8 → IsSome result }
 {
     match costs(&query.board, side, query.odds) {
@@ -61,6 +63,37 @@ fn way_of(query: &Query, side: Colour) -> Option<Sentence>
             Some(Sentence::Way(side, least.cost, files))
         }
         None => None,
+    }
+}
+
+/// The same by a number that is enough if the other side lacks so many men, or by that way if the pawns have none.
+fn enough_of(query: &Query, side: Colour, missing: u8) -> Option<Sentence>
+    ensures says { IfSome result (λ s. Says s query.now) }
+    ensures shape { IfSome result (IsWayOf Enough query.now side) }
+    ensures some { length (pawn_squares side query.now.board) ≤ 8 → IsSome result }
+{
+    match costs(&query.board, side, query.odds) {
+        Some(costs) => {
+            let captures = least(&costs).cost;
+            if captures < 64 {
+                Some(Sentence::AtLeast(side, captures.min(u16::from(missing) + 1)))
+            } else {
+                way_of(query, side)
+            }
+        }
+        None => None,
+    }
+}
+
+/// With how few captures the side's pawns came, by the numbers that are told; the other side lacks so many men.
+fn told_way(query: &Query, side: Colour, numbers: Numbers, missing: u8) -> Option<Sentence>
+    ensures says { IfSome result (λ s. Says s query.now) }
+    ensures shape { IfSome result (IsWayOf numbers query.now side) }
+    ensures some { length (pawn_squares side query.now.board) ≤ 8 → IsSome result }
+{
+    match numbers {
+        Numbers::Exact => way_of(query, side),
+        Numbers::Enough => enough_of(query, side, missing),
     }
 }
 
@@ -79,7 +112,7 @@ fn push_frozen(
     out: &mut Vec<u8>,
 ) -> Result<(), AllocError>
     requires { FrozenSupports query.now.odds query.now set }
-    ensures { IfOk result (λ _. TellsRule true query.now (RuleLine.Frozen set) out.old.items out.new.items) }
+    ensures { IfOk result (λ _. TellsRule Exact true query.now (RuleLine.Frozen set) out.old.items out.new.items) }
 {
     let odd = changed_square(query, set).unwrap();
     push_sentence(alloc, query, &Sentence::Caged(set), out)?;
@@ -97,7 +130,7 @@ fn push_promo(
     out: &mut Vec<u8>,
 ) -> Result<(), AllocError>
     requires { PromoSupports query.now.odds query.now side set }
-    ensures { IfOk result (λ _. TellsRule first query.now (RuleLine.Promo side set) out.old.items out.new.items) }
+    ensures { IfOk result (λ _. TellsRule Exact first query.now (RuleLine.Promo side set) out.old.items out.new.items) }
 {
     let pawns = counts(&query.board, side).pawns;
     let began = allowance(side, query.odds).pawns;
@@ -116,6 +149,7 @@ fn push_promo(
 fn push_caps(
     alloc: Global,
     query: &Query,
+    numbers: Numbers,
     first: bool,
     side: Colour,
     set: SquareSet,
@@ -123,11 +157,11 @@ fn push_caps(
     out: &mut Vec<u8>,
 ) -> Result<(), AllocError>
     requires { CapsSupports query.now.odds query.now side set p.now.u p.now.v }
-    ensures { IfOk result (λ _. TellsRule first query.now (RuleLine.Caps side set p.now) out.old.items out.new.items) }
+    ensures { IfOk result (λ _. TellsRule numbers first query.now (RuleLine.Caps side set p.now) out.old.items out.new.items) }
 {
-    let way = way_of(query, side).unwrap();
     let other = side.other();
     let missing = missing_of(query, other);
+    let way = told_way(query, side, numbers, missing).unwrap();
     push_sentence(alloc, query, &Sentence::Settled(set), out)?;
     push_sentence(alloc, query, &way, out)?;
     push_sentence(
@@ -162,7 +196,7 @@ fn push_side(
     out: &mut Vec<u8>,
 ) -> Result<(), AllocError>
     requires { Supports query.now (RuleLine.Count side) }
-    ensures { IfOk result (λ _. TellsRule first query.now (RuleLine.Count side) out.old.items out.new.items) }
+    ensures { IfOk result (λ _. TellsRule Exact first query.now (RuleLine.Count side) out.old.items out.new.items) }
 {
     let men = counts(&query.board, side);
     let allowed = allowance(side, query.odds);
@@ -179,7 +213,7 @@ fn push_side(
 /// Where a pawn stands that can't stand there.
 fn push_ranks(alloc: Global, query: &Query, out: &mut Vec<u8>) -> Result<(), AllocError>
     requires { Supports query.now RuleLine.Ranks }
-    ensures { IfOk result (λ _. TellsRule true query.now RuleLine.Ranks out.old.items out.new.items) }
+    ensures { IfOk result (λ _. TellsRule Exact true query.now RuleLine.Ranks out.old.items out.new.items) }
 {
     let s = pawn_on_end(&query.board).unwrap();
     push_sentence(alloc, query, &Sentence::Ranks(s), out)?;
@@ -189,7 +223,7 @@ fn push_ranks(alloc: Global, query: &Query, out: &mut Vec<u8>) -> Result<(), All
 /// Which king stands in check.
 fn push_attacked(alloc: Global, query: &Query, out: &mut Vec<u8>) -> Result<(), AllocError>
     requires { Supports query.now RuleLine.Check }
-    ensures { IfOk result (λ _. TellsRule true query.now RuleLine.Check out.old.items out.new.items) }
+    ensures { IfOk result (λ _. TellsRule Exact true query.now RuleLine.Check out.old.items out.new.items) }
 {
     let side = query.turn.other();
     let s = king_in_check(&query.board, side).unwrap();
@@ -200,7 +234,7 @@ fn push_attacked(alloc: Global, query: &Query, out: &mut Vec<u8>) -> Result<(), 
 /// Which right to castle can't have been kept.
 fn push_rights(alloc: Global, query: &Query, out: &mut Vec<u8>) -> Result<(), AllocError>
     requires { Supports query.now RuleLine.Rights }
-    ensures { IfOk result (λ _. TellsRule true query.now RuleLine.Rights out.old.items out.new.items) }
+    ensures { IfOk result (λ _. TellsRule Exact true query.now RuleLine.Rights out.old.items out.new.items) }
 {
     let castle = astray_right(query).unwrap();
     push_sentence(alloc, query, &Sentence::Rights(castle), out)?;
@@ -211,12 +245,13 @@ fn push_rights(alloc: Global, query: &Query, out: &mut Vec<u8>) -> Result<(), Al
 fn push_rule(
     alloc: Global,
     query: &Query,
+    numbers: Numbers,
     first: bool,
     rule: &RuleLine,
     out: &mut Vec<u8>,
 ) -> Result<(), AllocError>
     requires { Supports query.now rule.now }
-    ensures { IfOk result (λ _. TellsRule first query.now rule.now out.old.items out.new.items) }
+    ensures { IfOk result (λ _. TellsRule numbers first query.now rule.now out.old.items out.new.items) }
 {
     match rule {
         RuleLine::Kings => push_one(alloc, query, &Sentence::Kings, out),
@@ -226,7 +261,9 @@ fn push_rule(
         RuleLine::Count(side) => push_side(alloc, query, first, *side, out),
         RuleLine::Frozen(set) => push_frozen(alloc, query, *set, out),
         RuleLine::Promo(side, set) => push_promo(alloc, query, first, *side, *set, out),
-        RuleLine::Caps(side, set, p) => push_caps(alloc, query, first, *side, *set, p, out),
+        RuleLine::Caps(side, set, p) => push_caps(
+            alloc, query, numbers, first, *side, *set, p, out,
+        ),
     }
 }
 
@@ -234,32 +271,36 @@ fn push_rule(
 fn push_supported(
     alloc: Global,
     query: &Query,
+    numbers: Numbers,
     first: bool,
     reason: &Reason,
     out: &mut Vec<u8>,
 ) -> Result<(), AllocError>
     requires { ReasonSupports query.now reason.now }
-    ensures { IfOk result (λ _. TellsReason first query.now reason.now out.old.items out.new.items) }
+    ensures { IfOk result (λ _. TellsReason numbers first query.now reason.now out.old.items out.new.items) }
 {
     match reason {
-        Reason::Line(rule) => push_rule(alloc, query, first, rule, out),
-        Reason::Balance(set, prices) => push_balance(alloc, query, first, *set, prices, out),
+        Reason::Line(rule) => push_rule(alloc, query, numbers, first, rule, out),
+        Reason::Balance(set, prices) => push_balance(
+            alloc, query, numbers, first, *set, prices, out,
+        ),
     }
 }
 
 /// Adds the sentences that say why the reason supports the query, with the least set that it needs. Whether the query is the first that is
-/// told decides some of their words.
+/// told decides some of their words, and which numbers are told some others.
 pub fn push_reason(
     alloc: Global,
     query: &Query,
+    numbers: Numbers,
     first: bool,
     reason: &Reason,
     out: &mut Vec<u8>,
 ) -> Result<(), AllocError>
     requires { ReasonSupports query.now reason.now }
-    ensures { IfOk result (λ _. AddsReason first query.now reason.now out.old.items out.new.items) }
+    ensures { IfOk result (λ _. AddsReason numbers first query.now reason.now out.old.items out.new.items) }
 {
     let least = lessened(query, reason);
-    push_supported(alloc, query, first, &least, out)?;
+    push_supported(alloc, query, numbers, first, &least, out)?;
     Ok(())
 }

@@ -1,4 +1,5 @@
 use arrayvec::ArrayVec;
+use balance_prose::Numbers;
 use board_base::{Castle, Colour, Square, SquareSet};
 use capture_prices::Prices;
 use query_base::Query;
@@ -30,6 +31,8 @@ pub enum Sentence {
     Promoted(Colour, SquareSet, u8, u8, bool),
     /// The side's pawns have made so many captures at least, as many as where they began on these files.
     Way(Colour, u16, ArrayVec<u8, 8>),
+    /// The side's pawns have made so many captures at least.
+    AtLeast(Colour, u16),
     /// The side lacks so many men, and no pawn took some of them; whether the query is the first that is told.
     Lacks(Colour, SquareSet, u8, bool),
     /// What a capture by a pawn of the side costs, and what a pawn that neither captured nor was taken as a pawn pays for squares.
@@ -39,8 +42,8 @@ pub enum Sentence {
     /// The captures that count at these prices, while the men on these squares stood, and why each gate counts once at most.
     Counted(SquareSet, Prices),
     /// What the men count who began on these homes, at which they cost the least, and that those who are gone make up for less; whether
-    /// the query is the first that is told.
-    Best(SquareSet, Prices, ArrayVec<u8, 16>, ArrayVec<u8, 16>, bool),
+    /// the query is the first that is told, and which number is told.
+    Best(SquareSet, Prices, ArrayVec<u8, 16>, ArrayVec<u8, 16>, bool, Numbers),
     /// The men of this side can't all have begun on homes of their own, while the men on these squares stood.
     Homeless(Colour, SquareSet),
     /// The position stood so many half-moves later too, where this query asks no more.

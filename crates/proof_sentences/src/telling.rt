@@ -7,7 +7,7 @@ ghost use Rattle.board_base.specs.Board.{is_in, opponent};
 ghost use Rattle.assignment.specs.Assignments.{IsInjection};
 ghost use Rattle.pawn_assign.specs.PawnCosts.{pawn_costs, pawn_home, pawn_squares};
 ghost use Rattle.capture_prices.specs.Prices.{all_gates};
-ghost use Rattle.proof_sentences.specs.Sentences.{Says, account_words, at_time, back_words, barred_words, by_right, caged_words, captures_words, check_words, count_words, counted, difference_words, end_words, gone_words, homeless_words, is_gone, is_kept, is_safe, lacks_words, many_shut, missing_words, most_words, moved_words, net_words, one_shut, pawn_words, rights_words, settled_words, shut_words, some_words, still_words, stood_words, unmoved_men, way_words, ways_words, words_of};
+ghost use Rattle.proof_sentences.specs.Sentences.{Says, account_words, at_time, back_words, barred_words, by_right, caged_words, captures_words, check_words, count_words, counted, difference_words, end_words, gone_words, homeless_words, is_gone, is_kept, is_safe, lacks_words, least_words, many_shut, missing_words, most_words, moved_words, net_words, one_shut, pawn_words, rights_words, settled_words, shut_words, some_words, still_words, stood_words, unmoved_men, way_words, ways_words, words_of};
 ghost use Rattle.prose_words.specs.Words.{side_word, squares_words};
 
 use crate::pawns::pawn_squares;
@@ -266,6 +266,17 @@ fn push_pawns_came(
 {
     say(side_word(side), out)?;
     push_captures(alloc, query, side, captures, files, out)?;
+    Ok(())
+}
+
+/// How many captures the side's pawns made at least.
+fn push_at_least(side: Colour, captures: u16, out: &mut Vec<u8>) -> Result<(), AllocError>
+    ensures { IfOk result (λ _. out.new.items ≡ out.old.items ++ (side_word side ++ least_words captures)) }
+{
+    say(side_word(side), out)?;
+    say(b"'s pawns have made at least ", out)?;
+    push_counted(captures as usize, b" capture", b" captures", out)?;
+    say(b". ", out)?;
     Ok(())
 }
 
@@ -669,6 +680,7 @@ pub(crate) fn push_sentence(
         Sentence::Way(side, captures, files) => {
             push_pawns_came(alloc, query, *side, *captures, files.as_slice(), out)
         }
+        Sentence::AtLeast(side, captures) => push_at_least(*side, *captures, out),
         Sentence::Lacks(side, set, missing, first) => {
             push_lacks(alloc, query, *first, *side, *set, *missing, out)
         }
@@ -677,8 +689,9 @@ pub(crate) fn push_sentence(
             push_accounts(query, prices, *white, *black, out)
         }
         Sentence::Counted(_, prices) => push_counts(alloc, prices, out),
-        Sentence::Best(set, prices, white, black, first) => push_best(
+        Sentence::Best(set, prices, white, black, first, numbers) => push_best(
             alloc,
+            *numbers,
             *first,
             query,
             prices,

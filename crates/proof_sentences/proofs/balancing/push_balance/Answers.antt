@@ -12,8 +12,8 @@ push_homeless-requires c = record {
 
 pub returns-in-Some : goal.returns-in-Some
 returns-in-Some c =
-    subst (λ (o : Option Colour). TellsBy o c.args.first c.args.query.now c.args.set c.args.prices.now c.args.out.now.items c.push_homeless.new.out.items) c.in-Some.ensures c.in_ok-push_homeless.ensures
+    subst (λ (o : Option Colour). TellsBy c.args.numbers o c.args.first c.args.query.now c.args.set c.args.prices.now c.args.out.now.items c.push_homeless.new.out.items) c.in-Some.ensures c.in_ok-push_homeless.ensures
 
 pub returns : goal.returns
 returns c =
-    subst (λ (o : Option Colour). TellsBy o c.args.first c.args.query.now c.args.set c.args.prices.now c.args.out.now.items c.push_by_prices.new.out.items) c.in_default.ensures c.in_ok-push_by_prices.ensures
+    subst (λ (o : Option Colour). TellsBy c.args.numbers o c.args.first c.args.query.now c.args.set c.args.prices.now c.args.out.now.items c.push_by_prices.new.out.items) c.in_default.ensures c.in_ok-push_by_prices.ensures

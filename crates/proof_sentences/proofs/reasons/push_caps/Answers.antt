@@ -9,10 +9,10 @@ use Rattle.proof_sentences.proofs.Adding.{adds-three, needs-back}
 use Rattle.proof_sentences.proofs.reasons.push_caps.Goals as goal
 
 pub unwrap-way-requires : goal.unwrap-way-requires
-unwrap-way-requires c = c.way_of.ensures.some (omega (arith, c.requires.above.pawns, c.requires.above.eight))
+unwrap-way-requires c = c.told_way.ensures.some (omega (arith, c.requires.above.pawns, c.requires.above.eight))
 
 pub push_sentence-requires-2 : goal.push_sentence-requires-2
-push_sentence-requires-2 c = rw c.unwrap-way.ensures at c.way_of.ensures.says
+push_sentence-requires-2 c = rw c.unwrap-way.ensures at c.told_way.ensures.says
 
 pub push_sentence-requires-3 : goal.push_sentence-requires-3
 push_sentence-requires-3 c =
@@ -25,11 +25,11 @@ returns c =
     let never : NeverMoved c.args.query.now c.args.set = (c.requires.settled.frozen, c.requires.settled.as_array) in
     let needs : NeedTooMany c.args.query.now.odds c.args.query.now c.args.set (opponent c.other-other.result) c.args.p.now.u c.args.p.now.v =
     rw c.other-other.ensures (needs-back c.args.query.now.odds c.args.query.now c.args.set c.args.side c.args.p.now.u c.args.p.now.v c.requires.above.needs) in
-    let says = rw c.unwrap-way.ensures at c.way_of.ensures.says in
+    let says = rw c.unwrap-way.ensures at c.told_way.ensures.says in
     let all = adds-three c.args.query.now (Settled c.args.set) c.unwrap-way.result (Lacks c.other-other.result c.args.set c.missing_of-missing.result c.args.first) c.args.out.now.items _ _ c.push_sentence-3.new.out.items never says
     (never, c.missing_of-missing.ensures, (c.args.p.now, needs)) c.in_ok-push_sentence.ensures c.in_ok-push_sentence-2.ensures c.in_ok-push_sentence-3.ensures in (
       c.unwrap-way.result,
       c.missing_of-missing.result,
-      rw c.unwrap-way.ensures at c.way_of.ensures.shape,
+      rw c.unwrap-way.ensures at c.told_way.ensures.shape,
       subst (λ (d : Colour). Adds c.args.query.now (Settled c.args.set ∷ c.unwrap-way.result ∷ Lacks d c.args.set c.missing_of-missing.result c.args.first ∷ []) c.args.out.now.items c.push_sentence-3.new.out.items) c.other-other.ensures all,
     )
