@@ -14,9 +14,10 @@ use Rattle.line_claims.specs.Lines.{has_text}
 use Rattle.line_claims.specs.Listing.{AreListed}
 use Rattle.claim_findings.proofs.OpenFronts.{listed_more, listed_none}
 use Rattle.claim_findings.specs.Findings.{IsFound, is_proved, is_refuted}
-use Rattle.diagram_study.specs.Forced.{AreForced, IsForced, IsOpenPlace, LastFound}
+use Rattle.diagram_study.specs.Forced.{AreForced, AreStepsFound, IsForced, IsOpenPlace, IsStepsFound, LastFound}
 use Rattle.diagram_study.specs.Retractions.{AreLeft, HasLeft}
 use Rattle.claim_findings.specs.declared.findings.Finding.{Finding}
+use Rattle.diagram_study.specs.declared.forced.StepsFound.{StepsFound}
 
 -- the first of a list of one
 pub only_first : (left : List Unmove) → length left ≡ 1 → MatchOption (slice_get left 0) (length left ≡ 1 → ⊥) (λ u. left ≡ u ∷ [])
@@ -130,3 +131,11 @@ only_text left u is all = All-head (λ (v : Unmove). IsTrue (has_text v)) u [] (
 pub next_is : (q : Asked) (most nodes : ℕ) (left : List Unmove) (step : Option Unmove) → All (λ u. IsTrue (has_text u)) left → MatchOption step (IsOpenPlace q most nodes) (λ u. IsForced q most nodes u × (left ≡ u ∷ [])) → MatchOption step (IsOpenPlace q most nodes) (λ u. IsForced q most nodes u × IsTrue (has_text u))
 next_is q most nodes left None all next = next
 next_is q most nodes left (Some u) all next = (next.0, only_text left u next.1 all)
+
+-- what was found of two steps or more
+pub several_found : (q : Asked) (most nodes : ℕ) (steps : List Unmove) (f : StepsFound) → AreForced 16 q most nodes steps → 2 ≤ length steps → IsStepsFound q most nodes steps f → AreStepsFound q most nodes (Some f)
+several_found q most nodes steps f forced several is = record { steps = steps; forced = forced; several = λ _. (f, is, refl); few = λ less. absurd (omega (arith, several, less)) }
+
+-- and of fewer
+pub few_found : (q : Asked) (most nodes : ℕ) (steps : List Unmove) → AreForced 16 q most nodes steps → length steps < 2 → AreStepsFound q most nodes None
+few_found q most nodes steps forced few = record { steps = steps; forced = forced; several = λ more. absurd (omega (arith, few, more)); few = λ _. refl }

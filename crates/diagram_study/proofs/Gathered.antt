@@ -9,12 +9,12 @@ use Rattle.query_base.specs.Asked.{Asked}
 use Rattle.query_base.specs.declared.claims.Claim.TheVariants.{Illegal}
 use Rattle.codex_verdict.specs.declared.kinds.Right.{Right}
 use Rattle.codex_verdict.specs.declared.kinds.Right.TheVariants.{Castling, EnPassant}
-use Rattle.diagram_study.specs.Decisions.{HasStuckPairText, HasStuckText, IsPairAgreed, IsRightAgreed}
+use Rattle.diagram_study.specs.Decisions.{IsPairAgreed, IsRightAgreed}
 use Rattle.claim_findings.specs.Decisions.{IsAgreed}
 use Rattle.claim_findings.specs.Findings.{is_proved}
 use Rattle.diagram_study.specs.Gathering.{AreGathered, AreSought}
-use Rattle.diagram_study.specs.Pairs.{IsPairFound, are_both_in, castle_pairs, pair_of}
-use Rattle.diagram_study.specs.Rights.{AreDue, IsRightFound, open_castlings, with_right}
+use Rattle.diagram_study.specs.Pairs.{HasStuckPairText, IsPairFound, are_both_in, castle_pairs, pair_of}
+use Rattle.diagram_study.specs.Rights.{AreDue, HasStuckText, IsRightFound, open_castlings, with_right}
 use Rattle.claim_findings.specs.declared.findings.Finding.{Finding}
 use Rattle.diagram_study.specs.declared.gathering.Gathered.{Gathered}
 use Rattle.diagram_study.specs.declared.rights.RightFound.{RightFound}

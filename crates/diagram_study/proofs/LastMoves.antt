@@ -13,9 +13,8 @@ use Rattle.query_base.specs.Asked.{Asked}
 use Rattle.query_base.proofs.Settled.{array_settled}
 use Rattle.claim_findings.specs.Findings.{is_refuted}
 use Rattle.claim_findings.specs.Games.{IsEndIn}
-use Rattle.diagram_study.specs.Possible.{AreEnds, HasFewLeft, IsEnd, TellsEnds}
+use Rattle.diagram_study.specs.Possible.{AreEnds, HasFewLeft, IsEnd}
 use Rattle.diagram_study.specs.Retractions.{AreLeft, EndsAmong}
-use Rattle.diagram_study.specs.Texts.{possible_line}
 use Rattle.claim_findings.proofs.Steps.{at_place}
 
 -- one unmove more with which one of the games ends
@@ -125,8 +124,3 @@ ends_found games q left ends longer i u inside there are end grown =
 pub ends_passed : (games : List (List Move)) (q : Asked) (left ends : List Unmove) (i : ℕ) (u : Unmove) → i < length left → slice_get left i ≡ Some u → AreEnds games q (take i left) ends → (IsEndIn games q u → ⊥) → AreEnds games q (take (i + 1) left) ends
 ends_passed games q left ends i u inside there are none =
     subst (λ (us : List Unmove). AreEnds games q us ends) (sym (up_to left i u inside (at_place left i u there))) (ends_past games q (take i left) ends u are none)
-
--- their line
-pub ends_told : (games : List (List Move)) (q : Asked) (left ends : List Unmove) (n : ℕ) (old new : List ℕ) → AreEnds games q left ends → EndsAmong q left → n ≡ length left → new ≡ old ++ possible_line ends n → (own : List ℕ) × TellsEnds q games left own × (new ≡ old ++ own)
-ends_told games q left ends n old new are among counted longer =
-    (possible_line ends n, record { ends = ends; are = are; whole = whole_truth games q left ends are among; text_is = ap (possible_line ends) counted }, longer)

@@ -1,5 +1,5 @@
 -- Each line of a study says what is so.
-use Rattle.std.proofs.Common.{◌≡◌, ℕ, ◌⊎◌, inl, inr, Bool, true, false, cond, List, [], ◌∷◌, ◌++◌, length, refl, ap, sym, subst, ◌∙◌, append_assoc, append-nil}
+use Rattle.std.proofs.Common.{◌≡◌, ℕ, ◌≤◌, ◌⊎◌, inl, inr, Bool, true, false, cond, List, [], ◌∷◌, ◌++◌, length, refl, ap, sym, subst, ◌∙◌, append_assoc, append-nil}
 use Rattle.std.specs.Prelude.{◌&&◌, IsTrue, Option, Some, None}
 use Rattle.std.specs.List.{All, flat_map}
 use Rattle.std.proofs.lemmas.Bool.{both_ways, cases_lt}
@@ -15,27 +15,31 @@ use Rattle.query_base.specs.declared.claims.Claim.TheVariants.{Illegal, Last}
 use Rattle.codex_verdict.specs.Rights.{claim_of}
 use Rattle.codex_verdict.specs.declared.kinds.Right.{Right}
 use Rattle.codex_verdict.specs.declared.kinds.Right.TheVariants.{Castling, EnPassant}
-use Rattle.length_bound.specs.declared.texts.LengthText.{LengthText}
 use Rattle.line_claims.specs.declared.claims.LineClaim.{LineClaim}
-use Rattle.line_claims.specs.declared.claims.LineClaim.TheVariants.{Line, NotBoth}
-use Rattle.unmove_gen.specs.Listed.{unmoves}
+use Rattle.line_claims.specs.declared.claims.LineClaim.TheVariants.{NotBoth}
 use Rattle.ledger_told.specs.Line.{Line as LedgerLine}
-use Rattle.ledger_told.specs.Told.{IsLineTrue, TellsLedger, lines_text, whole_text}
+use Rattle.ledger_told.specs.Told.{IsLineTrue, lines_text, whole_text}
 use Rattle.ledger_told.proofs.Known.{all-true}
 use Rattle.diagram_study.specs.Facts.{AreClaimWords, Fact, GoesBy, IsSo, IsTrueOf, SaysOf, SaysTrue, at_least, found, known, left, line_of, other, possible, steps, stuck}
 use Rattle.claim_findings.specs.Findings.{IsContradicted, IsFound, is_proved}
-use Rattle.diagram_study.specs.Forced.{TellsForced}
+use Rattle.diagram_study.specs.Findings.{AreFindings, HasLength, IsFoundOf, other_side}
+use Rattle.diagram_study.specs.Forced.{AreStepsFound}
 use Rattle.claim_findings.specs.Games.{AgreesWith}
-use Rattle.diagram_study.specs.Possible.{TellsPossible}
+use Rattle.diagram_study.specs.Possible.{HasEnds}
 use Rattle.diagram_study.specs.Pairs.{IsPairFound}
-use Rattle.diagram_study.specs.Retractions.{TellsLast, one_move}
+use Rattle.diagram_study.specs.Retractions.{IsLastFound}
 use Rattle.diagram_study.specs.Rights.{IsRightFound}
-use Rattle.diagram_study.specs.Studies.{IsStudy, TellsAgain, TellsBehind, TellsLength, TellsMore, TellsPosition, makes_demands, other_side, without_demands}
-use Rattle.diagram_study.specs.Texts.{capture_line, capture_lines, castling_line, castling_lines, left_line, pair_lines, plain_line}
-use Rattle.claim_findings.specs.Lines.{decided_lines, decided_steps, steps_words, stuck_line}
+use Rattle.diagram_study.specs.Studies.{IsStudy, TellsAgain, TellsPosition, makes_demands, without_demands}
+use Rattle.diagram_study.specs.Texts.{capture_line, capture_lines, castling_line, castling_lines, ends_text, findings_text, found_text, last_text, left_line, length_text, pair_lines, plain_line, steps_text}
+use Rattle.claim_findings.specs.Lines.{decided_lines, decided_steps, found_line, steps_line, steps_words, stuck_line}
 use Rattle.claim_findings.specs.declared.findings.Finding.{Finding}
 use Rattle.claim_findings.specs.declared.findings.Finding.TheVariants.{Proved, Countered, Open, Spent}
+use Rattle.diagram_study.specs.declared.findings.Findings.{Findings}
+use Rattle.diagram_study.specs.declared.findings.Findings.TheVariants.{Impossible, Unproved}
+use Rattle.diagram_study.specs.declared.findings.Found.{Found}
+use Rattle.diagram_study.specs.declared.forced.StepsFound.{StepsFound}
 use Rattle.diagram_study.specs.declared.pairs.PairFound.{PairFound}
+use Rattle.diagram_study.specs.declared.retractions.MoveFound.{MoveFound}
 use Rattle.diagram_study.specs.declared.rights.RightFound.{RightFound}
 use Rattle.diagram_study.proofs.LastMoves.{all_end, all_end_in, few_or_not}
 use Rattle.claim_findings.proofs.Together.{proved_holds}
@@ -138,28 +142,32 @@ pairs_say q most nodes by [] all = says_none q by [] refl
 pairs_say q most nodes by (f ∷ fs) all =
     says_both q by _ _ (pair_says q most nodes by f (All-head (IsPairFound q most nodes by) f fs all)) (pairs_say q most nodes by fs (All-tail (IsPairFound q most nodes by) f fs all))
 
-last_says : (q : Asked) (most nodes : ℕ) (by : List (List Move)) (m : Option Move) (text : List ℕ) → TellsLast q most nodes m text → Says q by text
-last_says q most nodes by None text told = says_none q by text told
-last_says q most nodes by (Some m) text told =
-    says_if q by (is_proved told.finding) _ text told.text_is
-    (λ proved. says_one q by _ (found told.finding (Last m)) (found_so q (Last m) most nodes told.finding told.found) (proved_agrees q (Last m) most nodes by told.finding told.found proved) refl)
+last_says : (q : Asked) (most nodes : ℕ) (by : List (List Move)) (us : List Unmove) (last : Option MoveFound) → IsLastFound q most nodes us last → Says q by (last_text last)
+last_says q most nodes by us None is = says_none q by [] refl
+last_says q most nodes by us (Some f) is =
+    let here = is.found.found in
+    says_if q by (is_proved f.finding) (found_line f.finding (Last f.mv)) (last_text (Some f)) refl (λ proved. says_one q by _ (found f.finding (Last f.mv)) (found_so q (Last f.mv) most nodes f.finding here) (proved_agrees q (Last f.mv) most nodes by f.finding here proved) refl)
 
-line_says : (q : Asked) (most nodes : ℕ) (by : List (List Move)) (text : List ℕ) → TellsForced q most nodes text → Says q by text
-line_says q most nodes by text told = elim (cases_lt (length told.steps) 2) [
-  | inl few ↦ says_none q by text (told.few few)
+line_says : (q : Asked) (most nodes : ℕ) (by : List (List Move)) (line : Option StepsFound) → AreStepsFound q most nodes line → Says q by (steps_text line)
+line_says q most nodes by line are = elim (cases_lt (length are.steps) 2) [
+  | inl few ↦ subst (λ (o : Option StepsFound). Says q by (steps_text o)) (sym (are.few few)) (says_none q by [] refl)
   | inr more ↦
-      let t = told.several more in
-      says_if q by (is_proved t.finding) _ text t.text_is (λ proved. says_one q by _ (steps t.finding (Line told.steps)) (said_so t.finding _ _ t.found.holds (unless_proved t.finding _ proved)) tt refl)
+      let t = are.several more in
+      let f : StepsFound = t.0 in
+      subst (λ (o : Option StepsFound). Says q by (steps_text o)) (sym t.2)
+      (says_if q by (is_proved f.finding) (steps_line f.finding f.claim) (steps_text (Some f)) refl (λ proved. says_one q by _ (steps f.finding f.claim) (said_so f.finding _ _ t.1.found.holds (unless_proved f.finding _ proved)) tt refl))
 ]
 
-games_say : (q : Asked) (by : List (List Move)) (said : Option LengthText) (text : List ℕ) → TellsLength q said text → Says q by text
-games_say q by None text told = says_none q by text told.2
-games_say q by (Some said) text told = says_one q by text (at_least said.at_least) told.0.games tt told.1
+games_say : (q : Asked) (by : List (List Move)) (n : Option ℕ) → HasLength q n → Says q by (length_text n)
+games_say q by None has = says_none q by [] refl
+games_say q by (Some n) has = says_one q by _ (at_least n) (λ g reaches. subst (λ (k : ℕ). k ≤ length g) (sym has.2) (has.1.games g reaches)) tt refl
 
-possible_says : (q : Asked) (by : List (List Move)) (us : List Unmove) (text : List ℕ) → TellsPossible q by us text → Says q by text
-possible_says q by us text told = elim (few_or_not q us) [
-  | inl few ↦ let t = told.told few in says_one q by text (possible t.ends (length us)) (all_end by q us t.ends t.are) (all_end_in by q us t.ends t.are) t.text_is
-  | inr many ↦ says_none q by text (told.untold many)
+possible_says : (q : Asked) (by : List (List Move)) (us : List Unmove) (ends : Option (List Unmove)) → HasEnds q by us ends → Says q by (ends_text ends (length us))
+possible_says q by us ends has = elim (few_or_not q us) [
+  | inl few ↦
+      let t = has.few few in
+      subst (λ (o : Option (List Unmove)). Says q by (ends_text o (length us))) (sym t.2) (says_one q by _ (possible t.0 (length us)) (all_end by q us t.0 t.1.are) (all_end_in by q us t.0 t.1.are) refl)
+  | inr many ↦ subst (λ (o : Option (List Unmove)). Says q by (ends_text o (length us))) (sym (has.none many)) (says_none q by [] refl)
 ]
 
 -- the lines of the ledger
@@ -169,34 +177,27 @@ known_say q by [] all = says_none q by [] refl
 known_say q by (x ∷ xs) all =
     says_both q by (whole_text x) (lines_text xs) (says_one q by (whole_text x) (known x) (All-head (IsLineTrue q) x xs all) tt refl) (known_say q by xs (All-tail (IsLineTrue q) x xs all))
 
-ledger_says : (q : Asked) (by : List (List Move)) (text : List ℕ) → TellsLedger q text → Says q by text
-ledger_says q by text told =
-    let all = all-true q text told in
-    subst (Says q by) (sym all.2) (known_say q by all.0 all.1)
+found_says : (q : Asked) (most nodes : ℕ) (by : List (List Move)) (f : Found) → AreFindings q most nodes by f → Says q by (found_text f)
+found_says q most nodes by f are =
+    says_both q by _ (length_text f.length) (says_both q by _ (lines_text f.ledger.items) (says_both q by _ (ends_text f.ends (length f.left)) (says_both q by _ (left_line f.left f.all) (says_both q by _ (steps_text f.steps) (says_both q by _ (last_text f.last) (says_both q by _ (capture_lines f.rights.items) (says_both q by _ (pair_lines f.pairs.items) (says_both q by (decided_lines f.illegal.finding f.illegal.stuck Illegal) (castling_lines f.rights.items)
+    (says_claim q Illegal most nodes by f.illegal.finding f.illegal.stuck are.illegal.decided.found are.illegal.agrees)
+    (castlings_say q most nodes by f.rights.items are.rights.each))
+    (pairs_say q most nodes by f.pairs.items are.pairs.each))
+    (captures_say q most nodes by f.rights.items are.rights.each))
+    (last_says q most nodes by f.left f.last are.last))
+    (line_says q most nodes by f.steps are.steps))
+    (says_one q by _ (left f.left f.all) tt tt refl))
+    (possible_says q by f.left f.ends are.ends))
+    (known_say q by f.ledger.items (all-true q f.ledger.items are.ledger)))
+    (games_say q by f.length are.games)
 
-more_says : (q : Asked) (most nodes : ℕ) (by : List (List Move)) (text : List ℕ) → TellsMore q most nodes by text → Says q by text
-more_says q most nodes by text told =
-    subst (Says q by) (sym told.text_is)
-    (says_both q by _ told.games (says_both q by _ told.ledger (says_both q by _ told.possible (says_both q by _ (left_line told.left (length (unmoves q))) (says_both q by _ told.line (says_both q by _ told.last (says_both q by _ (capture_lines told.found) (says_both q by (castling_lines told.found) (pair_lines told.pairs)
-    (castlings_say q most nodes by told.found told.rights.each) (pairs_say q most nodes by told.pairs told.pairs_found.each))
-    (captures_say q most nodes by told.found told.rights.each))
-    (last_says q most nodes by (one_move told.left) told.last told.last_told))
-    (line_says q most nodes by told.line told.line_told))
-    (says_one q by _ (left told.left (length (unmoves q))) tt tt refl))
-    (possible_says q by told.left told.possible told.possible_told))
-    (ledger_says q by told.ledger told.ledger_told))
-    (games_say q by told.said told.games told.games_told))
-
-behind_says : (q : Asked) (most nodes : ℕ) (by : List (List Move)) (finding : Finding) (text : List ℕ) → TellsBehind q most nodes by finding text → Says q by text
-behind_says q most nodes by (Proved depth) text told = says_one q by text (other told.finding) (found_so (other_side q) Illegal most nodes told.finding told.found) tt told.text_is
-behind_says q most nodes by Countered text told = more_says q most nodes by text told
-behind_says q most nodes by Open text told = more_says q most nodes by text told
-behind_says q most nodes by Spent text told = more_says q most nodes by text told
+findings_say : (q : Asked) (most nodes : ℕ) (by : List (List Move)) (findings : Findings) → IsFoundOf q most nodes by findings → Says q by (findings_text findings)
+findings_say q most nodes by (Impossible finding against) are =
+    says_both q by _ _ (says_one q by _ (found finding Illegal) (found_so q Illegal most nodes finding are.0) (proved_agrees q Illegal most nodes by finding are.0 are.1) refl) (says_one q by _ (other against) (found_so (other_side q) Illegal most nodes against are.2) tt refl)
+findings_say q most nodes by (Unproved f) are = found_says q most nodes by f are
 
 position_says : (q : Asked) (most nodes : ℕ) (finding : Finding) (text : List ℕ) → (told : TellsPosition q most nodes finding text) → Says q told.by text
-position_says q most nodes finding text told =
-    subst (Says q told.by) (sym told.text_is)
-    (says_both q told.by (decided_lines finding told.stuck Illegal) told.behind (says_claim q Illegal most nodes told.by finding told.stuck told.found told.agrees) (behind_says q most nodes told.by finding told.behind told.behind_told))
+position_says q most nodes finding text told = subst (Says q told.by) (sym told.text_is) (findings_say q most nodes told.by told.findings told.found)
 
 -- the text of a position says what is so of it
 position_is_so : (q : Asked) (most nodes : ℕ) (finding : Finding) (text : List ℕ) → TellsPosition q most nodes finding text → SaysOf q text

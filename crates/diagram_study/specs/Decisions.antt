@@ -1,20 +1,14 @@
 -- Inner: no public clause cites this file.
 -- What is found of rights and of two castlings each, with what is told of open lines, and by games.
-use Rattle.std.specs.Prelude.{ℕ, IfSome, IsTrue, List}
-use Rattle.std.specs.List.{All}
+use Rattle.std.specs.Prelude.{ℕ, List}
 use Rattle.board_base.specs.declared.moves.Move.{Move}
 use Rattle.query_base.specs.Asked.{Asked}
 use Rattle.query_base.specs.declared.claims.Claim.TheVariants.{Illegal}
 use Rattle.codex_verdict.specs.Rights.{claim_of}
 use Rattle.line_claims.specs.Due.{with_both}
-use Rattle.line_claims.specs.Lines.{has_text}
 use Rattle.claim_findings.specs.Decisions.{IsAgreed, IsDecided}
 use Rattle.diagram_study.specs.declared.pairs.PairFound.{PairFound}
 use Rattle.diagram_study.specs.declared.rights.RightFound.{RightFound}
-
--- the retractions that are told have texts
-abbrev pub HasStuckText : RightFound → Type 0
-HasStuckText f = IfSome f.stuck (All (λ u. IsTrue (has_text u)))
 
 -- this was found of the claim that decides the right
 pub record IsRightSought (q : Asked) (most nodes : ℕ) (games : List (List Move)) (f : RightFound) : Type 0 where
@@ -29,7 +23,3 @@ pub record IsPairSought (q : Asked) (most nodes : ℕ) (games : List (List Move)
 
 pub record IsPairAgreed (q : Asked) (most nodes : ℕ) (games : List (List Move)) (f : PairFound) : Type 0 where
   pub agreed : IsAgreed (with_both q f.first f.second) Illegal most nodes games (record { finding = f.finding; stuck = f.stuck })
-
--- the retractions that are told have texts
-abbrev pub HasStuckPairText : PairFound → Type 0
-HasStuckPairText f = IfSome f.stuck (All (λ u. IsTrue (has_text u)))

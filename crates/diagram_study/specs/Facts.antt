@@ -15,8 +15,9 @@ use Rattle.ledger_told.specs.Told.{IsLineTrue, whole_text}
 use Rattle.claim_findings.specs.Findings.{IsContradicted}
 use Rattle.claim_findings.specs.Games.{AgreesWith, IsEndIn}
 use Rattle.claim_findings.specs.Joined.{IsLineContradicted}
+use Rattle.diagram_study.specs.Findings.{other_side}
 use Rattle.diagram_study.specs.Possible.{IsEnd}
-use Rattle.diagram_study.specs.Studies.{other_side, without_demands}
+use Rattle.diagram_study.specs.Studies.{without_demands}
 use Rattle.claim_findings.specs.Lines.{found_line, steps_line, steps_words, stuck_line}
 use Rattle.diagram_study.specs.Texts.{left_line, length_line, other_line, plain_line, possible_line}
 use Rattle.claim_findings.specs.declared.findings.Finding.{Finding}

@@ -1,5 +1,5 @@
 -- The last moves that follow one from another.
-use Rattle.std.specs.Prelude.{ℕ, zero, suc, ◌≡◌, ◌<◌, ◌≤◌, cond, IsTrue, List, [], ◌∷◌, length}
+use Rattle.std.specs.Prelude.{ℕ, zero, suc, ◌≡◌, ◌<◌, ◌≤◌, IsTrue, List, [], ◌∷◌, length, Option, Some, None}
 use Rattle.board_base.specs.declared.unmoves.Unmove.{Unmove}
 use Rattle.query_base.specs.Asked.{Asked}
 use Rattle.query_base.specs.declared.claims.Claim.TheVariants.{Last}
@@ -8,8 +8,8 @@ use Rattle.line_claims.specs.declared.claims.LineClaim.TheVariants.{Line}
 use Rattle.claim_findings.specs.Findings.{IsFound, is_proved}
 use Rattle.claim_findings.specs.Joined.{IsLineFound}
 use Rattle.diagram_study.specs.Retractions.{HasLeft}
-use Rattle.claim_findings.specs.Lines.{steps_line}
 use Rattle.claim_findings.specs.declared.findings.Finding.{Finding}
+use Rattle.diagram_study.specs.declared.forced.StepsFound.{StepsFound}
 
 -- what was found of the claim that the unmove's move was the last
 pub record LastFound (q : Asked) (most nodes : ℕ) (u : Unmove) (finding : Finding) : Type 0 where
@@ -33,15 +33,14 @@ AreForced zero q most nodes steps = steps ≡ []
 AreForced (suc room) q most nodes [] = IsOpenPlace q most nodes
 AreForced (suc room) q most nodes (u ∷ steps) = IsForced q most nodes u × AreForced room (predecessor q u) most nodes steps
 
--- what was found of the claim that each game ends by these steps; the text is its line where it is proved, and empty elsewhere
-pub record TellsSteps (q : Asked) (most nodes : ℕ) (steps : List Unmove) (text : List ℕ) : Type 0 where
-  pub finding : Finding
-  pub found : IsLineFound q (Line steps) most nodes finding
-  pub text_is : text ≡ cond (is_proved finding) (steps_line finding (Line steps)) []
+-- this was found of the claim that each game ends by these steps
+pub record IsStepsFound (q : Asked) (most nodes : ℕ) (steps : List Unmove) (f : StepsFound) : Type 0 where
+  pub claim_is : f.claim ≡ Line steps
+  pub found : IsLineFound q f.claim most nodes f.finding
 
--- the text of the last moves: where two to sixteen are forced, what was found of them, else nothing
-pub record TellsForced (q : Asked) (most nodes : ℕ) (text : List ℕ) : Type 0 where
+-- what was found of the last moves: where two to sixteen are forced, of the claim that each game ends by them, else nothing
+pub record AreStepsFound (q : Asked) (most nodes : ℕ) (found : Option StepsFound) : Type 0 where
   pub steps : List Unmove
   pub forced : AreForced 16 q most nodes steps
-  pub several : 2 ≤ length steps → TellsSteps q most nodes steps text
-  pub few : length steps < 2 → text ≡ []
+  pub several : 2 ≤ length steps → (f : StepsFound) × IsStepsFound q most nodes steps f × (found ≡ Some f)
+  pub few : length steps < 2 → found ≡ None

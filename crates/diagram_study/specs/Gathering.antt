@@ -5,11 +5,11 @@ use Rattle.std.specs.List.{All, filter}
 use Rattle.board_base.specs.declared.moves.Move.{Move}
 use Rattle.query_base.specs.Asked.{Asked}
 use Rattle.query_base.specs.declared.claims.Claim.TheVariants.{Illegal}
-use Rattle.diagram_study.specs.Decisions.{HasStuckPairText, HasStuckText, IsPairSought, IsRightSought}
+use Rattle.diagram_study.specs.Decisions.{IsPairSought, IsRightSought}
 use Rattle.claim_findings.specs.Decisions.{IsAgreed, IsDecided}
 use Rattle.claim_findings.specs.Findings.{is_proved}
-use Rattle.diagram_study.specs.Pairs.{ArePairsFound, are_both_in, castle_pairs, pair_of}
-use Rattle.diagram_study.specs.Rights.{AreDue, AreFound, open_castlings}
+use Rattle.diagram_study.specs.Pairs.{ArePairsFound, HasStuckPairText, are_both_in, castle_pairs, pair_of}
+use Rattle.diagram_study.specs.Rights.{AreDue, AreFound, HasStuckText, open_castlings}
 use Rattle.diagram_study.specs.declared.gathering.Gathered.{Gathered}
 
 -- this was found by the searches of each claim

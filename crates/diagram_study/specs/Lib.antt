@@ -5,6 +5,7 @@ pub mod Retractions
 pub mod Forced
 pub mod Texts
 pub mod Possible
+pub mod Findings
 pub mod Studies
 pub mod Facts
 pub mod Decisions

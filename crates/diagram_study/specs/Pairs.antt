@@ -1,5 +1,5 @@
 -- What is found of two castlings together.
-use Rattle.std.specs.Prelude.{ℕ, ◌≡◌, Bool, ◌&&◌, IsTrue, List, [], ◌∷◌, map}
+use Rattle.std.specs.Prelude.{ℕ, ◌≡◌, Bool, ◌&&◌, IfSome, IsTrue, List, [], ◌∷◌, map}
 use Rattle.std.specs.List.{All, filter}
 use Rattle.board_base.specs.Rights.{Rights, holds}
 use Rattle.board_base.specs.declared.castles.Castle.{Castle}
@@ -9,6 +9,7 @@ use Rattle.query_base.specs.Asked.{Asked}
 use Rattle.query_base.specs.declared.claims.Claim.TheVariants.{Illegal}
 use Rattle.line_claims.specs.Due.{with_both}
 use Rattle.line_claims.specs.Holding.{HoldsLine}
+use Rattle.line_claims.specs.Lines.{has_text}
 use Rattle.line_claims.specs.declared.claims.LineClaim.TheVariants.{NotBoth}
 use Rattle.claim_findings.specs.Ends.{IsStuck}
 use Rattle.claim_findings.specs.Findings.{IsFound, is_proved}
@@ -43,3 +44,7 @@ pub record IsPairFound (q : Asked) (most nodes : ℕ) (games : List (List Move))
 pub record ArePairsFound (q : Asked) (most nodes : ℕ) (games : List (List Move)) (kept : Rights) (found : List PairFound) : Type 0 where
   pub pairs : map pair_of found ≡ filter (are_both_in kept) castle_pairs
   pub each : All (IsPairFound q most nodes games) found
+
+-- the retractions that are told of an open line have texts
+abbrev pub HasStuckPairText : PairFound → Type 0
+HasStuckPairText f = IfSome f.stuck (All (λ u. IsTrue (has_text u)))

@@ -1,5 +1,5 @@
 -- Which of the retractions that are left some game ends with.
-use Rattle.std.specs.Prelude.{ℕ, ◌≡◌, ◌≤◌, ◌⊎◌, ◌↔◌, List, [], ◌∷◌, ◌++◌, length}
+use Rattle.std.specs.Prelude.{◌≡◌, ◌≤◌, ◌⊎◌, ◌↔◌, List, [], ◌∷◌, ◌++◌, length, Option, Some, None}
 use Rattle.std.specs.List.{Contains}
 use Rattle.board_base.specs.declared.moves.Move.{Move}
 use Rattle.board_base.specs.declared.unmoves.Unmove.{Unmove}
@@ -7,7 +7,6 @@ use Rattle.query_base.specs.Asked.{Asked}
 use Rattle.query_base.specs.Reach.{Reaches}
 use Rattle.unmove_gen.specs.Predecessor.{unmove_after}
 use Rattle.claim_findings.specs.Games.{IsEndIn}
-use Rattle.diagram_study.specs.Texts.{possible_line}
 
 -- some game that reaches the query ends with the move of this unmove, and that move captured what the unmove says
 abbrev pub IsEnd : Asked → Unmove → Type 0
@@ -25,15 +24,13 @@ pub record HasFewLeft (q : Asked) (left : List Unmove) : Type 0 where
   pub few : length left ≤ 8
   pub elsewhere : Reaches [] q → ⊥
 
--- The line of those of the unmoves left with which one of these games ends. If they are all of them, they are exactly the ends of the
--- games that reach the query.
-pub record TellsEnds (q : Asked) (games : List (List Move)) (left : List Unmove) (text : List ℕ) : Type 0 where
-  pub ends : List Unmove
+-- These are those of the unmoves left with which one of these games ends. If they are all of them, they are exactly the ends of the games
+-- that reach the query.
+pub record AreEndsFound (q : Asked) (games : List (List Move)) (left ends : List Unmove) : Type 0 where
   pub are : AreEnds games q left ends
   pub whole : length ends ≡ length left → (u : Unmove) → Contains left u ↔ IsEnd q u
-  pub text_is : text ≡ possible_line ends (length left)
 
--- the text of the ends: where few are left the line of those that were found, else nothing
-pub record TellsPossible (q : Asked) (games : List (List Move)) (left : List Unmove) (text : List ℕ) : Type 0 where
-  pub told : HasFewLeft q left → TellsEnds q games left text
-  pub untold : (HasFewLeft q left → ⊥) → text ≡ []
+-- what was found of the ends: where few are left those of the games, else nothing
+pub record HasEnds (q : Asked) (games : List (List Move)) (left : List Unmove) (found : Option (List Unmove)) : Type 0 where
+  pub few : HasFewLeft q left → (ends : List Unmove) × AreEndsFound q games left ends × (found ≡ Some ends)
+  pub none : (HasFewLeft q left → ⊥) → found ≡ None

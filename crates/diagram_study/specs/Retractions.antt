@@ -1,6 +1,7 @@
 -- Which retractions of a query are left.
-use Rattle.std.specs.Prelude.{ℕ, ◌≡◌, ◌≤◌, ◌-◌, cond, IsTrue, List, [], ◌∷◌, ◌++◌, Option, Some, None}
+use Rattle.std.specs.Prelude.{ℕ, ◌≡◌, ◌≤◌, ◌-◌, cond, IfSome, IsTrue, List, [], ◌∷◌, ◌++◌, Option, Some, None}
 use Rattle.std.specs.List.{Contains, list_all}
+use Rattle.std.specs.Option.{option_map}
 use Rattle.board_base.specs.Legal.{is_move}
 use Rattle.board_base.specs.declared.moves.Move.{Move}
 use Rattle.board_base.specs.declared.unmoves.Unmove.{Unmove}
@@ -11,8 +12,7 @@ use Rattle.unmove_gen.specs.Predecessor.{predecessor, unmove_after}
 use Rattle.unmove_gen.specs.Listed.{unmoves}
 use Rattle.claim_findings.specs.Outcome.{Outcome}
 use Rattle.claim_findings.specs.Findings.{IsFound, IsOutcome, is_proved, is_refuted}
-use Rattle.claim_findings.specs.Lines.{found_line}
-use Rattle.claim_findings.specs.declared.findings.Finding.{Finding}
+use Rattle.diagram_study.specs.declared.retractions.MoveFound.{MoveFound}
 
 -- Of these unmoves of the query those are left whose predecessor the search doesn't refute, in order.
 abbrev pub AreLeft : Asked → ℕ → ℕ → List Unmove → List Unmove → Type 0
@@ -35,14 +35,12 @@ one_move [] = None
 one_move (u ∷ us) = cond (list_all (λ v. is_move (Some u.mv) v.mv) (u ∷ us)) (Some u.mv) None
 
 -- What was found of the claim that this was the last move, which it was of all unmoves that are left: where a move may be taken back, and
--- the game of no moves doesn't reach the query, it is proved. The text is its line where it is proved, and empty elsewhere.
-pub record TellsMove (q : Asked) (most nodes : ℕ) (m : Move) (text : List ℕ) : Type 0 where
-  pub finding : Finding
-  pub found : IsFound q (Last m) most nodes finding
-  pub sure : 1 ≤ most → (Reaches [] q → ⊥) → IsTrue (is_proved finding)
-  pub text_is : text ≡ cond (is_proved finding) (found_line finding (Last m)) []
+-- the game of no moves doesn't reach the query, it is proved.
+pub record IsMoveFound (q : Asked) (most nodes : ℕ) (f : MoveFound) : Type 0 where
+  pub found : IsFound q (Last f.mv) most nodes f.finding
+  pub sure : 1 ≤ most → (Reaches [] q → ⊥) → IsTrue (is_proved f.finding)
 
--- the text of the last move: where only one is left, what was found of it, else nothing
-abbrev pub TellsLast : Asked → ℕ → ℕ → Option Move → List ℕ → Type 0
-TellsLast q most nodes None text = text ≡ []
-TellsLast q most nodes (Some m) text = TellsMove q most nodes m text
+-- what was found of the last move: of that of all these unmoves, if it is one
+pub record IsLastFound (q : Asked) (most nodes : ℕ) (left : List Unmove) (last : Option MoveFound) : Type 0 where
+  pub one : option_map (λ f. f.mv) last ≡ one_move left
+  pub found : IfSome last (IsMoveFound q most nodes)

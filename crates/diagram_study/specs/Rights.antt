@@ -1,5 +1,5 @@
 -- What is found of the rights that a position seems to give.
-use Rattle.std.specs.Prelude.{ℕ, ◌≡◌, Bool, false, cond, not, List, map, fold}
+use Rattle.std.specs.Prelude.{ℕ, ◌≡◌, Bool, false, cond, not, IfSome, IsTrue, List, map, fold}
 use Rattle.std.specs.List.{All, filter}
 use Rattle.board_base.specs.Rights.{Rights, holds, with_castling, no_rights}
 use Rattle.board_base.specs.declared.moves.Move.{Move}
@@ -7,6 +7,7 @@ use Rattle.query_base.specs.Asked.{Asked}
 use Rattle.codex_verdict.specs.Rights.{AreRights, claim_of}
 use Rattle.codex_verdict.specs.declared.kinds.Right.{Right}
 use Rattle.codex_verdict.specs.declared.kinds.Right.TheVariants.{Castling, EnPassant}
+use Rattle.line_claims.specs.Lines.{has_text}
 use Rattle.claim_findings.specs.Ends.{IsStuck}
 use Rattle.claim_findings.specs.Findings.{IsFound, is_proved}
 use Rattle.claim_findings.specs.Games.{AgreesWith}
@@ -43,3 +44,7 @@ with_right (EnPassant m) finding set = set
 -- the castlings that aren't proved to be lost
 unfoldable pub open_castlings : List RightFound → Rights
 open_castlings found = fold (λ set f. with_right f.right f.finding set) no_rights found
+
+-- the retractions that are told of an open line have texts
+abbrev pub HasStuckText : RightFound → Type 0
+HasStuckText f = IfSome f.stuck (All (λ u. IsTrue (has_text u)))

@@ -1,16 +1,23 @@
-ghost use Rattle.std.specs.Prelude.{List, ℕ, ◌≡◌, ◌<◌, ◌≤◌, ◌++◌, ◌∷◌, [], IfOk, IsTrue, MatchOption, None, OnOk, length};
+ghost use Rattle.std.specs.Prelude.{◌≡◌, ◌≤◌, ◌∷◌, [], IfOk, IfSome, IsTrue, MatchOption, None, Some, length};
 ghost use Rattle.std.specs.List.{All, list_all};
-ghost use Rattle.line_claims.specs.Lines.{has_text};
-ghost use Rattle.diagram_study.specs.Forced.{AreForced, IsForced, IsOpenPlace, TellsForced, TellsSteps};
+ghost use Rattle.line_claims.specs.Lines.{HasLine, has_text};
+ghost use Rattle.diagram_study.specs.Forced.{AreForced, AreStepsFound, IsForced, IsOpenPlace};
 ghost use Rattle.diagram_study.specs.Retractions.{HasLeft};
 
 use crate::retractions::retractions;
 use board_base::{Unmove, UnmoveList};
-use claim_findings::{Searchers, Subject, push_steps, seek, seek_line};
+use claim_findings::{Finding, Searchers, Subject, seek, seek_line};
 use line_claims::{LineClaim, StepList};
 use query_base::Claim;
 use std::alloc::AllocError;
 use unmove_gen::pred;
+
+/// The claim that each game ends by some last moves, and what is found of it.
+#[derive(Drop)]
+pub struct StepsFound {
+    pub claim: LineClaim,
+    pub finding: Finding,
+}
 
 /// The most steps of a line.
 const MOST_STEPS: usize = 16;
@@ -74,50 +81,42 @@ fn forced_steps(
     Ok(steps)
 }
 
-/// Adds the line of these last moves, if each part due of it is proved.
-fn tell_steps(
+/// What is found of the claim that each game ends by these steps.
+fn find_steps(
     searchers: &mut Searchers,
     subject: &Subject,
     steps: StepList,
-    text: &mut Vec<u8>,
-) -> Result<(), AllocError>
+) -> Result<StepsFound, AllocError>
     requires forced { AreForced 16 subject.now.query subject.now.limits.depth subject.now.limits.nodes steps }
     requires texts { IsTrue (list_all has_text steps) }
     requires several { 2 ≤ length steps }
-    ensures { OnOk result ((own : List ℕ)
-        × TellsSteps subject.now.query subject.now.limits.depth subject.now.limits.nodes steps own
-        × (text.new.items ≡ text.old.items ++ own)) }
+    ensures found { IfOk result (λ f. AreStepsFound subject.now.query subject.now.limits.depth subject.now.limits.nodes (Some f)) }
+    ensures text { IfOk result (λ f. HasLine f.claim) }
 {
     let claim = LineClaim::Line(steps);
     let finding = seek_line(searchers, subject, &claim)?;
-    if finding.is_proved() {
-        push_steps(text, finding, &claim)
-    } else {
-        Ok(())
-    }
+    Ok(StepsFound { claim, finding })
 }
 
-/// Adds the line of the last moves that follow one from another, where there are two or more.
-pub(crate) fn tell_forced(
+/// What is found of the last moves that follow one from another, where there are two or more.
+pub(crate) fn find_forced(
     searchers: &mut Searchers,
     subject: &Subject,
     left: &UnmoveList,
-    text: &mut Vec<u8>,
-) -> Result<(), AllocError>
+) -> Result<Option<StepsFound>, AllocError>
     requires left { HasLeft subject.now.query subject.now.limits.depth subject.now.limits.nodes left.now }
     requires texts { All (λ u. IsTrue (has_text u)) left.now }
-    ensures { OnOk result ((own : List ℕ)
-        × TellsForced subject.now.query subject.now.limits.depth subject.now.limits.nodes own
-        × (text.new.items ≡ text.old.items ++ own)) }
+    ensures found { IfOk result (AreStepsFound subject.now.query subject.now.limits.depth subject.now.limits.nodes) }
+    ensures text { IfOk result (λ found. IfSome found (λ f. HasLine f.claim)) }
 {
     let first = forced_unmove(searchers, subject, left)?;
     let steps = forced_steps(searchers, subject, first)?;
     let Some(list) = StepList::new(steps.as_slice()) else {
-        return Ok(());
+        return Ok(None);
     };
     if steps.len() < 2 {
-        Ok(())
-    } else {
-        tell_steps(searchers, subject, list, text)
+        return Ok(None);
     }
+    let found = find_steps(searchers, subject, list)?;
+    Ok(Some(found))
 }

@@ -4,6 +4,7 @@
 //! Articles are those of the FIDE Laws of Chess, in force from 1 January 2023.
 #![tactic(auto)]
 
+mod findings;
 mod forced;
 mod gathering;
 mod joining;
@@ -14,4 +15,9 @@ mod rights;
 mod studies;
 mod texts;
 
+pub use findings::{Findings, Found, find};
+pub use forced::StepsFound;
+pub use pairs::{PairFound, with_both};
+pub use retractions::MoveFound;
+pub use rights::RightFound;
 pub use studies::study;

@@ -3,8 +3,8 @@ ghost use Rattle.std.specs.List.{All, filter};
 ghost use Rattle.line_claims.specs.Due.{with_both};
 ghost use Rattle.line_claims.specs.Lines.{in_order};
 ghost use Rattle.claim_findings.specs.Decisions.{Grows};
-ghost use Rattle.diagram_study.specs.Decisions.{HasStuckPairText, IsPairAgreed, IsPairSought};
-ghost use Rattle.diagram_study.specs.Pairs.{are_both_in, castle_pairs, pair_of};
+ghost use Rattle.diagram_study.specs.Decisions.{IsPairAgreed, IsPairSought};
+ghost use Rattle.diagram_study.specs.Pairs.{HasStuckPairText, are_both_in, castle_pairs, pair_of};
 ghost use Rattle.claim_findings.specs.Lines.{decided_steps};
 ghost use Rattle.diagram_study.specs.Texts.{pair_lines};
 
@@ -38,7 +38,7 @@ const PAIRS: [(Castle, Castle); 6] = [
 ];
 
 /// The query with both castlings added to those that it demands.
-fn with_both(query: &Query, first: Castle, second: Castle) -> Query
+pub fn with_both(query: &Query, first: Castle, second: Castle) -> Query
     ensures { result ≡ with_both query.now first second }
 {
     let mut both = *query;

@@ -1,12 +1,11 @@
-ghost use Rattle.std.specs.Prelude.{List, ℕ, ◌≡◌, ◌≤◌, ◌↔◌, ◌++◌, IfOk, IsTrue, OnOk, length};
+ghost use Rattle.std.specs.Prelude.{◌≤◌, ◌↔◌, IfOk, IfSome, IsTrue, OnOk, length};
 ghost use Rattle.std.specs.List.{All, Contains};
-ghost use Rattle.line_claims.specs.Lines.{has_text};
 ghost use Rattle.unmove_gen.specs.Listed.{unmoves};
 ghost use Rattle.claim_findings.specs.Decisions.{Grows};
-ghost use Rattle.diagram_study.specs.Possible.{AreEnds, HasFewLeft, TellsEnds, TellsPossible};
+ghost use Rattle.diagram_study.specs.Findings.{HaveTexts};
+ghost use Rattle.diagram_study.specs.Possible.{AreEnds, HasEnds, HasFewLeft};
 ghost use Rattle.diagram_study.specs.Retractions.{EndsAmong};
 
-use crate::texts::push_possible;
 use board_base::UnmoveList;
 use claim_findings::Games;
 use query_base::{Query, is_array};
@@ -88,43 +87,23 @@ fn ends_among(
     Ok(ends)
 }
 
-/// Adds the line of those of the retractions left with which one of the games ends.
-fn tell_ends(
+/// Those of the retractions left with which one of the games ends, if they are few.
+pub(crate) fn find_ends(
     alloc: Global,
     games: &Games,
     query: &Query,
     left: &UnmoveList,
-    text: &mut Vec<u8>,
-) -> Result<(), AllocError>
-    requires few { length left.now ≤ 8 }
+) -> Result<Option<UnmoveList>, AllocError>
     requires listed { All (Contains (unmoves query.now)) left.now }
     requires among { EndsAmong query.now left.now }
-    requires texts { All (λ u. IsTrue (has_text u)) left.now }
-    ensures { OnOk result ((own : List ℕ) × TellsEnds query.now games.now.found.items left.now own
-        × (text.new.items ≡ text.old.items ++ own)) }
-{
-    let ends = ends_among(alloc, games, query, left)?;
-    push_possible(text, &ends, left.len())
-}
-
-/// Adds which of the retractions left some game ends with, if they are few.
-pub(crate) fn tell_possible(
-    alloc: Global,
-    games: &Games,
-    query: &Query,
-    left: &UnmoveList,
-    text: &mut Vec<u8>,
-) -> Result<(), AllocError>
-    requires listed { All (Contains (unmoves query.now)) left.now }
-    requires among { EndsAmong query.now left.now }
-    requires texts { All (λ u. IsTrue (has_text u)) left.now }
-    ensures { OnOk result ((own : List ℕ)
-        × TellsPossible query.now games.now.found.items left.now own
-        × (text.new.items ≡ text.old.items ++ own)) }
+    requires texts { HaveTexts left.now }
+    ensures found { IfOk result (HasEnds query.now games.now.found.items left.now) }
+    ensures texts { IfOk result (λ ends. IfSome ends HaveTexts) }
 {
     if has_few_left(query, left) {
-        tell_ends(alloc, games, query, left, text)
+        let ends = ends_among(alloc, games, query, left)?;
+        Ok(Some(ends))
     } else {
-        Ok(())
+        Ok(None)
     }
 }

@@ -1,17 +1,15 @@
-ghost use Rattle.std.specs.Prelude.{List, ℕ, ◌≡◌, ◌-◌, ◌≤◌, ◌++◌, [], IfOk, IfSome, IsTrue, None, OnOk, Some, length};
+ghost use Rattle.std.specs.Prelude.{◌≡◌, ◌-◌, ◌≤◌, [], IfOk, IfSome, IsTrue, None, Some, length};
 ghost use Rattle.std.specs.List.{All, list_all};
 ghost use Rattle.board_base.specs.Legal.{is_move};
 ghost use Rattle.board_base.specs.Texts.{can_promote};
 ghost use Rattle.line_claims.specs.Lines.{has_text};
 ghost use Rattle.unmove_gen.specs.Listed.{unmoves};
 ghost use Rattle.diagram_study.specs.Looks.{AreLooked};
-ghost use Rattle.diagram_study.specs.Retractions.{HasLeft, TellsLast, TellsMove, one_move};
+ghost use Rattle.diagram_study.specs.Retractions.{HasLeft, IsLastFound, IsMoveFound, one_move};
 
 use crate::joining::joined_up;
 use board_base::{Move, Unmove, UnmoveList, is_move};
-use claim_findings::{
-    Limits, Outcome, Searchers, Subject, is_refuted, push_found, search_at, seek,
-};
+use claim_findings::{Finding, Limits, Outcome, Searchers, Subject, is_refuted, search_at, seek};
 use query_base::Claim;
 use std::alloc::AllocError;
 use unmove_gen::{Unmoves, few_unmoves, last_moves_are_listed, pred, unmoves_have_texts};
@@ -21,6 +19,13 @@ use unmove_gen::{Unmoves, few_unmoves, last_moves_are_listed, pred, unmoves_have
 pub struct Looked {
     pub unmove: Unmove,
     pub outcome: Outcome,
+}
+
+/// The move of all retractions that are left, and what is found of the claim that it was the last.
+#[derive(Clone, Copy)]
+pub struct MoveFound {
+    pub mv: Move,
+    pub finding: Finding,
 }
 
 /// The unmoves with what came of their searches, those that are left, and how many there are in all.
@@ -107,45 +112,39 @@ fn one_move(left: &UnmoveList) -> Option<Move>
     }
 }
 
-/// Adds the line that this was the last move, which it is of all unmoves that are left, where that is proved.
-fn tell_move(
+/// What is found of the claim that this was the last move, which it was of all retractions that are left.
+fn find_move(
     searchers: &mut Searchers,
     subject: &Subject,
     m: &Move,
     seen: &Counted,
-    text: &mut Vec<u8>,
-) -> Result<(), AllocError>
-    requires promotion { IsTrue (can_promote m.now.promo) }
+) -> Result<MoveFound, AllocError>
     requires looked { AreLooked subject.now.query (subject.now.limits.depth - 1) subject.now.limits.nodes [] seen.now.left seen.now.looked.items }
     requires all { All (λ u. IsTrue (is_move (Some m.now) u.mv)) seen.now.left }
-    ensures { OnOk result ((own : List ℕ)
-        × TellsMove subject.now.query subject.now.limits.depth subject.now.limits.nodes m.now own
-        × (text.new.items ≡ text.old.items ++ own)) }
+    ensures move_is { IfOk result (λ f. f.mv ≡ m.now) }
+    ensures found { IfOk result (IsMoveFound subject.now.query subject.now.limits.depth subject.now.limits.nodes) }
 {
-    let claim = Claim::Last(*m);
-    let sought = seek(searchers, subject, &claim)?;
+    let sought = seek(searchers, subject, &Claim::Last(*m))?;
     let finding = joined_up(subject, Some(*m), sought, seen);
-    if finding.is_proved() {
-        push_found(text, finding, &claim)
-    } else {
-        Ok(())
-    }
+    Ok(MoveFound { mv: *m, finding })
 }
 
-/// Adds what is found of the last move, where only one is left.
-pub(crate) fn tell_last(
+/// What is found of the last move, where all retractions that are left have one move.
+pub(crate) fn find_last(
     searchers: &mut Searchers,
     subject: &Subject,
     seen: &Counted,
-    text: &mut Vec<u8>,
-) -> Result<(), AllocError>
+) -> Result<Option<MoveFound>, AllocError>
     requires texts { All (λ u. IsTrue (has_text u)) seen.now.left }
     requires looked { AreLooked subject.now.query (subject.now.limits.depth - 1) subject.now.limits.nodes [] seen.now.left seen.now.looked.items }
-    ensures { OnOk result ((own : List ℕ)
-        × TellsLast subject.now.query subject.now.limits.depth subject.now.limits.nodes (one_move seen.now.left) own × (text.new.items ≡ text.old.items ++ own)) }
+    ensures found { IfOk result (IsLastFound subject.now.query subject.now.limits.depth subject.now.limits.nodes seen.now.left) }
+    ensures text { IfOk result (λ last. IfSome last (λ f. IsTrue (can_promote f.mv.promo))) }
 {
     match one_move(&seen.left) {
-        Some(m) => tell_move(searchers, subject, &m, seen, text),
-        None => Ok(()),
+        Some(m) => {
+            let found = find_move(searchers, subject, &m, seen)?;
+            Ok(Some(found))
+        }
+        None => Ok(None),
     }
 }

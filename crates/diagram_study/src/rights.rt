@@ -3,9 +3,9 @@ ghost use Rattle.std.specs.List.{All};
 ghost use Rattle.cert_text.specs.ClaimLines.{promotes_well};
 ghost use Rattle.codex_verdict.specs.Rights.{claim_of};
 ghost use Rattle.claim_findings.specs.Decisions.{Grows};
-ghost use Rattle.diagram_study.specs.Decisions.{HasStuckText, IsRightAgreed, IsRightSought};
+ghost use Rattle.diagram_study.specs.Decisions.{IsRightAgreed, IsRightSought};
 ghost use Rattle.claim_findings.specs.Findings.{is_proved};
-ghost use Rattle.diagram_study.specs.Rights.{AreDue, is_demanded, open_castlings, with_right};
+ghost use Rattle.diagram_study.specs.Rights.{AreDue, HasStuckText, is_demanded, open_castlings, with_right};
 ghost use Rattle.diagram_study.specs.Texts.{capture_line, capture_lines, castling_line, castling_lines};
 
 use arrayvec::ArrayVec;

@@ -1,148 +1,62 @@
-ghost use Rattle.std.specs.Prelude.{List, ℕ, ◌≡◌, ◌≢◌, ◌≤◌, ◌++◌, [], IfOk, IsTrue, None, OnOk, Option, false};
-ghost use Rattle.query_base.specs.Reach.{Reaches};
+ghost use Rattle.std.specs.Prelude.{List, ℕ, ◌≡◌, ◌++◌, IfOk, None, OnOk};
+ghost use Rattle.claim_findings.specs.Lines.{found_line};
 ghost use Rattle.diagram_study.specs.Budgets.{IsBudget};
 ghost use Rattle.diagram_study.specs.Facts.{SaysTrue};
-ghost use Rattle.claim_findings.specs.Findings.{IsFound, is_proved};
-ghost use Rattle.diagram_study.specs.Gathering.{AreGathered};
-ghost use Rattle.diagram_study.specs.Looks.{IsSeen};
-ghost use Rattle.diagram_study.specs.Studies.{IsStudy, TellsAgain, TellsLength, TellsMore, TellsOther, TellsPlain, TellsPosition, makes_demands, other_side, without_demands};
-ghost use Rattle.length_bound.specs.declared.texts.LengthText.{LengthText};
+ghost use Rattle.diagram_study.specs.Findings.{CanBeWritten, HasTexts};
+ghost use Rattle.diagram_study.specs.Studies.{IsStudy, TellsAgain, TellsPlain, TellsPosition, makes_demands, without_demands};
+ghost use Rattle.diagram_study.specs.Texts.{findings_text, found_text, other_line};
 
-use crate::forced::tell_forced;
-use crate::gathering::{Gathered, agreed_all, gather};
-use crate::joining::joined_up;
+use crate::findings::{Findings, Found, find};
 use crate::pairs::tell_pairs;
-use crate::possible::tell_possible;
-use crate::retractions::{Counted, retractions, tell_last};
 use crate::rights::{tell_captures, tell_castlings};
-use crate::texts::{push_left, push_length};
+use crate::texts::{push_ends, push_forced, push_last, push_left, push_length};
 use board_base::{Castle, CastleSet};
-use claim_findings::{
-    Finding, Games, Limits, Searchers, Subject, decide, push_decided, push_found, seek,
-};
-use ledger_told::tell_ledger;
-use length_bound::{longest, shown_lengths_hold};
+use claim_findings::{Finding, Games, Limits, Searchers, Subject, push_decided, push_found};
+use ledger_told::write_lines;
 use query_base::{Claim, Query};
 use std::alloc::{AllocError, Global};
 
-/// Adds the line of the length of the games, where it can be told.
-fn tell_length(query: &Query, text: &mut Vec<u8>) -> Result<(), AllocError>
-    ensures { OnOk result ((own : List ℕ) × (said : Option LengthText)
-        × TellsLength query.now said own × (text.new.items ≡ text.old.items ++ own)) }
+/// Adds what is found of a position that isn't proved to be illegal.
+fn tell_found(found: &Found, text: &mut Vec<u8>) -> Result<(), AllocError>
+    requires { HasTexts found.now }
+    ensures { OnOk result (text.new.items ≡ text.old.items ++ found_text found.now) }
 {
-    shown_lengths_hold();
-    match longest(query) {
-        Some(said) => push_length(text, said.at_least),
-        None => Ok(()),
-    }
-}
-
-/// Adds what is found of a position that isn't proved to be illegal, but for that.
-fn tell_more(
-    searchers: &mut Searchers,
-    games: &Games,
-    subject: &Subject,
-    gathered: &Gathered,
-    seen: &Counted,
-    text: &mut Vec<u8>,
-) -> Result<(), AllocError>
-    requires gathered { AreGathered subject.now.query subject.now.limits.depth subject.now.limits.nodes games.now.found.items gathered.now }
-    requires seen { IsSeen subject.now.query subject.now.limits.depth subject.now.limits.nodes seen.now }
-    requires array { 1 ≤ subject.now.limits.depth → seen.now.left ≡ [] →
-        Reaches [] subject.now.query }
-    ensures { OnOk result ((own : List ℕ)
-        × TellsMore subject.now.query subject.now.limits.depth subject.now.limits.nodes games.now.found.items own × (text.new.items ≡ text.old.items ++ own)) }
-{
-    let rights = gathered.rights.as_slice();
+    let illegal = &found.illegal;
+    let rights = found.rights.as_slice();
+    push_decided(text, illegal.finding, &illegal.stuck, &Claim::Illegal)?;
     tell_castlings(text, rights)?;
-    tell_pairs(text, gathered.pairs.as_slice())?;
+    tell_pairs(text, found.pairs.as_slice())?;
     tell_captures(text, rights)?;
-    tell_last(searchers, subject, seen, text)?;
-    tell_forced(searchers, subject, &seen.left, text)?;
-    push_left(text, &seen.left, seen.all)?;
-    tell_possible(searchers.alloc, games, &subject.query, &seen.left, text)?;
-    tell_ledger(&subject.query, text)?;
-    tell_length(&subject.query, text)
-}
-
-/// The same board with the other side to move: without the double step that an en passant square demands.
-fn other_side(query: &Query) -> Query
-    ensures { result ≡ other_side query.now }
-{
-    let mut other = *query;
-    other.turn = query.turn.other();
-    other.only = None;
-    other.barred = None;
-    other
-}
-
-/// Adds whether the position is illegal with the other side to move.
-fn tell_other(
-    searchers: &mut Searchers,
-    games: &mut Games,
-    subject: &Subject,
-    text: &mut Vec<u8>,
-) -> Result<(), AllocError>
-    ensures { OnOk result ((own : List ℕ)
-        × TellsOther subject.now.query subject.now.limits.depth subject.now.limits.nodes own
-        × (text.new.items ≡ text.old.items ++ own)) }
-{
-    let query = other_side(&subject.query);
-    let other = Subject {
-        query,
-        limits: subject.limits,
-    };
-    let decided = decide(searchers, games, &other, &Claim::Illegal)?;
-    text.extend_from_slice(b"other side ")?;
-    push_found(text, decided.finding, &Claim::Illegal)
+    push_last(text, &found.last)?;
+    push_forced(text, &found.steps)?;
+    push_left(text, &found.left, found.all)?;
+    push_ends(text, &found.ends, found.left.len())?;
+    write_lines(found.ledger.as_slice(), text)?;
+    push_length(text, found.length)
 }
 
 /// Adds that the position is illegal, and what is found with the other side to move.
-fn tell_illegal(
-    searchers: &mut Searchers,
-    games: &mut Games,
-    subject: &Subject,
-    finding: Finding,
-    text: &mut Vec<u8>,
-) -> Result<(), AllocError>
-    requires found { IsFound subject.now.query Claim.Illegal subject.now.limits.depth subject.now.limits.nodes finding }
-    requires proved { IsTrue (is_proved finding) }
-    ensures { OnOk result ((own : List ℕ)
-        × TellsPosition subject.now.query subject.now.limits.depth subject.now.limits.nodes finding own × (text.new.items ≡ text.old.items ++ own)) }
+fn tell_impossible(finding: Finding, against: Finding, text: &mut Vec<u8>) -> Result<(), AllocError>
+    ensures { OnOk result (text.new.items ≡ text.old.items
+        ++ (found_line finding Claim.Illegal ++ other_line against)) }
 {
     push_found(text, finding, &Claim::Illegal)?;
-    tell_other(searchers, games, subject, text)
+    text.extend_from_slice(b"other side ")?;
+    push_found(text, against, &Claim::Illegal)
 }
 
-/// Adds what is found of a position that isn't proved to be illegal. Games are looked for before anything is told, so that each claim is
-/// told by all of them.
-fn tell_unproved(
-    searchers: &mut Searchers,
-    games: &mut Games,
-    subject: &Subject,
-    sought: Finding,
-    seen: &Counted,
-    text: &mut Vec<u8>,
-) -> Result<Finding, AllocError>
-    requires sought { IsFound subject.now.query Claim.Illegal subject.now.limits.depth subject.now.limits.nodes sought }
-    requires unproved { is_proved sought ≡ false }
-    requires unlooked { sought ≢ Finding.Countered }
-    requires seen { IsSeen subject.now.query subject.now.limits.depth subject.now.limits.nodes seen.now }
-    requires array { 1 ≤ subject.now.limits.depth → seen.now.left ≡ [] →
-        Reaches [] subject.now.query }
-    ensures { IfOk result (λ finding. (own : List ℕ)
-        × TellsPosition subject.now.query subject.now.limits.depth subject.now.limits.nodes finding own × (text.new.items ≡ text.old.items ++ own)) }
+/// Adds what is found of the position.
+fn tell_findings(findings: &Findings, text: &mut Vec<u8>) -> Result<(), AllocError>
+    requires { CanBeWritten findings.now }
+    ensures { OnOk result (text.new.items ≡ text.old.items ++ findings_text findings.now) }
 {
-    let sought = gather(searchers, games, subject, sought, &seen.left)?;
-    let gathered = agreed_all(searchers.alloc, games, subject, sought)?;
-    let finding = gathered.illegal.finding;
-    push_decided(text, finding, &gathered.illegal.stuck, &Claim::Illegal)?;
-    tell_more(searchers, games, subject, &gathered, seen, text)?;
-    Ok(finding)
+    match findings {
+        Findings::Impossible(finding, against) => tell_impossible(*finding, *against, text),
+        Findings::Unproved(found) => tell_found(found, text),
+    }
 }
 
-/// Adds what is found of the position: whether it is illegal, and what follows. Where the search alone doesn't prove that, the proofs of
-/// what is before its retractions may.
+/// Finds what can be found of the position, and adds it. What is found of the claim that it is illegal.
 fn tell_position(
     searchers: &mut Searchers,
     games: &mut Games,
@@ -152,18 +66,9 @@ fn tell_position(
     ensures { IfOk result (λ finding. (own : List ℕ)
         × TellsPosition subject.now.query subject.now.limits.depth subject.now.limits.nodes finding own × (text.new.items ≡ text.old.items ++ own)) }
 {
-    let sought = seek(searchers, subject, &Claim::Illegal)?;
-    if sought.is_proved() {
-        tell_illegal(searchers, games, subject, sought, text)?;
-        return Ok(sought);
-    }
-    let seen = retractions(searchers, subject)?;
-    let joined = joined_up(subject, None, sought, &seen);
-    if joined.is_proved() {
-        tell_illegal(searchers, games, subject, joined, text)?;
-        return Ok(joined);
-    }
-    tell_unproved(searchers, games, subject, joined, &seen, text)
+    let findings = find(searchers, games, subject)?;
+    tell_findings(&findings, text)?;
+    Ok(findings.finding())
 }
 
 /// The query demands a right, a last move or a clock.

@@ -29,7 +29,7 @@ use Rattle.ledger_lines.specs.declared.lines.Taker.TheVariants as taker
 use Rattle.ledger_lines.specs.declared.lines.Manner.TheVariants as manner
 use Rattle.ledger_lines.proofs.LinesHolding.{known-line-reached}
 use Rattle.ledger_told.specs.Due.{AreLeft, IsAmongLine, IsChosen, IsSquareLine, IsWhole, TellsPawn, is_moving, is_of_breed, is_somebody, is_pawn_news, is_news, most_dark, most_made, of_group, takings}
-use Rattle.ledger_told.specs.Told.{IsLineTrue, TellsAll, TellsAmong, TellsFirst, TellsLedger, TellsWhole, Then, lines_text, one_line}
+use Rattle.ledger_told.specs.Told.{IsLineTrue, TellsAll, TellsAmong, TellsFirst, TellsLines, TellsWhole, Then, one_line}
 use Rattle.ledger_told.specs.declared.topics.Breed.{Breed}
 use Rattle.ledger_told.specs.declared.topics.Breed.TheVariants.{Queens, Rooks, DarkBishops, LightBishops, Knights}
 use Rattle.ledger_told.specs.declared.topics.Group.{Group}
@@ -203,9 +203,9 @@ module _ (q : Asked) (l : Ledger) where
         (true-then _ _ (true-squares Falls)
         (true-squares Promotions))))))))))))))))
 
--- each line of what is told of a query's ledger is true
-pub all-true : (q : Asked) (text : List ℕ) → TellsLedger q text → (xs : List Line) × All (IsLineTrue q) xs × (text ≡ lines_text xs)
-all-true q text t = elim t.told [
-  | inl void ↦ (t.lines, subst (All (IsLineTrue q)) (sym void.1) (All-nil (IsLineTrue q)), t.text_is)
-  | inr told ↦ (t.lines, true-all q t.ledger t.ledger_is t.set t.set_is.frozen t.lines told.1, t.text_is)
+-- each line that is told of a query's ledger is true
+pub all-true : (q : Asked) (lines : List Line) → TellsLines q lines → All (IsLineTrue q) lines
+all-true q lines t = elim t.told [
+  | inl void ↦ subst (All (IsLineTrue q)) (sym void.1) (All-nil (IsLineTrue q))
+  | inr told ↦ true-all q t.ledger t.ledger_is t.set t.set_is.frozen lines told.1
 ]

@@ -88,15 +88,13 @@ pub record IsGreatest (q : Asked) (set : List Bool) : Type 0 where
   pub as_array : IsAsArray q.odds q.board set
   pub greatest : (other : List Bool) → IsFrozen q other → IsAsArray q.odds q.board other → IsWithin other set
 
--- The text is that of the query's ledger: nothing if this contradicts itself, and else all lines that are due.
-pub record TellsLedger (q : Asked) (text : List ℕ) : Type 0 where
+-- The lines are those that are told of the query's ledger: none if this contradicts itself, and else all that are due.
+pub record TellsLines (q : Asked) (lines : List Line) : Type 0 where
   pub ledger : Ledger
   pub ledger_is : IsLedgerOf q ledger
   pub set : List Bool
   pub set_is : IsGreatest q set
-  pub lines : List Line
   pub told : (IsContradictory q ledger × (lines ≡ [])) ⊎ ((IsContradictory q ledger → ⊥) × TellsAll q ledger set lines)
-  pub text_is : text ≡ lines_text lines
 
 -- the line is true of each game that reaches the query
 abbrev pub IsLineTrue : Asked → Line → Type 0

@@ -1,4 +1,4 @@
-//! The text of a position's ledger: which of its lines are told, in order, and that each says what is so.
+//! Which lines of a position's ledger are told, in order, that each says what is so, and their text.
 //!
 //! Articles are those of the FIDE Laws of Chess, in force from 1 January 2023.
 #![tactic(auto)]
@@ -8,9 +8,11 @@ mod laws;
 mod pawns;
 mod squares;
 mod telling;
+mod texts;
 mod topics;
 mod wholes;
 
 pub use laws::told_lines_hold;
-pub use telling::tell_ledger;
+pub use telling::told_lines;
+pub use texts::write_lines;
 pub use topics::{Breed, Topic, Whole};
