@@ -52,7 +52,7 @@ b5rn/1kPBpp2/pP4p1/PR1Pp3/PP2P3/8/2NP4/R3K3 w - -|yes|Loyd 1877: fourteen captur
 1KRqb3/p2krpp1/3pp3/Pp6/BrPPP3/1p1P4/2p1P3/Q7 w - -|no|Dawson 1940
 rnbqkbnr/pppppppp/8/8/8/8/PPPPPPPP/RNBQKBNR w KQkq -|no|the array";
 
-fn query(cell: Option<&str>) -> Option<Query> {
+pub(crate) fn query(cell: Option<&str>) -> Option<Query> {
     read_four_fields(cell?.as_bytes())
 }
 
@@ -64,7 +64,7 @@ fn square(cell: Option<&str>) -> Option<Square> {
 }
 
 /// The squares of a cell, with blanks between two.
-fn squares(cell: Option<&str>) -> Option<SquareSet> {
+pub(crate) fn squares(cell: Option<&str>) -> Option<SquareSet> {
     let mut set = SquareSet::from_bits(0);
     for word in cell?.split(' ') {
         set = set.with(square(Some(word))?);

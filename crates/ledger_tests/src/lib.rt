@@ -3,3 +3,5 @@
 
 #[cfg(test)]
 mod ledgers;
+#[cfg(test)]
+mod paragraphs;

@@ -1,0 +1,5 @@
+pub mod EachSentence
+pub mod Listing
+pub mod Resting
+pub mod Saying
+pub mod Spacing

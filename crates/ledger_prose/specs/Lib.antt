@@ -1,0 +1,4 @@
+pub mod Sentences
+pub mod Numbers
+pub mod Words
+pub mod Saying

@@ -1,0 +1,255 @@
+//! Sentences about the captures by a side's pawns.
+
+ghost use Rattle.std.specs.Prelude.{◌≡◌, ◌==◌, ◌++◌, [], IfOk, codes, cond, map};
+ghost use Rattle.proof_story.specs.Rendering.{parted};
+ghost use Rattle.ledger_prose.specs.Words.{all_words, are_more, both_words, few_words, it_words, least_words, limit_words, number_taken, of_them, part_words, share_words, side_took, taken_by, taken_words, took_words, way_words, ways_words};
+
+use crate::names::{Joint, Style, push_names};
+use crate::numbers::push_count;
+use board_base::Colour;
+use ledger_lines::{Line, Takings};
+use prose_words::{colour_word, push_square, say, side_word};
+use query_base::Query;
+use std::alloc::AllocError;
+
+/// Adds that a pawn of this side took it.
+fn push_it(side: Colour, out: &mut Vec<u8>) -> Result<(), AllocError>
+    ensures { IfOk result (λ _. out.new.items ≡ out.old.items ++ it_words side) }
+{
+    say(b"A ", out)?;
+    say(colour_word(side), out)?;
+    say(b"pawn took it", out)
+}
+
+/// Adds that a side's pawns took both or all.
+fn push_both_or_all(n: u8, out: &mut Vec<u8>) -> Result<(), AllocError>
+    ensures { IfOk result (λ _. out.new.items ≡ out.old.items ++ both_words n) }
+{
+    if n == 2 {
+        say(b"both", out)
+    } else {
+        say(b"all ", out)?;
+        push_count(n, out)
+    }
+}
+
+/// Adds that a side's pawns took all whom the other side lacks, so many.
+fn push_all(side: Colour, n: u8, out: &mut Vec<u8>) -> Result<(), AllocError>
+    ensures { IfOk result (λ _. out.new.items ≡ out.old.items ++ all_words side n) }
+{
+    if n == 1 {
+        push_it(side, out)
+    } else {
+        say(side_word(side), out)?;
+        say(b"'s pawns took ", out)?;
+        push_both_or_all(n, out)
+    }
+}
+
+/// Adds that they took so many, behind some words.
+fn push_of_them(before: &[u8], n: u8, out: &mut Vec<u8>) -> Result<(), AllocError>
+    ensures { IfOk result (λ _. out.new.items ≡ out.old.items ++ of_them before.now n) }
+{
+    say(before, out)?;
+    push_count(n, out)?;
+    say(b" of them", out)
+}
+
+/// Adds that they took at most so many.
+fn push_few(most: u8, out: &mut Vec<u8>) -> Result<(), AllocError>
+    ensures { IfOk result (λ _. out.new.items ≡ out.old.items ++ few_words most) }
+{
+    if most == 0 {
+        say(b"never captured", out)
+    } else {
+        push_of_them(b"took at most ", most, out)
+    }
+}
+
+/// Adds how many they took at most, if that is fewer than the other side lacks.
+fn push_limit(most: u8, missing: u8, out: &mut Vec<u8>) -> Result<(), AllocError>
+    ensures { IfOk result (λ _. out.new.items ≡ out.old.items ++ limit_words most missing) }
+{
+    if most < missing {
+        say(b", at most ", out)?;
+        push_count(most, out)
+    } else {
+        Ok(())
+    }
+}
+
+/// Adds that they took at least so many.
+fn push_least(least: u8, most: u8, missing: u8, out: &mut Vec<u8>) -> Result<(), AllocError>
+    ensures { IfOk result (λ _. out.new.items ≡ out.old.items ++ least_words least most missing) }
+{
+    if least == most {
+        push_of_them(b"took exactly ", least, out)
+    } else {
+        push_of_them(b"took at least ", least, out)?;
+        push_limit(most, missing, out)
+    }
+}
+
+/// How many the pawn of a line took at least.
+fn taken_by(line: &Line) -> u8
+    ensures { result ≡ taken_by line.now }
+{
+    match *line {
+        Line::Pawn(_, _, n, _) => n,
+        _ => 0,
+    }
+}
+
+/// Whether the pawns of these lines took more than so many.
+fn are_more(n: u8, ways: &[Line]) -> bool
+    ensures { result ≡ are_more n ways.now }
+{
+    let mut left = n;
+    for way in ways {
+        let taken = taken_by(way);
+        if left < taken {
+            return true;
+        }
+        left -= taken;
+    }
+    false
+}
+
+/// Adds how many they took, or that they took some, if the lines of single pawns say more.
+fn push_number_taken(more: bool, x: &Takings, out: &mut Vec<u8>) -> Result<(), AllocError>
+    ensures { IfOk result (λ _. out.new.items ≡ out.old.items ++ number_taken more x.now) }
+{
+    if more {
+        say(b"took some of them", out)?;
+        push_limit(x.all.most, x.lacking, out)
+    } else {
+        push_least(x.all.least, x.all.most, x.lacking, out)
+    }
+}
+
+/// Adds that they took some, or not all.
+fn push_part(more: bool, x: &Takings, out: &mut Vec<u8>) -> Result<(), AllocError>
+    ensures { IfOk result (λ _. out.new.items ≡ out.old.items ++ part_words more x.now) }
+{
+    if x.all.least == 0 {
+        push_few(x.all.most, out)
+    } else {
+        push_number_taken(more, x, out)
+    }
+}
+
+/// Adds how many of those whom the other side lacks a side's pawns took.
+fn push_taken(side: Colour, more: bool, x: &Takings, out: &mut Vec<u8>) -> Result<(), AllocError>
+    ensures { IfOk result (λ _. out.new.items ≡ out.old.items ++ taken_words side more x.now) }
+{
+    if x.lacking <= x.all.least {
+        push_all(side, x.lacking, out)
+    } else {
+        say(side_word(side), out)?;
+        say(b"'s pawns ", out)?;
+        push_part(more, x, out)
+    }
+}
+
+/// Adds what stands before a number that is exact, or before the least.
+fn least_sign(exact: bool) -> &'static [u8]
+    ensures { result.now ≡ cond exact (codes " ") (codes " at least ") }
+{
+    if exact { b" " } else { b" at least " }
+}
+
+/// Adds how many a pawn took, unless there is only one to be taken.
+fn push_share(single: bool, exact: bool, n: u8, out: &mut Vec<u8>) -> Result<(), AllocError>
+    ensures { IfOk result (λ _. out.new.items ≡ out.old.items ++ share_words single exact n) }
+{
+    if single {
+        Ok(())
+    } else {
+        say(least_sign(exact), out)?;
+        push_count(n, out)
+    }
+}
+
+/// Adds from where to where the pawn of a line went, and how many he took.
+fn push_way(query: &Query, single: bool, line: &Line, out: &mut Vec<u8>) -> Result<(), AllocError>
+    ensures { IfOk result (λ _. out.new.items ≡ out.old.items ++ way_words query.now single line.now) }
+{
+    match *line {
+        Line::Pawn(s, _, n, exact) => {
+            push_names(Joint::Slash, Style::Squares, query, &[*line], out)?;
+            say(b"-", out)?;
+            push_square(s, out)?;
+            push_share(single, exact, n, out)
+        }
+        _ => Ok(()),
+    }
+}
+
+/// Adds what stands before one that isn't the first.
+fn push_comma(i: usize, out: &mut Vec<u8>) -> Result<(), AllocError>
+    ensures { IfOk result (λ _. out.new.items ≡ out.old.items ++ cond (i == 0) [] (codes ", ")) }
+{
+    if i == 0 { Ok(()) } else { say(b", ", out) }
+}
+
+/// Adds them with commas between them.
+fn push_list(
+    query: &Query,
+    single: bool,
+    ways: &[Line],
+    out: &mut Vec<u8>,
+) -> Result<(), AllocError>
+    ensures { IfOk result (λ _. out.new.items ≡ out.old.items ++ parted (codes ", ") (map (way_words query.now single) ways.now)) }
+{
+    for i in 0..ways.len() {
+        push_comma(i, out)?;
+        push_way(query, single, &ways[i], out)?;
+    }
+    Ok(())
+}
+
+/// The same behind a colon, if there are any.
+fn push_ways(
+    query: &Query,
+    single: bool,
+    ways: &[Line],
+    out: &mut Vec<u8>,
+) -> Result<(), AllocError>
+    ensures { IfOk result (λ _. out.new.items ≡ out.old.items ++ ways_words query.now single ways.now) }
+{
+    if ways.len() == 0 {
+        return Ok(());
+    }
+    say(b": ", out)?;
+    push_list(query, single, ways, out)
+}
+
+/// Adds what the numbers of a side's captures say, with the lines of its pawns.
+fn push_side_took(
+    side: Colour,
+    query: &Query,
+    x: &Takings,
+    ways: &[Line],
+    out: &mut Vec<u8>,
+) -> Result<(), AllocError>
+    ensures { IfOk result (λ _. out.new.items ≡ out.old.items ++ side_took side query.now x.now ways.now) }
+{
+    let more = are_more(x.all.least, ways);
+    push_taken(side, more, x, out)?;
+    push_ways(query, x.lacking == 1, ways, out)
+}
+
+/// Adds what a line of captures says, with the lines of the side's pawns.
+pub(crate) fn push_took(
+    query: &Query,
+    line: &Line,
+    ways: &[Line],
+    out: &mut Vec<u8>,
+) -> Result<(), AllocError>
+    ensures { IfOk result (λ _. out.new.items ≡ out.old.items ++ took_words query.now line.now ways.now) }
+{
+    match *line {
+        Line::Captures(side, x) => push_side_took(side, query, &x, ways, out),
+        _ => Ok(()),
+    }
+}

@@ -1,0 +1,135 @@
+//! The paragraph of a ledger, of lines that solutions and rules of the sentences give.
+
+use crate::ledgers::{query, squares};
+use board_base::{Colour, Square, read_square};
+use ledger_lines::{Line, Losses, Manner, Taker, Takings};
+use ledger_prose::tell_ledger_prose;
+use ledger_search::Range;
+use std::alloc::{AllocError, Global};
+
+const DAWSON: &str = "1KRqb3/p2krpp1/3pp3/Pp6/BrPPP3/1p1P4/2p1P3/Q7 w - -";
+
+const DAWSON_TOLD: &str = "\
+White lacks a rook, the dark bishop, both knights and two pawns. Black's pawns took all six: h7-c2
+    five. Black lacks the dark bishop and both knights. White's pawns took all three: f2-e4 one. No
+    capture is to spare. White's g-pawn was taken as a pawn. The bishop on a4 is not a promoted
+    pawn.
+";
+
+/// Both castlings are held, so that nothing is said of the king's and the rooks' never having moved.
+const SAMPLE: &str = "r3k2r/2pppp2/1p4p1/5N2/1pP2Q2/2pPPP2/1b2KPP1/8 w kq -";
+
+const SAMPLE_TOLD: &str = "\
+White lacks both rooks and a pawn, but is only seven men short. Black's pawns took some of them, at
+    most six: g7-c3 four, a7/b7-b6 at least one. Black lacks four men. White's pawns never captured.
+    White's h-pawn was promoted and then taken by a black pawn. White's a- and b-pawns were taken,
+    but not by a pawn. The rook of a1 and the knight of b1 were taken by black pawns. White's c-pawn
+    was promoted. The knight on f5 is the promoted pawn of f2 or g2. At least one of the men on f4
+    and f5 is a promoted pawn. The queen on f4 is that of d1. The king on e2 never moved.
+";
+
+fn losses(queens: u8, rooks: u8, dark_bishops: u8, knights: u8, pawns: u8) -> Losses {
+    Losses {
+        queens,
+        rooks,
+        dark_bishops,
+        light_bishops: 0,
+        knights,
+        pawns,
+    }
+}
+
+fn captures(side: Colour, least: u8, most: u8, lacking: u8) -> Line {
+    Line::Captures(
+        side,
+        Takings {
+            all: Range { least, most },
+            lacking,
+            dark: None,
+            least_on: [0; 16],
+        },
+    )
+}
+
+fn square(name: &str) -> Option<Square> {
+    match name.as_bytes() {
+        [file, rank] => read_square(*file, *rank),
+        _ => None,
+    }
+}
+
+fn pawn(name: &str, homes: &str, number: u8, exact: bool) -> Option<Line> {
+    Some(Line::Pawn(square(name)?, squares(Some(homes))?, number, exact))
+}
+
+fn dawson() -> Option<[Line; 9]> {
+    Some([
+        Line::Unmoved(squares(Some("e2 a7 f7 g7"))?),
+        Line::Lacks(Colour::White, losses(0, 1, 1, 2, 2)),
+        Line::Lacks(Colour::Black, losses(0, 0, 1, 2, 0)),
+        captures(Colour::White, 3, 3, 3),
+        captures(Colour::Black, 6, 6, 6),
+        pawn("e4", "f2", 1, true)?,
+        pawn("c2", "h7", 5, true)?,
+        Line::Original(squares(Some("a4"))?),
+        Line::Fell(square("g2")?, Taker::Pawn, Manner::AsPawn),
+    ])
+}
+
+fn sample() -> Option<[Line; 16]> {
+    Some([
+        Line::Unmoved(squares(Some("e2 f2 a8 e8 h8"))?),
+        Line::Lacks(Colour::White, losses(0, 2, 0, 0, 1)),
+        Line::Lacks(Colour::Black, losses(1, 0, 0, 2, 8)),
+        captures(Colour::White, 0, 0, 4),
+        captures(Colour::Black, 3, 6, 7),
+        pawn("c3", "g7", 4, true)?,
+        pawn("b6", "a7 b7", 1, false)?,
+        Line::Man(square("f4")?, square("d1")?),
+        Line::Promoted(square("f5")?, squares(Some("f2 g2"))?),
+        Line::Among(1, squares(Some("f4 f5"))?),
+        Line::Fell(square("a1")?, Taker::Pawn, Manner::Anyhow),
+        Line::Fell(square("b1")?, Taker::Pawn, Manner::Anyhow),
+        Line::Fell(square("a2")?, Taker::Officer, Manner::Anyhow),
+        Line::Fell(square("b2")?, Taker::Officer, Manner::Anyhow),
+        Line::Fell(square("h2")?, Taker::Pawn, Manner::AsPromoted),
+        Line::Became(square("c2")?),
+    ])
+}
+
+/// Whether the lines are told so of the position.
+fn is_told(alloc: Global, fen: &str, lines: &[Line], told: &str) -> Result<bool, AllocError> {
+    match query(Some(fen)) {
+        None => Ok(false),
+        Some(query) => {
+            let mut out = Vec::new(alloc);
+            tell_ledger_prose(alloc, &query, lines, &mut out)?;
+            Ok(out.as_slice() == told.as_bytes())
+        }
+    }
+}
+
+#[test]
+fn tells_a_problem(rt: HostRuntime) {
+    match dawson() {
+        None => assert!(rt; false),
+        Some(lines) => {
+            assert!(rt; is_told(rt.alloc(), DAWSON, &lines, DAWSON_TOLD) == Ok(true));
+        }
+    }
+}
+
+#[test]
+fn tells_each_sentence(rt: HostRuntime) {
+    match sample() {
+        None => assert!(rt; false),
+        Some(lines) => {
+            assert!(rt; is_told(rt.alloc(), SAMPLE, &lines, SAMPLE_TOLD) == Ok(true));
+        }
+    }
+}
+
+#[test]
+fn tells_nothing_of_no_lines(rt: HostRuntime) {
+    assert!(rt; is_told(rt.alloc(), DAWSON, &[], "") == Ok(true));
+}
