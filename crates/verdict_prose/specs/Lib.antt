@@ -1,0 +1,4 @@
+pub mod Verdicts
+pub mod LastMoves
+pub mod Sentences
+pub mod Moves

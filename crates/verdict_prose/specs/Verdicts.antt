@@ -1,0 +1,33 @@
+-- When what a sentence says of a position is so.
+use Rattle.std.specs.Prelude.{ℕ, ◌≤◌, List, length, None}
+use Rattle.board_base.specs.Board.{opponent}
+use Rattle.board_base.specs.declared.moves.Move.{Move}
+use Rattle.query_base.specs.Asked.{Asked}
+use Rattle.query_base.specs.Reach.{Contradicts, Holds, Reaches}
+use Rattle.query_base.specs.declared.claims.Claim.{Claim}
+use Rattle.query_base.specs.declared.claims.Claim.TheVariants.{Illegal}
+use Rattle.line_claims.specs.Holding.{HoldsLine}
+use Rattle.line_claims.specs.declared.claims.LineClaim.TheVariants.{NotBoth as NeverBoth}
+use Rattle.verdict_prose.specs.declared.verdicts.Verdict.{Verdict}
+use Rattle.verdict_prose.specs.declared.verdicts.Verdict.TheVariants.{Shown, Countered, Unsettled, NotBoth, UnsettledBoth, OtherShown, OtherCountered, OtherUnsettled, AtLeast}
+
+-- the same board with the other side to move, without the double step that belongs to the side to move
+abbrev pub turned : Asked → Asked
+turned q = record q { turn = opponent q.turn; only = None; barred = None }
+
+-- some game contradicts the claim
+abbrev pub IsCountered : Claim → Asked → Type 0
+IsCountered claim q = (g : List Move) × Contradicts g claim q
+
+-- What is shown holds of every game, some game contradicts what is countered, and each game is as long as is said. What is unsettled says
+-- nothing of games.
+abbrev pub IsSo : Asked → Verdict → Type 0
+IsSo q (Shown claim) = Holds claim q
+IsSo q (Countered claim) = IsCountered claim q
+IsSo q (Unsettled claim) = Unit {0}
+IsSo q (NotBoth x y) = HoldsLine (NeverBoth x y) q
+IsSo q (UnsettledBoth x y) = Unit {0}
+IsSo q OtherShown = Holds Illegal (turned q)
+IsSo q OtherCountered = IsCountered Illegal (turned q)
+IsSo q OtherUnsettled = Unit {0}
+IsSo q (AtLeast n) = (g : List Move) → Reaches g q → n ≤ length g

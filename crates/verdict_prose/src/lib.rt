@@ -1,0 +1,17 @@
+//! What a study says of a position, in sentences: what is proved, what a game shows, what stays open, which the last moves were, and how
+//! long games are.
+#![tactic(auto)]
+
+mod claims;
+mod last_moves;
+mod laws;
+mod lengths;
+mod rights;
+mod steps;
+mod telling;
+mod verdicts;
+
+pub use last_moves::{tell_ends, tell_last, tell_left, tell_line, tell_open_line};
+pub use laws::sentences_agree;
+pub use telling::tell_verdict;
+pub use verdicts::Verdict;

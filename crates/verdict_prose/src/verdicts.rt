@@ -1,0 +1,25 @@
+use board_base::Castle;
+use query_base::Claim;
+
+/// What one sentence says of a position.
+#[derive(Clone, Copy, Debug)]
+pub enum Verdict {
+    /// The claim holds of every game.
+    Shown(Claim),
+    /// A game contradicts it.
+    Countered(Claim),
+    /// Neither is known.
+    Unsettled(Claim),
+    /// No game leaves both castlings unmoved.
+    NotBoth(Castle, Castle),
+    /// It isn't known whether one does.
+    UnsettledBoth(Castle, Castle),
+    /// No game leads to the position with the other side to move.
+    OtherShown,
+    /// A game does.
+    OtherCountered,
+    /// Neither is known.
+    OtherUnsettled,
+    /// Each game has so many half-moves at least.
+    AtLeast(u16),
+}
