@@ -6,3 +6,5 @@ pub mod AcceptedDossiers
 pub mod HeadFronts
 pub mod StageFeeding
 pub mod DossierFeeding
+pub mod WholeParts
+pub mod WholeReading

@@ -60,7 +60,7 @@ fed_part (d ∷ due) k checking left line piece bytes a size fed (inr (part, res
     inr (piece ++ part, rest, said, ap (λ (l : List ℕ). piece ++ l) whole ∙ sym (append_assoc piece part rest), omega (arith, size, long, length-append piece part), fed part said remains, on)
 
 -- what is said of a part whose certificate isn't what is due, whatever follows
-unless_due : (due : Claim × Asked) (p : ℕ) (said : Answer) (Next : DossierAnswer → Type 0) (a : DossierAnswer) → AnswersPart due p said (λ b. ⊥) a → AnswersPart due p said Next a
+pub unless_due : (due : Claim × Asked) (p : ℕ) (said : Answer) (Next : DossierAnswer → Type 0) (a : DossierAnswer) → AnswersPart due p said (λ b. ⊥) a → AnswersPart due p said Next a
 unless_due due p (bad_text n) Next a e = e
 unless_due due p (fault n f) Next a e = e
 unless_due due p (accepted claim q) Next a (inl (same, none)) = absurd none

@@ -4,6 +4,7 @@
 
 mod laws;
 mod parts;
+mod reading;
 mod refusals;
 mod stages;
 mod streams;
@@ -13,5 +14,6 @@ pub use laws::{
     accepted_are_dossiers, accepted_lines_are_written, one_dossier_answer,
     unlisted_in_parts_have_texts,
 };
+pub use reading::{ProvedLine, read_dossier};
 pub use refusals::{AcceptedLine, DossierRefused};
 pub use streams::check_dossier;

@@ -16,13 +16,13 @@ use line_claims::{Due, LineClaim};
 use query_base::{Claim, Query};
 use std::marker::Model;
 
-fn is_same_claim(a: &Claim, b: &Claim) -> bool
+pub(crate) fn is_same_claim(a: &Claim, b: &Claim) -> bool
     ensures { IsTrue result ↔ (a.now ≡ b.now) }
 {
     a == b
 }
 
-fn is_same_query(a: &Query, b: &Query) -> bool
+pub(crate) fn is_same_query(a: &Query, b: &Query) -> bool
     ensures { IsTrue result ↔ (a.now ≡ b.now) }
 {
     a == b

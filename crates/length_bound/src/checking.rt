@@ -1,4 +1,4 @@
-ghost use Rattle.std.specs.Prelude.{ℕ, ◌≡◌, ◌≢◌, ◌<◌, ◌≤◌, ◌+◌, ◌++◌, [], Err, IfErr, IfOk, IfSome, List, length, take};
+ghost use Rattle.std.specs.Prelude.{ℕ, ◌≡◌, ◌≢◌, ◌<◌, ◌≤◌, ◌+◌, ◌++◌, [], Err, IfErr, IfOk, IfSome, IsSomeAnd, List, length, take};
 ghost use Rattle.retro_ports.specs.Causes.{Rose};
 ghost use Rattle.retro_ports.specs.Ends.{ReadSome};
 ghost use Rattle.board_base.specs.declared.moves.Move.{Move};
@@ -6,6 +6,7 @@ ghost use Rattle.query_base.specs.Reach.{Reaches};
 ghost use Rattle.cert_text.specs.Lines.{cut};
 ghost use Rattle.length_bound.specs.LengthAnswers.{AnswersBytes, AnswersLength, IsShown, length_answer};
 ghost use Rattle.length_bound.specs.LengthFronts.{ReadsFront};
+ghost use Rattle.length_bound.specs.LengthText.{AreLengthLines};
 
 use crate::lengths::length_of;
 use crate::reading::read_length;
@@ -85,6 +86,23 @@ fn judge(text: &LengthText) -> Result<(u16, Query), LengthRefused>
             }
         }
         None => Err(LengthRefused::Unsupported),
+    }
+}
+
+/// What the text of a length says, if its potentials show its number. Otherwise the refusal with which `check_length` answers a source of
+/// these bytes. It takes no memory.
+pub fn read_shown_length(bytes: &[u8]) -> Result<LengthText, LengthRefused>
+    ensures text { IfOk result (λ text. AreLengthLines (cut bytes.now) text) }
+    ensures shown { IfOk result IsShown }
+    ensures refused { IfErr result (λ why. IsSomeAnd (length_answer (Err why)) (AnswersLength (cut bytes.now))) }
+    ensures least { IfOk result (λ text. (g : List Move) → Reaches g text.query → text.at_least ≤ length g) }
+{
+    match read_length(bytes) {
+        Ok(text) => match judge(&text) {
+            Ok(_) => Ok(text),
+            Err(why) => Err(why),
+        },
+        Err(line) => Err(LengthRefused::BadText { line }),
     }
 }
 

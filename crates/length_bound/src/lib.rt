@@ -16,12 +16,13 @@ mod texts;
 mod walks;
 mod writing;
 
-pub use checking::{LengthRefused, check_length};
+pub use checking::{LengthRefused, check_length, read_shown_length};
 pub use choosing::longest;
 pub use costs::move_cost;
 pub use laws::{games_are_long, men_need_moves, steps_add_one};
 pub use lengths::{best, length_of};
 pub use man_potentials::ManPotentials;
+pub use rows::costs as man_costs;
 pub use text_laws::{one_length_answer, one_length_text_each, shown_lengths_hold};
 pub use texts::LengthText;
 pub use walks::steps;

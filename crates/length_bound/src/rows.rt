@@ -45,7 +45,7 @@ fn man_row(odds: Odds, side: Colour, place: Option<Man>, s: Square) -> [u8; 16]
 
 /// The costs of this side's men in a game at these odds: a row for each man, in ascending order of the men's squares, with the cost
 /// from each home of the side, in ascending order. None exactly where it has more than sixteen men.
-pub(crate) fn costs(board: &Board, side: Colour, odds: Odds) -> Option<ArrayVec<[u8; 16], 16>>
+pub fn costs(board: &Board, side: Colour, odds: Odds) -> Option<ArrayVec<[u8; 16], 16>>
     ensures items { SomeIff (option_map (λ costs. costs.items) result) (length (men_squares side board.now) ≤ 16) (move_costs odds side board.now) }
     ensures table { IfSome result (λ costs. IsTable costs.items 16 64) }
 {
