@@ -1,0 +1,9 @@
+mod Saying
+mod Stuck
+mod Telling
+mod Joining
+mod Playing
+mod Lasting
+mod Reported
+mod Holding
+mod SameLines

@@ -1,0 +1,108 @@
+-- What a report says, part by part.
+use Rattle.std.proofs.Common.{◌≡◌, ℕ, List, [], ◌∷◌, ◌++◌, refl, sym, ap, ◌∙◌, append-nil}
+use Rattle.std.specs.Prelude.{IsTrue}
+use Rattle.std.specs.List.{All}
+use Rattle.std.proofs.lemmas.List.Elements.{All-cons, All-nil}
+use Rattle.board_base.specs.declared.moves.Move.{Move}
+use Rattle.query_base.specs.Asked.{Asked}
+use Rattle.query_base.specs.Reach.{Holds, Reaches}
+use Rattle.query_base.specs.declared.claims.Claim.TheVariants.{Illegal}
+use Rattle.ledger_lines.specs.declared.lines.Line.{Line}
+use Rattle.ledger_told.specs.Told.{IsLineTrue, TellsLines}
+use Rattle.ledger_prose.specs.Saying.{SentenceSays}
+use Rattle.ledger_prose.specs.Sentences.{sentences_of}
+use Rattle.ledger_prose.specs.Words.{prose_text}
+use Rattle.claim_findings.specs.Findings.{IsFound, is_proved}
+use Rattle.claim_findings.specs.declared.findings.Finding.{Finding}
+use Rattle.diagram_study.specs.Findings.{AreFindings, IsFoundOf, other_side}
+use Rattle.diagram_study.specs.declared.findings.Findings.{Findings}
+use Rattle.diagram_study.specs.declared.findings.Found.{Found}
+use Rattle.proof_prose.specs.Heads.{drawn_text}
+use Rattle.verdict_prose.specs.Sentences.{verdict_text}
+use Rattle.verdict_prose.specs.Verdicts.{IsSo}
+use Rattle.verdict_prose.specs.declared.verdicts.Verdict.{Verdict}
+use Rattle.verdict_prose.specs.declared.verdicts.Verdict.TheVariants.{Shown as IsShown}
+use Rattle.position_report.specs.Held.{TellsEachIf}
+use Rattle.position_report.specs.LastMoves.{TellsLast}
+use Rattle.position_report.specs.Lengths.{TellsGame, length_text}
+use Rattle.position_report.specs.Open.{all_open}
+use Rattle.position_report.specs.Parts.{part_text, parts_text}
+use Rattle.position_report.specs.Proofs.{TellsProofs}
+use Rattle.position_report.specs.Reports.{IsReport, TellsFindings, TellsFound, TellsImpossible, verdicts_text}
+use Rattle.position_report.specs.Sayings.{other_of, shown_of}
+use Rattle.position_report.specs.Shown.{illegal_shown, shown_claims}
+use Rattle.position_report.proofs.Joining.{from-text, six-parts, two-parts}
+use Rattle.position_report.proofs.Saying.{length-so, other-so, shown-so}
+
+-- two verdicts, from the beginning
+pub two-verdicts : (q : Asked) (v w : Verdict) (o p r : List ℕ) → o ≡ [] → p ≡ o ++ verdict_text q v → r ≡ p ++ verdict_text q w → r ≡ verdicts_text q (v ∷ w ∷ [])
+unfolding verdicts_text
+two-verdicts q v w o p r none first last =
+    last
+    ∙ ap (λ (l : List ℕ). l ++ verdict_text q w) (first ∙ ap (λ (l : List ℕ). l ++ verdict_text q v) none)
+    ∙ ap (λ (l : List ℕ). verdict_text q v ++ l) (sym (append-nil (verdict_text q w)))
+
+-- the parts of a position that is illegal
+pub impossible-told : (q : Asked) (depth nodes : ℕ) (against : Finding) (o p r said proofs : List ℕ) → Holds Illegal q → IsFound (other_side q) Illegal depth nodes against → said ≡ verdicts_text q (IsShown Illegal ∷ other_of against ∷ []) → TellsProofs depth nodes 1 (illegal_shown q ∷ []) proofs → p ≡ o ++ part_text said → r ≡ p ++ part_text proofs → (own : List ℕ) × TellsImpossible q depth nodes against own × (r ≡ o ++ own)
+impossible-told q depth nodes against o p r said proofs holds found says told first last = (
+  parts_text (said ∷ proofs ∷ []),
+  record {
+    so = All-cons (IsSo q) (IsShown Illegal) (other_of against ∷ []) holds (All-cons (IsSo q) (other_of against) [] (other-so q depth nodes against found) (All-nil (IsSo q)));
+    proofs = proofs;
+    proofs_told = told;
+    text_is = ap (λ (l : List ℕ). parts_text (l ∷ proofs ∷ [])) says;
+  },
+  two-parts o p r said proofs first last,
+)
+
+-- the laws of a ledger's lines, and of its sentences
+abbrev pub LinesHold : Type 0
+LinesHold = (q : Asked) (lines : List Line) → TellsLines q lines → All (IsLineTrue q) lines
+
+abbrev pub SentencesHold : Type 0
+SentencesHold =
+    (q : Asked) (lines : List Line) → All (IsLineTrue q) lines → (g : List Move) → Reaches g q → All (SentenceSays q g) (sentences_of q lines)
+
+-- the parts of a position that isn't proved to be illegal, each as it is told
+pub record AreParts (q : Asked) (depth nodes : ℕ) (by : List (List Move)) (f : Found) (said ledger held proofs unsettled ends : List ℕ) : Type 0 where
+  pub said_told : (last : List ℕ) × TellsLast q f last × (said ≡ verdicts_text q (shown_of f) ++ last)
+  pub ledger_told : ledger ≡ prose_text q (sentences_of q f.ledger.items)
+  pub held_told : TellsEachIf q f.ledger.items f.rights.items held
+  pub proofs_told : TellsProofs depth nodes 1 (shown_claims q f) proofs
+  pub unsettled_told : unsettled ≡ all_open q f
+  pub ends_told : (game : List ℕ) × TellsGame q by game × (ends ≡ length_text q f.length ++ game)
+
+same-parts : (a b c d e f x y z w : List ℕ) → a ≡ x → b ≡ y → e ≡ z → f ≡ w → parts_text (a ∷ b ∷ c ∷ d ∷ e ∷ f ∷ []) ≡ parts_text (x ∷ y ∷ c ∷ d ∷ z ∷ w ∷ [])
+same-parts a b c d e f x y z w ax by ez fw = cc
+
+pub parts-told : (q : Asked) (depth nodes : ℕ) (by : List (List Move)) (f : Found) (said ledger held proofs unsettled ends : List ℕ) → LinesHold → SentencesHold → AreFindings q depth nodes by f → AreParts q depth nodes by f said ledger held proofs unsettled ends → TellsFound q depth nodes by f (parts_text (said ∷ ledger ∷ held ∷ proofs ∷ unsettled ∷ ends ∷ []))
+parts-told q depth nodes by f said ledger held proofs unsettled ends lines sentences found are =
+    let true_lines : All (IsLineTrue q) f.ledger.items = lines q f.ledger.items found.ledger in
+    record {
+      so = shown-so q depth nodes by f found;
+      last = are.said_told.0;
+      last_told = are.said_told.1;
+      true_ = true_lines;
+      says = sentences q f.ledger.items true_lines;
+      held = held;
+      held_told = are.held_told;
+      proofs = proofs;
+      proofs_told = are.proofs_told;
+      long = length-so q f.length found.games;
+      game = are.ends_told.0;
+      game_told = are.ends_told.1;
+      text_is = same-parts said ledger held proofs unsettled ends _ _ _ _ are.said_told.2 are.ledger_told are.unsettled_told are.ends_told.2;
+    }
+
+pub found-told : (q : Asked) (depth nodes : ℕ) (by : List (List Move)) (f : Found) (said ledger held proofs unsettled ends o p1 p2 p3 p4 p5 p6 : List ℕ) → LinesHold → SentencesHold → AreFindings q depth nodes by f → AreParts q depth nodes by f said ledger held proofs unsettled ends → p1 ≡ o ++ part_text said → p2 ≡ p1 ++ part_text ledger → p3 ≡ p2 ++ part_text held → p4 ≡ p3 ++ part_text proofs → p5 ≡ p4 ++ part_text unsettled → p6 ≡ p5 ++ part_text ends → (own : List ℕ) × TellsFound q depth nodes by f own × (p6 ≡ o ++ own)
+found-told q depth nodes by f said ledger held proofs unsettled ends o p1 p2 p3 p4 p5 p6 lines sentences found are e1 e2 e3 e4 e5 e6 = (
+  parts_text (said ∷ ledger ∷ held ∷ proofs ∷ unsettled ∷ ends ∷ []),
+  parts-told q depth nodes by f said ledger held proofs unsettled ends lines sentences found are,
+  six-parts o p1 p2 p3 p4 p5 p6 said ledger held proofs unsettled ends e1 e2 e3 e4 e5 e6,
+)
+
+-- the whole report: the diagram, and what was found
+pub report-told : (q : Asked) (depth nodes : ℕ) (by : List (List Move)) (findings : Findings) (o p r : List ℕ) → IsFoundOf q depth nodes by findings → o ≡ [] → p ≡ o ++ drawn_text q → (own : List ℕ) × TellsFindings q depth nodes by findings own × (r ≡ p ++ own) → IsReport q depth nodes r
+report-told q depth nodes by findings o p r found none drawn tells =
+    let whole = from-text (TellsFindings q depth nodes by findings) o p r (drawn_text q) none drawn tells in
+    record { by = by; findings = findings; found = found; own = whole.0; told = whole.1; text_is = whole.2 }

@@ -1,0 +1,8 @@
+use Rattle.std.proofs.Common.{arith}
+use Rattle.std.proofs.lemmas.Bool.{both_ways}
+use Rattle.position_report.proofs.Telling.{among-more}
+use Rattle.position_report.proofs.held.is_among.Goals as goal
+
+pub loop-other-preserved : goal.loop-other-preserved
+loop-other-preserved c =
+    among-more c.args.lines.now c.loop-other.other-index c.args.line.now _ c.loop-other-test.true c.other-item.is (λ same. both_ways _ c.if-is_same_line.false (c.is_same_line.ensures.1 same)) c.loop-other.invariant

@@ -1,0 +1,10 @@
+pub mod Parts
+pub mod Sayings
+pub mod LastMoves
+pub mod Held
+pub mod Shown
+pub mod Proofs
+pub mod Open
+pub mod Lengths
+pub mod Reports
+pub mod Told

@@ -1,0 +1,77 @@
+-- Proofs of what a report shows.
+use Rattle.std.specs.Prelude.{ℕ, ◌≡◌, ◌+◌, ◌⊎◌, Bool, true, false, cond, List, [], ◌∷◌, ◌++◌, codes, nat_lt, Option, Some, None}
+use Rattle.std.specs.Fmt.{decimal}
+use Rattle.query_base.specs.Asked.{Asked}
+use Rattle.query_base.specs.Targets.{target}
+use Rattle.fen_text.specs.ClockLines.{clock_text}
+use Rattle.fen_text.specs.OddsLines.{is_no_odds, odds_text}
+use Rattle.fen_text.specs.Spelling.{spelling}
+use Rattle.cert_text.specs.Certificate.{Certificate}
+use Rattle.cert_text.specs.ClaimLines.{claim_text, promotes_well}
+use Rattle.claim_search.specs.Settlements.{IsSettlement}
+use Rattle.retro_search.specs.Answers.{IsProofOf, IsProved}
+use Rattle.retro_search.specs.Plain.{HasPlainSketch}
+use Rattle.retro_search.specs.declared.answers.Found.{Found as Answer}
+use Rattle.proof_prose.specs.Prose.{Explains, Retells}
+use Rattle.position_report.specs.declared.shown.Shown.{Shown}
+
+-- a text with a line end
+unfoldable pub ended : List ℕ → List ℕ
+ended text = text ++ codes "\n"
+
+-- the line of the odds, if there are any
+abbrev pub odds_lines : List Bool → List ℕ
+odds_lines o = cond (is_no_odds o) [] (ended (odds_text o))
+
+-- the line of the clock, if one is demanded
+abbrev pub clock_lines : Option ℕ → List ℕ
+clock_lines None = []
+clock_lines (Some n) = ended (clock_text n)
+
+-- the lines of a position, as commands read them
+unfoldable pub position_lines : Asked → List ℕ
+position_lines q = odds_lines q.odds ++ clock_lines q.clock ++ ended (spelling q)
+
+-- the words of `settle`
+unfoldable pub words_text : ℕ → ℕ → List ℕ
+words_text depth nodes =
+    codes "To check it, give `settle " ++ decimal depth ++ codes " " ++ decimal nodes ++ codes "` these lines, and what it writes to `check`:\n"
+
+-- the words and the input by which `settle` writes the certificate
+abbrev pub input_text : ℕ → ℕ → Shown → List ℕ
+input_text depth nodes s = words_text depth nodes ++ ended (claim_text s.claim) ++ position_lines s.query
+
+-- the same, if the claim has a text
+abbrev pub check_text : ℕ → ℕ → Shown → List ℕ
+check_text depth nodes s = cond (promotes_well s.claim) (input_text depth nodes s) []
+
+-- what stands before a proof: its number, and an empty line before each but the first
+abbrev pub title_text : ℕ → List ℕ
+title_text number = cond (nat_lt 1 number) (codes "\n") [] ++ codes "Proof " ++ decimal number ++ codes "\n"
+
+-- the text of a certificate, behind the diagram and what is given if that is drawn
+abbrev pub TellsCertificate : Bool → Certificate → List ℕ → Type 0
+TellsCertificate true cert text = Explains cert text
+TellsCertificate false cert text = Retells cert text
+
+-- a proof with its number: the text of a certificate that proves the claim, and how to check it
+pub record TellsProof (depth nodes number : ℕ) (s : Shown) (text : List ℕ) : Type 0 where
+  pub cert : Certificate
+  pub proof : IsProofOf depth cert s.claim s.query
+  pub own : List ℕ
+  pub told : TellsCertificate s.drawn cert own
+  pub text_is : text ≡ title_text number ++ own ++ check_text depth nodes s
+
+-- A proof may be left out: what settles the claim within these limits is no certificate. No node of a sketch refutes its target without
+-- exact files, prices and marks.
+pub record IsUntold (depth nodes : ℕ) (s : Shown) : Type 0 where
+  pub answer : Answer
+  pub settlement : IsSettlement depth nodes s.claim s.query answer
+  pub unproved : IsProved answer → ⊥
+  pub unsketched : HasPlainSketch (target s.query s.claim) → ⊥
+
+-- the proofs of these claims, in order and numbered from this number on, but for those that may be left out
+abbrev pub TellsProofs : ℕ → ℕ → ℕ → List Shown → List ℕ → Type 0
+TellsProofs depth nodes number [] text = text ≡ []
+TellsProofs depth nodes number (s ∷ rest) text =
+    ((own : List ℕ) × (others : List ℕ) × TellsProof depth nodes number s own × TellsProofs depth nodes (number + 1) rest others × (text ≡ own ++ others)) ⊎ (IsUntold depth nodes s × TellsProofs depth nodes number rest text)

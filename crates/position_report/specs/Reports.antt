@@ -1,0 +1,72 @@
+-- What a report says of a position, and that it is so.
+use Rattle.std.specs.Prelude.{ℕ, ◌≡◌, IfSome, List, ◌++◌, ◌∷◌, []}
+use Rattle.std.specs.List.{All, flat_map}
+use Rattle.board_base.specs.declared.moves.Move.{Move}
+use Rattle.query_base.specs.Asked.{Asked}
+use Rattle.query_base.specs.Reach.{Reaches}
+use Rattle.query_base.specs.declared.claims.Claim.TheVariants.{Illegal}
+use Rattle.ledger_prose.specs.Saying.{SentenceSays}
+use Rattle.ledger_prose.specs.Sentences.{sentences_of}
+use Rattle.ledger_prose.specs.Words.{prose_text}
+use Rattle.ledger_told.specs.Told.{IsLineTrue}
+use Rattle.claim_findings.specs.declared.findings.Finding.{Finding}
+use Rattle.diagram_study.specs.Findings.{IsFoundOf}
+use Rattle.diagram_study.specs.declared.findings.Findings.{Findings}
+use Rattle.diagram_study.specs.declared.findings.Findings.TheVariants.{Impossible, Unproved}
+use Rattle.diagram_study.specs.declared.findings.Found.{Found}
+use Rattle.proof_prose.specs.Heads.{drawn_text}
+use Rattle.verdict_prose.specs.Verdicts.{IsSo}
+use Rattle.verdict_prose.specs.Sentences.{verdict_text}
+use Rattle.verdict_prose.specs.declared.verdicts.Verdict.{Verdict}
+use Rattle.verdict_prose.specs.declared.verdicts.Verdict.TheVariants.{AtLeast, Shown as IsShown}
+use Rattle.position_report.specs.Held.{TellsEachIf}
+use Rattle.position_report.specs.LastMoves.{TellsLast}
+use Rattle.position_report.specs.Lengths.{TellsGame, length_text}
+use Rattle.position_report.specs.Open.{all_open}
+use Rattle.position_report.specs.Parts.{parts_text}
+use Rattle.position_report.specs.Proofs.{TellsProofs}
+use Rattle.position_report.specs.Sayings.{other_of, shown_of}
+use Rattle.position_report.specs.Shown.{illegal_shown, shown_claims}
+
+-- the sentences of these verdicts
+unfoldable pub verdicts_text : Asked → List Verdict → List ℕ
+verdicts_text q verdicts = flat_map (verdict_text q) verdicts
+
+-- What is told of a position that isn't proved to be illegal: what is proved and what games show, a sentence each, and each is so; the last
+-- moves; the paragraph of the ledger, whose lines are true of every game that reaches the position, and so is what its sentences say; what
+-- ledgers say besides if a right is held; the proofs; what isn't settled; how long games are, and a game.
+pub record TellsFound (q : Asked) (depth nodes : ℕ) (by : List (List Move)) (f : Found) (text : List ℕ) : Type 0 where
+  pub so : All (IsSo q) (shown_of f)
+  pub last : List ℕ
+  pub last_told : TellsLast q f last
+  pub true_ : All (IsLineTrue q) f.ledger.items
+  pub says : (g : List Move) → Reaches g q → All (SentenceSays q g) (sentences_of q f.ledger.items)
+  pub held : List ℕ
+  pub held_told : TellsEachIf q f.ledger.items f.rights.items held
+  pub proofs : List ℕ
+  pub proofs_told : TellsProofs depth nodes 1 (shown_claims q f) proofs
+  pub long : IfSome f.length (λ n. IsSo q (AtLeast n))
+  pub game : List ℕ
+  pub game_told : TellsGame q by game
+  pub text_is : text ≡ parts_text ((verdicts_text q (shown_of f) ++ last) ∷ prose_text q (sentences_of q f.ledger.items) ∷ held ∷ proofs ∷ all_open q f ∷ (length_text q f.length ++ game) ∷ [])
+
+-- What is told of a position that is illegal: that it is, what was found with the other side to move, and the proof.
+pub record TellsImpossible (q : Asked) (depth nodes : ℕ) (against : Finding) (text : List ℕ) : Type 0 where
+  pub so : All (IsSo q) (IsShown Illegal ∷ other_of against ∷ [])
+  pub proofs : List ℕ
+  pub proofs_told : TellsProofs depth nodes 1 (illegal_shown q ∷ []) proofs
+  pub text_is : text ≡ parts_text (verdicts_text q (IsShown Illegal ∷ other_of against ∷ []) ∷ proofs ∷ [])
+
+-- what is told of what was found
+abbrev pub TellsFindings : Asked → ℕ → ℕ → List (List Move) → Findings → List ℕ → Type 0
+TellsFindings q depth nodes by (Impossible finding against) text = TellsImpossible q depth nodes against text
+TellsFindings q depth nodes by (Unproved f) text = TellsFound q depth nodes by f text
+
+-- The report of a position: the diagram with what is given, and what was found, as by a study within the same limits.
+pub record IsReport (q : Asked) (depth nodes : ℕ) (text : List ℕ) : Type 0 where
+  pub by : List (List Move)
+  pub findings : Findings
+  pub found : IsFoundOf q depth nodes by findings
+  pub own : List ℕ
+  pub told : TellsFindings q depth nodes by findings own
+  pub text_is : text ≡ drawn_text q ++ own

@@ -1,0 +1,66 @@
+-- Which verdicts a report tells, and which claims stay open.
+use Rattle.std.specs.Prelude.{Bool, true, false, not, cond, List, [], ◌∷◌, ◌++◌, Option, Some, None}
+use Rattle.std.specs.List.{flat_map}
+use Rattle.board_base.specs.declared.castles.Castle.{Castle}
+use Rattle.query_base.specs.declared.claims.Claim.{Claim}
+use Rattle.query_base.specs.declared.claims.Claim.TheVariants.{Illegal}
+use Rattle.codex_verdict.specs.Rights.{claim_of}
+use Rattle.codex_verdict.specs.declared.kinds.Right.{Right}
+use Rattle.codex_verdict.specs.declared.kinds.Right.TheVariants.{Castling, EnPassant}
+use Rattle.claim_findings.specs.Findings.{is_proved}
+use Rattle.claim_findings.specs.declared.findings.Finding.{Finding}
+use Rattle.claim_findings.specs.declared.findings.Finding.TheVariants as finding
+use Rattle.diagram_study.specs.declared.findings.Found.{Found}
+use Rattle.diagram_study.specs.declared.pairs.PairFound.{PairFound}
+use Rattle.diagram_study.specs.declared.rights.RightFound.{RightFound}
+use Rattle.verdict_prose.specs.declared.verdicts.Verdict.{Verdict}
+use Rattle.verdict_prose.specs.declared.verdicts.Verdict.TheVariants.{Shown, Countered, NotBoth, OtherShown, OtherCountered, OtherUnsettled}
+
+-- what was found of a claim, if it is settled
+abbrev pub settled_of : Finding → Claim → List Verdict
+settled_of (finding.Proved depth) claim = Shown claim ∷ []
+settled_of finding.Countered claim = Countered claim ∷ []
+settled_of finding.Open claim = []
+settled_of finding.Spent claim = []
+
+-- the right is that of a castling, or that of a capture en passant, as is asked
+abbrev pub is_asked : Bool → Right → Bool
+is_asked castlings (Castling x) = castlings
+is_asked castlings (EnPassant m) = not castlings
+
+-- what was found of castlings, or of captures en passant
+abbrev pub right_verdicts : Bool → RightFound → List Verdict
+right_verdicts castlings f = cond (is_asked castlings f.right) (settled_of f.finding (claim_of f.right)) []
+
+-- that two castlings aren't both kept, if it is proved
+abbrev pub pair_verdicts : PairFound → List Verdict
+pair_verdicts f = cond (is_proved f.finding) (NotBoth f.first f.second ∷ []) []
+
+-- what is proved, and what games show, in the order of a study
+unfoldable pub shown_of : Found → List Verdict
+shown_of f =
+    settled_of f.illegal.finding Illegal ++ flat_map (right_verdicts true) f.rights.items ++ flat_map pair_verdicts f.pairs.items ++ flat_map (right_verdicts false) f.rights.items
+
+-- what is said of the other side, of a position that is illegal
+abbrev pub other_of : Finding → Verdict
+other_of (finding.Proved depth) = OtherShown
+other_of finding.Countered = OtherCountered
+other_of finding.Open = OtherUnsettled
+other_of finding.Spent = OtherUnsettled
+
+-- a claim that is neither proved nor countered
+abbrev pub is_open : Finding → Bool
+is_open (finding.Proved depth) = false
+is_open finding.Countered = false
+is_open finding.Open = true
+is_open finding.Spent = true
+
+-- the castling of a right, if it is one and stays open
+abbrev pub open_castling : Bool → Right → Option Castle
+open_castling true (Castling x) = Some x
+open_castling true (EnPassant m) = None
+open_castling false right = None
+
+-- the castling of a right that is neither proved to be lost nor shown to be kept by a game
+abbrev pub unsettled_castling : RightFound → Option Castle
+unsettled_castling f = open_castling (is_open f.finding) f.right

@@ -1,0 +1,147 @@
+//! What is said of a position that isn't proved to be illegal, and which of it stays open.
+
+ghost use Rattle.std.specs.Prelude.{◌≡◌, ◌++◌, IfOk};
+ghost use Rattle.std.specs.List.{flat_map};
+ghost use Rattle.position_report.specs.Sayings.{is_asked, is_open, open_castling, other_of, pair_verdicts, right_verdicts, settled_of, shown_of, unsettled_castling};
+
+use board_base::Castle;
+use claim_findings::Finding;
+use codex_verdict::{Right, claim_of};
+use diagram_study::{Found, PairFound, RightFound};
+use query_base::Claim;
+use std::alloc::{AllocError, Global};
+use verdict_prose::Verdict;
+
+/// Adds what was found of a claim, if it is settled.
+fn add_settled(
+    finding: Finding,
+    claim: Claim,
+    verdicts: &mut Vec<Verdict>,
+) -> Result<(), AllocError>
+    ensures { IfOk result (λ _. verdicts.new.items ≡ verdicts.old.items ++ settled_of finding claim) }
+{
+    match finding {
+        Finding::Proved(_) => verdicts.push(Verdict::Shown(claim))?,
+        Finding::Countered => verdicts.push(Verdict::Countered(claim))?,
+        Finding::Open => return Ok(()),
+        Finding::Spent => return Ok(()),
+    }
+    Ok(())
+}
+
+/// Whether the right is that of a castling, or that of a capture en passant, as is asked.
+pub(crate) fn is_asked(castlings: bool, right: &Right) -> bool
+    ensures { result ≡ is_asked castlings right.now }
+{
+    match right {
+        Right::Castling(_) => castlings,
+        Right::EnPassant(_) => !castlings,
+    }
+}
+
+/// Adds what was found of a right, if it is one of those that are asked.
+fn add_right(
+    castlings: bool,
+    found: &RightFound,
+    verdicts: &mut Vec<Verdict>,
+) -> Result<(), AllocError>
+    ensures { IfOk result (λ _. verdicts.new.items ≡ verdicts.old.items ++ right_verdicts castlings found.now) }
+{
+    if is_asked(castlings, &found.right) {
+        add_settled(found.finding, claim_of(&found.right), verdicts)
+    } else {
+        Ok(())
+    }
+}
+
+/// Adds what was found of castlings, or of captures en passant.
+fn add_rights(
+    castlings: bool,
+    rights: &[RightFound],
+    verdicts: &mut Vec<Verdict>,
+) -> Result<(), AllocError>
+    ensures { IfOk result (λ _. verdicts.new.items ≡ verdicts.old.items ++ flat_map (right_verdicts castlings) rights.now) }
+{
+    for found in rights {
+        add_right(castlings, found, verdicts)?;
+    }
+    Ok(())
+}
+
+/// Adds that two castlings aren't both kept, if it is proved.
+fn add_pair(pair: &PairFound, verdicts: &mut Vec<Verdict>) -> Result<(), AllocError>
+    ensures { IfOk result (λ _. verdicts.new.items ≡ verdicts.old.items ++ pair_verdicts pair.now) }
+{
+    if pair.finding.is_proved() {
+        // The prover takes a push of verdicts only where the type of their claims is in use.
+        let _claim = Claim::Illegal;
+        verdicts.push(Verdict::NotBoth(pair.first, pair.second))?;
+    }
+    Ok(())
+}
+
+/// Adds what was found of two castlings each.
+fn add_pairs(pairs: &[PairFound], verdicts: &mut Vec<Verdict>) -> Result<(), AllocError>
+    ensures { IfOk result (λ _. verdicts.new.items ≡ verdicts.old.items ++ flat_map pair_verdicts pairs.now) }
+{
+    for pair in pairs {
+        add_pair(pair, verdicts)?;
+    }
+    Ok(())
+}
+
+/// What is proved, and what games show, in the order of a study.
+pub(crate) fn shown_of(alloc: Global, found: &Found) -> Result<Vec<Verdict>, AllocError>
+    ensures { IfOk result (λ verdicts. verdicts.items ≡ shown_of found.now) }
+{
+    let mut verdicts = Vec::new(alloc);
+    add_settled(found.illegal.finding, Claim::Illegal, &mut verdicts)?;
+    add_rights(true, found.rights.as_slice(), &mut verdicts)?;
+    add_pairs(found.pairs.as_slice(), &mut verdicts)?;
+    add_rights(false, found.rights.as_slice(), &mut verdicts)?;
+    Ok(verdicts)
+}
+
+/// What is said of the other side, of a position that is illegal.
+pub(crate) fn other_of(against: Finding) -> Verdict
+    ensures { result ≡ other_of against }
+{
+    match against {
+        Finding::Proved(_) => Verdict::OtherShown,
+        Finding::Countered => Verdict::OtherCountered,
+        Finding::Open => Verdict::OtherUnsettled,
+        Finding::Spent => Verdict::OtherUnsettled,
+    }
+}
+
+/// Neither a proof nor a game was found.
+pub(crate) fn is_open(finding: Finding) -> bool
+    ensures { result ≡ is_open finding }
+{
+    match finding {
+        Finding::Proved(_) => false,
+        Finding::Countered => false,
+        Finding::Open => true,
+        Finding::Spent => true,
+    }
+}
+
+/// The castling of a right, if it is one and stays open.
+fn open_castling(is_open: bool, right: &Right) -> Option<Castle>
+    ensures { result ≡ open_castling is_open right.now }
+{
+    if !is_open {
+        return None;
+    }
+    match right {
+        Right::Castling(castle) => Some(*castle),
+        Right::EnPassant(_) => None,
+    }
+}
+
+/// The castling of a right that is neither proved to be lost nor shown to be kept by a game.
+pub(crate) fn unsettled_castling(found: &RightFound) -> Option<Castle>
+    ensures { result ≡ unsettled_castling found.now }
+{
+    open_castling(is_open(found.finding), &found.right)
+}

@@ -1,0 +1,140 @@
+//! The claims that are proved.
+
+ghost use Rattle.std.specs.Prelude.{◌≡◌, ◌∷◌, ◌++◌, [], IfOk};
+ghost use Rattle.std.specs.List.{flat_map, list_any};
+ghost use Rattle.position_report.specs.Shown.{illegal_shown, last_shown, other_shown, pair_shown, proves_passing, right_shown, shown_as, shown_claims};
+
+use crate::sayings::is_asked;
+use codex_verdict::claim_of;
+use diagram_study::{Found, MoveFound, PairFound, RightFound, with_both};
+use query_base::{Claim, Query};
+use std::alloc::{AllocError, Global};
+
+/// A claim that is proved, the position that it is about, and whether its proof begins with the diagram and what is given, since that is
+/// another position than the report's.
+#[derive(Clone, Copy, Debug)]
+pub struct Shown {
+    pub claim: Claim,
+    pub query: Query,
+    pub drawn: bool,
+}
+
+/// That no game leads to the position.
+pub(crate) fn illegal_shown(query: &Query) -> Shown
+    ensures { result ≡ illegal_shown query.now }
+{
+    Shown {
+        claim: Claim::Illegal,
+        query: *query,
+        drawn: false,
+    }
+}
+
+/// Adds a claim about the position.
+fn add(claim: Claim, query: &Query, drawn: bool, all: &mut Vec<Shown>) -> Result<(), AllocError>
+    ensures { IfOk result (λ _. all.new.items ≡ all.old.items ++ shown_as claim query.now drawn ∷ []) }
+{
+    all.push(Shown {
+        claim,
+        query: *query,
+        drawn,
+    })?;
+    Ok(())
+}
+
+/// Adds the claim of a right, if it is proved.
+fn add_right(query: &Query, found: &RightFound, all: &mut Vec<Shown>) -> Result<(), AllocError>
+    ensures { IfOk result (λ _. all.new.items ≡ all.old.items ++ right_shown query.now found.now) }
+{
+    if !found.finding.is_proved() {
+        return Ok(());
+    }
+    add(claim_of(&found.right), query, false, all)
+}
+
+/// Adds those of all rights.
+fn add_rights(query: &Query, rights: &[RightFound], all: &mut Vec<Shown>) -> Result<(), AllocError>
+    ensures { IfOk result (λ _. all.new.items ≡ all.old.items ++ flat_map (right_shown query.now) rights.now) }
+{
+    for found in rights {
+        add_right(query, found, all)?;
+    }
+    Ok(())
+}
+
+/// Adds that two castlings can't both be kept, if it is proved.
+fn add_pair(query: &Query, pair: &PairFound, all: &mut Vec<Shown>) -> Result<(), AllocError>
+    ensures { IfOk result (λ _. all.new.items ≡ all.old.items ++ pair_shown query.now pair.now) }
+{
+    if !pair.finding.is_proved() {
+        return Ok(());
+    }
+    let both = with_both(query, pair.first, pair.second);
+    add(Claim::Illegal, &both, true, all)
+}
+
+/// Adds the same of each two.
+fn add_pairs(query: &Query, pairs: &[PairFound], all: &mut Vec<Shown>) -> Result<(), AllocError>
+    ensures { IfOk result (λ _. all.new.items ≡ all.old.items ++ flat_map (pair_shown query.now) pairs.now) }
+{
+    for pair in pairs {
+        add_pair(query, pair, all)?;
+    }
+    Ok(())
+}
+
+/// Adds the last move, if it is proved.
+fn add_last(query: &Query, last: &Option<MoveFound>, all: &mut Vec<Shown>) -> Result<(), AllocError>
+    ensures { IfOk result (λ _. all.new.items ≡ all.old.items ++ last_shown query.now last.now) }
+{
+    let Some(found) = last else {
+        return Ok(());
+    };
+    if !found.finding.is_proved() {
+        return Ok(());
+    }
+    add(Claim::Last(found.mv), query, false, all)
+}
+
+/// Whether it is proved that a capture en passant is legal.
+fn proves_passing(found: &RightFound) -> bool
+    ensures { result ≡ proves_passing found.now }
+{
+    found.finding.is_proved() && is_asked(false, &found.right)
+}
+
+/// Whether that is proved of one of these.
+fn prove_passing(rights: &[RightFound]) -> bool
+    ensures { result ≡ list_any proves_passing rights.now }
+{
+    match rights {
+        [] => false,
+        [found, others @ ..] => proves_passing(found) || prove_passing(others),
+    }
+}
+
+/// Adds the last move, unless a capture en passant is proved to be legal, since then the proof would be the same.
+fn add_other(query: &Query, found: &Found, all: &mut Vec<Shown>) -> Result<(), AllocError>
+    ensures { IfOk result (λ _. all.new.items ≡ all.old.items ++ other_shown query.now found.now) }
+{
+    if prove_passing(found.rights.as_slice()) {
+        Ok(())
+    } else {
+        add_last(query, &found.last, all)
+    }
+}
+
+/// The claims about a position that are proved, each of which one certificate may prove.
+pub(crate) fn shown_claims(
+    alloc: Global,
+    query: &Query,
+    found: &Found,
+) -> Result<Vec<Shown>, AllocError>
+    ensures { IfOk result (λ all. all.items ≡ shown_claims query.now found.now) }
+{
+    let mut all = Vec::new(alloc);
+    add_rights(query, found.rights.as_slice(), &mut all)?;
+    add_pairs(query, found.pairs.as_slice(), &mut all)?;
+    add_other(query, found, &mut all)?;
+    Ok(all)
+}
