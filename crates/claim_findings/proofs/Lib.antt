@@ -6,6 +6,7 @@ pub mod Playing
 pub mod Agreeing
 pub mod OpenFronts
 pub mod Staying
+pub mod Further
 pub use Rattle.retro_search.proofs.Contradicted
 pub use Rattle.retro_search.proofs.Sound
 pub use Rattle.retro_search.proofs.Trees

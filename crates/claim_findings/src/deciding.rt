@@ -1,4 +1,4 @@
-ghost use Rattle.std.specs.Prelude.{ℕ, ◌≡◌, ◌≢◌, IfOk, None, false};
+ghost use Rattle.std.specs.Prelude.{ℕ, ◌≡◌, ◌≢◌, ◌⊎◌, IfOk, IsTrue, None, false};
 ghost use Rattle.query_base.specs.Targets.{target};
 ghost use Rattle.claim_findings.specs.Decisions.{Grows, IsAgreed, IsDecided};
 ghost use Rattle.claim_findings.specs.Findings.{IsFound, is_proved};
@@ -7,7 +7,7 @@ use crate::ends::End;
 use crate::findings::Finding;
 use crate::fronts::front_of;
 use crate::games::Games;
-use crate::proving::seek;
+use crate::proving::{prove_further, seek};
 use crate::searchers::Searchers;
 use crate::subjects::Subject;
 use board_base::{Memory, UnmoveList};
@@ -112,7 +112,35 @@ pub fn counter(
     }
 }
 
-/// What is found of the claim, by searches for a proof and for a game against it.
+/// Whether the claim has neither a proof nor a game against it.
+fn is_unsettled(finding: Finding) -> bool
+    ensures { IsTrue result → (finding ≡ Finding.Open) ⊎ (finding ≡ Finding.Spent) }
+{
+    matches!(finding, Finding::Open | Finding::Spent)
+}
+
+/// What is found of a claim that the searches for a proof and for a game came to this of: if it stays open, by searching further for a proof.
+fn decide_further(
+    searchers: &Searchers,
+    games: &Games,
+    subject: &Subject,
+    claim: &Claim,
+    decided: Decided,
+) -> Result<Decided, AllocError>
+    requires decided { IsDecided subject.now.query claim.now subject.now.limits.depth subject.now.limits.nodes games.now.found.items decided }
+    ensures { IfOk result
+        (IsDecided subject.now.query claim.now subject.now.limits.depth subject.now.limits.nodes games.now.found.items) }
+{
+    if !is_unsettled(decided.finding) {
+        return Ok(decided);
+    }
+    match prove_further(searchers, subject, claim)? {
+        Some(depth) => Ok(plainly(Finding::Proved(depth))),
+        None => Ok(decided),
+    }
+}
+
+/// What is found of the claim, by searches for a proof and for a game against it; if these leave it open, by searching further for a proof.
 pub fn decide(
     searchers: &mut Searchers,
     games: &mut Games,
@@ -125,10 +153,10 @@ pub fn decide(
 {
     let sought = seek(searchers, subject, claim)?;
     if sought.is_proved() {
-        Ok(plainly(sought))
-    } else {
-        counter(searchers, games, subject, claim, sought)
+        return Ok(plainly(sought));
     }
+    let decided = counter(searchers, games, subject, claim, sought)?;
+    decide_further(searchers, games, subject, claim, decided)
 }
 
 /// What is found of the claim by these games too: it is countered where one of them contradicts it.

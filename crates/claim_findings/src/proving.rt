@@ -1,6 +1,6 @@
 //! What is found of a claim by searches for a proof.
 
-ghost use Rattle.std.specs.Prelude.{◌≢◌, IfOk};
+ghost use Rattle.std.specs.Prelude.{◌≢◌, IfOk, IfSome};
 ghost use Rattle.line_claims.specs.Listing.{HasParts};
 ghost use Rattle.claim_findings.specs.Findings.{IsFound, IsOutcome, IsProof, IsProvedAt};
 ghost use Rattle.claim_findings.specs.Joined.{IsLineFound};
@@ -78,6 +78,22 @@ pub fn seek(
         }
         Outcome::Open => Ok(Finding::Open),
         Outcome::Spent => Ok(Finding::Spent),
+    }
+}
+
+/// How many moves a proof takes back that is found by searching further for sketches, if one is.
+pub(crate) fn prove_further(
+    searchers: &Searchers,
+    subject: &Subject,
+    claim: &Claim,
+) -> Result<Option<u8>, AllocError>
+    ensures { IfOk result
+        (λ depth. IfSome depth (IsProvedAt subject.now.query claim.now subject.now.limits.depth)) }
+{
+    match searchers.refute_further(&target(&subject.query, claim), subject.limits) {
+        Ok(Outcome::Refuted { height }) => Ok(Some(height)),
+        Ok(Outcome::Open | Outcome::Spent) => Ok(None),
+        Err(_) => Err(AllocError),
     }
 }
 

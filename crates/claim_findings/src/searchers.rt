@@ -12,8 +12,9 @@ ghost use Rattle.claim_findings.specs.Findings.{is_refuted};
 use crate::ends::End;
 use crate::subjects::Subject;
 use board_base::Memory;
+use game_search::FEW_QUERIES;
 use query_base::{Claim, Query};
-use retro_search::{Found, LARGE, Limits, Outcome, QUICK, Reasons, Searcher, SketchLimits};
+use retro_search::{Found, LARGE, Limits, Outcome, QUICK, Reasons, SMALL, Searcher, SketchLimits};
 use std::alloc::Global;
 
 /// Of so many nodes one is visited where the balance of captures is looked for.
@@ -43,6 +44,18 @@ const LARGE_HERE: SketchLimits = SketchLimits {
     thrifty: true,
     ..LARGE
 };
+
+/// How many queries a search visits at most that goes further for a claim which stays open.
+const FURTHER_NODES: u32 = 2_000;
+
+/// How many small searches for a sketch may find nothing in it, if there are nodes for them.
+const SMALL_FAILURES: u32 = 100;
+
+/// How many nodes each of these is worth.
+const NODES_A_FAILURE: u32 = 100;
+
+/// How many large ones may.
+const FURTHER_FAILURES: u32 = 10;
 
 /// The two searches of a study. What one question makes them keep serves the others.
 #[derive(Drop)]
@@ -172,6 +185,23 @@ impl Searchers {
         Ok(outcome)
     }
 
+    /// Searches for a refutation of the query as far as if its claim stood alone, by searches that have kept nothing: with small searches for
+    /// sketches at what stays open, and with large ones if there are more nodes than a first search for a game has.
+    pub(crate) fn refute_further(&self, query: &Query, limits: Limits) -> Result<Outcome, Memory>
+        ensures { IfOk result
+            (λ outcome. IfRefuted outcome (λ height. HasProof query.now height limits.depth)) }
+    {
+        let mut searcher = Searcher::new(self.alloc, Reasons::All);
+        let few = with_further_nodes(limits);
+        let failures = small_failures(limits);
+        let by_small = searcher.refute_with_sketches(query, few, SMALL, failures)?;
+        if is_refuted(by_small) || limits.nodes <= FEW_QUERIES {
+            return Ok(by_small);
+        }
+        let by_large = searcher.refute_with_sketches(query, few, LARGE, FURTHER_FAILURES)?;
+        Ok(by_large)
+    }
+
     /// Lets one large search for a sketch be made, at the target of a claim.
     pub(crate) fn allow_large(&mut self) {
         self.large_left = self.large_left.max(1);
@@ -229,6 +259,23 @@ fn with_few_nodes(limits: Limits) -> Limits
         depth: limits.depth,
         nodes: limits.nodes.min(QUICK_NODES),
     }
+}
+
+/// The limits of a search that goes further.
+fn with_further_nodes(limits: Limits) -> Limits
+    ensures { result.depth ≡ limits.depth }
+{
+    Limits {
+        depth: limits.depth,
+        nodes: limits.nodes.min(FURTHER_NODES),
+    }
+}
+
+/// How many small searches for a sketch may find nothing within these limits.
+fn small_failures(limits: Limits) -> u32
+    ensures { 1 ≤ result }
+{
+    (limits.nodes / NODES_A_FAILURE + 1).min(SMALL_FAILURES)
 }
 
 /// The query was refuted.
