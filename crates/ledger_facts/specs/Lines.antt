@@ -20,10 +20,11 @@ BeganOn o g s homes = (h : ℕ) → label_at (labels_after o g) s ≡ Some h →
 abbrev pub AreOthersRefuted : Asked → ℕ → List Bool → Type 0
 AreOthersRefuted q s homes = (h : ℕ) → is_in homes h ≡ false → (others : List Bool) × IsTrue (is_in others h) × IsRuledOut (Began s others) q
 
--- whoever stands on s has captured as a pawn, or never has
+-- whoever began as a pawn and stands on s has captured as a pawn
 abbrev pub HasCaptured : List Bool → List Move → ℕ → Type 0
 HasCaptured o g s = (h : ℕ) → label_at (labels_after o g) s ≡ Some h → is_straight h (way_of o g h) ≡ false
 
+-- whoever began as a pawn and stands on s never captured as a pawn
 abbrev pub KeptFile : List Bool → List Move → ℕ → Type 0
 KeptFile o g s = (h : ℕ) → label_at (labels_after o g) s ≡ Some h → is_straight h (way_of o g h) ≡ true
 

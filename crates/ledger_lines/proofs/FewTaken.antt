@@ -1,9 +1,11 @@
 -- A side's pawns took no more men than the other side lacks.
-use Rattle.std.proofs.Common.{◌≡◌, ℕ, ◌≤◌, Bool, true, false, List, [], ◌∷◌, length, refl, ap, sym, ◌∙◌, arith}
+use Rattle.std.proofs.Common.{◌≡◌, ◌==◌, ℕ, ◌≤◌, Bool, true, false, List, [], ◌∷◌, length, refl, ap, sym, ◌∙◌, arith}
+use Rattle.std.specs.List.{filter}
 use Rattle.std.proofs.lemmas.Bool.{both_ways, leb-true}
 use Rattle.std.proofs.lemmas.List.{length-map}
 use Rattle.std.proofs.lemmas.List.Sums.{count_by-le-length, length-filter}
-use Rattle.board_base.specs.Board.{Places, opponent}
+use Rattle.board_base.specs.Board.{Places, array_of, at, is_of, opponent}
+use Rattle.board_base.specs.Game.{IsGame}
 use Rattle.board_base.specs.declared.men.Colour.{Colour}
 use Rattle.board_base.specs.declared.moves.Move.{Move}
 use Rattle.men_account.specs.Account.{is_any}
@@ -12,8 +14,9 @@ use Rattle.men_account.specs.Homes.{men_of}
 use Rattle.men_account.proofs.Missing.{men-missing}
 use Rattle.query_base.specs.Asked.{Asked}
 use Rattle.cage_rules.specs.Reach.{LeadsTo}
-use Rattle.men_fates.specs.Deeds.{Strike, strikes}
-use Rattle.men_fates.proofs.Strikes.{strikes-take}
+use Rattle.men_fates.specs.Deeds.{Strike, strikes, struck_by, way_of}
+use Rattle.men_fates.specs.Ways.{captures_on}
+use Rattle.men_fates.proofs.Strikes.{strikes-take, way-captures}
 use Rattle.capture_prices.specs.Prices.{class_of}
 use Rattle.ledger_facts.specs.Supposed.{captures, has_class}
 use Rattle.ledger_facts.specs.declared.suppositions.Squares.{Squares}
@@ -41,6 +44,13 @@ some-counted squares all = omega (arith, length-filter (λ (x : Strike). has_cla
 -- they made no more on some squares than in all
 pub some-captured : (o : List Bool) (g : List Move) (c : Colour) (squares : Squares) → captures o g c squares ≤ captures o g c All
 some-captured o g c squares = omega (arith, some-counted squares (strikes o g c), all-counted (strikes o g c))
+
+-- one pawn made no more of them than all
+pub one-of-all : (o : List Bool) (g : List Move) (c : Colour) → IsGame o g → (h : ℕ) → is_of c (at (array_of o) h) ≡ true → length (captures_on h (way_of o g h)) ≤ captures o g c All
+one-of-all o g c game h home =
+    let his : Strike → Bool = λ x. x.by == h in
+    let told : length (captures_on h (way_of o g h)) ≡ length (struck_by h (strikes o g c)) = ap (λ (l : List ℕ). length l) (way-captures o g c h game home) in
+    omega (arith, told, length-map (filter his (strikes o g c)) (λ (x : Strike). x.on), length-filter his (strikes o g c), count_by-le-length his (strikes o g c), all-counted (strikes o g c))
 
 pub lacking-most : (q : Asked) (c : Colour) (squares : Squares) (n : ℕ) (g : List Move) → LeadsTo q.odds g q → are_lacking q c n ≡ true → captures q.odds g c squares ≤ n
 lacking-most q c squares n g leads lack =

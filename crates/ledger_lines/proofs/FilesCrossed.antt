@@ -16,7 +16,7 @@ step-near c set s t step =
     let d = and_parts (one_ahead c s t) (nat_lt (files_apart s t) 2) b.0 in
     ltb-true (files_apart s t) 2 d.1
 
-triangle : (a b c : ℕ) → distance a c ≤ distance a b + distance b c
+pub triangle : (a b c : ℕ) → distance a c ≤ distance a b + distance b c
 unfolding distance
 triangle a b c = omega arith
 

@@ -1,6 +1,6 @@
 -- What a ledger knows holds of every game.
 use Rattle.std.proofs.Common.{◌≡◌, ℕ, ◌+◌, ◌<◌, ◌≤◌, inl, inr, Bool, true, false, not, List, [], length, zero, suc, refl, ap, sym, subst, ◌∙◌, ◌⊎◌, append-nil, arith}
-use Rattle.std.specs.Prelude.{◌&&◌, IsTrue, Option, None, Some, is_none, nat_le, nat_lt, slice_index_or}
+use Rattle.std.specs.Prelude.{◌&&◌, ◌||◌, IsTrue, Option, None, Some, is_none, nat_le, nat_lt, slice_index_or}
 use Rattle.std.specs.Bool.{beq}
 use Rattle.std.proofs.lemmas.Bool.{and_from, and_parts, both_ways, cases_Bool, leb-true, ltb-false, ltb-true, or_cases}
 use Rattle.std.proofs.lemmas.List.{get_or-set_same}
@@ -16,7 +16,7 @@ use Rattle.board_base.specs.declared.moves.Move.{Move}
 use Rattle.board_base.specs.Attacks.{files_apart}
 use Rattle.men_account.specs.Labels.{label_at, labels_after}
 use Rattle.men_fates.specs.Deeds.{way_of}
-use Rattle.men_fates.specs.Ways.{captures_on}
+use Rattle.men_fates.specs.Ways.{captures_on, is_way, way_end}
 use Rattle.men_fates.proofs.Goings.{pawn-ends}
 use Rattle.men_fates.proofs.Roads.{way-past}
 use Rattle.men_account.proofs.FilesLeft.{array-inside}
@@ -43,14 +43,16 @@ use Rattle.ledger_search.specs.declared.counts.Range.{Range}
 use Rattle.ledger_search.specs.declared.ledgers.Ledger.{Ledger}
 use Rattle.ledger_search.specs.declared.questions.Question.TheVariants.{Home}
 use Rattle.ledger_lines.specs.Facts.{Says, began_as_pawns}
-use Rattle.ledger_lines.specs.Known.{AreMen, AreRuledOut, IsKnown, IsOnBoard, are_lacking, counts_of, is_class, is_fallen, is_few, is_few_on, is_most, is_piece_home, is_piece_home_of, least_of, most_aside, number_in, piece_homes}
+use Rattle.ledger_lines.specs.Known.{AreMen, AreRuledOut, IsKnown, IsOnBoard, are_lacking, counts_of, has_few, is_class, is_fallen, is_few, is_few_on, is_most, is_piece_home, is_piece_home_of, least_of, most_aside, number_in, piece_homes}
 use Rattle.ledger_lines.specs.Losses.{losses_of}
-use Rattle.ledger_lines.proofs.FewTaken.{lacking-most, some-captured}
+use Rattle.ledger_lines.specs.Slants.{is_slant, slant}
+use Rattle.ledger_lines.proofs.FewTaken.{lacking-most, one-of-all, some-captured}
 use Rattle.ledger_lines.proofs.FilesCrossed.{captured-once, files-crossed}
 use Rattle.ledger_lines.proofs.MostAside.{most-captured}
 use Rattle.ledger_lines.proofs.Promotions.{pawns-among}
+use Rattle.ledger_lines.proofs.Slanting.{slant-captured}
 use Rattle.ledger_lines.specs.declared.facts.Fact.{Fact}
-use Rattle.ledger_lines.specs.declared.facts.Fact.TheVariants.{Began, Original, Promoted, Captured, Took, TookAtMost, Straight, Fell, FellToPawn, EscapedPawns, Became, NeverBecame, AtLeast, AtMost, Lacks, Among}
+use Rattle.ledger_lines.specs.declared.facts.Fact.TheVariants.{Began, Original, Promoted, Captured, Took, TookAtMost, Slanted, Straight, Fell, FellToPawn, EscapedPawns, Became, NeverBecame, AtLeast, AtMost, Lacks, Among}
 
 pawn-man : (place : Option Man) → is_a Pawn place ≡ true → is_man place ≡ true
 pawn-man None h = absurd (both_ways false refl h)
@@ -125,19 +127,32 @@ module _ (q : Asked) (l : Ledger) (set : List Bool) (frozen : IsFrozen q set) (i
       let whole = pawns-among q.odds g men (is_piece_home_of q l men) leads.game (λ s h low there label piece. piece-home men s h low there (all s low there) label piece) (λ s low there. has-label s (all s low there)) in
       omega (arith, few, whole)
 
-  -- the way of the pawn of a square leads to it, over as many files as it lies from his home, and over no more ranks
-  came : (s h : ℕ) → is_a Pawn (at q.board s) ≡ true → label_at (labels_after q.odds g) s ≡ Some h → (files_apart h s ≤ length (captures_on h (way_of q.odds g h))) × (length (captures_on h (way_of q.odds g h)) ≤ most_aside h s)
-  came s h pawn label =
-      let there : is_man (at q.board s) ≡ true = pawn-man (at q.board s) pawn in
-      let m = man-on (at q.board s) there in
+  -- the way of the pawn of a square leads to it
+  arrived : (s h : ℕ) → is_a Pawn (at q.board s) ≡ true → label_at (labels_after q.odds g) s ≡ Some h → (c : Colour) × (is_way c set h (way_of q.odds g h) ≡ true) × (way_end h (way_of q.odds g h) ≡ s)
+  arrived s h pawn label =
+      let m = man-on (at q.board s) (pawn-man (at q.board s) pawn) in
       let on : at (board_after q.odds g) s ≡ Some m.0 = ap (λ (b : Places). at b s) leads.board ∙ m.1 in
       let home = labels-colours q.odds g leads.game s h m.0 label on in
-      let caged : Caged q.odds g q set = record { leads = leads; frozen = frozen } in
-      let way = way-past q.odds g g [] set m.0.colour h (caged-walled q.odds g q set caged) (sym (append-nil g)) home in
-      let ends = pawn-ends q.odds g leads.game s h label (ap (λ (b : Places). is_a Pawn (at b s)) leads.board ∙ pawn) in
-      let far = files-crossed m.0.colour set h (way_of q.odds g h) way in
-      let few = most-captured m.0.colour set h (way_of q.odds g h) way in
-      subst (λ (t : ℕ). (files_apart h t ≤ length (captures_on h (way_of q.odds g h))) × (length (captures_on h (way_of q.odds g h)) ≤ most_aside h t)) ends (far, few)
+      let caged : Caged q.odds g q set = record { leads = leads; frozen = frozen } in (
+        m.0.colour,
+        way-past q.odds g g [] set m.0.colour h (caged-walled q.odds g q set caged) (sym (append-nil g)) home,
+        pawn-ends q.odds g leads.game s h label (ap (λ (b : Places). is_a Pawn (at b s)) leads.board ∙ pawn),
+      )
+
+  -- over as many files as it lies from his home, and over no more ranks
+  came : (s h : ℕ) → is_a Pawn (at q.board s) ≡ true → label_at (labels_after q.odds g) s ≡ Some h → (files_apart h s ≤ length (captures_on h (way_of q.odds g h))) × (length (captures_on h (way_of q.odds g h)) ≤ most_aside h s)
+  came s h pawn label =
+      let it = arrived s h pawn label in
+      let far = files-crossed it.0 set h (way_of q.odds g h) it.1 in
+      let few = most-captured it.0 set h (way_of q.odds g h) it.1 in
+      subst (λ (t : ℕ). (files_apart h t ≤ length (captures_on h (way_of q.odds g h))) × (length (captures_on h (way_of q.odds g h)) ≤ most_aside h t)) it.2 (far, few)
+
+  -- along a diagonal, if he went to another file with each step
+  slanted : (s h : ℕ) → is_a Pawn (at q.board s) ≡ true → label_at (labels_after q.odds g) s ≡ Some h → is_slant h s ≡ true → captures_on h (way_of q.odds g h) ≡ slant h s
+  slanted s h pawn label slants =
+      let it = arrived s h pawn label in
+      let along = slant-captured it.0 set h (way_of q.odds g h) it.1 in
+      subst (λ (t : ℕ). is_slant h t ≡ true → captures_on h (way_of q.odds g h) ≡ slant h t) it.2 along slants
 
   took-holds : (s n : ℕ) → s < 64 → IsTrue (is_a Pawn (at q.board s)) → (AreRuledOut q l s (λ h. nat_lt (files_apart h s) n) ⊎ (IsTrue (nat_le n 1) × IsTrue (is_in l.captured s))) → (h : ℕ) → label_at (labels_after q.odds g) s ≡ Some h → n ≤ length (captures_on h (way_of q.odds g h))
   took-holds s n low pawn (inl far) h label =
@@ -187,6 +202,25 @@ module _ (q : Asked) (l : Ledger) (set : List Bool) (frozen : IsFrozen q set) (i
     | inr all ↦ all-few c squares n all
   ]
 
+  side-few : (c : Colour) (squares : Squares) (n : ℕ) → (is_most (counts_of l c) squares n || are_lacking q c n) ≡ true → captures q.odds g c squares ≤ n
+  side-few c squares n known = elim (or_cases (is_most (counts_of l c) squares n) (are_lacking q c n) known) [
+    | inl most ↦ most-known c squares n most
+    | inr lack ↦ lacking-most q c squares n g leads lack
+  ]
+
+  -- a pawn made no more captures than his side's pawns
+  his-few : (m : Man) (h n : ℕ) → is_of m.colour (at (array_of q.odds) h) ≡ true → has_few q l (Some m) n ≡ true → length (captures_on h (way_of q.odds g h)) ≤ n
+  his-few m h n home few = omega (arith, one-of-all q.odds g m.colour leads.game h home, side-few m.colour All n few)
+
+  few-taken : (s n : ℕ) → s < 64 → is_a Pawn (at q.board s) ≡ true → (AreRuledOut q l s (λ h. nat_lt n (most_aside h s)) ⊎ IsTrue (has_few q l (at q.board s) n)) → (h : ℕ) → label_at (labels_after q.odds g) s ≡ Some h → length (captures_on h (way_of q.odds g h)) ≤ n
+  few-taken s n low pawn (inl near) h label =
+      let it = not-ruled-out s h (λ k. nat_lt n (most_aside k s)) low near label in
+      omega (arith, ltb-false n (most_aside h s) it, (came s h pawn label).1)
+  few-taken s n low pawn (inr few) h label =
+      let m = man-on (at q.board s) (pawn-man (at q.board s) pawn) in
+      let on : at (board_after q.odds g) s ≡ Some m.0 = ap (λ (b : Places). at b s) leads.board ∙ m.1 in
+      his-few m.0 h n (labels-colours q.odds g leads.game s h m.0 label on) (ap (λ (p : Option Man). has_few q l p n) (sym m.1) ∙ few)
+
   module _ (h : ℕ) (inside : h < 64) where
     up : is_in l.fates.stands_promoted h ≡ true → IsRuledOut (Stands h true) q
     up it = out (Stands h true) ((is.fates.stands_promoted h inside).0 it).1
@@ -216,9 +250,8 @@ module _ (q : Asked) (l : Ledger) (set : List Bool) (frozen : IsFrozen q set) (i
   holds (Promoted s) on known = λ h label. not-not true (is_a Pawn (at (array_of q.odds) h)) (not-ruled-out s h (λ k. not (beq true (is_a Pawn (at (array_of q.odds) k)))) on known label)
   holds (Captured s) on known = let it = (is.captured s on).0 known in has-captured q s (out (Went s true) it.1) it.0 g leads
   holds (Took s n) on known = took-holds s n on known.0 known.1
-  holds (TookAtMost s n) on known = λ h label.
-      let near = not-ruled-out s h (λ k. nat_lt n (most_aside k s)) on known.1 label in
-      omega (arith, ltb-false n (most_aside h s) near, (came s h known.0 label).1)
+  holds (TookAtMost s n) on known = few-taken s n on known.0 known.1
+  holds (Slanted s) on known = λ h label. slanted s h known label
   holds (Straight s) on known = let it = (is.straight s on).0 known in kept-file q s (out (Went s false) it.1) it.0 g leads
   holds (Fell h) on known =
       let b = and_parts _ (is_in l.fates.stands_promoted h) known in
@@ -246,10 +279,7 @@ module _ (q : Asked) (l : Ledger) (set : List Bool) (frozen : IsFrozen q set) (i
       let a = and_parts (is_man (at (array_of q.odds) h)) (is_in l.fates.stands_promoted h) b.0 in
       never-promoted q c h home g leads (up h on a.1) (struck-later h on e.1) (taken-later h on b.1)
   holds (AtLeast c squares n) on known = least-holds c squares n (least_of (counts_of l c) squares) (least-known c squares on) (leb-true n _ known)
-  holds (AtMost c squares n) on known = elim (or_cases (is_most (counts_of l c) squares n) (are_lacking q c n) known) [
-    | inl most ↦ most-known c squares n most
-    | inr lack ↦ lacking-most q c squares n g leads lack
-  ]
+  holds (AtMost c squares n) on known = side-few c squares n known
   holds (Among men n) on known = among-holds men n known.0 known.1
   holds (Lacks c losses) on known = known ∙ ap (losses_of c (array_of q.odds)) (sym leads.board)
 

@@ -4,6 +4,7 @@ pub mod FilesCrossed
 pub mod Homes
 pub mod MostAside
 pub mod Promotions
+pub mod Slanting
 pub mod SameLosses
 pub mod Holding
 pub mod LinesHolding

@@ -19,7 +19,7 @@ use Rattle.ledger_search.specs.declared.ledgers.Ledger.{Ledger}
 use Rattle.ledger_lines.specs.Facts.{Says}
 use Rattle.ledger_lines.specs.Known.{IsKnown, is_class}
 use Rattle.ledger_lines.specs.Lines.{IsLineKnown, IsLineOnBoard, LineSays, OfDark, OfManner, OfRange, OfTaker}
-use Rattle.ledger_lines.specs.declared.facts.Fact.TheVariants.{Began, Original as BeganOriginal, Promoted as BeganPawn, Took, TookAtMost, Straight, Fell as Taken, FellToPawn, EscapedPawns, Became as WasPromoted, NeverBecame, AtLeast, AtMost, Lacks as LacksMen, Among as PawnsAmong}
+use Rattle.ledger_lines.specs.declared.facts.Fact.TheVariants.{Began, Original as BeganOriginal, Promoted as BeganPawn, Took, TookAtMost, Slanted, Straight, Fell as Taken, FellToPawn, EscapedPawns, Became as WasPromoted, NeverBecame, AtLeast, AtMost, Lacks as LacksMen, Among as PawnsAmong}
 use Rattle.ledger_lines.specs.declared.lines.Line.{Line}
 use Rattle.ledger_lines.specs.declared.lines.Line.TheVariants.{Unmoved, Lacks, Captures, Pawn, Man, Ahead, Original, Promoted, Among, Fell, Became}
 use Rattle.ledger_lines.specs.declared.lines.Taker.{Taker}
@@ -50,7 +50,7 @@ module _ (q : Asked) (l : Ledger) (is : IsLedgerOf q l) (g : List Move) (leads :
   line-holds (Unmoved set) on known = let caged : Caged q.odds g q set = record { leads = leads; frozen = known } in (caged-walled q.odds g q set caged).labels
   line-holds (Lacks side losses) on known = known-holds (LacksMen side losses) q l tt is known g leads
   line-holds (Captures side x) on known = (of-range side All x.all refl known.0, of-dark side x.dark known.1, λ k low. known-holds (AtLeast side (Class k) (slice_index x.least_on k)) q l (lt-ltb k 16 low) is (known.2 k low) g leads)
-  line-holds (Pawn s homes n exact) on known = (known-holds (Began s homes) q l on is known.0 g leads, known-holds (Took s n) q l on is known.1 g leads, λ told. known-holds (TookAtMost s n) q l on is (known.2 told) g leads)
+  line-holds (Pawn s homes n exact) on known = (known-holds (Began s homes) q l on is known.0 g leads, known-holds (Took s n) q l on is known.1 g leads, λ told. known-holds (TookAtMost s n) q l on is (known.2 told) g leads, known-holds (Slanted s) q l on is known.3 g leads)
   line-holds (Man s h) on known = known-holds (Began s (only h)) q l on is known g leads
   line-holds (Ahead set) on known = λ s low there. known-holds (Straight s) q l low is (known s low there) g leads
   line-holds (Original set) on known = λ s low there. known-holds (BeganOriginal s) q l low is (known s low there) g leads

@@ -10,7 +10,7 @@ use Rattle.men_fates.specs.Ways.{captures_on, is_pawn_step, is_way, way_end}
 use Rattle.ledger_lines.specs.Known.{most_aside}
 
 -- n ranks lie between the squares, as a pawn of this side goes
-abbrev Ahead : Colour → ℕ → ℕ → ℕ → Type 0
+abbrev pub Ahead : Colour → ℕ → ℕ → ℕ → Type 0
 Ahead White s t n = rank t ≡ rank s + n
 Ahead Black s t n = rank s ≡ rank t + n
 
@@ -26,17 +26,17 @@ ahead-more : (c : Colour) (s t e n : ℕ) → Ahead c s t 1 → Ahead c t e n �
 ahead-more White s t e n one more = omega (arith, one, more)
 ahead-more Black s t e n one more = omega (arith, one, more)
 
-ahead-ranks : (c : Colour) (s e n : ℕ) → Ahead c s e n → ranks_apart s e ≡ n
+pub ahead-ranks : (c : Colour) (s e n : ℕ) → Ahead c s e n → ranks_apart s e ≡ n
 unfolding distance
 ahead-ranks White s e n gone = omega (arith, gone)
 ahead-ranks Black s e n gone = omega (arith, gone)
 
 -- what a step is
-record Step (c : Colour) (s t : ℕ) : Type 0 where
-  ahead : Ahead c s t 1
-  near : distance (file s) (file t) < 2
+pub record Step (c : Colour) (s t : ℕ) : Type 0 where
+  pub ahead : Ahead c s t 1
+  pub near : distance (file s) (file t) < 2
 
-a-step : (c : Colour) (set : List Bool) (s t : ℕ) → is_pawn_step c set s t ≡ true → Step c s t
+pub a-step : (c : Colour) (set : List Bool) (s t : ℕ) → is_pawn_step c set s t ≡ true → Step c s t
 a-step c set s t step =
     let a = and_parts (one_ahead c s t && nat_lt (files_apart s t) 2 && nat_lt t 64) _ step in
     let b = and_parts (one_ahead c s t && nat_lt (files_apart s t) 2) (nat_lt t 64) a.0 in
@@ -44,14 +44,14 @@ a-step c set s t step =
     record { ahead = ahead-one c s t d.0; near = ltb-true (files_apart s t) 2 d.1 }
 
 -- a way has as many squares as it goes ranks
-gone-ahead : (c : Colour) (set : List Bool) (s : ℕ) (way : List ℕ) → is_way c set s way ≡ true → Ahead c s (way_end s way) (length way)
+pub gone-ahead : (c : Colour) (set : List Bool) (s : ℕ) (way : List ℕ) → is_way c set s way ≡ true → Ahead c s (way_end s way) (length way)
 gone-ahead c set s [] is = ahead-none c s
 gone-ahead c set s (t ∷ way) is =
     let parts = and_parts (is_pawn_step c set s t) (is_way c set t way) is in
     ahead-more c s t (way_end t way) (length way) (a-step c set s t parts.0).ahead (gone-ahead c set t way parts.1)
 
 -- how many captures there are with one step more, and whether it goes to another file
-captures-more : (s t : ℕ) (way : List ℕ) → ((file s ≡ file t) × (captures_on s (t ∷ way) ≡ captures_on t way)) ⊎ ((file s ≡ file t → ⊥) × (captures_on s (t ∷ way) ≡ t ∷ captures_on t way))
+pub captures-more : (s t : ℕ) (way : List ℕ) → ((file s ≡ file t) × (captures_on s (t ∷ way) ≡ captures_on t way)) ⊎ ((file s ≡ file t → ⊥) × (captures_on s (t ∷ way) ≡ t ∷ captures_on t way))
 captures-more s t way = elim (cases_Bool (file s == file t)) [
   | inl same ↦ inl (eqb-true (file s) (file t) same, cond-true (file s == file t) (captures_on t way) (t ∷ captures_on t way) same)
   | inr other ↦ inr (eqb-false (file s) (file t) other, cond-false (file s == file t) (captures_on t way) (t ∷ captures_on t way) other)

@@ -13,8 +13,9 @@ use Rattle.men_fates.specs.Ways.{captures_on}
 use Rattle.ledger_facts.specs.Lines.{BeganOn, FellToPawn, HasCaptured, KeptFile}
 use Rattle.ledger_facts.specs.Supposed.{captures, is_last}
 use Rattle.ledger_lines.specs.Losses.{losses_of}
+use Rattle.ledger_lines.specs.Slants.{is_slant, slant}
 use Rattle.ledger_lines.specs.declared.facts.Fact.{Fact}
-use Rattle.ledger_lines.specs.declared.facts.Fact.TheVariants.{Began, Original, Promoted, Captured, Took, TookAtMost, Straight, Fell, FellToPawn as ToPawn, EscapedPawns, Became, NeverBecame, AtLeast, AtMost, Lacks, Among}
+use Rattle.ledger_lines.specs.declared.facts.Fact.TheVariants.{Began, Original, Promoted, Captured, Took, TookAtMost, Slanted, Straight, Fell, FellToPawn as ToPawn, EscapedPawns, Became, NeverBecame, AtLeast, AtMost, Lacks, Among}
 
 -- whoever stands on s began as a pawn, or as none
 abbrev pub BeganAs : List Bool → List Move → ℕ → Bool → Type 0
@@ -41,6 +42,7 @@ Says (Promoted s) o g = BeganAs o g s true
 Says (Captured s) o g = HasCaptured o g s
 Says (Took s n) o g = (h : ℕ) → label_at (labels_after o g) s ≡ Some h → n ≤ length (captures_on h (way_of o g h))
 Says (TookAtMost s n) o g = (h : ℕ) → label_at (labels_after o g) s ≡ Some h → length (captures_on h (way_of o g h)) ≤ n
+Says (Slanted s) o g = (h : ℕ) → label_at (labels_after o g) s ≡ Some h → IsTrue (is_slant h s) → captures_on h (way_of o g h) ≡ slant h s
 Says (Straight s) o g = KeptFile o g s
 Says (Fell h) o g = IsGone o g h
 Says (ToPawn h) o g = (c : Colour) → IsTrue (is_of c (at (array_of o) h)) → FellToPawn o g c h

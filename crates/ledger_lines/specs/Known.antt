@@ -1,5 +1,5 @@
 -- Which facts a ledger knows.
-use Rattle.std.specs.Prelude.{ℕ, ◌≡◌, ◌+◌, ◌-◌, ◌%◌, ◌<◌, ◌≤◌, ◌&&◌, ◌||◌, ◌⊎◌, Bool, true, false, not, IsTrue, List, [], nat_le, nat_lt, slice_index, slice_index_or}
+use Rattle.std.specs.Prelude.{ℕ, ◌≡◌, ◌+◌, ◌-◌, ◌%◌, ◌<◌, ◌≤◌, ◌&&◌, ◌||◌, ◌⊎◌, Bool, true, false, not, IsTrue, List, [], nat_le, nat_lt, Option, Some, None, slice_index, slice_index_or}
 use Rattle.std.specs.Bool.{beq}
 use Rattle.std.specs.List.{count_by, list_any, range_with_len}
 use Rattle.board_base.specs.Board.{Places, array_of, at, is_a, is_in, opponent}
@@ -7,6 +7,7 @@ use Rattle.board_base.specs.Attacks.{files_apart, ranks_apart}
 use Rattle.board_base.specs.declared.men.Colour.{Colour}
 use Rattle.board_base.specs.declared.men.Colour.TheVariants.{White, Black}
 use Rattle.board_base.specs.declared.men.Kind.TheVariants.{Pawn}
+use Rattle.board_base.specs.declared.men.Man.{Man}
 use Rattle.men_account.specs.Account.{is_any}
 use Rattle.men_account.specs.Homes.{men_of}
 use Rattle.query_base.specs.Asked.{Asked}
@@ -20,7 +21,7 @@ use Rattle.ledger_search.specs.declared.ledgers.Ledger.{Ledger}
 use Rattle.ledger_search.specs.declared.questions.Question.TheVariants.{Home}
 use Rattle.ledger_lines.specs.Losses.{losses_of}
 use Rattle.ledger_lines.specs.declared.facts.Fact.{Fact}
-use Rattle.ledger_lines.specs.declared.facts.Fact.TheVariants.{Began, Original, Promoted, Captured, Took, TookAtMost, Straight, Fell, FellToPawn, EscapedPawns, Became, NeverBecame, AtLeast, AtMost, Lacks, Among}
+use Rattle.ledger_lines.specs.declared.facts.Fact.TheVariants.{Began, Original, Promoted, Captured, Took, TookAtMost, Slanted, Straight, Fell, FellToPawn, EscapedPawns, Became, NeverBecame, AtLeast, AtMost, Lacks, Among}
 
 -- a man stands on s, and each home of his side that passes the test is ruled out for him
 abbrev pub AreRuledOut : Asked → Ledger → ℕ → (ℕ → Bool) → Type 0
@@ -85,6 +86,11 @@ lacking q c = men_of c is_any (array_of q.odds) - men_of c is_any q.board
 abbrev pub are_lacking : Asked → Colour → ℕ → Bool
 are_lacking q c n = nat_le (lacking q (opponent c)) n
 
+-- the pawns of the man's side made at most so many captures
+abbrev pub has_few : Asked → Ledger → Option Man → ℕ → Bool
+has_few q l None n = false
+has_few q l (Some m) n = is_most (counts_of l m.colour) All n || are_lacking q m.colour n
+
 -- how many squares are in the set
 unfoldable pub number_in : List Bool → ℕ
 number_in set = count_by (is_in set) (range_with_len 0 64)
@@ -112,7 +118,8 @@ IsKnown (Original s) q l = AreRuledOut q l s (λ h. not (beq false (is_a Pawn (a
 IsKnown (Promoted s) q l = AreRuledOut q l s (λ h. not (beq true (is_a Pawn (at (array_of q.odds) h))))
 IsKnown (Captured s) q l = IsTrue (is_in l.captured s)
 IsKnown (Took s n) q l = IsTrue (is_a Pawn (at q.board s)) × (AreRuledOut q l s (λ h. nat_lt (files_apart h s) n) ⊎ (IsTrue (nat_le n 1) × IsTrue (is_in l.captured s)))
-IsKnown (TookAtMost s n) q l = IsTrue (is_a Pawn (at q.board s)) × AreRuledOut q l s (λ h. nat_lt n (most_aside h s))
+IsKnown (TookAtMost s n) q l = IsTrue (is_a Pawn (at q.board s)) × (AreRuledOut q l s (λ h. nat_lt n (most_aside h s)) ⊎ IsTrue (has_few q l (at q.board s) n))
+IsKnown (Slanted s) q l = IsTrue (is_a Pawn (at q.board s))
 IsKnown (Straight s) q l = IsTrue (is_in l.straight s)
 IsKnown (Fell h) q l = IsTrue (is_fallen (array_of q.odds) l.fates h)
 IsKnown (FellToPawn h) q l = IsTrue (is_struck (array_of q.odds) l.fates h)
@@ -138,6 +145,7 @@ IsOnBoard (Promoted s) = s < 64
 IsOnBoard (Captured s) = s < 64
 IsOnBoard (Took s n) = s < 64
 IsOnBoard (TookAtMost s n) = s < 64
+IsOnBoard (Slanted s) = s < 64
 IsOnBoard (Straight s) = s < 64
 IsOnBoard (Fell h) = h < 64
 IsOnBoard (FellToPawn h) = h < 64

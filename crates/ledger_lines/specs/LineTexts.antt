@@ -8,6 +8,7 @@ use Rattle.board_base.specs.declared.men.Colour.{Colour}
 use Rattle.board_base.specs.declared.men.Colour.TheVariants.{White, Black}
 use Rattle.prose_words.specs.Words.{squares_words}
 use Rattle.ledger_search.specs.declared.counts.Range.{Range}
+use Rattle.ledger_lines.specs.Slants.{tells_way, way_words}
 use Rattle.ledger_lines.specs.declared.lines.Line.{Line}
 use Rattle.ledger_lines.specs.declared.lines.Line.TheVariants.{Unmoved, Lacks, Captures, Pawn, Man, Ahead, Original, Promoted, Among, Fell, Became}
 use Rattle.ledger_lines.specs.declared.losses.Losses.{Losses}
@@ -89,12 +90,16 @@ abbrev pub more_word : Bool → List ℕ
 more_word true = []
 more_word false = codes "+"
 
--- squares stand in ascending order
+-- on which squares the pawn of s captured, if it is told, or how often
+abbrev pub made_words : ℕ → List Bool → ℕ → Bool → List ℕ
+made_words s homes n exact = cond (tells_way homes s) (way_words (codes " ") homes s) (spaced_number n ++ more_word exact)
+
+-- squares stand in ascending order, but those of a way in its order
 abbrev pub line_text : Line → List ℕ
 line_text (Unmoved set) = codes "unmoved" ++ squares_words (is_in set)
 line_text (Lacks side losses) = codes "lacks " ++ side_letter side ++ losses_words losses
 line_text (Captures side x) = codes "captures " ++ side_letter side ++ takings_words x
-line_text (Pawn s homes n exact) = codes "pawn" ++ spaced_square s ++ homes_words homes ++ spaced_number n ++ more_word exact
+line_text (Pawn s homes n exact) = codes "pawn" ++ spaced_square s ++ homes_words homes ++ made_words s homes n exact
 line_text (Man s h) = codes "man" ++ spaced_square s ++ spaced_square h
 line_text (Ahead set) = codes "ahead" ++ squares_words (is_in set)
 line_text (Original set) = codes "original" ++ squares_words (is_in set)

@@ -14,7 +14,7 @@ use Rattle.ledger_search.specs.declared.ledgers.Ledger.{Ledger}
 use Rattle.ledger_lines.specs.Facts.{Says}
 use Rattle.ledger_lines.specs.Known.{IsKnown}
 use Rattle.ledger_lines.specs.declared.facts.Fact.{Fact}
-use Rattle.ledger_lines.specs.declared.facts.Fact.TheVariants.{Began, Original as BeganOriginal, Promoted as BeganPawn, Took, TookAtMost, Straight, Fell as Taken, FellToPawn, EscapedPawns, Became as WasPromoted, NeverBecame, AtLeast, AtMost, Lacks as LacksMen, Among as PawnsAmong}
+use Rattle.ledger_lines.specs.declared.facts.Fact.TheVariants.{Began, Original as BeganOriginal, Promoted as BeganPawn, Took, TookAtMost, Slanted, Straight, Fell as Taken, FellToPawn, EscapedPawns, Became as WasPromoted, NeverBecame, AtLeast, AtMost, Lacks as LacksMen, Among as PawnsAmong}
 use Rattle.ledger_lines.specs.declared.lines.Line.{Line}
 use Rattle.ledger_lines.specs.declared.lines.Line.TheVariants.{Unmoved, Lacks, Captures, Pawn, Man, Ahead, Original, Promoted, Among, Fell, Became}
 use Rattle.ledger_lines.specs.declared.lines.Taker.{Taker}
@@ -29,6 +29,7 @@ OfTaker P h Anyone = Unit {0}
 OfTaker P h ByPawn = P (FellToPawn h)
 OfTaker P h Officer = P (EscapedPawns h)
 
+-- P is so of the fact that says as what the man of h was taken, if that is known
 abbrev pub OfManner : (Fact → Type 0) → ℕ → Manner → Type 0
 OfManner P h Anyhow = Unit {0}
 OfManner P h AsPawn = P (NeverBecame h)
@@ -52,7 +53,7 @@ abbrev pub OfEach : (Fact → Type 0) → (List Bool → Type 0) → Line → Ty
 OfEach P F (Unmoved set) = F set
 OfEach P F (Lacks side losses) = P (LacksMen side losses)
 OfEach P F (Captures side x) = OfTakings P side x
-OfEach P F (Pawn s homes n exact) = P (Began s homes) × P (Took s n) × (IsTrue exact → P (TookAtMost s n))
+OfEach P F (Pawn s homes n exact) = P (Began s homes) × P (Took s n) × (IsTrue exact → P (TookAtMost s n)) × P (Slanted s)
 OfEach P F (Man s h) = P (Began s (only h))
 OfEach P F (Ahead set) = (s : ℕ) → s < 64 → IsTrue (is_in set s) → P (Straight s)
 OfEach P F (Original set) = (s : ℕ) → s < 64 → IsTrue (is_in set s) → P (BeganOriginal s)

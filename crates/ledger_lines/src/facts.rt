@@ -17,6 +17,8 @@ pub enum Fact {
     Took(Square, u8),
     /// He made at most so many.
     TookAtMost(Square, u8),
+    /// If the pawn on this square began as many files away as ranks, he captured on each square of the diagonal between, and on no other.
+    Slanted(Square),
     /// The pawn on this square has never left his file.
     Straight(Square),
     /// The man who began on this square was taken.

@@ -1,4 +1,4 @@
-ghost use Rattle.std.specs.Prelude.{◌≡◌, ◌<◌, ◌≤◌, ◌↔◌, ℕ, IsTrue, cond, nat_lt, not, slice_set, true};
+ghost use Rattle.std.specs.Prelude.{◌≡◌, ◌||◌, ◌<◌, ◌≤◌, ◌↔◌, ℕ, IsTrue, cond, nat_lt, not, slice_set, true};
 ghost use Rattle.std.specs.Bool.{beq};
 ghost use Rattle.board_base.specs.Attacks.{files_apart};
 ghost use Rattle.board_base.specs.Board.{array_of, at, is_a, is_in};
@@ -6,7 +6,7 @@ ghost use Rattle.board_base.specs.declared.men.Kind.TheVariants.{Pawn};
 ghost use Rattle.ledger_search.specs.Questions.{is_asked, is_man};
 ghost use Rattle.ledger_search.specs.declared.questions.Question.TheVariants.{Home};
 ghost use Rattle.ledger_lines.specs.declared.facts.Fact.TheVariants.{Took, TookAtMost};
-ghost use Rattle.ledger_lines.specs.Known.{AreRuledOut, IsKnown, IsOnBoard, are_lacking, counts_of, is_class, is_fallen, is_few, is_few_on, is_most, is_promoted, is_struck, is_unpromoted, is_unstruck, lacking, least_of, most_aside};
+ghost use Rattle.ledger_lines.specs.Known.{AreRuledOut, IsKnown, IsOnBoard, are_lacking, counts_of, has_few, is_class, is_fallen, is_few, is_few_on, is_most, is_promoted, is_struck, is_unpromoted, is_unstruck, lacking, least_of, most_aside};
 
 use crate::among::is_among;
 use crate::facts::Fact;
@@ -133,13 +133,6 @@ fn has_come_near(query: &Query, ledger: &Ledger, s: Square, number: u8) -> bool
     is_man(query.board.at(s))
 }
 
-/// Whether it is known of the pawn on a square that he made at most so many captures.
-fn has_taken_few(query: &Query, ledger: &Ledger, s: Square, number: u8) -> bool
-    ensures { IsTrue result ↔ IsKnown (TookAtMost s number) query.now ledger.now }
-{
-    is_a(Kind::Pawn, query.board.at(s)) && has_come_near(query, ledger, s, number)
-}
-
 /// Whether the man who began on the square doesn't stand.
 pub fn is_fallen(first: &Board, fates: &Fates, h: Square) -> bool
     ensures { result ≡ is_fallen first.now fates.now h }
@@ -247,6 +240,38 @@ fn are_lacking(query: &Query, side: Colour, number: u8) -> bool
     lacking(query, side.other()) <= number
 }
 
+/// Whether a side's pawns are known to have made at most so many captures on some squares.
+fn have_taken_few(
+    query: &Query,
+    ledger: &Ledger,
+    side: Colour,
+    squares: Squares,
+    number: u8,
+) -> bool
+    ensures { result ≡ (is_most (counts_of ledger.now side) squares number || are_lacking query.now side number) }
+{
+    is_most(&counts_of(ledger, side), squares, number) || are_lacking(query, side, number)
+}
+
+/// Whether those of a man's side are.
+fn has_few(query: &Query, ledger: &Ledger, place: Option<Man>, number: u8) -> bool
+    ensures { result ≡ has_few query.now ledger.now place number }
+{
+    match place {
+        Some(man) => have_taken_few(query, ledger, man.colour, Squares::All, number),
+        None => false,
+    }
+}
+
+/// Whether it is known of the pawn on a square that he made at most so many captures.
+fn has_taken_few(query: &Query, ledger: &Ledger, s: Square, number: u8) -> bool
+    ensures { IsTrue result ↔ IsKnown (TookAtMost s number) query.now ledger.now }
+{
+    let place = query.board.at(s);
+    is_a(Kind::Pawn, place)
+        && (has_come_near(query, ledger, s, number) || has_few(query, ledger, place, number))
+}
+
 /// Whether the ledger of the query knows the fact.
 pub fn is_known(query: &Query, ledger: &Ledger, fact: &Fact) -> bool
     requires { IsOnBoard fact.now }
@@ -260,6 +285,7 @@ pub fn is_known(query: &Query, ledger: &Ledger, fact: &Fact) -> bool
         Fact::Captured(s) => ledger.captured.has(s),
         Fact::Took(s, number) => has_taken(query, ledger, s, number),
         Fact::TookAtMost(s, number) => has_taken_few(query, ledger, s, number),
+        Fact::Slanted(s) => is_a(Kind::Pawn, query.board.at(s)),
         Fact::Straight(s) => ledger.straight.has(s),
         Fact::Fell(h) => is_fallen(&first, &ledger.fates, h),
         Fact::FellToPawn(h) => is_struck(&first, &ledger.fates, h),
@@ -270,7 +296,7 @@ pub fn is_known(query: &Query, ledger: &Ledger, fact: &Fact) -> bool
             number <= least_of(&counts_of(ledger, side), squares)
         }
         Fact::AtMost(side, squares, number) => {
-            is_most(&counts_of(ledger, side), squares, number) || are_lacking(query, side, number)
+            have_taken_few(query, ledger, side, squares, number)
         }
         Fact::Lacks(side, losses) => are_losses(&first, &query.board, side, &losses),
         Fact::Among(set, number) => is_among(query, ledger, set, number),

@@ -10,6 +10,7 @@ mod knowing;
 mod laws;
 mod lines;
 mod losses;
+mod slants;
 mod writing;
 
 pub use among::{number_in, piece_homes};
@@ -20,4 +21,5 @@ pub use knowing::{
 pub use laws::{known_facts_hold, known_lines_hold};
 pub use lines::{Line, Manner, Taker, Takings};
 pub use losses::{Losses, losses_of};
+pub use slants::{push_way, tells_way};
 pub use writing::write_line;

@@ -40,7 +40,8 @@ pub enum Line {
     Lacks(Colour, Losses),
     /// The side's pawns made so many captures.
     Captures(Colour, Takings),
-    /// The pawn on this square began on one of these, and made at least so many captures, and no more if the last is true.
+    /// The pawn on this square began on one of these, and made at least so many captures, and no more if the last is true. If he went to
+    /// another file with each step, he captured on each square of the way.
     Pawn(Square, SquareSet, u8, bool),
     /// The man on the first square began on the second.
     Man(Square, Square),

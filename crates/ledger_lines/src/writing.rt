@@ -2,10 +2,11 @@ ghost use Rattle.std.specs.Prelude.{◌≡◌, ◌||◌, ◌++◌, ◌<◌, IfOk
 ghost use Rattle.board_base.specs.Board.{is_in};
 ghost use Rattle.prose_words.specs.Words.{squares_words};
 ghost use Rattle.ledger_lines.specs.declared.lines.Line.TheVariants.{Among, Became, Captures, Fell, Lacks, Man, Pawn, Promoted};
-ghost use Rattle.ledger_lines.specs.LineTexts.{class_words, classes_words, dark_words, home_word, homes_words, line_text, losses_words, manner_word, more_word, range_words, repeated, shade_word, side_letter, spaced_number, spaced_square, taker_word, takings_words};
+ghost use Rattle.ledger_lines.specs.LineTexts.{class_words, classes_words, dark_words, home_word, homes_words, line_text, losses_words, made_words, manner_word, more_word, range_words, repeated, shade_word, side_letter, spaced_number, spaced_square, taker_word, takings_words};
 
 use crate::lines::{Line, Manner, Taker, Takings};
 use crate::losses::Losses;
+use crate::slants::{push_way, tells_way};
 use board_base::{Colour, Square, SquareSet};
 use ledger_search::Range;
 use prose_words::{push_number, push_square, push_squares, say};
@@ -192,7 +193,24 @@ fn more_word(exact: bool) -> &'static [u8]
     if exact { b"" } else { b"+" }
 }
 
-/// Adds where a pawn began, and how often he captured.
+/// Adds the squares on which a pawn captured, if he went to another file with each step, and otherwise how often he did.
+fn push_made(
+    s: Square,
+    homes: SquareSet,
+    number: u8,
+    exact: bool,
+    out: &mut Vec<u8>,
+) -> Result<(), AllocError>
+    ensures { IfOk result (λ _. out.new.items ≡ out.old.items ++ made_words s homes number exact) }
+{
+    if tells_way(homes, s) {
+        return push_way(b" ", homes, s, out);
+    }
+    push_spaced_number(number, out)?;
+    say(more_word(exact), out)
+}
+
+/// Adds where a pawn began, and how often he captured, or where.
 fn push_pawn(
     s: Square,
     homes: SquareSet,
@@ -205,8 +223,7 @@ fn push_pawn(
     say(b"pawn", out)?;
     push_spaced_square(s, out)?;
     push_homes(homes, out)?;
-    push_spaced_number(number, out)?;
-    say(more_word(exact), out)
+    push_made(s, homes, number, exact, out)
 }
 
 /// Adds where a man began.

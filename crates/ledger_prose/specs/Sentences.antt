@@ -107,6 +107,7 @@ same_taker ByPawn ByPawn = true
 same_taker Officer Officer = true
 same_taker _ _ = false
 
+-- the manners are equal
 abbrev pub same_manner : Manner → Manner → Bool
 same_manner Anyhow Anyhow = true
 same_manner AsPawn AsPawn = true
@@ -133,6 +134,7 @@ abbrev pub is_pawn_fall : Colour → Taker → Manner → Asked → List Line �
 is_pawn_fall c told manner q lines (line.Fell h taker how) = is_the c APawn (at (array_of q.odds) h) && same_manner manner how && fell_to c told lines taker
 is_pawn_fall c told manner q lines _ = false
 
+-- the line says of a man of c who began as no pawn that he was taken, by this taker as far as it is told
 abbrev pub is_officer_fall : Colour → Taker → Asked → List Line → Line → Bool
 is_officer_fall c told q lines (line.Fell h taker how) = is_of c (at (array_of q.odds) h) && not (is_a APawn (at (array_of q.odds) h)) && fell_to c told lines taker
 is_officer_fall c told q lines _ = false
@@ -147,6 +149,7 @@ abbrev pub is_original : Line → Bool
 is_original (line.Original set) = true
 is_original _ = false
 
+-- the line is that of men who never moved
 abbrev pub is_unmoved : Line → Bool
 is_unmoved (line.Unmoved set) = true
 is_unmoved _ = false
@@ -172,6 +175,7 @@ one_if due sentence = cond due (sentence ∷ []) []
 abbrev pub named_sentences : Group → Asked → List Line → List Sentence
 named_sentences group q xs = one_if (nat_lt 0 (number_named q xs)) (together group xs)
 
+-- the sentence of the lines of a group, if they name anybody
 abbrev pub group_sentences : Group → Asked → List Line → List Sentence
 group_sentences group q lines = named_sentences group q (group_lines group q lines)
 
@@ -213,6 +217,7 @@ falls c =
 abbrev pub opening : List Part
 opening = Each (Lacking White) ∷ Each (Taken Black) ∷ Each (Lacking Black) ∷ Each (Taken White) ∷ Each Spare ∷ []
 
+-- the parts after those who fell: promoted pawns, promoted men, men who weren't promoted, where men began, men who never moved
 abbrev pub closing : List Part
 closing = Together (Promoted White) ∷ Together (Promoted Black) ∷ Each Changed ∷ Together Original ∷ Each Origins ∷ Together Unmoved ∷ []
 

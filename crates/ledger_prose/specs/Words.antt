@@ -10,6 +10,7 @@ use Rattle.prose_words.specs.Words.{colour_word, kind_word, side_word}
 use Rattle.proof_story.specs.Rendering.{parted}
 use Rattle.proof_story.specs.Rows.{rows_of}
 use Rattle.ledger_lines.specs.Known.{lacking}
+use Rattle.ledger_lines.specs.Slants.{tells_way, way_words as slants_words}
 use Rattle.ledger_lines.specs.declared.lines.Line.{Line}
 use Rattle.ledger_lines.specs.declared.lines.Line.TheVariants as line
 use Rattle.ledger_lines.specs.declared.lines.Taker.{Taker}
@@ -94,6 +95,7 @@ lacks_bishops x = nat_lt 0 x.dark_bishops || nat_lt 0 x.light_bishops
 abbrev pub lacks_minors : Losses → Bool
 lacks_minors x = lacks_bishops x || nat_lt 0 x.knights || nat_lt 0 x.pawns
 
+-- knights or pawns are lacking
 abbrev pub lacks_few : Losses → Bool
 lacks_few x = nat_lt 0 x.knights || nat_lt 0 x.pawns
 
@@ -101,6 +103,7 @@ lacks_few x = nat_lt 0 x.knights || nat_lt 0 x.pawns
 abbrev pub lacks_majors : Losses → Bool
 lacks_majors x = nat_lt 0 x.queens || nat_lt 0 x.rooks
 
+-- queens, rooks or bishops are lacking
 abbrev pub lacks_pieces : Losses → Bool
 lacks_pieces x = lacks_majors x || lacks_bishops x
 
@@ -108,15 +111,19 @@ lacks_pieces x = lacks_majors x || lacks_bishops x
 abbrev pub queens_words : Losses → List ℕ
 queens_words x = cond (nat_lt 0 x.queens) (some_words x.queens (codes "the queen") (codes "two queens") (codes " queens")) []
 
+-- the rooks who are lacking, with a sign before them if others stand there
 abbrev pub rooks_words : Losses → List ℕ
 rooks_words x = given_words And (nat_lt 0 x.rooks) (nat_lt 0 x.queens) (lacks_minors x) (some_words x.rooks (codes "a rook") (codes "both rooks") (codes " rooks"))
 
+-- the bishops
 abbrev pub bishops_words : Losses → List ℕ
 bishops_words x = given_words And (lacks_bishops x) (lacks_majors x) (lacks_few x) (bishop_words (nat_lt 0 x.dark_bishops) (nat_lt 0 x.light_bishops))
 
+-- the knights
 abbrev pub knights_words : Losses → List ℕ
 knights_words x = given_words And (nat_lt 0 x.knights) (lacks_pieces x) (nat_lt 0 x.pawns) (some_words x.knights (codes "a knight") (codes "both knights") (codes " knights"))
 
+-- the pawns
 abbrev pub pawns_words : Losses → List ℕ
 pawns_words x = given_words And (nat_lt 0 x.pawns) (lacks_pieces x || nat_lt 0 x.knights) false (some_words x.pawns (codes "a pawn") (codes "two pawns") (codes " pawns"))
 
@@ -136,9 +143,11 @@ short_words n = cond (n == 0) (codes ", but is not a man short") (codes ", but i
 abbrev pub lost_words : ℕ → Losses → List ℕ
 lost_words n x = cond (nat_lt 8 (number_lost x)) (men_words n) (losses_words x ++ cond (not (number_lost x == n)) (short_words n) [])
 
+-- that a side lacks these men, so many in all
 abbrev pub side_lacks : Colour → ℕ → Losses → List ℕ
 side_lacks side n x = side_word side ++ codes " lacks " ++ lost_words n x
 
+-- what a line says of the men whom a side lacks
 abbrev pub lacks_words : Asked → Line → List ℕ
 lacks_words q (line.Lacks side x) = side_lacks side (lacking q side) x
 lacks_words q _ = []
@@ -198,9 +207,15 @@ taken_words side more x = cond (nat_le x.lacking x.all.least) (all_words side x.
 abbrev pub share_words : Bool → Bool → ℕ → List ℕ
 share_words single exact n = cond single [] (cond exact (codes " ") (codes " at least ") ++ number_words n)
 
--- from where to where the pawn of a line went, and how many he took, as in `b7/c7-b3 at least one`
+-- to where a pawn went, and how many he took
+abbrev pub gone_words : ℕ → Bool → Bool → ℕ → List ℕ
+gone_words s single exact n = codes "-" ++ square_text s ++ share_words single exact n
+
+-- from where the pawn of a line went, and each square on which he captured if that is known, as in `h7xg6xf5`; otherwise to where, and how many
+-- he took, as in `b7/c7-b3 at least one`
 abbrev pub way_words : Asked → Bool → Line → List ℕ
-way_words q single (line.Pawn s homes n exact) = names_words Slash Squares q (line.Pawn s homes n exact ∷ []) ++ codes "-" ++ square_text s ++ share_words single exact n
+way_words q single (line.Pawn s homes n exact) =
+    names_words Slash Squares q (line.Pawn s homes n exact ∷ []) ++ cond (tells_way homes s) (slants_words (codes "x") homes s) (gone_words s single exact n)
 way_words q single _ = []
 
 -- the same for several lines, if there are any
@@ -211,6 +226,7 @@ ways_words q single ways = cond (length ways == 0) [] (codes ": " ++ parted (cod
 abbrev pub side_took : Colour → Asked → Takings → List Line → List ℕ
 side_took side q x ways = taken_words side (are_more x.all.least ways) x ++ ways_words q (x.lacking == 1) ways
 
+-- what a line of captures says, with the lines of the pawns who made them
 abbrev pub took_words : Asked → Line → List Line → List ℕ
 took_words q (line.Captures side x) ways = side_took side q x ways
 took_words q _ ways = []

@@ -1,13 +1,14 @@
 //! Sentences about the captures by a side's pawns.
 
 ghost use Rattle.std.specs.Prelude.{◌≡◌, ◌==◌, ◌++◌, [], IfOk, codes, cond, map};
+ghost use Rattle.ledger_lines.specs.Slants.{tells_way, way_words as slants_words};
 ghost use Rattle.proof_story.specs.Rendering.{parted};
-ghost use Rattle.ledger_prose.specs.Words.{all_words, are_more, both_words, few_words, it_words, least_words, limit_words, number_taken, of_them, part_words, share_words, side_took, taken_by, taken_words, took_words, way_words, ways_words};
+ghost use Rattle.ledger_prose.specs.Words.{all_words, are_more, both_words, few_words, gone_words, it_words, least_words, limit_words, number_taken, of_them, part_words, share_words, side_took, taken_by, taken_words, took_words, way_words, ways_words};
 
 use crate::names::{Joint, Style, push_names};
 use crate::numbers::push_count;
-use board_base::Colour;
-use ledger_lines::{Line, Takings};
+use board_base::{Colour, Square, SquareSet};
+use ledger_lines::{Line, Takings, push_way as push_way_squares, tells_way};
 use prose_words::{colour_word, push_square, say, side_word};
 use query_base::Query;
 use std::alloc::AllocError;
@@ -170,16 +171,47 @@ fn push_share(single: bool, exact: bool, n: u8, out: &mut Vec<u8>) -> Result<(),
     }
 }
 
-/// Adds from where to where the pawn of a line went, and how many he took.
+/// Adds to where a pawn went, and how many he took.
+fn push_gone(
+    s: Square,
+    single: bool,
+    exact: bool,
+    n: u8,
+    out: &mut Vec<u8>,
+) -> Result<(), AllocError>
+    ensures { IfOk result (λ _. out.new.items ≡ out.old.items ++ gone_words s single exact n) }
+{
+    say(b"-", out)?;
+    push_square(s, out)?;
+    push_share(single, exact, n, out)
+}
+
+/// Adds on which squares he captured, if it is known, and otherwise to where he went, and how many he took.
+fn push_course(
+    s: Square,
+    homes: SquareSet,
+    single: bool,
+    exact: bool,
+    n: u8,
+    out: &mut Vec<u8>,
+) -> Result<(), AllocError>
+    ensures { IfOk result (λ _. out.new.items ≡ out.old.items ++ cond (tells_way homes s) (slants_words (codes "x") homes s) (gone_words s single exact n)) }
+{
+    if tells_way(homes, s) {
+        push_way_squares(b"x", homes, s, out)
+    } else {
+        push_gone(s, single, exact, n, out)
+    }
+}
+
+/// Adds from where the pawn of a line went, and where he captured.
 fn push_way(query: &Query, single: bool, line: &Line, out: &mut Vec<u8>) -> Result<(), AllocError>
     ensures { IfOk result (λ _. out.new.items ≡ out.old.items ++ way_words query.now single line.now) }
 {
     match *line {
-        Line::Pawn(s, _, n, exact) => {
+        Line::Pawn(s, homes, n, exact) => {
             push_names(Joint::Slash, Style::Squares, query, &[*line], out)?;
-            say(b"-", out)?;
-            push_square(s, out)?;
-            push_share(single, exact, n, out)
+            push_course(s, homes, single, exact, n, out)
         }
         _ => Ok(()),
     }

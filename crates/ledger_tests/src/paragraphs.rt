@@ -10,10 +10,10 @@ use std::alloc::{AllocError, Global};
 const DAWSON: &str = "1KRqb3/p2krpp1/3pp3/Pp6/BrPPP3/1p1P4/2p1P3/Q7 w - -";
 
 const DAWSON_TOLD: &str = "\
-White lacks a rook, the dark bishop, both knights and two pawns. Black's pawns took all six: h7-c2
-    five. Black lacks the dark bishop and both knights. White's pawns took all three: f2-e4 one. No
-    capture is to spare. White's g-pawn was taken as a pawn. The bishop on a4 is not a promoted
-    pawn.
+White lacks a rook, the dark bishop, both knights and two pawns. Black's pawns took all six:
+    h7xg6xf5xe4xd3xc2. Black lacks the dark bishop and both knights. White's pawns took all three:
+    f2-e4 one. No capture is to spare. White's g-pawn was taken as a pawn. The bishop on a4 is not a
+    promoted pawn.
 ";
 
 /// Both castlings are held, so that nothing is said of the king's and the rooks' never having moved.
@@ -21,11 +21,12 @@ const SAMPLE: &str = "r3k2r/2pppp2/1p4p1/5N2/1pP2Q2/2pPPP2/1b2KPP1/8 w kq -";
 
 const SAMPLE_TOLD: &str = "\
 White lacks both rooks and a pawn, but is only seven men short. Black's pawns took some of them, at
-    most six: g7-c3 four, a7/b7-b6 at least one. Black lacks four men. White's pawns never captured.
-    White's h-pawn was promoted and then taken by a black pawn. White's a- and b-pawns were taken,
-    but not by a pawn. The rook of a1 and the knight of b1 were taken by black pawns. White's c-pawn
-    was promoted. The knight on f5 is the promoted pawn of f2 or g2. At least one of the men on f4
-    and f5 is a promoted pawn. The queen on f4 is that of d1. The king on e2 never moved.
+    most six: g7xf6xe5xd4xc3, a7/b7-b6 at least one. Black lacks four men. White's pawns never
+    captured. White's h-pawn was promoted and then taken by a black pawn. White's a- and b-pawns
+    were taken, but not by a pawn. The rook of a1 and the knight of b1 were taken by black pawns.
+    White's c-pawn was promoted. The knight on f5 is the promoted pawn of f2 or g2. At least one of
+    the men on f4 and f5 is a promoted pawn. The queen on f4 is that of d1. The king on e2 never
+    moved.
 ";
 
 fn losses(queens: u8, rooks: u8, dark_bishops: u8, knights: u8, pawns: u8) -> Losses {
