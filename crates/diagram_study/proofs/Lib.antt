@@ -10,4 +10,6 @@ pub mod Gathered
 pub mod Truths
 pub mod OneMove
 pub mod Seeking
+mod Holding
 pub use Rattle.claim_findings.proofs.Steps
+pub use Rattle.claim_findings.proofs.OpenFronts

@@ -1,6 +1,6 @@
 -- The texts of what is found, one behind the other.
 use Rattle.std.proofs.Common.{◌≡◌, ℕ, Bool, true, List, [], ◌++◌, length, refl, ap, subst, ◌∙◌, append_assoc}
-use Rattle.std.specs.Prelude.{◌&&◌, IsTrue, Result, Ok, Err, OnOk}
+use Rattle.std.specs.Prelude.{◌&&◌, IsTrue}
 use Rattle.board_base.specs.declared.moves.Move.{Move}
 use Rattle.query_base.specs.Asked.{Asked}
 use Rattle.query_base.specs.declared.claims.Claim.TheVariants.{Illegal}
@@ -10,7 +10,7 @@ use Rattle.claim_findings.specs.Lines.{decided_lines}
 use Rattle.claim_findings.specs.declared.findings.Finding.{Finding}
 use Rattle.diagram_study.specs.Findings.{IsFoundOf, finding_of}
 use Rattle.diagram_study.specs.Studies.{IsStudy, TellsAgain, TellsPlain, TellsPosition, makes_demands, without_demands}
-use Rattle.diagram_study.specs.Texts.{capture_lines, castling_lines, ends_text, findings_text, found_text, last_text, left_line, length_text, pair_lines, plain_line, steps_text}
+use Rattle.diagram_study.specs.Texts.{capture_lines, castling_lines, ends_text, findings_text, found_text, held_text, last_text, left_line, length_text, pair_lines, plain_line, steps_text}
 use Rattle.diagram_study.specs.declared.findings.Findings.{Findings}
 use Rattle.diagram_study.specs.declared.findings.Found.{Found}
 
@@ -23,9 +23,9 @@ abbrev pub Told : (List ℕ → Type 0) → List ℕ → List ℕ → Type 0
 Told Tells old new = (own : List ℕ) × Tells own × (new ≡ old ++ own)
 
 -- the texts of all that is found, one behind the other
-pub all_told : (f : Found) (t u v w x y z a b d e : List ℕ) → u ≡ t ++ decided_lines f.illegal.finding f.illegal.stuck Illegal → v ≡ u ++ castling_lines f.rights.items → w ≡ v ++ pair_lines f.pairs.items → x ≡ w ++ capture_lines f.rights.items → y ≡ x ++ last_text f.last → z ≡ y ++ steps_text f.steps → a ≡ z ++ left_line f.left f.all → b ≡ a ++ ends_text f.ends (length f.left) → d ≡ b ++ lines_text f.ledger.items
-    → e ≡ d ++ length_text f.length → e ≡ t ++ found_text f
-all_told f t u v w x y z a b d e illegal castlings twos captures last steps lefts ends ledger games =
+pub all_told : (f : Found) (t u v w x y z a b d e h : List ℕ) → u ≡ t ++ decided_lines f.illegal.finding f.illegal.stuck Illegal → v ≡ u ++ castling_lines f.rights.items → w ≡ v ++ pair_lines f.pairs.items → x ≡ w ++ capture_lines f.rights.items → y ≡ x ++ last_text f.last → z ≡ y ++ steps_text f.steps → a ≡ z ++ left_line f.left f.all → b ≡ a ++ ends_text f.ends (length f.left) → d ≡ b ++ lines_text f.ledger.items
+    → e ≡ d ++ held_text f.held.items → h ≡ e ++ length_text f.length → h ≡ t ++ found_text f
+all_told f t u v w x y z a b d e h illegal castlings twos captures last steps lefts ends ledger held games =
     let first = decided_lines f.illegal.finding f.illegal.stuck Illegal in
     let second = first ++ castling_lines f.rights.items in
     let third = second ++ pair_lines f.pairs.items in
@@ -35,7 +35,9 @@ all_told f t u v w x y z a b d e illegal castlings twos captures last steps left
     let seventh = sixth ++ left_line f.left f.all in
     let eighth = seventh ++ ends_text f.ends (length f.left) in
     let ninth = eighth ++ lines_text f.ledger.items in
-    joins t ninth (length_text f.length) d e
+    let tenth = ninth ++ held_text f.held.items in
+    joins t tenth (length_text f.length) e h
+    (joins t ninth (held_text f.held.items) d e
     (joins t eighth (lines_text f.ledger.items) b d
     (joins t seventh (ends_text f.ends (length f.left)) a b
     (joins t sixth (left_line f.left f.all) z a
@@ -47,6 +49,7 @@ all_told f t u v w x y z a b d e illegal castlings twos captures last steps left
     lefts)
     ends)
     ledger)
+    held)
     games
 
 -- a position: the text of what was found of it
@@ -72,7 +75,3 @@ study_told q most nodes finding t u v none own plain = record {
   again = plain.1;
   text_is = joins t own.0 plain.0 u v own.2 plain.2 ∙ ap (λ (l : List ℕ). l ++ (own.0 ++ plain.0)) none;
 }
-
-pub ok_then : {E : Type 0} (r : Result (Unit {0}) E) (P Q : Type 0) → (P → Q) → OnOk r P → OnOk r Q
-ok_then (Ok u) P Q f p = f p
-ok_then (Err e) P Q f p = p

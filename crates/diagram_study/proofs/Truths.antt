@@ -5,6 +5,7 @@ use Rattle.std.specs.List.{All, flat_map}
 use Rattle.std.proofs.lemmas.Bool.{both_ways, cases_lt}
 use Rattle.general_lemmas.proofs.Settling.{test}
 use Rattle.std.proofs.lemmas.List.Elements.{All-append, All-cons, All-head, All-nil, All-tail}
+use Rattle.board_base.specs.declared.castles.Castle.{Castle}
 use Rattle.board_base.specs.declared.moves.Move.{Move}
 use Rattle.board_base.specs.declared.unmoves.Unmove.{Unmove}
 use Rattle.cert_text.specs.ClaimLines.{claim_words}
@@ -18,19 +19,21 @@ use Rattle.codex_verdict.specs.declared.kinds.Right.TheVariants.{Castling, EnPas
 use Rattle.line_claims.specs.declared.claims.LineClaim.{LineClaim}
 use Rattle.line_claims.specs.declared.claims.LineClaim.TheVariants.{NotBoth}
 use Rattle.ledger_told.specs.Line.{Line as LedgerLine}
+use Rattle.ledger_told.specs.Held.{with_held}
 use Rattle.ledger_told.specs.Told.{IsLineTrue, lines_text, whole_text}
 use Rattle.ledger_told.proofs.Known.{all-true}
-use Rattle.diagram_study.specs.Facts.{AreClaimWords, Fact, GoesBy, IsSo, IsTrueOf, SaysOf, SaysTrue, at_least, found, known, left, line_of, other, possible, steps, stuck}
+use Rattle.diagram_study.specs.Facts.{AreClaimWords, Fact, GoesBy, IsSo, IsTrueOf, SaysOf, SaysTrue, at_least, found, if_held, known, left, line_of, other, possible, steps, stuck}
 use Rattle.claim_findings.specs.Findings.{IsContradicted, IsFound, is_proved}
 use Rattle.diagram_study.specs.Findings.{AreFindings, HasLength, IsFoundOf, other_side}
 use Rattle.diagram_study.specs.Forced.{AreStepsFound}
+use Rattle.diagram_study.specs.Held.{IsHeldFound}
 use Rattle.claim_findings.specs.Games.{AgreesWith}
 use Rattle.diagram_study.specs.Possible.{HasEnds}
 use Rattle.diagram_study.specs.Pairs.{IsPairFound}
 use Rattle.diagram_study.specs.Retractions.{IsLastFound}
 use Rattle.diagram_study.specs.Rights.{IsRightFound}
 use Rattle.diagram_study.specs.Studies.{IsStudy, TellsAgain, TellsPosition, makes_demands, without_demands}
-use Rattle.diagram_study.specs.Texts.{capture_line, capture_lines, castling_line, castling_lines, ends_text, findings_text, found_text, last_text, left_line, length_text, pair_lines, plain_line, steps_text}
+use Rattle.diagram_study.specs.Texts.{capture_line, capture_lines, castling_line, castling_lines, ends_text, findings_text, found_text, held_text, if_line, if_lines, last_text, left_line, length_text, pair_lines, plain_line, steps_text}
 use Rattle.claim_findings.specs.Lines.{decided_lines, decided_steps, found_line, steps_line, steps_words, stuck_line}
 use Rattle.claim_findings.specs.declared.findings.Finding.{Finding}
 use Rattle.claim_findings.specs.declared.findings.Finding.TheVariants.{Proved, Countered, Open, Spent}
@@ -38,6 +41,7 @@ use Rattle.diagram_study.specs.declared.findings.Findings.{Findings}
 use Rattle.diagram_study.specs.declared.findings.Findings.TheVariants.{Impossible, Unproved}
 use Rattle.diagram_study.specs.declared.findings.Found.{Found}
 use Rattle.diagram_study.specs.declared.forced.StepsFound.{StepsFound}
+use Rattle.diagram_study.specs.declared.held.HeldFound.{HeldFound}
 use Rattle.diagram_study.specs.declared.pairs.PairFound.{PairFound}
 use Rattle.diagram_study.specs.declared.retractions.MoveFound.{MoveFound}
 use Rattle.diagram_study.specs.declared.rights.RightFound.{RightFound}
@@ -177,9 +181,23 @@ known_say q by [] all = says_none q by [] refl
 known_say q by (x ∷ xs) all =
     says_both q by (whole_text x) (lines_text xs) (says_one q by (whole_text x) (known x) (All-head (IsLineTrue q) x xs all) tt refl) (known_say q by xs (All-tail (IsLineTrue q) x xs all))
 
+-- those that are so if a castling is held
+if_say : (q : Asked) (by : List (List Move)) (x : Castle) (lines : List LedgerLine) → All (IsLineTrue (with_held q x)) lines → Says q by (if_lines x lines)
+unfolding if_lines
+if_say q by x [] all = says_none q by [] refl
+if_say q by x (line ∷ lines) all =
+    says_both q by (if_line x line) (if_lines x lines) (says_one q by (if_line x line) (if_held x line) (All-head (IsLineTrue (with_held q x)) line lines all) tt refl) (if_say q by x lines (All-tail (IsLineTrue (with_held q x)) line lines all))
+
+held_say : (q : Asked) (by : List (List Move)) (ledger : List LedgerLine) (hs : List HeldFound) → All (IsHeldFound q ledger) hs → Says q by (held_text hs)
+unfolding held_text
+held_say q by ledger [] all = says_none q by [] refl
+held_say q by ledger (h ∷ hs) all =
+    let here : IsHeldFound q ledger h = All-head (IsHeldFound q ledger) h hs all in
+    says_both q by (if_lines h.castle h.lines.items) (held_text hs) (if_say q by h.castle h.lines.items here.true_) (held_say q by ledger hs (All-tail (IsHeldFound q ledger) h hs all))
+
 found_says : (q : Asked) (most nodes : ℕ) (by : List (List Move)) (f : Found) → AreFindings q most nodes by f → Says q by (found_text f)
 found_says q most nodes by f are =
-    says_both q by _ (length_text f.length) (says_both q by _ (lines_text f.ledger.items) (says_both q by _ (ends_text f.ends (length f.left)) (says_both q by _ (left_line f.left f.all) (says_both q by _ (steps_text f.steps) (says_both q by _ (last_text f.last) (says_both q by _ (capture_lines f.rights.items) (says_both q by _ (pair_lines f.pairs.items) (says_both q by (decided_lines f.illegal.finding f.illegal.stuck Illegal) (castling_lines f.rights.items)
+    says_both q by _ (length_text f.length) (says_both q by _ (held_text f.held.items) (says_both q by _ (lines_text f.ledger.items) (says_both q by _ (ends_text f.ends (length f.left)) (says_both q by _ (left_line f.left f.all) (says_both q by _ (steps_text f.steps) (says_both q by _ (last_text f.last) (says_both q by _ (capture_lines f.rights.items) (says_both q by _ (pair_lines f.pairs.items) (says_both q by (decided_lines f.illegal.finding f.illegal.stuck Illegal) (castling_lines f.rights.items)
     (says_claim q Illegal most nodes by f.illegal.finding f.illegal.stuck are.illegal.decided.found are.illegal.agrees)
     (castlings_say q most nodes by f.rights.items are.rights.each))
     (pairs_say q most nodes by f.pairs.items are.pairs.each))
@@ -189,6 +207,7 @@ found_says q most nodes by f are =
     (says_one q by _ (left f.left f.all) tt tt refl))
     (possible_says q by f.left f.ends are.ends))
     (known_say q by f.ledger.items (all-true q f.ledger.items are.ledger)))
+    (held_say q by f.ledger.items f.held.items are.held.each))
     (games_say q by f.length are.games)
 
 findings_say : (q : Asked) (most nodes : ℕ) (by : List (List Move)) (findings : Findings) → IsFoundOf q most nodes by findings → Says q by (findings_text findings)

@@ -20,6 +20,7 @@ use Rattle.claim_findings.specs.Decisions.{IsAgreed}
 use Rattle.claim_findings.specs.Findings.{IsFound, is_proved}
 use Rattle.claim_findings.specs.declared.findings.Finding.{Finding}
 use Rattle.diagram_study.specs.Forced.{AreStepsFound}
+use Rattle.diagram_study.specs.Held.{AreHeldFound}
 use Rattle.diagram_study.specs.Pairs.{ArePairsFound, HasStuckPairText}
 use Rattle.diagram_study.specs.Possible.{HasEnds}
 use Rattle.diagram_study.specs.Retractions.{HasLeft, IsLastFound}
@@ -41,8 +42,8 @@ HasLength q (Some n) = (said : LengthText) × IsLength q said × (n ≡ said.at_
 
 -- What is found of a position that isn't proved to be illegal: of that claim, of the castlings that it seems to give and that aren't
 -- demanded and of captures en passant, of each two castlings that aren't proved to be lost, which of its retractions are left, of the last
--- move and of those before it, with which of the retractions games end, which lines of its ledger are told, and how long games are. These
--- games decide which claims are countered and which ends are possible. Where a move may be taken back and no retraction is left, it is the
+-- move and of those before it, with which of the retractions games end, which lines of its ledger are told, which more if a castling that
+-- isn't settled is held, and how long games are. These games decide which claims are countered and which ends are possible. Where a move may be taken back and no retraction is left, it is the
 -- array.
 pub record AreFindings (q : Asked) (most nodes : ℕ) (by : List (List Move)) (f : Found) : Type 0 where
   pub illegal : IsAgreed q Illegal most nodes by f.illegal
@@ -56,6 +57,7 @@ pub record AreFindings (q : Asked) (most nodes : ℕ) (by : List (List Move)) (f
   pub steps : AreStepsFound q most nodes f.steps
   pub ends : HasEnds q by f.left f.ends
   pub ledger : TellsLines q f.ledger.items
+  pub held : AreHeldFound q f.ledger.items f.rights.items f.held.items
   pub games : HasLength q f.length
 
 -- The same board with the other side to move, at the same odds, with the same rights and the same clock demanded. The double step that

@@ -1,5 +1,6 @@
 pub mod Budgets
 pub mod Rights
+pub mod Held
 pub mod Pairs
 pub mod Retractions
 pub mod Forced
@@ -11,3 +12,7 @@ pub mod Facts
 pub mod Decisions
 pub mod Gathering
 pub mod Looks
+pub use Rattle.claim_findings.specs.Ends
+pub use Rattle.claim_findings.specs.Findings as ClaimFindings
+pub use Rattle.claim_findings.specs.Proving
+pub use Rattle.claim_findings.specs.declared.findings.Finding

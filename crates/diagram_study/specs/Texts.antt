@@ -1,10 +1,11 @@
 -- The lines of a study.
-use Rattle.std.specs.Prelude.{ℕ, cond, nat_le, List, [], ◌++◌, codes, length, Option, Some, None}
+use Rattle.std.specs.Prelude.{ℕ, cond, nat_le, List, [], ◌∷◌, ◌++◌, codes, length, Option, Some, None}
 use Rattle.std.specs.List.{flat_map}
 use Rattle.std.specs.Fmt.{decimal}
 use Rattle.board_base.specs.Texts.{unmove_words}
 use Rattle.board_base.specs.declared.unmoves.Unmove.{Unmove}
 use Rattle.query_base.specs.declared.claims.Claim.TheVariants.{Illegal, Last, Lost, Ep}
+use Rattle.board_base.specs.declared.castles.Castle.{Castle}
 use Rattle.cert_text.specs.Lines.{ended}
 use Rattle.codex_verdict.specs.declared.kinds.Right.{Right}
 use Rattle.codex_verdict.specs.declared.kinds.Right.TheVariants.{Castling, EnPassant}
@@ -12,11 +13,14 @@ use Rattle.line_claims.specs.declared.claims.LineClaim.TheVariants.{NotBoth}
 use Rattle.claim_findings.specs.Findings.{is_proved}
 use Rattle.claim_findings.specs.Lines.{decided_lines, decided_steps, found_line, steps_line}
 use Rattle.claim_findings.specs.declared.findings.Finding.{Finding}
-use Rattle.ledger_told.specs.Told.{lines_text}
+use Rattle.fen_text.specs.Fen.{castle_letter}
+use Rattle.ledger_told.specs.Line.{Line}
+use Rattle.ledger_told.specs.Told.{lines_text, whole_text}
 use Rattle.diagram_study.specs.declared.findings.Findings.{Findings}
 use Rattle.diagram_study.specs.declared.findings.Findings.TheVariants.{Impossible, Unproved}
 use Rattle.diagram_study.specs.declared.findings.Found.{Found}
 use Rattle.diagram_study.specs.declared.forced.StepsFound.{StepsFound}
+use Rattle.diagram_study.specs.declared.held.HeldFound.{HeldFound}
 use Rattle.diagram_study.specs.declared.pairs.PairFound.{PairFound}
 use Rattle.diagram_study.specs.declared.retractions.MoveFound.{MoveFound}
 use Rattle.diagram_study.specs.declared.rights.RightFound.{RightFound}
@@ -78,6 +82,18 @@ abbrev pub ends_text : Option (List Unmove) → ℕ → List ℕ
 ends_text None left = []
 ends_text (Some ends) left = possible_line ends left
 
+-- a line of the ledger that is so if the castling is held
+abbrev pub if_line : Castle → Line → List ℕ
+if_line x line = codes "if " ++ (castle_letter x ∷ []) ++ codes " " ++ whole_text line
+
+-- lines of the ledger that are so if the castling is held, one behind the other
+unfoldable pub if_lines : Castle → List Line → List ℕ
+if_lines x lines = flat_map (if_line x) lines
+
+-- what the ledger says only if a castling is held, castling by castling
+unfoldable pub held_text : List HeldFound → List ℕ
+held_text held = flat_map (λ h. if_lines h.castle h.lines.items) held
+
 -- the line that tells how many half-moves there are at least
 abbrev pub length_line : ℕ → List ℕ
 length_line n = ended (codes "atleast " ++ decimal n)
@@ -96,11 +112,11 @@ abbrev pub other_line : Finding → List ℕ
 other_line finding = codes "other side " ++ found_line finding Illegal
 
 -- The text of what is found of a position that isn't proved to be illegal: of that claim, of castlings, of two of them each, of captures en
--- passant, of the last move and of those before it, which retractions are left, with which of them games end, the lines of the ledger, and
--- how long games are.
+-- passant, of the last move and of those before it, which retractions are left, with which of them games end, the lines of the ledger, those
+-- that are so if a castling is held, and how long games are.
 abbrev pub found_text : Found → List ℕ
 found_text f =
-    decided_lines f.illegal.finding f.illegal.stuck Illegal ++ castling_lines f.rights.items ++ pair_lines f.pairs.items ++ capture_lines f.rights.items ++ last_text f.last ++ steps_text f.steps ++ left_line f.left f.all ++ ends_text f.ends (length f.left) ++ lines_text f.ledger.items ++ length_text f.length
+    decided_lines f.illegal.finding f.illegal.stuck Illegal ++ castling_lines f.rights.items ++ pair_lines f.pairs.items ++ capture_lines f.rights.items ++ last_text f.last ++ steps_text f.steps ++ left_line f.left f.all ++ ends_text f.ends (length f.left) ++ lines_text f.ledger.items ++ held_text f.held.items ++ length_text f.length
 
 -- the text of what is found: of a position that is illegal that it is, and what was found with the other side to move
 abbrev pub findings_text : Findings → List ℕ

@@ -8,6 +8,7 @@ ghost use Rattle.diagram_study.specs.Looks.{IsSeen};
 
 use crate::forced::{StepsFound, find_forced};
 use crate::gathering::{Gathered, agreed_all, gather};
+use crate::held::{HeldFound, find_held};
 use crate::joining::joined_up;
 use crate::pairs::PairFound;
 use crate::possible::find_ends;
@@ -42,6 +43,8 @@ pub struct Found {
     pub ends: Option<UnmoveList>,
     /// The lines of its ledger that are told.
     pub ledger: Vec<Line>,
+    /// What the ledger says only if a castling is held that is neither proved to be lost nor shown to be kept by a game.
+    pub held: Vec<HeldFound>,
     /// How many half-moves each game has at least. None if both sides have more than sixteen men.
     pub length: Option<u16>,
 }
@@ -133,12 +136,14 @@ fn unproved(
     let steps = find_forced(searchers, subject, &seen.left)?;
     let ends = find_ends(alloc, games, &subject.query, &seen.left)?;
     let ledger = told_lines(alloc, &subject.query)?;
-    let length = least_length(&subject.query);
     let Gathered {
         illegal,
         rights,
         pairs,
     } = gathered;
+    let known = ledger.as_slice();
+    let held = find_held(alloc, &subject.query, known, rights.as_slice())?;
+    let length = least_length(&subject.query);
     let Counted { left, all, .. } = seen;
     Ok(Findings::Unproved(Found {
         illegal,
@@ -150,6 +155,7 @@ fn unproved(
         steps,
         ends,
         ledger,
+        held,
         length,
     }))
 }

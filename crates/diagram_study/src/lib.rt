@@ -7,6 +7,7 @@
 mod findings;
 mod forced;
 mod gathering;
+mod held;
 mod joining;
 mod pairs;
 mod possible;
@@ -15,8 +16,10 @@ mod rights;
 mod studies;
 mod texts;
 
+pub use claim_findings::{Finding, Games, Searchers, Subject};
 pub use findings::{Findings, Found, find};
 pub use forced::StepsFound;
+pub use held::{HeldFound, is_open};
 pub use pairs::{PairFound, with_both};
 pub use retractions::MoveFound;
 pub use rights::RightFound;

@@ -7,6 +7,7 @@ ghost use Rattle.diagram_study.specs.Studies.{IsStudy, TellsAgain, TellsPlain, T
 ghost use Rattle.diagram_study.specs.Texts.{findings_text, found_text, other_line};
 
 use crate::findings::{Findings, Found, find};
+use crate::held::tell_held;
 use crate::pairs::tell_pairs;
 use crate::rights::{tell_captures, tell_castlings};
 use crate::texts::{push_ends, push_forced, push_last, push_left, push_length};
@@ -32,6 +33,7 @@ fn tell_found(found: &Found, text: &mut Vec<u8>) -> Result<(), AllocError>
     push_left(text, &found.left, found.all)?;
     push_ends(text, &found.ends, found.left.len())?;
     write_lines(found.ledger.as_slice(), text)?;
+    tell_held(text, found.held.as_slice())?;
     push_length(text, found.length)
 }
 
@@ -154,8 +156,9 @@ fn tell_again(
 ///   without them, behind a line that says so.
 /// - Else come the castlings that it seems to give and doesn't demand; each two of them of which neither is proved to be lost; the
 ///   captures en passant; the last move, where it is proved, and two to sixteen last moves, where they follow one from another; how
-///   many of the retractions are left whose predecessors the search doesn't refute, and which, where they are at most 24; the ledger; and
-///   how many half-moves each game has at least.
+///   many of the retractions are left whose predecessors the search doesn't refute, and which, where they are at most 24; the ledger; what it
+///   says only if a castling is held that is neither proved to be lost nor kept by a game, each line behind `if` and the castling's letter;
+///   and how many half-moves each game has at least.
 pub fn study(alloc: Global, query: &Query, most: u8, nodes: u32) -> Result<Vec<u8>, AllocError>
     requires plain { query.now.barred ≡ None }
     requires budget { IsBudget most nodes }

@@ -139,7 +139,7 @@ module _ (q : Asked) (l : Ledger) where
   pawn-known : (c : Colour) (s : ℕ) (x : Line) → s < 64 → IsTrue (is_moving q l c s) → TellsPawn q l s (Some x) → Is x
   pawn-known c s x low moving told =
       let y = cond_some (is_pawn_news told.homes s told.number) _ x (sym told.line_is) in
-      subst Is y.1 (low, (left-known s told.homes (a-pawn (at q.board s) told.took.0) told.left, told.took, told.exact_is.0))
+      subst Is y.1 (low, (left-known s told.homes (a-pawn (at q.board s) told.took.0) told.left, told.took, told.exact_is.0, told.took.0))
 
   square-known : (topic : Topic) (s : ℕ) (x : Line) → s < 64 → IsSquareLine topic q l s (Some x) → Is x
   square-known (Pawns c) s x low is = elim (cases_Bool (is_moving q l c s)) [

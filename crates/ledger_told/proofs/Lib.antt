@@ -1,3 +1,5 @@
 pub mod Joining
 pub mod Known
 pub mod PawnHomes
+mod SameLines
+mod News

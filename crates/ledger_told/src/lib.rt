@@ -4,6 +4,7 @@
 #![tactic(auto)]
 
 mod breeds;
+mod held;
 mod laws;
 mod pawns;
 mod squares;
@@ -12,7 +13,8 @@ mod texts;
 mod topics;
 mod wholes;
 
+pub use held::{lines_if_held, with_held};
 pub use laws::told_lines_hold;
 pub use telling::told_lines;
-pub use texts::write_lines;
+pub use texts::{push_line, write_lines};
 pub use topics::{Breed, Topic, Whole};

@@ -6,7 +6,7 @@ use prose_words::say;
 use std::alloc::AllocError;
 
 /// Adds the line with its end.
-fn push_line(line: &Line, out: &mut Vec<u8>) -> Result<(), AllocError>
+pub fn push_line(line: &Line, out: &mut Vec<u8>) -> Result<(), AllocError>
     ensures { OnOk result (out.new.items ≡ out.old.items ++ whole_text line.now) }
 {
     write_line(line, out)?;

@@ -1,5 +1,5 @@
 -- Texts and lists that are put together.
-use Rattle.std.proofs.Common.{◌≡◌, ℕ, ◌+◌, ◌-◌, ◌<◌, ◌≤◌, Bool, true, false, cond, List, [], ◌∷◌, ◌++◌, length, get_or, take, drop, refl, sym, ap, subst, ◌∙◌, append_assoc, append-nil, arith, length-drop}
+use Rattle.std.proofs.Common.{◌≡◌, ℕ, ◌+◌, ◌-◌, ◌<◌, ◌≤◌, Bool, true, false, cond, List, [], ◌∷◌, ◌++◌, length, get_or, take, drop, sym, ap, subst, ◌∙◌, append_assoc, append-nil, arith, length-drop}
 use Rattle.std.specs.Prelude.{Option, None, Some}
 use Rattle.std.specs.List.{All, flat_map, list_any}
 use Rattle.std.proofs.lemmas.List.{flat_map_more, take_all}
@@ -10,7 +10,7 @@ use Rattle.diagram_study.specs.declared.findings.Found.{Found}
 use Rattle.diagram_study.specs.declared.pairs.PairFound.{PairFound}
 use Rattle.diagram_study.specs.declared.retractions.MoveFound.{MoveFound}
 use Rattle.diagram_study.specs.declared.rights.RightFound.{RightFound}
-use Rattle.claim_findings.specs.Findings.{is_proved}
+use Rattle.diagram_study.specs.ClaimFindings.{is_proved}
 use Rattle.position_report.specs.Parts.{part_text, parts_text}
 use Rattle.position_report.specs.Shown.{illegal_shown, last_shown, other_shown, pair_shown, proves_passing, right_shown, shown_claims}
 use Rattle.position_report.specs.declared.shown.Shown.{Shown}

@@ -1,6 +1,6 @@
 -- What is told of the last moves.
-use Rattle.std.proofs.Common.{◌≡◌, ℕ, Bool, true, false, List, ◌++◌, length, refl, sym, ap, ◌∙◌, inl, inr, append_assoc}
-use Rattle.std.specs.Prelude.{Option, None, Some}
+use Rattle.std.proofs.Common.{◌≡◌, ℕ, true, List, ◌++◌, length, refl, sym, ap, ◌∙◌, inl, inr, append_assoc}
+use Rattle.std.specs.Prelude.{None, Some}
 use Rattle.board_base.specs.declared.unmoves.Unmove.{Unmove}
 use Rattle.query_base.specs.Asked.{Asked}
 use Rattle.line_claims.specs.declared.claims.LineClaim.{LineClaim}

@@ -5,5 +5,6 @@ mod Joining
 mod Playing
 mod Lasting
 mod Reported
-mod Holding
-mod SameLines
+pub use Rattle.diagram_study.proofs.Truths
+pub use Rattle.diagram_study.proofs.Steps
+pub use Rattle.claim_search.proofs.Unreached

@@ -1,8 +1,7 @@
 -- What a report says, part by part.
-use Rattle.std.proofs.Common.{◌≡◌, ℕ, List, [], ◌∷◌, ◌++◌, refl, sym, ap, ◌∙◌, append-nil}
-use Rattle.std.specs.Prelude.{IsTrue}
+use Rattle.std.proofs.Common.{◌≡◌, ℕ, List, [], ◌∷◌, ◌++◌, sym, ap, ◌∙◌, append-nil}
 use Rattle.std.specs.List.{All}
-use Rattle.std.proofs.lemmas.List.Elements.{All-cons, All-nil}
+use Rattle.std.proofs.lemmas.List.Elements.{All-cons, All-nil, All-weaker}
 use Rattle.board_base.specs.declared.moves.Move.{Move}
 use Rattle.query_base.specs.Asked.{Asked}
 use Rattle.query_base.specs.Reach.{Holds, Reaches}
@@ -12,8 +11,8 @@ use Rattle.ledger_told.specs.Told.{IsLineTrue, TellsLines}
 use Rattle.ledger_prose.specs.Saying.{SentenceSays}
 use Rattle.ledger_prose.specs.Sentences.{sentences_of}
 use Rattle.ledger_prose.specs.Words.{prose_text}
-use Rattle.claim_findings.specs.Findings.{IsFound, is_proved}
-use Rattle.claim_findings.specs.declared.findings.Finding.{Finding}
+use Rattle.diagram_study.specs.ClaimFindings.{IsFound}
+use Rattle.diagram_study.specs.Finding.{Finding}
 use Rattle.diagram_study.specs.Findings.{AreFindings, IsFoundOf, other_side}
 use Rattle.diagram_study.specs.declared.findings.Findings.{Findings}
 use Rattle.diagram_study.specs.declared.findings.Found.{Found}
@@ -22,7 +21,10 @@ use Rattle.verdict_prose.specs.Sentences.{verdict_text}
 use Rattle.verdict_prose.specs.Verdicts.{IsSo}
 use Rattle.verdict_prose.specs.declared.verdicts.Verdict.{Verdict}
 use Rattle.verdict_prose.specs.declared.verdicts.Verdict.TheVariants.{Shown as IsShown}
-use Rattle.position_report.specs.Held.{TellsEachIf}
+use Rattle.ledger_told.specs.Held.{with_held}
+use Rattle.diagram_study.specs.Held.{IsHeldFound}
+use Rattle.diagram_study.specs.declared.held.HeldFound.{HeldFound}
+use Rattle.position_report.specs.Held.{IsIfSo, held_prose}
 use Rattle.position_report.specs.LastMoves.{TellsLast}
 use Rattle.position_report.specs.Lengths.{TellsGame, length_text}
 use Rattle.position_report.specs.Open.{all_open}
@@ -67,13 +69,18 @@ SentencesHold =
 pub record AreParts (q : Asked) (depth nodes : ℕ) (by : List (List Move)) (f : Found) (said ledger held proofs unsettled ends : List ℕ) : Type 0 where
   pub said_told : (last : List ℕ) × TellsLast q f last × (said ≡ verdicts_text q (shown_of f) ++ last)
   pub ledger_told : ledger ≡ prose_text q (sentences_of q f.ledger.items)
-  pub held_told : TellsEachIf q f.ledger.items f.rights.items held
+  pub held_told : held ≡ held_prose q f.held.items
   pub proofs_told : TellsProofs depth nodes 1 (shown_claims q f) proofs
   pub unsettled_told : unsettled ≡ all_open q f
   pub ends_told : (game : List ℕ) × TellsGame q by game × (ends ≡ length_text q f.length ++ game)
 
-same-parts : (a b c d e f x y z w : List ℕ) → a ≡ x → b ≡ y → e ≡ z → f ≡ w → parts_text (a ∷ b ∷ c ∷ d ∷ e ∷ f ∷ []) ≡ parts_text (x ∷ y ∷ c ∷ d ∷ z ∷ w ∷ [])
-same-parts a b c d e f x y z w ax by ez fw = cc
+same-parts : (a b c d e f x y z w v : List ℕ) → a ≡ x → b ≡ y → c ≡ v → e ≡ z → f ≡ w → parts_text (a ∷ b ∷ c ∷ d ∷ e ∷ f ∷ []) ≡ parts_text (x ∷ y ∷ v ∷ d ∷ z ∷ w ∷ [])
+same-parts a b c d e f x y z w v ax by cv ez fw = cc
+
+-- what is said if a castling is held is so
+if-so : SentencesHold → (q : Asked) (known : List Line) (held : List HeldFound) → All (IsHeldFound q known) held → All (IsIfSo q) held
+if-so sentences q known held found =
+    All-weaker (IsHeldFound q known) (IsIfSo q) (λ h is. record { true_ = is.true_; says = sentences (with_held q h.castle) h.lines.items is.true_ }) held found
 
 pub parts-told : (q : Asked) (depth nodes : ℕ) (by : List (List Move)) (f : Found) (said ledger held proofs unsettled ends : List ℕ) → LinesHold → SentencesHold → AreFindings q depth nodes by f → AreParts q depth nodes by f said ledger held proofs unsettled ends → TellsFound q depth nodes by f (parts_text (said ∷ ledger ∷ held ∷ proofs ∷ unsettled ∷ ends ∷ []))
 parts-told q depth nodes by f said ledger held proofs unsettled ends lines sentences found are =
@@ -84,14 +91,13 @@ parts-told q depth nodes by f said ledger held proofs unsettled ends lines sente
       last_told = are.said_told.1;
       true_ = true_lines;
       says = sentences q f.ledger.items true_lines;
-      held = held;
-      held_told = are.held_told;
+      if_so = if-so sentences q f.ledger.items f.held.items found.held.each;
       proofs = proofs;
       proofs_told = are.proofs_told;
       long = length-so q f.length found.games;
       game = are.ends_told.0;
       game_told = are.ends_told.1;
-      text_is = same-parts said ledger held proofs unsettled ends _ _ _ _ are.said_told.2 are.ledger_told are.unsettled_told are.ends_told.2;
+      text_is = same-parts said ledger held proofs unsettled ends _ _ _ _ _ are.said_told.2 are.ledger_told are.held_told are.unsettled_told are.ends_told.2;
     }
 
 pub found-told : (q : Asked) (depth nodes : ℕ) (by : List (List Move)) (f : Found) (said ledger held proofs unsettled ends o p1 p2 p3 p4 p5 p6 : List ℕ) → LinesHold → SentencesHold → AreFindings q depth nodes by f → AreParts q depth nodes by f said ledger held proofs unsettled ends → p1 ≡ o ++ part_text said → p2 ≡ p1 ++ part_text ledger → p3 ≡ p2 ++ part_text held → p4 ≡ p3 ++ part_text proofs → p5 ≡ p4 ++ part_text unsettled → p6 ≡ p5 ++ part_text ends → (own : List ℕ) × TellsFound q depth nodes by f own × (p6 ≡ o ++ own)

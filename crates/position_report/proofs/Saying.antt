@@ -1,23 +1,23 @@
 -- What is said of a position is so.
-use Rattle.std.proofs.Common.{◌≡◌, ℕ, ◌<◌, ◌≤◌, Bool, true, false, cond, List, [], ◌∷◌, ◌++◌, length, refl, sym, ap, subst, ◌∙◌, inl, inr, arith}
+use Rattle.std.proofs.Common.{◌≡◌, ℕ, Bool, true, false, cond, List, [], ◌∷◌, ◌++◌, length, refl, sym, subst, inl, inr}
 use Rattle.std.specs.Prelude.{IfSome, IsTrue, Option, Some, None}
 use Rattle.std.specs.List.{All, flat_map}
-use Rattle.std.proofs.lemmas.Bool.{cases_lt, cond-false, cond-true}
+use Rattle.std.proofs.lemmas.Bool.{cases_lt}
 use Rattle.std.proofs.lemmas.List.Elements.{All-append, All-cons, All-head, All-nil, All-same, All-tail}
 use Rattle.board_base.specs.declared.castles.Castle.{Castle}
 use Rattle.board_base.specs.declared.moves.Move.{Move}
 use Rattle.board_base.specs.declared.unmoves.Unmove.{Unmove}
 use Rattle.query_base.specs.Asked.{Asked}
-use Rattle.query_base.specs.Reach.{Holds, Reaches}
+use Rattle.query_base.specs.Reach.{Holds}
 use Rattle.query_base.specs.declared.claims.Claim.{Claim}
 use Rattle.query_base.specs.declared.claims.Claim.TheVariants.{Illegal}
 use Rattle.line_claims.specs.Holding.{HoldsLine}
 use Rattle.line_claims.specs.declared.claims.LineClaim.{LineClaim}
 use Rattle.line_claims.specs.declared.claims.LineClaim.TheVariants as line
 use Rattle.codex_verdict.specs.Rights.{claim_of}
-use Rattle.claim_findings.specs.Findings.{IsFound, is_proved}
-use Rattle.claim_findings.specs.declared.findings.Finding.{Finding}
-use Rattle.claim_findings.specs.declared.findings.Finding.TheVariants as finding
+use Rattle.diagram_study.specs.ClaimFindings.{IsFound, is_proved}
+use Rattle.diagram_study.specs.Finding.{Finding}
+use Rattle.diagram_study.specs.Finding.TheVariants as finding
 use Rattle.diagram_study.specs.Findings.{AreFindings, HasLength, IsLength, other_side}
 use Rattle.diagram_study.specs.Forced.{AreStepsFound, IsStepsFound}
 use Rattle.diagram_study.specs.Pairs.{IsPairFound}

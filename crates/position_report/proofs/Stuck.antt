@@ -1,5 +1,5 @@
 -- The retractions of a line that stays open are listed.
-use Rattle.std.proofs.Common.{◌≡◌, ℕ, ◌≤◌, List, [], ◌∷◌, ◌++◌, length, get_or, take, drop, refl, sym, ap, subst, ◌∙◌, append_assoc, arith}
+use Rattle.std.proofs.Common.{◌≡◌, ℕ, ◌≤◌, List, [], ◌∷◌, ◌++◌, length, get_or, take, drop, sym, ap, subst, ◌∙◌, append_assoc, arith}
 use Rattle.std.specs.Prelude.{IfSome, Option, Some, None}
 use Rattle.std.specs.List.{All, Contains}
 use Rattle.std.proofs.lemmas.List.{take-append-drop}
@@ -19,12 +19,11 @@ use Rattle.prose_words.proofs.Squares.{thence}
 use Rattle.proof_prose.specs.Heads.{drawn_text}
 use Rattle.verdict_prose.specs.Moves.{open_line_text}
 use Rattle.verdict_prose.specs.declared.verdicts.Verdict.TheVariants.{Unsettled}
-use Rattle.claim_findings.specs.Ends.{IsFront, IsStuck}
-use Rattle.claim_findings.specs.declared.findings.Finding.{Finding}
-use Rattle.claim_findings.proofs.OpenFronts.{open_listed}
+use Rattle.diagram_study.specs.Ends.{IsFront, IsStuck}
+use Rattle.diagram_study.specs.Finding.{Finding}
+use Rattle.diagram_study.proofs.OpenFronts.{open_listed}
 use Rattle.diagram_study.specs.Pairs.{IsPairFound}
 use Rattle.diagram_study.specs.Rights.{IsRightFound}
-use Rattle.diagram_study.specs.declared.findings.Found.{Found}
 use Rattle.diagram_study.specs.declared.pairs.PairFound.{PairFound}
 use Rattle.diagram_study.specs.declared.rights.RightFound.{RightFound}
 use Rattle.position_report.specs.Open.{front_text, open_right, open_text}

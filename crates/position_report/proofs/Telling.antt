@@ -1,10 +1,8 @@
 -- What is told one after another.
-use Rattle.std.proofs.Common.{◌≡◌, ℕ, ◌+◌, ◌<◌, ◌≤◌, List, [], ◌∷◌, ◌++◌, length, get_or, take, drop, refl, sym, ap, subst, ◌∙◌, inl, inr, append_assoc, arith}
-use Rattle.std.specs.Prelude.{◌⊎◌, MatchOption, Option, Some, None}
+use Rattle.std.proofs.Common.{◌≡◌, ℕ, ◌+◌, ◌≤◌, List, [], ◌∷◌, ◌++◌, length, get_or, drop, refl, sym, subst, inl, inr}
+use Rattle.std.specs.Prelude.{MatchOption, Option, Some, None}
+use Rattle.std.proofs.lemmas.Bool.{cases_lt}
 use Rattle.std.specs.List.{Contains}
-use Rattle.std.proofs.lemmas.List.{take_all}
-use Rattle.std.proofs.lemmas.List.Elements.{Contains-get_or, Contains-push_cases}
-use Rattle.general_lemmas.proofs.Splits.{up_to}
 use Rattle.general_lemmas.proofs.Lists.{contains-cases, contains-first, contains-later, contains-none}
 use Rattle.board_base.specs.declared.moves.Move.{Move}
 use Rattle.query_base.specs.Asked.{Asked}
@@ -15,17 +13,13 @@ use Rattle.san_text.specs.FromArray.{Tells}
 use Rattle.cert_text.specs.Certificate.{Certificate}
 use Rattle.cert_text.specs.SeenCert.{cert_of}
 use Rattle.cert_text.specs.declared.certificates.Cert.{Cert}
-use Rattle.ledger_lines.specs.declared.lines.Line.{Line}
-use Rattle.diagram_study.specs.declared.rights.RightFound.{RightFound}
-use Rattle.retro_search.specs.Answers.{IsProofOf, IsProved}
-use Rattle.retro_search.specs.Plain.{HasPlainSketch}
-use Rattle.retro_search.specs.declared.answers.Found.{Found as Answer}
-use Rattle.retro_search.specs.declared.answers.Found.TheVariants as answer
+use Rattle.claim_search.specs.Answers.{IsProofOf, IsProved}
+use Rattle.claim_search.specs.Plain.{HasPlainSketch}
+use Rattle.claim_search.specs.Found.{Found as Answer}
+use Rattle.claim_search.specs.Found.TheVariants as answer
 use Rattle.claim_search.specs.Settlements.{IsSettlement}
-use Rattle.position_report.specs.Held.{AreNews, TellsEachIf, TellsIfSome}
 use Rattle.position_report.specs.Lengths.{LeadsHere, ShowsGame, TellsGame, game_words}
 use Rattle.position_report.specs.Proofs.{IsUntold, TellsCertificate, TellsProof, TellsProofs, check_text, title_text}
-use Rattle.position_report.specs.Sayings.{unsettled_castling}
 use Rattle.position_report.specs.declared.shown.Shown.{Shown}
 use Rattle.position_report.proofs.Joining.{first-others, first-rest, others_of}
 
@@ -66,26 +60,13 @@ later-game q g gs text elsewhere tells = record {
 -- what a search that settles a claim comes to, by whether it is a certificate
 pub settled-by : (depth nodes : ℕ) (s : Shown) (a : Answer) (found : Option Cert) → IsSettlement depth nodes s.claim s.query a → (HasPlainSketch (target s.query s.claim) → IsProved a) → MatchOption found (IsProved a → ⊥) (λ cert. a ≡ answer.Proved cert) → MatchOption found (IsUntold depth nodes s) (λ cert. IsProofOf depth (cert_of cert) s.claim s.query)
 settled-by depth nodes s a None settlement sketched unproved = record {
-  answer = a;
-  settlement = settlement;
-  unproved = unproved;
+  dear = λ k n low refutable cost. elim (cases_lt nodes n) [ inl dear ↦ dear | inr cheap ↦ absurd (unproved (settlement.never_weaker k n low refutable cost (omega (arith, cheap)))) ];
+  unpriced = λ some flat. unproved (settlement.priced some flat);
   unsketched = λ plain. unproved (sketched plain);
 }
 settled-by depth nodes s a (Some cert) settlement sketched is =
     let there : IsSettlement depth nodes s.claim s.query (answer.Proved cert) = subst (IsSettlement depth nodes s.claim s.query) is settlement in
     there.proved
-
--- a line is told if it is new, and then the others
-pub news-first : (known : List Line) (x : Line) (xs o p r others : List Line) → (Contains known x × (p ≡ o)) ⊎ ((Contains known x → ⊥) × (p ≡ o ++ x ∷ [])) → AreNews known xs others → r ≡ p ++ others → (own : List Line) × AreNews known (x ∷ xs) own × (r ≡ o ++ own)
-news-first known x xs o p r others first are rest = elim first [
-  | inl old ↦ (others, (others, are, inl (old.0, refl)), rest ∙ ap (λ (l : List Line). l ++ others) old.1)
-  | inr new ↦ (x ∷ others, (others, are, inr (new.0, refl)), rest ∙ ap (λ (l : List Line). l ++ others) new.1 ∙ append_assoc o (x ∷ []) others)
-]
-
--- what is told of a right, and then of the others
-pub each-first : (q : Asked) (known : List Line) (f : RightFound) (fs : List RightFound) (o p r own others : List ℕ) → TellsIfSome q known (unsettled_castling f) own → p ≡ o ++ own → TellsEachIf q known fs others → r ≡ p ++ others → (text : List ℕ) × TellsEachIf q known (f ∷ fs) text × (r ≡ o ++ text)
-each-first q known f fs o p r own others told first rest last =
-    (own ++ others, (own, others, told, rest, refl), last ∙ ap (λ (l : List ℕ). l ++ others) first ∙ append_assoc o own others)
 
 -- a proof that is told: its number, its text and how to check it
 pub proof-told : (depth nodes number : ℕ) (s : Shown) (cert : Certificate) (o p r new own : List ℕ) → IsProofOf depth cert s.claim s.query → TellsCertificate s.drawn cert own → p ≡ o ++ title_text number → r ≡ p ++ own → new ≡ r ++ check_text depth nodes s → (text : List ℕ) × TellsProof depth nodes number s text × (new ≡ o ++ text)
@@ -110,22 +91,6 @@ proofs-later depth nodes number all s o r some is untold (others, behind, last) 
   subst (λ (l : List Shown). TellsProofs depth nodes number l others) (first-others all s some is) (inr (untold, behind)),
   last,
 )
-
--- a line that isn't among the first, nor is the next one
-pub among-more : (xs : List Line) (i : ℕ) (x y : Line) → i < length xs → y ≡ get_or xs i y → (y ≡ x → ⊥) → (Contains (take i xs) x → ⊥) → Contains (take (i + 1) xs) x → ⊥
-among-more xs i x y inside there other none among =
-    elim (Contains-push_cases (take i xs) y x (subst (λ (l : List Line). Contains l x) (up_to xs i y inside there) among)) [
-      | inl before ↦ none before
-      | inr same ↦ other same
-    ]
-
--- nor among all
-pub among-none : (xs : List Line) (i : ℕ) (x : Line) → length xs ≤ i → (Contains (take i xs) x → ⊥) → Contains xs x → ⊥
-among-none xs i x past none among = none (subst (λ (l : List Line). Contains l x) (sym (take_all i xs past)) among)
-
--- it is the one at this place
-pub among-here : (xs : List Line) (i : ℕ) (x y : Line) → i < length xs → y ≡ get_or xs i y → y ≡ x → Contains xs x
-among-here xs i x y inside there same = subst (Contains xs) (sym there ∙ same) (Contains-get_or xs i y inside)
 
 -- the first of some games doesn't lead here, and the others are told
 pub games-later : (q : Asked) (games : List (List Move)) (g : List Move) (o r : List ℕ) → 1 ≤ length games → g ≡ get_or games 0 g → (LeadsHere g q → ⊥) → (own : List ℕ) × TellsGame q (drop 1 games) own × (r ≡ o ++ own) → (own : List ℕ) × TellsGame q games own × (r ≡ o ++ own)

@@ -5,7 +5,7 @@ use Rattle.board_base.specs.declared.unmoves.Unmove.{Unmove}
 use Rattle.query_base.specs.Asked.{Asked}
 use Rattle.line_claims.specs.declared.claims.LineClaim.{LineClaim}
 use Rattle.line_claims.specs.declared.claims.LineClaim.TheVariants.{NotBoth, Line}
-use Rattle.claim_findings.specs.Findings.{is_proved}
+use Rattle.diagram_study.specs.ClaimFindings.{is_proved}
 use Rattle.diagram_study.specs.Possible.{HasFewLeft}
 use Rattle.diagram_study.specs.declared.findings.Found.{Found}
 use Rattle.diagram_study.specs.declared.forced.StepsFound.{StepsFound}

@@ -8,3 +8,16 @@ pub mod Open
 pub mod Lengths
 pub mod Reports
 pub mod Told
+pub use Rattle.diagram_study.specs.Facts
+pub use Rattle.diagram_study.specs.Studies
+pub use Rattle.claim_search.specs.Settlements
+pub use Rattle.claim_search.specs.Answers
+pub use Rattle.claim_search.specs.Plain
+pub use Rattle.claim_search.specs.Lone
+pub use Rattle.claim_search.specs.SearchSizes
+pub use Rattle.claim_search.specs.Unsettled
+pub use Rattle.claim_search.specs.Refutable
+pub use Rattle.claim_search.specs.Costs
+pub use Rattle.claim_search.specs.Found
+pub use Rattle.claim_search.specs.Lines
+pub use Rattle.proof_prose.specs.Prose

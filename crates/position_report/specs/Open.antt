@@ -16,8 +16,8 @@ use Rattle.verdict_prose.specs.Moves.{open_line_text}
 use Rattle.verdict_prose.specs.Sentences.{verdict_text}
 use Rattle.verdict_prose.specs.declared.verdicts.Verdict.{Verdict}
 use Rattle.verdict_prose.specs.declared.verdicts.Verdict.TheVariants.{Unsettled, UnsettledBoth}
-use Rattle.claim_findings.specs.declared.findings.Finding.{Finding}
-use Rattle.position_report.specs.Sayings.{is_open}
+use Rattle.diagram_study.specs.Finding.{Finding}
+use Rattle.diagram_study.specs.Held.{is_open}
 
 -- with which moves a line ends that stays open, and what was before them
 abbrev pub front_text : Asked → List Unmove → List ℕ

@@ -1,5 +1,5 @@
 -- Parts of a report.
-use Rattle.std.specs.Prelude.{ℕ, ◌==◌, cond, List, [], ◌∷◌, ◌++◌, length}
+use Rattle.std.specs.Prelude.{ℕ, ◌==◌, cond, List, [], ◌∷◌, length}
 use Rattle.std.specs.List.{flat_map}
 
 -- a part behind an empty line, if it has text

@@ -1,5 +1,5 @@
 -- Proofs of what a report shows.
-use Rattle.std.specs.Prelude.{ℕ, ◌≡◌, ◌+◌, ◌⊎◌, Bool, true, false, cond, List, [], ◌∷◌, ◌++◌, codes, nat_lt, Option, Some, None}
+use Rattle.std.specs.Prelude.{ℕ, ◌≡◌, ◌+◌, ◌<◌, ◌≤◌, ◌⊎◌, Bool, true, false, cond, List, [], ◌∷◌, ◌++◌, codes, nat_lt, Option, Some, None}
 use Rattle.std.specs.Fmt.{decimal}
 use Rattle.query_base.specs.Asked.{Asked}
 use Rattle.query_base.specs.Targets.{target}
@@ -8,10 +8,10 @@ use Rattle.fen_text.specs.OddsLines.{is_no_odds, odds_text}
 use Rattle.fen_text.specs.Spelling.{spelling}
 use Rattle.cert_text.specs.Certificate.{Certificate}
 use Rattle.cert_text.specs.ClaimLines.{claim_text, promotes_well}
-use Rattle.claim_search.specs.Settlements.{IsSettlement}
-use Rattle.retro_search.specs.Answers.{IsProofOf, IsProved}
-use Rattle.retro_search.specs.Plain.{HasPlainSketch}
-use Rattle.retro_search.specs.declared.answers.Found.{Found as Answer}
+use Rattle.claim_search.specs.Answers.{IsProofOf}
+use Rattle.claim_search.specs.Plain.{HasPlainSketch}
+use Rattle.claim_search.specs.Unsettled.{WhereRefutable}
+use Rattle.price_search.specs.FlatPrices.{FlatPricesSupport}
 use Rattle.proof_prose.specs.Prose.{Explains, Retells}
 use Rattle.position_report.specs.declared.shown.Shown.{Shown}
 
@@ -62,12 +62,11 @@ pub record TellsProof (depth nodes number : ℕ) (s : Shown) (text : List ℕ) :
   pub told : TellsCertificate s.drawn cert own
   pub text_is : text ≡ title_text number ++ own ++ check_text depth nodes s
 
--- A proof may be left out: what settles the claim within these limits is no certificate. No node of a sketch refutes its target without
--- exact files, prices and marks.
+-- A proof may be left out: rule lines refute the claim's target at no depth within the limits at a cost of at most the nodes, flat prices
+-- don't support it, and no node of a sketch refutes it without exact files, prices and marks.
 pub record IsUntold (depth nodes : ℕ) (s : Shown) : Type 0 where
-  pub answer : Answer
-  pub settlement : IsSettlement depth nodes s.claim s.query answer
-  pub unproved : IsProved answer → ⊥
+  pub dear : WhereRefutable (target s.query s.claim) depth (λ n. nodes < n)
+  pub unpriced : 1 ≤ nodes → FlatPricesSupport (target s.query s.claim) → ⊥
   pub unsketched : HasPlainSketch (target s.query s.claim) → ⊥
 
 -- the proofs of these claims, in order and numbered from this number on, but for those that may be left out

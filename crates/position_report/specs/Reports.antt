@@ -9,7 +9,7 @@ use Rattle.ledger_prose.specs.Saying.{SentenceSays}
 use Rattle.ledger_prose.specs.Sentences.{sentences_of}
 use Rattle.ledger_prose.specs.Words.{prose_text}
 use Rattle.ledger_told.specs.Told.{IsLineTrue}
-use Rattle.claim_findings.specs.declared.findings.Finding.{Finding}
+use Rattle.diagram_study.specs.Finding.{Finding}
 use Rattle.diagram_study.specs.Findings.{IsFoundOf}
 use Rattle.diagram_study.specs.declared.findings.Findings.{Findings}
 use Rattle.diagram_study.specs.declared.findings.Findings.TheVariants.{Impossible, Unproved}
@@ -19,7 +19,7 @@ use Rattle.verdict_prose.specs.Verdicts.{IsSo}
 use Rattle.verdict_prose.specs.Sentences.{verdict_text}
 use Rattle.verdict_prose.specs.declared.verdicts.Verdict.{Verdict}
 use Rattle.verdict_prose.specs.declared.verdicts.Verdict.TheVariants.{AtLeast, Shown as IsShown}
-use Rattle.position_report.specs.Held.{TellsEachIf}
+use Rattle.position_report.specs.Held.{IsIfSo, held_prose}
 use Rattle.position_report.specs.LastMoves.{TellsLast}
 use Rattle.position_report.specs.Lengths.{TellsGame, length_text}
 use Rattle.position_report.specs.Open.{all_open}
@@ -33,22 +33,21 @@ unfoldable pub verdicts_text : Asked → List Verdict → List ℕ
 verdicts_text q verdicts = flat_map (verdict_text q) verdicts
 
 -- What is told of a position that isn't proved to be illegal: what is proved and what games show, a sentence each, and each is so; the last
--- moves; the paragraph of the ledger, whose lines are true of every game that reaches the position, and so is what its sentences say; what
--- ledgers say besides if a right is held; the proofs; what isn't settled; how long games are, and a game.
+-- moves; the paragraph of the ledger, whose lines are true of every game that reaches the position, and so is what its sentences say; those of
+-- what it says only if a right is held; the proofs; what isn't settled; how long games are, and a game.
 pub record TellsFound (q : Asked) (depth nodes : ℕ) (by : List (List Move)) (f : Found) (text : List ℕ) : Type 0 where
   pub so : All (IsSo q) (shown_of f)
   pub last : List ℕ
   pub last_told : TellsLast q f last
   pub true_ : All (IsLineTrue q) f.ledger.items
   pub says : (g : List Move) → Reaches g q → All (SentenceSays q g) (sentences_of q f.ledger.items)
-  pub held : List ℕ
-  pub held_told : TellsEachIf q f.ledger.items f.rights.items held
+  pub if_so : All (IsIfSo q) f.held.items
   pub proofs : List ℕ
   pub proofs_told : TellsProofs depth nodes 1 (shown_claims q f) proofs
   pub long : IfSome f.length (λ n. IsSo q (AtLeast n))
   pub game : List ℕ
   pub game_told : TellsGame q by game
-  pub text_is : text ≡ parts_text ((verdicts_text q (shown_of f) ++ last) ∷ prose_text q (sentences_of q f.ledger.items) ∷ held ∷ proofs ∷ all_open q f ∷ (length_text q f.length ++ game) ∷ [])
+  pub text_is : text ≡ parts_text ((verdicts_text q (shown_of f) ++ last) ∷ prose_text q (sentences_of q f.ledger.items) ∷ held_prose q f.held.items ∷ proofs ∷ all_open q f ∷ (length_text q f.length ++ game) ∷ [])
 
 -- What is told of a position that is illegal: that it is, what was found with the other side to move, and the proof.
 pub record TellsImpossible (q : Asked) (depth nodes : ℕ) (against : Finding) (text : List ℕ) : Type 0 where

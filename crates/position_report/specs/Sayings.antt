@@ -1,15 +1,14 @@
--- Which verdicts a report tells, and which claims stay open.
-use Rattle.std.specs.Prelude.{Bool, true, false, not, cond, List, [], ◌∷◌, ◌++◌, Option, Some, None}
+-- Which verdicts a report tells.
+use Rattle.std.specs.Prelude.{Bool, true, false, not, cond, List, [], ◌∷◌, ◌++◌}
 use Rattle.std.specs.List.{flat_map}
-use Rattle.board_base.specs.declared.castles.Castle.{Castle}
 use Rattle.query_base.specs.declared.claims.Claim.{Claim}
 use Rattle.query_base.specs.declared.claims.Claim.TheVariants.{Illegal}
 use Rattle.codex_verdict.specs.Rights.{claim_of}
 use Rattle.codex_verdict.specs.declared.kinds.Right.{Right}
 use Rattle.codex_verdict.specs.declared.kinds.Right.TheVariants.{Castling, EnPassant}
-use Rattle.claim_findings.specs.Findings.{is_proved}
-use Rattle.claim_findings.specs.declared.findings.Finding.{Finding}
-use Rattle.claim_findings.specs.declared.findings.Finding.TheVariants as finding
+use Rattle.diagram_study.specs.ClaimFindings.{is_proved}
+use Rattle.diagram_study.specs.Finding.{Finding}
+use Rattle.diagram_study.specs.Finding.TheVariants as finding
 use Rattle.diagram_study.specs.declared.findings.Found.{Found}
 use Rattle.diagram_study.specs.declared.pairs.PairFound.{PairFound}
 use Rattle.diagram_study.specs.declared.rights.RightFound.{RightFound}
@@ -47,20 +46,3 @@ other_of (finding.Proved depth) = OtherShown
 other_of finding.Countered = OtherCountered
 other_of finding.Open = OtherUnsettled
 other_of finding.Spent = OtherUnsettled
-
--- a claim that is neither proved nor countered
-abbrev pub is_open : Finding → Bool
-is_open (finding.Proved depth) = false
-is_open finding.Countered = false
-is_open finding.Open = true
-is_open finding.Spent = true
-
--- the castling of a right, if it is one and stays open
-abbrev pub open_castling : Bool → Right → Option Castle
-open_castling true (Castling x) = Some x
-open_castling true (EnPassant m) = None
-open_castling false right = None
-
--- the castling of a right that is neither proved to be lost nor shown to be kept by a game
-abbrev pub unsettled_castling : RightFound → Option Castle
-unsettled_castling f = open_castling (is_open f.finding) f.right

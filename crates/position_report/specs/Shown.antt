@@ -6,7 +6,7 @@ use Rattle.query_base.specs.declared.claims.Claim.{Claim}
 use Rattle.query_base.specs.declared.claims.Claim.TheVariants.{Illegal, Last}
 use Rattle.line_claims.specs.Due.{with_both}
 use Rattle.codex_verdict.specs.Rights.{claim_of}
-use Rattle.claim_findings.specs.Findings.{is_proved}
+use Rattle.diagram_study.specs.ClaimFindings.{is_proved}
 use Rattle.diagram_study.specs.declared.findings.Found.{Found}
 use Rattle.diagram_study.specs.declared.pairs.PairFound.{PairFound}
 use Rattle.diagram_study.specs.declared.retractions.MoveFound.{MoveFound}

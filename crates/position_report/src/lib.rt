@@ -14,5 +14,8 @@ mod sayings;
 mod shown;
 mod unsettled;
 
+pub use claim_search::{Found, Limits, settle, solve};
+pub use diagram_study::study;
+pub use proof_prose::explain;
 pub use reporting::report;
 pub use shown::Shown;

@@ -3,9 +3,9 @@
 ghost use Rattle.std.specs.Prelude.{List, ℕ, ◌≡◌, ◌+◌, ◌<◌, ◌≤◌, ◌^◌, ◌++◌, [], IfOk, MatchOption, None, codes, cond, length, nat_lt};
 ghost use Rattle.std.specs.List.{All};
 ghost use Rattle.cert_text.specs.SeenCert.{cert_of};
-ghost use Rattle.retro_search.specs.Answers.{IsProofOf, IsProved};
-ghost use Rattle.retro_search.specs.Proving.{ProvesClaim};
-ghost use Rattle.retro_search.specs.declared.answers.Found.TheVariants as found;
+ghost use Rattle.claim_search.specs.Answers.{IsProofOf, IsProved};
+ghost use Rattle.diagram_study.specs.Proving.{ProvesClaim};
+ghost use Rattle.claim_search.specs.Found.TheVariants as found;
 ghost use Rattle.position_report.specs.Proofs.{IsUntold, TellsCertificate, TellsProof, TellsProofs, title_text};
 
 use crate::checking::push_check;

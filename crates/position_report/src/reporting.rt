@@ -8,11 +8,11 @@ ghost use Rattle.query_base.specs.declared.claims.Claim.TheVariants.{Illegal};
 ghost use Rattle.unmove_gen.specs.Listed.{unmoves};
 ghost use Rattle.ledger_prose.specs.Sentences.{sentences_of};
 ghost use Rattle.ledger_prose.specs.Words.{prose_text};
-ghost use Rattle.claim_findings.specs.Findings.{IsFound};
+ghost use Rattle.diagram_study.specs.ClaimFindings.{IsFound};
 ghost use Rattle.diagram_study.specs.Findings.{AreFindings, IsFoundOf, other_side};
 ghost use Rattle.verdict_prose.specs.LastMoves.{EndsWithOneOf, WereLast};
 ghost use Rattle.verdict_prose.specs.declared.verdicts.Verdict.TheVariants.{Shown as IsShown};
-ghost use Rattle.position_report.specs.Held.{TellsEachIf};
+ghost use Rattle.position_report.specs.Held.{held_prose};
 ghost use Rattle.position_report.specs.LastMoves.{TellsLast, proved_steps};
 ghost use Rattle.position_report.specs.Lengths.{TellsGame, length_text};
 ghost use Rattle.position_report.specs.Proofs.{TellsProofs};
@@ -29,9 +29,8 @@ use crate::sayings::{other_of, shown_of};
 use crate::shown::{Shown, illegal_shown, shown_claims};
 use crate::unsettled::open_part;
 use board_base::MoveList;
-use claim_findings::{Finding, Games, Searchers, Subject};
 use claim_search::Limits;
-use diagram_study::{Findings, Found, find};
+use diagram_study::{Finding, Findings, Found, Games, Searchers, Subject, find};
 use ledger_prose::{sentences_hold, tell_ledger_prose};
 use ledger_told::told_lines_hold;
 use proof_prose::draw;
@@ -78,13 +77,12 @@ fn ledger_part(alloc: Global, query: &Query, found: &Found) -> Result<Vec<u8>, A
     Ok(part)
 }
 
-/// What the ledger says besides of each castling that isn't settled, if its right is held.
+/// What the ledger says only if a castling is held that isn't settled.
 fn held_part(alloc: Global, query: &Query, found: &Found) -> Result<Vec<u8>, AllocError>
-    ensures { IfOk result (λ part. TellsEachIf query.now found.now.ledger.items found.now.rights.items part.items) }
+    ensures { IfOk result (λ part. part.items ≡ held_prose query.now found.now.held.items) }
 {
     let mut part = Vec::new(alloc);
-    let known = found.ledger.as_slice();
-    push_each_held(alloc, query, known, found.rights.as_slice(), &mut part)?;
+    push_each_held(alloc, query, found.held.as_slice(), &mut part)?;
     Ok(part)
 }
 

@@ -1,13 +1,11 @@
-//! What is said of a position that isn't proved to be illegal, and which of it stays open.
+//! What is said of a position that isn't proved to be illegal.
 
 ghost use Rattle.std.specs.Prelude.{◌≡◌, ◌++◌, IfOk};
 ghost use Rattle.std.specs.List.{flat_map};
-ghost use Rattle.position_report.specs.Sayings.{is_asked, is_open, open_castling, other_of, pair_verdicts, right_verdicts, settled_of, shown_of, unsettled_castling};
+ghost use Rattle.position_report.specs.Sayings.{is_asked, other_of, pair_verdicts, right_verdicts, settled_of, shown_of};
 
-use board_base::Castle;
-use claim_findings::Finding;
 use codex_verdict::{Right, claim_of};
-use diagram_study::{Found, PairFound, RightFound};
+use diagram_study::{Finding, Found, PairFound, RightFound};
 use query_base::Claim;
 use std::alloc::{AllocError, Global};
 use verdict_prose::Verdict;
@@ -112,36 +110,4 @@ pub(crate) fn other_of(against: Finding) -> Verdict
         Finding::Open => Verdict::OtherUnsettled,
         Finding::Spent => Verdict::OtherUnsettled,
     }
-}
-
-/// Neither a proof nor a game was found.
-pub(crate) fn is_open(finding: Finding) -> bool
-    ensures { result ≡ is_open finding }
-{
-    match finding {
-        Finding::Proved(_) => false,
-        Finding::Countered => false,
-        Finding::Open => true,
-        Finding::Spent => true,
-    }
-}
-
-/// The castling of a right, if it is one and stays open.
-fn open_castling(is_open: bool, right: &Right) -> Option<Castle>
-    ensures { result ≡ open_castling is_open right.now }
-{
-    if !is_open {
-        return None;
-    }
-    match right {
-        Right::Castling(castle) => Some(*castle),
-        Right::EnPassant(_) => None,
-    }
-}
-
-/// The castling of a right that is neither proved to be lost nor shown to be kept by a game.
-pub(crate) fn unsettled_castling(found: &RightFound) -> Option<Castle>
-    ensures { result ≡ unsettled_castling found.now }
-{
-    open_castling(is_open(found.finding), &found.right)
 }

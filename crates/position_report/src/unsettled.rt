@@ -9,11 +9,9 @@ ghost use Rattle.unmove_gen.specs.Predecessor.{left_by};
 ghost use Rattle.codex_verdict.specs.Rights.{claim_of};
 ghost use Rattle.position_report.specs.Open.{all_open, front_text, open_illegal, open_pair, open_right, open_text, stuck_text};
 
-use crate::sayings::is_open;
 use board_base::{Unmove, UnmoveList};
-use claim_findings::Finding;
 use codex_verdict::claim_of;
-use diagram_study::{Found, PairFound, RightFound, with_both};
+use diagram_study::{Finding, Found, PairFound, RightFound, is_open, with_both};
 use proof_prose::draw;
 use prose_words::say;
 use query_base::{Claim, Query, target};

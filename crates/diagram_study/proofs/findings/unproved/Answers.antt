@@ -28,6 +28,7 @@ returns-clause-found c =
       steps = c.in_ok-steps.ensures.found;
       ends = c.in_ok-ends.ensures.found;
       ledger = c.in_ok-ledger.ensures;
+      held = rw (c.as_slice-known.ensures.value, c.as_slice.ensures.value) at c.in_ok-held.ensures;
       games = c.least_length-length.ensures;
     }
 

@@ -1,5 +1,6 @@
 use Rattle.std.proofs.Common.{sym, ◌∙◌}
-use Rattle.diagram_study.proofs.Telling.{again_told, ok_then}
+use Rattle.ledger_told.proofs.Joining.{ok_then}
+use Rattle.diagram_study.proofs.Telling.{again_told}
 use Rattle.diagram_study.proofs.studies.tell_again.Goals as goal
 
 pub returns-then-makes_demands : goal.returns-then-makes_demands

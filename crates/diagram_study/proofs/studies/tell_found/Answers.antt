@@ -8,10 +8,12 @@ use Rattle.ledger_told.specs.Line.{Line}
 use Rattle.ledger_told.specs.Told.{lines_text}
 use Rattle.diagram_study.specs.Pairs.{HasStuckPairText}
 use Rattle.diagram_study.specs.Rights.{HasStuckText}
-use Rattle.diagram_study.specs.Texts.{capture_lines, castling_lines, ends_text, pair_lines}
+use Rattle.diagram_study.specs.Texts.{capture_lines, castling_lines, ends_text, held_text, pair_lines}
+use Rattle.diagram_study.specs.declared.held.HeldFound.{HeldFound}
 use Rattle.diagram_study.specs.declared.pairs.PairFound.{PairFound}
 use Rattle.diagram_study.specs.declared.rights.RightFound.{RightFound}
-use Rattle.diagram_study.proofs.Telling.{all_told, ok_then}
+use Rattle.ledger_told.proofs.Joining.{ok_then}
+use Rattle.diagram_study.proofs.Telling.{all_told}
 use Rattle.diagram_study.proofs.studies.tell_found.Goals as goal
 
 pub tell_castlings-requires : goal.tell_castlings-requires
@@ -35,7 +37,7 @@ push_ends-requires-clause-few c = let few = c.requires.left.few in omega (arith,
 pub returns : goal.returns
 returns c =
     ok_then c.push_length.result _ _
-    (all_told c.args.found.now _ _ _ _ _ _ _ _ _ _ _
+    (all_told c.args.found.now _ _ _ _ _ _ _ _ _ _ _ _
     c.in_ok-push_decided.ensures
     (c.in_ok-tell_castlings.ensures ∙ ap (λ (l : List RightFound). c.push_decided.new.text.items ++ castling_lines l) c.as_slice-rights.ensures.value)
     (c.in_ok-tell_pairs.ensures ∙ ap (λ (l : List PairFound). c.tell_castlings.new.text.items ++ pair_lines l) c.as_slice.ensures.value)
@@ -44,5 +46,6 @@ returns c =
     c.in_ok-push_forced.ensures
     c.in_ok-push_left.ensures
     (c.in_ok-push_ends.ensures ∙ ap (λ (n : ℕ). c.push_left.new.text.items ++ ends_text c.args.found.now.ends n) c.len.ensures)
-    (c.in_ok-write_lines.ensures ∙ ap (λ (l : List Line). c.push_ends.new.text.items ++ lines_text l) c.as_slice-2.ensures.value))
+    (c.in_ok-write_lines.ensures ∙ ap (λ (l : List Line). c.push_ends.new.text.items ++ lines_text l) c.as_slice-2.ensures.value)
+    (c.in_ok-tell_held.ensures ∙ ap (λ (l : List HeldFound). c.write_lines.new.out.items ++ held_text l) c.as_slice-3.ensures.value))
     c.push_length.ensures

@@ -2,7 +2,8 @@ use Rattle.std.specs.Prelude.{codes}
 use Rattle.query_base.specs.declared.claims.Claim.TheVariants.{Illegal}
 use Rattle.claim_findings.specs.Lines.{found_line}
 use Rattle.diagram_study.specs.Texts.{other_line}
-use Rattle.diagram_study.proofs.Telling.{joins, ok_then}
+use Rattle.ledger_told.proofs.Joining.{ok_then}
+use Rattle.diagram_study.proofs.Telling.{joins}
 use Rattle.diagram_study.proofs.studies.tell_impossible.Goals as goal
 
 pub returns : goal.returns

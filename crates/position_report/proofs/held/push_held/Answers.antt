@@ -1,17 +1,19 @@
-use Rattle.std.proofs.lemmas.Result.{on_ok_weaker}
-use Rattle.position_report.proofs.Holding.{held-by}
+use Rattle.std.proofs.Common.{List, ℕ, ◌++◌, ap, ◌∙◌}
+use Rattle.query_base.specs.Asked.{Asked}
+use Rattle.std.proofs.lemmas.Result.{IfOk-equal}
+use Rattle.ledger_lines.specs.declared.lines.Line.{Line}
+use Rattle.ledger_prose.specs.Sentences.{sentences_of}
+use Rattle.ledger_prose.specs.Words.{prose_text}
+use Rattle.position_report.specs.Held.{behind_if}
 use Rattle.position_report.proofs.held.push_held.Goals as goal
 
 pub returns : goal.returns
 returns c =
-    on_ok_weaker c.push_behind.result
-    (λ e. held-by c.args.query.now c.with_held-held.result c.args.known.now c.args.castle c.in_ok-lines.lines.items c.new-news.result.items _ c.new-prose.result.items _ _ _
-    c.with_held-held.ensures
-    c.in_ok-lines.ensures
-    (c.told_lines_hold.ensures _ _ c.in_ok-lines.ensures)
-    c.new-news.ensures.items
-    (rw c.as_slice.ensures.value at c.in_ok-add_news.ensures)
-    c.new-prose.ensures.items
-    (rw c.as_slice-2.ensures.value at c.in_ok-tell_ledger_prose.ensures)
-    (rw c.as_slice-3.ensures.value at e))
-    c.push_behind.ensures
+    let x = c.args.found.now.castle in
+    let prose = c.new-prose.result.items in
+    let written =
+    c.in_ok-tell_ledger_prose.ensures
+    ∙ ap (λ (l : List ℕ). l ++ prose_text c.with_held-held.result (sentences_of c.with_held-held.result c.as_slice.result.now)) c.new-prose.ensures.items
+    ∙ ap (λ (l : List Line). prose_text c.with_held-held.result (sentences_of c.with_held-held.result l)) c.as_slice.ensures.value
+    ∙ ap (λ (q : Asked). prose_text q (sentences_of q c.args.found.now.lines.items)) c.with_held-held.ensures in
+    IfOk-equal c.push_behind.result _ _ _ c.push_behind.ensures (ap (λ (l : List ℕ). c.args.out.now.items ++ behind_if x l) (c.as_slice-2.ensures.value ∙ written))

@@ -1,12 +1,10 @@
-use Rattle.std.proofs.Common.{List, ℕ, sym, subst, ◌∙◌}
-use Rattle.diagram_study.specs.declared.rights.RightFound.{RightFound}
-use Rattle.ledger_lines.specs.declared.lines.Line.{Line}
-use Rattle.position_report.specs.Held.{TellsEachIf}
-use Rattle.position_report.proofs.Joining.{from-nothing}
+use Rattle.std.proofs.Common.{List, ℕ, ◌++◌, ap, ◌∙◌}
+use Rattle.diagram_study.specs.declared.held.HeldFound.{HeldFound}
+use Rattle.position_report.specs.Held.{held_prose}
 use Rattle.position_report.proofs.reporting.held_part.Goals as goal
 
 pub returns : goal.returns
 returns c =
-    let q = c.args.query.now in
-    let told = from-nothing (TellsEachIf q c.as_slice-known.result.now c.as_slice.result.now) c.new-part.result.items _ c.new-part.ensures.items c.in_ok-push_each_held.ensures in
-    rw (c.as_slice-known.ensures.value, c.as_slice.ensures.value) at told
+    c.in_ok-push_each_held.ensures
+    ∙ ap (λ (l : List ℕ). l ++ held_prose c.args.query.now c.as_slice.result.now) c.new-part.ensures.items
+    ∙ ap (λ (l : List HeldFound). held_prose c.args.query.now l) c.as_slice.ensures.value

@@ -1,6 +1,6 @@
 use Rattle.std.proofs.Common.{take}
 use Rattle.std.specs.List.{Contains}
-use Rattle.position_report.proofs.held.is_among.Given as goal
+use Rattle.ledger_told.proofs.held.is_among.Given as goal
 
 abbrev pub invariant-loop-other : goal.invariant-loop-other
 invariant-loop-other l = Contains (take l.other-index l.lines) l.line → ⊥

@@ -1,8 +1,8 @@
 use Rattle.std.proofs.Common.{◌≡◌, true, sym, ◌∙◌, subst}
 use Rattle.ledger_lines.specs.declared.lines.Line.{Line}
 use Rattle.ledger_lines.specs.contracts.lines.LinePartialEq.TheImpl as lines
-use Rattle.position_report.proofs.SameLines.{exact, itself}
-use Rattle.position_report.proofs.held.is_same_line.Goals as goal
+use Rattle.ledger_told.proofs.SameLines.{exact, itself}
+use Rattle.ledger_told.proofs.held.is_same_line.Goals as goal
 
 pub returns : goal.returns
 returns c = (

@@ -1,7 +1,7 @@
 use Rattle.std.proofs.Common.{arith}
 use Rattle.std.proofs.lemmas.Bool.{both_ways}
-use Rattle.position_report.proofs.Telling.{among-more}
-use Rattle.position_report.proofs.held.is_among.Goals as goal
+use Rattle.ledger_told.proofs.News.{among-more}
+use Rattle.ledger_told.proofs.held.is_among.Goals as goal
 
 pub loop-other-preserved : goal.loop-other-preserved
 loop-other-preserved c =
