@@ -1,5 +1,5 @@
 -- What is left to be told.
-use Rattle.std.proofs.Common.{◌≡◌, ℕ, zero, suc, ◌+◌, ◌-◌, ◌<◌, drop, get_or, length, map, List, [], ◌∷◌, ◌++◌, append_assoc, append-nil, refl, ap, sym, ◌∙◌, subst, arith}
+use Rattle.std.proofs.Common.{◌≡◌, ℕ, zero, suc, ◌+◌, ◌-◌, ◌<◌, ◌≤◌, drop, get_or, length, map, List, [], ◌∷◌, ◌++◌, append_assoc, append-nil, refl, ap, sym, ◌∙◌, subst, arith}
 use Rattle.figures.specs.Figures.{Sketch}
 use Rattle.sketch_proof.specs.Proofs.{Setting}
 use Rattle.sketch_body.specs.Seen.{line_of}
@@ -97,6 +97,11 @@ pub drop-lines : (lines : List SketchLine) (k : ℕ) → drop k (map line_of lin
 drop-lines lines zero = refl
 drop-lines [] (suc k) = refl
 drop-lines (y ∷ ys) (suc k) = drop-lines ys k
+
+pub drop-few : (n : ℕ) (xs : List SketchLine) → length (drop n xs) ≤ length xs
+drop-few zero xs = omega arith
+drop-few (suc n) [] = omega arith
+drop-few (suc n) (x ∷ xs) = let later : length (drop n xs) ≤ length xs = drop-few n xs in omega (arith, later)
 
 pub drop-none : (n : ℕ) (xs : List Line) → xs ≡ [] → drop n xs ≡ []
 drop-none zero xs e = e

@@ -6,6 +6,7 @@ pub mod Marking
 pub mod Nodes
 pub mod Rests
 pub mod Siblings
-pub mod Nexts
+pub mod Beneath
+pub mod Denied
 pub mod Starting
 pub mod OneText

@@ -1,6 +1,5 @@
 -- The first node of all.
 use Rattle.std.proofs.Common.{◌≡◌, ℕ, List, [], ◌∷◌, ◌++◌, append-nil, refl, ap, sym, ◌∙◌, subst}
-use Rattle.std.specs.Prelude.{None}
 use Rattle.figures.specs.Figures.{Sketch, sketch_of}
 use Rattle.query_base.specs.Asked.{Asked}
 use Rattle.sketch_body.specs.Bodies.{Body}
@@ -24,9 +23,9 @@ first-left : (g : Setting) (S : Sketch) (tree : Node) (lines : List Line) → li
 first-left g S tree lines written holds fit =
     ([], refl, (holds, tt), (fit, tt), sym written ∙ sym (append-nil (lines_of tree)) ∙ sym (append-nil (lines_of tree ++ [])), refl)
 
-one-told : (g : Setting) (S : Sketch) (tree : Node) (said : List Sentence) → TellsAll g (first_level S ∷ []) (more tree none ∷ []) said → TellsOne tree g first_spot None none 1 (first_due S) said
+one-told : (g : Setting) (S : Sketch) (tree : Node) (said : List Sentence) → TellsAll g (first_level S ∷ []) (more tree none ∷ []) said → TellsOne tree g first_spot 1 (first_due S) said
 one-told g S tree said (a, b, e, (own, rest, e1, one, none_), nothing) =
-    subst (λ (l : List Sentence). TellsOne tree g first_spot None none 1 (first_due S) l)
+    subst (λ (l : List Sentence). TellsOne tree g first_spot 1 (first_due S) l)
     (sym (e ∙ ap (λ (l : List Sentence). a ++ l) nothing ∙ append-nil a ∙ e1 ∙ ap (λ (l : List Sentence). own ++ l) none_ ∙ append-nil own)) one
 
 -- the nodes were told with these lines and levels, from the sketch of the board

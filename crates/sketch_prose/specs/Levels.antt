@@ -9,19 +9,18 @@ use Rattle.sketch_checker.specs.Walks.{AreDue}
 use Rattle.sketch_proof.specs.Proofs.{Holds, Setting, with_lines}
 use Rattle.sketch_prose.specs.Sentences.{AllSay, Sentence, all_words, unmoved}
 use Rattle.sketch_words.specs.Phrases.{Spot}
-use Rattle.sketch_words.specs.declared.spots.Last.{Last}
-use Rattle.sketch_prose.specs.Telling.{Adds, TellsBelow, TellsEach, TellsOne, first_spot, known_with, marks_told, next_number, own_line, spot_below}
+use Rattle.sketch_prose.specs.Telling.{Adds, TellsBelow, TellsEach, TellsOne, first_spot, known_with, marks_told, next_number, spot_below}
+use Rattle.sketch_prose.specs.Leaves.{own_line}
 use Rattle.sketch_prose.specs.declared.leaves.Leaf.{Leaf}
 use Rattle.sketch_text.specs.Marks.{Marks}
 use Rattle.sketch_text.specs.Trees.{Line, Node, Nodes, Reason, count, lines_below, lines_each, node, of_marks}
 use Rattle.sketch_text.specs.declared.labels.Label.{Label}
 use Rattle.sketch_text.specs.declared.nodes.SketchNode.{SketchNode}
 
--- The nodes below one that are still to be told: where, behind which sibling, with which number the next one is told by itself, how many
+-- The nodes below one that are still to be told: where, with which number the next one is told by itself, how many
 -- they are, and those that are due.
 pub record Level : Type 0 where
   pub spot : Spot
-  pub last : Option Last
   pub number : ℕ
   pub count : ℕ
   pub due : List Due
@@ -49,7 +48,7 @@ TellsAll g [] [] ss = ss ≡ []
 TellsAll g [] (ns ∷ fs) ss = ⊥
 TellsAll g (v ∷ vs) [] ss = ⊥
 TellsAll g (v ∷ vs) (ns ∷ fs) ss =
-    (a : List Sentence) × (b : List Sentence) × (ss ≡ a ++ b) × TellsEach ns g v.spot v.last v.number v.due a × TellsAll g vs fs b
+    (a : List Sentence) × (b : List Sentence) × (ss ≡ a ++ b) × TellsEach ns g v.spot v.number v.due a × TellsAll g vs fs b
 
 -- Sentences that hold were written, after which this is left; with those that tell it they tell what was left before.
 pub record GoesOn (g : Setting) (diagram : Sketch) (old : List Level) (fs : List Nodes) (new : List Level) (rest : List Line) (before after : List ℕ) : Type 0 where
@@ -64,7 +63,7 @@ pub record GoesOn (g : Setting) (diagram : Sketch) (old : List Level) (fs : List
 abbrev pub OpensBelow : Reason → Setting → Spot → Sketch → List Sentence → Option Level → Type 0
 OpensBelow r g at S said None = (lines_below r ≡ []) × TellsBelow r g at S said
 OpensBelow r g at S said (Some v) =
-    (ns : Nodes) × (lines_below r ≡ lines_each ns) × (count ns ≡ v.count) × AreDue ns g v.due × AreFit g.odds v.due × ((ss : List Sentence) → TellsEach ns g v.spot v.last v.number v.due ss → TellsBelow r g at S (said ++ ss))
+    (ns : Nodes) × (lines_below r ≡ lines_each ns) × (count ns ≡ v.count) × AreDue ns g v.due × AreFit g.odds v.due × ((ss : List Sentence) → TellsEach ns g v.spot v.number v.due ss → TellsBelow r g at S (said ++ ss))
 
 -- the end was told by sentences that hold
 pub record EndsTold (r : Reason) (g : Setting) (diagram : Sketch) (at : Spot) (S : Sketch) (below : Option Level) (before after : List ℕ) : Type 0 where
@@ -113,27 +112,27 @@ pub record IsHere (x : Node) (ns : Nodes) (d : Due) (g : Setting) (left : ℕ) (
   pub lines_are : lines ≡ map (λ m. of_marks m) (marks_of x) ++ (lines_under x ++ (lines_each ns ++ rest))
 
 -- the nodes below one are these at this level, or there are none; and with the sentences that tell them these tell it
-abbrev pub OpensNode : Node → Nodes → Setting → Spot → Option Last → ℕ → Due → List Sentence → Option Level → Type 0
-OpensNode x ns g at p n d said None = (lines_under x ≡ []) × TellsOne x g at p ns n d said
-OpensNode x ns g at p n d said (Some v) =
-    (ms : Nodes) × (lines_under x ≡ lines_each ms) × (count ms ≡ v.count) × AreDue ms g v.due × AreFit g.odds v.due × ((ss : List Sentence) → TellsEach ms g v.spot v.last v.number v.due ss → TellsOne x g at p ns n d (said ++ ss))
+abbrev pub OpensNode : Node → Setting → Spot → ℕ → Due → List Sentence → Option Level → Type 0
+OpensNode x g at n d said None = (lines_under x ≡ []) × TellsOne x g at n d said
+OpensNode x g at n d said (Some v) =
+    (ms : Nodes) × (lines_under x ≡ lines_each ms) × (count ms ≡ v.count) × AreDue ms g v.due × AreFit g.odds v.due × ((ss : List Sentence) → TellsEach ms g v.spot v.number v.due ss → TellsOne x g at n d (said ++ ss))
 
 -- the node was told by sentences that hold, up to what is below it
-pub record NodeTold (x : Node) (ns : Nodes) (g : Setting) (diagram : Sketch) (at : Spot) (p : Option Last) (n : ℕ) (d : Due) (below : Option Level) (before after : List ℕ) : Type 0 where
+pub record NodeTold (x : Node) (g : Setting) (diagram : Sketch) (at : Spot) (n : ℕ) (d : Due) (below : Option Level) (before after : List ℕ) : Type 0 where
   pub said : List Sentence
   pub so : AllSay g said
-  pub opens : OpensNode x ns g at p n d said below
+  pub opens : OpensNode x g at n d said below
   pub text : after ≡ before ++ all_words g diagram said
 
 -- the level behind a node of so many, which was told so
-abbrev pub behind : Spot → Last → ℕ → ℕ → List Due → Leaf → Level
-behind at this n count due leaf = record { spot = at; last = Some this; number = next_number leaf n; count = count - 1; due = due }
+abbrev pub behind : Spot → ℕ → ℕ → List Due → Leaf → Level
+behind at n count due leaf = record { spot = at; number = next_number leaf n; count = count - 1; due = due }
 
 -- ALL NODES
 
 -- the level of the first node
 abbrev pub first_level : Sketch → Level
-first_level S = record { spot = first_spot; last = None; number = 1; count = 1; due = first_due S ∷ [] }
+first_level S = record { spot = first_spot; number = 1; count = 1; due = first_due S ∷ [] }
 
 -- all that was left was told by sentences that hold
 pub record ToldWhole (g : Setting) (diagram : Sketch) (old : List Level) (fs : List Nodes) (before after : List ℕ) : Type 0 where

@@ -1,9 +1,10 @@
 pub mod Foreigners
 pub mod Sentences
 pub mod Telling
+pub mod Children
+pub mod Leaves
 pub mod Fixed
 pub mod Bases
-pub mod Neighbours
 pub mod Dues
 pub mod Levels
 pub mod Ending

@@ -1,6 +1,6 @@
 ghost use Rattle.std.specs.Prelude.{◌≡◌};
 ghost use Rattle.sketch_body.specs.Bodies.{is_now};
-ghost use Rattle.sketch_prose.specs.Telling.{end_leaf, is_shut, leaf_of};
+ghost use Rattle.sketch_prose.specs.Leaves.{end_leaf, leaf_of};
 
 use sketch_text::{End, Label, SketchNode};
 
@@ -42,15 +42,5 @@ pub(crate) fn leaf_of(node: &SketchNode) -> Leaf
         end_leaf(node.end)
     } else {
         Leaf::Open
-    }
-}
-
-/// Whether an account shuts it.
-pub(crate) fn is_shut(leaf: Leaf) -> bool
-    ensures { result ≡ is_shut leaf }
-{
-    match leaf {
-        Leaf::Shut(_) => true,
-        Leaf::Astray | Leaf::Open => false,
     }
 }

@@ -6,16 +6,15 @@ ghost use Rattle.sketch_prose.specs.Levels.{AreLeft, Passes, back};
 ghost use Rattle.sketch_text.specs.Trees.{Line as ALine, Nodes};
 
 use crate::dues::Left;
-use sketch_words::{Last, Spot};
+use sketch_words::Spot;
 use std::alloc::{AllocError, Global};
 use std::marker::Model;
 
-/// The nodes below one that are still to be told: where, behind which sibling, with which number the next one is told by itself, how many
+/// The nodes below one that are still to be told: where, with which number the next one is told by itself, how many
 /// they are, and those that are due.
 #[derive(Drop)]
 pub(crate) struct Level {
     pub(crate) spot: Spot,
-    pub(crate) last: Option<Last>,
     pub(crate) number: usize,
     pub(crate) count: u16,
     pub(crate) left: Left,
@@ -28,7 +27,7 @@ impl Model for Level {
 
     ghost Value = { ALevel };
 
-    ghost view = { λ v. record { spot = v.spot; last = v.last; number = v.number; count = v.count; due = due_by v.left } };
+    ghost view = { λ v. record { spot = v.spot; number = v.number; count = v.count; due = due_by v.left } };
 
     ghost invariant = { λ v. v.number + v.count ≤ 65536 };
 }

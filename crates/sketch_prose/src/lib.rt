@@ -4,13 +4,13 @@
 #![tactic(auto)]
 
 mod bases;
+mod children;
 mod dues;
 mod ends;
 mod foreigners;
 mod leaves;
 mod levels;
 mod marks;
-mod neighbours;
 mod opening;
 mod telling;
 mod whole;

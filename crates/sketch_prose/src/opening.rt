@@ -1,6 +1,6 @@
 //! Nodes that are told by themselves, up to what is below them.
 
-ghost use Rattle.std.specs.Prelude.{◌≡◌, ◌++◌, ◌∷◌, [], IfOk, List, codes, length, map};
+ghost use Rattle.std.specs.Prelude.{◌≡◌, ◌++◌, ◌∷◌, [], IfOk, List, codes, drop, length, map};
 ghost use Rattle.std.specs.Fmt.{decimal};
 ghost use Rattle.sketch_body.specs.Seen.{line_of};
 ghost use Rattle.sketch_proof.specs.Proofs.{AreAllForced, Ends, with_lines};
@@ -8,7 +8,7 @@ ghost use Rattle.sketch_prose.specs.Bases.{setting_with};
 ghost use Rattle.sketch_prose.specs.Levels.{IsFit, OpenTold};
 ghost use Rattle.sketch_prose.specs.Telling.{prefix_below, spot_below};
 ghost use Rattle.sketch_text.specs.Marks.{Marks};
-ghost use Rattle.sketch_text.specs.Trees.{Line as ALine, Reason, end_of, of_marks};
+ghost use Rattle.sketch_text.specs.Trees.{Line as ALine, Reason, end_of, lines_below, of_marks};
 
 use crate::bases::Base;
 use crate::ends::push_end;
@@ -84,6 +84,16 @@ fn spot_below(
     })
 }
 
+/// The lines behind so many.
+fn behind_marks(lines: &[SketchLine], marks: usize) -> &[SketchLine]
+    ensures { result.now ≡ drop marks lines.now }
+{
+    if marks > lines.len() {
+        return &[];
+    }
+    &lines[marks..]
+}
+
 /// What is told of a node behind its number, and the level of the nodes below it, if there are any.
 pub(crate) fn push_open(
     alloc: Global,
@@ -96,7 +106,7 @@ pub(crate) fn push_open(
     lines: &[SketchLine],
     out: &mut Vec<u8>,
 ) -> Result<Option<Level>, AllocError>
-    ensures { IfOk result (λ below. (ms : List Marks) (r : Reason) (more : List ALine) → map line_of lines.now ≡ map (λ m. of_marks m) ms ++ more → length ms ≡ node.now.marks → node.now.end ≡ end_of r → AreAllForced (setting_with base.now prices.now) ms sketch → Ends r (setting_with base.now prices.now) (with_lines ms sketch) → IsFit base.now.odds sketch → OpenTold ms r (setting_with base.now prices.now) base.now.diagram node.now.label spot.now number sketch below out.old.items out.new.items) }
+    ensures { IfOk result (λ below. (ms : List Marks) (r : Reason) (more : List ALine) → map line_of lines.now ≡ map (λ m. of_marks m) ms ++ (lines_below r ++ more) → length ms ≡ node.now.marks → node.now.end ≡ end_of r → AreAllForced (setting_with base.now prices.now) ms sketch → Ends r (setting_with base.now prices.now) (with_lines ms sketch) → IsFit base.now.odds sketch → OpenTold ms r (setting_with base.now prices.now) base.now.diagram node.now.label spot.now number sketch below out.old.items out.new.items) }
 {
     push_unmoved(alloc, base, spot.known, &sketch, out)?;
     let last = push_lines(
@@ -110,6 +120,14 @@ pub(crate) fn push_open(
     )?;
     let known = greatest_frozen(&last, base.held);
     let below = spot_below(alloc, &node.label, spot, number, known)?;
-    let level = push_end(alloc, base, below, &last, node.end, out)?;
+    let level = push_end(
+        alloc,
+        base,
+        below,
+        &last,
+        node.end,
+        behind_marks(lines, usize::from(node.marks)),
+        out,
+    )?;
     Ok(level)
 }

@@ -5,27 +5,20 @@ ghost use Rattle.sketch_body.specs.Seen.{line_of};
 ghost use Rattle.sketch_prose.specs.Bases.{AreKnown, setting_with};
 ghost use Rattle.sketch_prose.specs.Dues.{due_by};
 ghost use Rattle.sketch_prose.specs.Levels.{AreLeft, GoesOn, IsHere, NodeTold, ToldWhole, back, behind, due_with};
-ghost use Rattle.sketch_prose.specs.Sentences.{IsForeign};
-ghost use Rattle.sketch_words.specs.Phrases.{astray_words};
-ghost use Rattle.sketch_prose.specs.Telling.{last_with, next_number};
-ghost use Rattle.sketch_proof.specs.Nodes.{IsVoid};
-ghost use Rattle.capture_prices.specs.Prices.{PriceList};
+ghost use Rattle.sketch_prose.specs.Telling.{next_number};
 ghost use Rattle.sketch_text.specs.Trees.{Line as ALine, Node as ANode, Nodes, of_node};
 ghost use Rattle.sketch_text.specs.declared.labels.Label.{Label as ALabel};
 
 use crate::bases::Base;
 use crate::dues::{Left, next_due};
-use crate::foreigners::first_foreign;
-use crate::leaves::{Leaf, is_shut, leaf_of};
+use crate::leaves::{Leaf, leaf_of};
 use crate::levels::{Level, Levels, next_level};
-use crate::neighbours::{begins_shut, last_with};
 use crate::opening::push_open;
 use capture_prices::Prices;
 use figures::Sketch;
 use sketch_body::SketchLine;
-use sketch_grounds::greatest_frozen;
-use sketch_text::{Label, SketchNode};
-use sketch_words::{Last, Spot, push_astray, push_heading, push_shut};
+use sketch_text::SketchNode;
+use sketch_words::{Spot, push_heading};
 use std::alloc::{AllocError, Global};
 
 /// The number of the next sibling that is told by itself.
@@ -41,67 +34,36 @@ fn next_number(leaf: Leaf, number: usize) -> usize
 }
 
 /// The level behind a node of so many, which was told so.
-fn behind(spot: Spot, this: Last, number: usize, count: u16, left: Left, leaf: Leaf) -> Level
+fn behind(spot: Spot, number: usize, count: u16, left: Left, leaf: Leaf) -> Level
     requires some { 0 < count }
     requires low { number + count ≤ 65536 }
-    ensures { result ≡ behind spot this number count (due_by left) leaf }
+    ensures { result ≡ behind spot number count (due_by left) leaf }
 {
     Level {
         spot,
-        last: Some(this),
         number: next_number(leaf, number),
         count: count - 1,
         left,
     }
 }
 
-/// A sibling that is void.
-fn push_void(
-    base: &Base,
-    spot: &Spot,
-    sketch: &Sketch,
-    label: &Label,
-    out: &mut Vec<u8>,
-) -> Result<(), AllocError>
-    ensures { IfOk result (λ _. (prices : List PriceList) → IsVoid base.now.odds base.now.held sketch.now → (s : ℕ) × IsForeign (setting_with base.now prices) sketch.now s × (out.new.items ≡ out.old.items ++ astray_words base.now.odds spot.now s label.now)) }
-{
-    let set = greatest_frozen(sketch, base.held);
-    match first_foreign(sketch, set, base.odds) {
-        Some(s) => {
-            push_astray(base.odds, spot, s, label, out)?;
-            Ok(())
-        }
-        None => Ok(()),
-    }
-}
-
-/// A node among its siblings, of which so many are left, and the level of the nodes below it, if there are any.
+/// A node among its siblings, and the level of the nodes below it, if there are any.
 fn push_sibling(
     alloc: Global,
     base: &Base,
     prices: &[Prices],
     spot: &Spot,
-    last: &Option<Last>,
-    this: &Last,
     number: usize,
-    left: u16,
     sketch: Sketch,
     node: &SketchNode,
     lines: &[SketchLine],
     out: &mut Vec<u8>,
 ) -> Result<Option<Level>, AllocError>
-    ensures { IfOk result (λ below. AreKnown prices.now → (x : ANode) (ns : Nodes) (label : ALabel) (rest : List ALine) → IsHere x ns (due_with label sketch) (setting_with base.now prices.now) left node.now (map line_of lines.now) rest → this.now ≡ last_with last.now node.now ns → NodeTold x ns (setting_with base.now prices.now) base.now.diagram spot.now last.now number (due_with label sketch) below out.old.items out.new.items) }
+    ensures { IfOk result (λ below. AreKnown prices.now → (x : ANode) (ns : Nodes) (label : ALabel) (left : ℕ) (rest : List ALine) → IsHere x ns (due_with label sketch) (setting_with base.now prices.now) left node.now (map line_of lines.now) rest → NodeTold x (setting_with base.now prices.now) base.now.diagram spot.now number (due_with label sketch) below out.old.items out.new.items) }
 {
     match leaf_of(node) {
-        Leaf::Shut(_) => {
-            let more = begins_shut(left, lines);
-            push_shut(spot, last, this, more, out)?;
-            Ok(None)
-        }
-        Leaf::Astray => {
-            push_void(base, spot, &sketch, &node.label, out)?;
-            Ok(None)
-        }
+        Leaf::Shut(_) => Ok(None),
+        Leaf::Astray => Ok(None),
         Leaf::Open => {
             push_heading(spot, number, &node.label, out)?;
             let below = push_open(alloc, base, prices, spot, number, sketch, node, lines, out)?;
@@ -140,7 +102,6 @@ fn push_node(
 {
     let Level {
         spot,
-        last,
         number,
         count,
         left,
@@ -149,22 +110,8 @@ fn push_node(
     let Some(sketch) = first else {
         return Ok(());
     };
-    let this = last_with(&last, node, count - 1, lines);
-    let below = push_sibling(
-        alloc,
-        base,
-        prices,
-        &spot,
-        &last,
-        &this,
-        number,
-        count - 1,
-        sketch,
-        node,
-        lines,
-        out,
-    )?;
-    let next = behind(spot, this, number, count, left, leaf_of(node));
+    let below = push_sibling(alloc, base, prices, &spot, number, sketch, node, lines, out)?;
+    let next = behind(spot, number, count, left, leaf_of(node));
     push_levels(levels, next, below)?;
     Ok(())
 }

@@ -67,7 +67,6 @@ fn first_level(alloc: Global, sketch: Sketch) -> Result<Level, AllocError>
 {
     Ok(Level {
         spot: first_spot(alloc)?,
-        last: None,
         number: 1,
         count: 1,
         left: Left::First(sketch),

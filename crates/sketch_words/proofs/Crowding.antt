@@ -1,5 +1,5 @@
 -- Figures for whom there are too few homes.
-use Rattle.std.proofs.Common.{◌≡◌, ℕ, zero, suc, ◌+◌, ◌<◌, ◌≤◌, ◌==◌, Bool, true, false, cond, ◌||◌, not, List, [], ◌∷◌, ◌++◌, drop, length, refl, ap, sym, ◌∙◌, arith}
+use Rattle.std.proofs.Common.{◌≡◌, ℕ, zero, suc, ◌+◌, ◌<◌, ◌≤◌, ◌==◌, Bool, true, false, cond, ◌&&◌, ◌||◌, not, List, [], ◌∷◌, ◌++◌, drop, length, refl, ap, sym, ◌∙◌, arith}
 use Rattle.std.specs.Prelude.{None, Option, Some, count_by, nat_lt}
 use Rattle.std.proofs.lemmas.List.{drop_all}
 use Rattle.std.proofs.lemmas.List.Sums.{sum_by-cons}
@@ -11,9 +11,11 @@ use Rattle.figures.specs.Homes.{is_home, lives_within}
 use Rattle.figures.specs.Sets.{squares_that}
 use Rattle.sketch_sets.proofs.Sets.{all-same, inside-told}
 use Rattle.sketch_sets.specs.Homes.{has_like, home_count, homes_on}
-use Rattle.sketch_words.specs.Crowds.{came_words, first_lacking, is_lodger, lacks_homes, lodgers_words, why_words}
+use Rattle.sketch_words.specs.Crowds.{came_words, first_lacking, is_lodger, lacks_homes, lodgers_words, why_at}
 use Rattle.sketch_words.specs.Lodging.{lacks_on, lives_on, lodges_on}
 use Rattle.sketch_words.specs.Words.{set_words}
+use Rattle.sketch_words.specs.declared.crowds.Lack.{Lack}
+use Rattle.sketch_words.specs.declared.crowds.Lack.TheVariants.{Home, Room}
 
 -- HOMES
 
@@ -61,9 +63,15 @@ not-not : (b : Bool) → b ≡ not (not b)
 not-not true = refl
 not-not false = refl
 
-pub lacks-told : (all_ : Bool) (o : List Bool) (T : Sketch) (f : Figure) → lacks_on all_ (array_of o) T f ≡ lacks_homes all_ o T f
-lacks-told true o T f = ap (λ (n : ℕ). n == 0) (beds-told o f)
-lacks-told false o T f =
+seats-told : (set : List Bool) → home_count set ≡ count_by (is_in set) (range_with_len 0 64)
+unfolding home_count
+seats-told set = refl
+
+pub lacks-told : (lack : Lack) (o : List Bool) (T : Sketch) (f : Figure) → lacks_on lack (array_of o) T f ≡ lacks_homes lack o T f
+lacks-told (Home below) o T f =
+    ap (λ (n : ℕ). (n == 0) && nat_lt (home_count f.squares) below) (beds-told o f)
+    ∙ ap (λ (n : ℕ). (count_by (is_home o f) (range_with_len 0 64) == 0) && nat_lt n below) (seats-told f.squares)
+lacks-told Room o T f =
     ap (λ (n : ℕ). nat_lt n (count_by (lives_on (array_of o) (homes_on (array_of o) f)) T)) (beds-told o f)
     ∙ ap (λ (n : ℕ). nat_lt (count_by (is_home o f) (range_with_len 0 64)) n) (lodgers-told o T f)
     ∙ not-not (nat_lt (count_by (is_home o f) (range_with_len 0 64)) (count_by (lives_within o f) T))
@@ -80,28 +88,27 @@ none-past [] i e = omega arith
 none-past (f ∷ S) zero e = cc
 none-past (f ∷ S) (suc i) e = let past : length S ≤ i = none-past S i e in omega (arith, past)
 
-crowd-at : (all_ : Bool) (o : List Bool) (T : Sketch) (i : ℕ) (f : Figure) (first : Places) (b : Bool) → first ≡ array_of o → figure_at T i ≡ Some f → lacks_on all_ first T f ≡ b → first_lacking all_ o T (drop i T) ≡ cond b (Some f) (first_lacking all_ o T (drop (i + 1) T))
-crowd-at all_ o T i f first b same found is =
-    ap (first_lacking all_ o T) (drop-at T i f found)
-    ∙ ap (λ (h : Bool). cond h (Some f) (first_lacking all_ o T (drop (i + 1) T))) (sym (lacks-told all_ o T f) ∙ ap (λ (p : Places). lacks_on all_ p T f) (sym same) ∙ is)
+crowd-at : (lack : Lack) (o : List Bool) (T : Sketch) (i : ℕ) (f : Figure) (first : Places) (b : Bool) → first ≡ array_of o → figure_at T i ≡ Some f → lacks_on lack first T f ≡ b → first_lacking lack o T i (drop i T) ≡ cond b (Some i) (first_lacking lack o T (i + 1) (drop (i + 1) T))
+crowd-at lack o T i f first b same found is =
+    ap (first_lacking lack o T i) (drop-at T i f found)
+    ∙ ap (λ (h : Bool). cond h (Some i) (first_lacking lack o T (i + 1) (drop (i + 1) T))) (sym (lacks-told lack o T f) ∙ ap (λ (p : Places). lacks_on lack p T f) (sym same) ∙ is)
 
-pub crowd-on : (all_ : Bool) (o : List Bool) (T : Sketch) (i : ℕ) (f : Figure) (first : Places) → first ≡ array_of o → figure_at T i ≡ Some f → lacks_on all_ first T f ≡ false → first_lacking all_ o T (drop i T) ≡ first_lacking all_ o T T → first_lacking all_ o T (drop (i + 1) T) ≡ first_lacking all_ o T T
-crowd-on all_ o T i f first same found is before = sym (crowd-at all_ o T i f first false same found is) ∙ before
+pub crowd-on : (lack : Lack) (o : List Bool) (T : Sketch) (i : ℕ) (f : Figure) (first : Places) → first ≡ array_of o → figure_at T i ≡ Some f → lacks_on lack first T f ≡ false → first_lacking lack o T i (drop i T) ≡ first_lacking lack o T 0 T → first_lacking lack o T (i + 1) (drop (i + 1) T) ≡ first_lacking lack o T 0 T
+crowd-on lack o T i f first same found is before = sym (crowd-at lack o T i f first false same found is) ∙ before
 
-pub crowd-here : (all_ : Bool) (o : List Bool) (T : Sketch) (i : ℕ) (f : Figure) (first : Places) → first ≡ array_of o → figure_at T i ≡ Some f → lacks_on all_ first T f ≡ true → first_lacking all_ o T (drop i T) ≡ first_lacking all_ o T T → Some f ≡ first_lacking all_ o T T
-crowd-here all_ o T i f first same found is before = sym (crowd-at all_ o T i f first true same found is) ∙ before
+pub crowd-here : (lack : Lack) (o : List Bool) (T : Sketch) (i : ℕ) (f : Figure) (first : Places) → first ≡ array_of o → figure_at T i ≡ Some f → lacks_on lack first T f ≡ true → first_lacking lack o T i (drop i T) ≡ first_lacking lack o T 0 T → Some i ≡ first_lacking lack o T 0 T
+crowd-here lack o T i f first same found is before = sym (crowd-at lack o T i f first true same found is) ∙ before
 
-pub crowd-end : (all_ : Bool) (o : List Bool) (T : Sketch) (i : ℕ) → length T ≤ i → first_lacking all_ o T (drop i T) ≡ first_lacking all_ o T T → None ≡ first_lacking all_ o T T
-crowd-end all_ o T i past before = sym (ap (first_lacking all_ o T) (drop_all i T past)) ∙ before
+pub crowd-end : (lack : Lack) (o : List Bool) (T : Sketch) (i : ℕ) → length T ≤ i → first_lacking lack o T i (drop i T) ≡ first_lacking lack o T 0 T → None ≡ first_lacking lack o T 0 T
+crowd-end lack o T i past before = sym (ap (first_lacking lack o T i) (drop_all i T past)) ∙ before
 
 -- IN WORDS
 
-pub crowd-words : (o : List Bool) (D S T : Sketch) (f : Figure) (first : Places) (homes : List Bool) (wanted : ℕ) (names home_list squares : List ℕ) (old new : List ℕ) → first ≡ array_of o → homes ≡ homes_on first f → wanted ≡ count_by (lives_on first homes) T → names ≡ lodgers_words o D S T f → home_list ≡ set_words homes → squares ≡ set_words f.squares → new ≡ old ++ came_words (wanted == 1) names home_list squares → new ≡ old ++ why_words o D S T (Some f)
-crowd-words o D S T f first homes wanted names home_list squares old new same is many named listed seen text =
-    let own : homes ≡ homes_on (array_of o) f = is ∙ ap (λ (p : Places). homes_on p f) same in
-    let count : wanted ≡ count_by (lives_within o f) T = many ∙ ap (λ (p : Places). count_by (lives_on p homes) T) same ∙ ap (λ (l : List Bool). count_by (lives_on (array_of o) l) T) own ∙ lodgers-told o T f in
+pub crowd-words : (o : List Bool) (D S T : Sketch) (i : ℕ) (f : Figure) (first : Places) (homes : List Bool) (own : Option Figure) (names home_list squares : List ℕ) (old new : List ℕ) → first ≡ array_of o → homes ≡ homes_on first f → own ≡ figure_at S i → names ≡ lodgers_words o D S T f → home_list ≡ set_words homes → squares ≡ set_words f.squares → new ≡ old ++ came_words D i own names home_list squares → new ≡ old ++ why_at o D S T i (Some f)
+crowd-words o D S T i f first homes own names home_list squares old new same is own_is named listed seen text =
+    let homes_is : homes ≡ squares_that (is_home o f) = is ∙ ap (λ (p : Places). homes_on p f) same ∙ homes-are o f in
     text
-    ∙ ap (λ (n : ℕ). old ++ came_words (n == 1) names home_list squares) count
-    ∙ ap (λ (l : List ℕ). old ++ came_words (count_by (lives_within o f) T == 1) l home_list squares) named
-    ∙ ap (λ (l : List ℕ). old ++ came_words (count_by (lives_within o f) T == 1) (lodgers_words o D S T f) l squares) (listed ∙ ap set_words (own ∙ homes-are o f))
-    ∙ ap (λ (l : List ℕ). old ++ came_words (count_by (lives_within o f) T == 1) (lodgers_words o D S T f) (set_words (squares_that (is_home o f))) l) seen
+    ∙ ap (λ (x : Option Figure). old ++ came_words D i x names home_list squares) own_is
+    ∙ ap (λ (l : List ℕ). old ++ came_words D i (figure_at S i) l home_list squares) named
+    ∙ ap (λ (l : List ℕ). old ++ came_words D i (figure_at S i) (lodgers_words o D S T f) l squares) (listed ∙ ap set_words homes_is)
+    ∙ ap (λ (l : List ℕ). old ++ came_words D i (figure_at S i) (lodgers_words o D S T f) (set_words (squares_that (is_home o f))) l) seen

@@ -1,1 +1,2 @@
 pub mod Crowding
+pub mod Denying

@@ -5,7 +5,7 @@ use Rattle.std.specs.Fmt.{decimal}
 use Rattle.board_base.specs.Board.{is_in}
 use Rattle.board_base.specs.Rights.{Rights}
 use Rattle.board_base.specs.Texts.{square_text}
-use Rattle.board_base.specs.declared.men.Kind.TheVariants.{Pawn}
+use Rattle.board_base.specs.declared.men.Kind.TheVariants as kind
 use Rattle.figures.specs.Frozen.{is_held_home}
 use Rattle.figures.specs.Sets.{squares_that}
 use Rattle.figures.specs.Figures.{Figure, Sketch, figure_at, is_fixed_on, may_be}
@@ -45,7 +45,8 @@ taken_words taken.Officer = codes " with promotion (a knight, rook or queen fell
 
 -- that other pawns of the file that the pawn left stood above it
 abbrev pub above_words : ℕ → List ℕ
-above_words n = cond (n == 0) [] (codes " from below " ++ decimal n ++ codes " of the file's pawns")
+above_words n =
+    cond (n == 0) [] (cond (n == 1) (codes " with a pawn above it") (codes " with " ++ decimal n ++ codes " pawns above it"))
 
 -- what stands behind the squares of a step
 abbrev pub way_words : Way → List ℕ
@@ -150,6 +151,29 @@ now_words (Some f) = codes " (now" ++ fixed_words f ++ codes ")"
 abbrev pub figure_words : Sketch → ℕ → Figure → List ℕ
 figure_words diagram i f = cond (length (fixed_words f) == 0) (now_words (figure_at diagram i)) (fixed_words f)
 
+-- what an officer who is no bishop is called
+abbrev pub officer_noun : Bool → Bool → List ℕ
+officer_noun knight rook = cond (knight && rook) (codes "officer") (cond knight (codes "knight") (cond rook (codes "rook") (codes "queen")))
+
+-- what a man is called by his kinds
+abbrev pub noun_of : Figure → List ℕ
+noun_of f =
+    cond (may_be f kind.Pawn) (codes "pawn") (cond (may_be f kind.King) (codes "king") (cond (may_be f kind.Bishop) (codes "bishop") (officer_noun (may_be f kind.Knight) (may_be f kind.Rook))))
+
+-- where a man stands in the diagram, if he does
+abbrev pub later_words : Option Figure → List ℕ
+later_words None = codes " who fell"
+later_words (Some f) = codes " now on" ++ fixed_words f
+
+-- where the figure with this number, counted from 0, stands: on his square, if he has one alone, and otherwise where he does in the diagram
+abbrev pub place_words : Sketch → ℕ → Figure → List ℕ
+place_words diagram i f = cond (length (fixed_words f) == 0) (later_words (figure_at diagram i)) (codes " on" ++ fixed_words f)
+
+-- what a man is called by his kinds and where he stands, as in `the knight on h2`
+abbrev pub called_words : Sketch → ℕ → Option Figure → List ℕ
+called_words diagram i None = codes " a man"
+called_words diagram i (Some f) = (codes " the " ++ noun_of f) ++ place_words diagram i f
+
 -- the same bools
 abbrev pub agree : Bool → Bool → Bool
 agree true b = b
@@ -158,7 +182,7 @@ agree false b = not b
 -- the same if he is a pawn, or if he is none
 abbrev pub figure_if : Bool → Sketch → ℕ → Option Figure → List ℕ
 figure_if pawns diagram i None = []
-figure_if pawns diagram i (Some f) = cond (agree pawns (may_be f Pawn)) (figure_words diagram i f) []
+figure_if pawns diagram i (Some f) = cond (agree pawns (may_be f kind.Pawn)) (figure_words diagram i f) []
 
 -- the pawns or the officers of the figures with these numbers, counted from 1
 abbrev pub figures_words : Bool → Sketch → Sketch → List ℕ → List ℕ

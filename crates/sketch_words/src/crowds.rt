@@ -3,10 +3,11 @@
 ghost use Rattle.std.specs.Prelude.{◌≡◌, ◌++◌, IfOk, [], cond, count_by, Some};
 ghost use Rattle.sketch_sets.specs.Homes.{has_like, home_count, homes_on};
 ghost use Rattle.sketch_sets.specs.Tests.{is_inside};
-ghost use Rattle.sketch_words.specs.Crowds.{came_words, first_crowded, first_lacking, homeless_words, lodgers_words, named, one_words, why_words};
+ghost use Rattle.sketch_words.specs.Crowds.{came_words, first_crowded, first_homeless, first_lacking, first_roaming, lodgers_words, lone_words, named, places_words, why_at, why_words};
 ghost use Rattle.sketch_words.specs.Lodging.{lacks_on, lives_on, lodges_on};
+ghost use Rattle.sketch_words.specs.declared.crowds.Lack.TheVariants.{Home, Room};
 
-use crate::names::push_figure;
+use crate::names::{push_called, push_figure};
 use crate::sets::list_of;
 use board_base::{Board, Odds, Square, SquareSet, array_of, is_the};
 use figures::{Figure, Sketch, both, outside};
@@ -78,39 +79,90 @@ fn lodgers(first: &Board, homes: SquareSet, sketch: &Sketch) -> usize
         .count()
 }
 
-/// Whether the figure has no home if `all` says so, and otherwise whether more figures have all their homes among his than there are.
-fn lacks_homes(all: bool, first: &Board, sketch: &Sketch, figure: &Figure) -> bool
-    ensures { result ≡ lacks_on all first.now sketch.now figure.now }
+/// What a figure lacks.
+#[derive(Clone, Copy)]
+pub enum Lack {
+    /// A home; and he has fewer squares than so many.
+    Home(usize),
+    /// Room: more figures have all their homes among his than there are.
+    Room,
+}
+
+/// Whether the figure has no home, and fewer squares than so many.
+fn is_homeless(below: usize, first: &Board, figure: &Figure) -> bool
+    ensures { result ≡ lacks_on (Home below) first.now [] figure.now }
+{
+    let homes = homes_on(first, figure);
+    let beds = count(homes);
+    let seats = count(figure.squares);
+    let homeless = beds == 0;
+    let few = seats < below;
+    homeless & few
+}
+
+/// Whether more figures have all their homes among his than there are.
+fn is_crowded(first: &Board, sketch: &Sketch, figure: &Figure) -> bool
+    ensures { result ≡ lacks_on Room first.now sketch.now figure.now }
 {
     let homes = homes_on(first, figure);
     let beds = count(homes);
     let wanted = lodgers(first, homes, sketch);
-    if all { beds == 0 } else { beds < wanted }
+    beds < wanted
 }
 
-/// The first figure for whom it is so.
-fn first_lacking(all: bool, odds: Odds, sketch: &Sketch) -> Option<Figure>
-    ensures { result ≡ first_lacking all odds sketch.now sketch.now }
+/// Whether the figure lacks this.
+fn lacks_it(lack: Lack, first: &Board, sketch: &Sketch, figure: &Figure) -> bool
+    ensures { result ≡ lacks_on lack first.now sketch.now figure.now }
+{
+    match lack {
+        Lack::Home(below) => is_homeless(below, first, figure),
+        Lack::Room => is_crowded(first, sketch, figure),
+    }
+}
+
+/// The number, from 0, of the first figure who lacks this.
+fn first_lacking(lack: Lack, odds: Odds, sketch: &Sketch) -> Option<usize>
+    ensures { result ≡ first_lacking lack odds sketch.now 0 sketch.now }
 {
     let first = array_of(odds);
     for i in 0..sketch.len() {
         let Some(figure) = sketch.get(i) else {
             return None;
         };
-        if lacks_homes(all, &first, sketch, &figure) {
-            return Some(figure);
+        if lacks_it(lack, &first, sketch, &figure) {
+            return Some(i);
         }
     }
     None
 }
 
-/// The first figure without a home; if there is none, the first with too few.
-fn first_crowded(odds: Odds, sketch: &Sketch) -> Option<Figure>
+/// The first figure without a home who has at most eight squares; if there is none, the first without a home.
+fn first_roaming(odds: Odds, sketch: &Sketch) -> Option<usize>
+    ensures { result ≡ first_roaming odds sketch.now }
+{
+    match first_lacking(Lack::Home(9), odds, sketch) {
+        Some(i) => Some(i),
+        None => first_lacking(Lack::Home(65), odds, sketch),
+    }
+}
+
+/// The first figure without a home who has one square alone; if there is none, that one.
+fn first_homeless(odds: Odds, sketch: &Sketch) -> Option<usize>
+    ensures { result ≡ first_homeless odds sketch.now }
+{
+    match first_lacking(Lack::Home(2), odds, sketch) {
+        Some(i) => Some(i),
+        None => first_roaming(odds, sketch),
+    }
+}
+
+/// That one; if there is none, the first with too few homes.
+fn first_crowded(odds: Odds, sketch: &Sketch) -> Option<usize>
     ensures { result ≡ first_crowded odds sketch.now }
 {
-    match first_lacking(true, odds, sketch) {
-        Some(figure) => Some(figure),
-        None => first_lacking(false, odds, sketch),
+    match first_homeless(odds, sketch) {
+        Some(i) => Some(i),
+        None => first_lacking(Lack::Room, odds, sketch),
     }
 }
 
@@ -158,26 +210,19 @@ fn lodgers_list(
     Ok(list)
 }
 
-fn push_one(names: &[u8], squares: &[u8], out: &mut Vec<u8>) -> Result<(), AllocError>
-    ensures { IfOk result (λ _. out.new.items ≡ out.old.items ++ one_words names.now squares.now) }
-{
-    if squares.len() > 24 {
-        return push_two(b" this man can't have come from home:", names, out);
-    }
-    push_four(
-        b" this man can only have been on",
-        squares,
-        b", where no such man began:",
-        names,
-        out,
-    )
-}
-
 fn push_two(a: &[u8], b: &[u8], out: &mut Vec<u8>) -> Result<(), AllocError>
     ensures { IfOk result (λ _. out.new.items ≡ out.old.items ++ (a.now ++ b.now)) }
 {
     say(a, out)?;
     say(b, out)?;
+    Ok(())
+}
+
+fn push_three(a: &[u8], b: &[u8], c: &[u8], out: &mut Vec<u8>) -> Result<(), AllocError>
+    ensures { IfOk result (λ _. out.new.items ≡ out.old.items ++ (a.now ++ b.now ++ c.now)) }
+{
+    push_two(a, b, out)?;
+    say(c, out)?;
     Ok(())
 }
 
@@ -190,33 +235,55 @@ fn push_four(a: &[u8], b: &[u8], c: &[u8], d: &[u8], out: &mut Vec<u8>) -> Resul
     Ok(())
 }
 
-/// Men without a home; one man, and where he can have been, if that is on at most eight squares.
-fn push_homeless(
-    one: bool,
-    names: &[u8],
+/// On which squares a man can have been, if they are at most eight; his home isn't among them.
+fn push_places(squares: &[u8], out: &mut Vec<u8>) -> Result<(), AllocError>
+    ensures { IfOk result (λ _. out.new.items ≡ out.old.items ++ places_words squares.now) }
+{
+    if squares.len() == 3 {
+        return say(b" can only have been there, where no such man began", out);
+    }
+    if squares.len() > 24 {
+        return say(b" can't have come from home", out);
+    }
+    push_three(
+        b" can only have been on",
+        squares,
+        b", where no such man began",
+        out,
+    )
+}
+
+/// A man without a home.
+fn push_lone(
+    alloc: Global,
+    diagram: &Sketch,
+    i: usize,
+    figure: Option<Figure>,
     squares: &[u8],
     out: &mut Vec<u8>,
 ) -> Result<(), AllocError>
-    ensures { IfOk result (λ _. out.new.items ≡ out.old.items ++ homeless_words one names.now squares.now) }
+    ensures { IfOk result (λ _. out.new.items ≡ out.old.items ++ lone_words diagram.now i figure squares.now) }
 {
-    if one {
-        return push_one(names, squares, out);
-    }
-    push_two(b" these men can't have come from home:", names, out)
+    push_called(alloc, diagram, i, figure, out)?;
+    push_places(squares, out)?;
+    Ok(())
 }
 
-/// Men for whom there are only these homes, if there are any.
+/// Men for whom there are only these homes; or one man, with this number, for whom there are none.
 fn push_came(
-    one: bool,
+    alloc: Global,
+    diagram: &Sketch,
+    i: usize,
+    figure: Option<Figure>,
     names: &[u8],
     homes: &[u8],
     squares: &[u8],
     out: &mut Vec<u8>,
 ) -> Result<(), AllocError>
-    ensures { IfOk result (λ _. out.new.items ≡ out.old.items ++ came_words one names.now homes.now squares.now) }
+    ensures { IfOk result (λ _. out.new.items ≡ out.old.items ++ came_words diagram.now i figure names.now homes.now squares.now) }
 {
     if homes.len() == 0 {
-        return push_homeless(one, names, squares, out);
+        return push_lone(alloc, diagram, i, figure, squares, out);
     }
     push_four(
         b" these men can only have come from",
@@ -227,33 +294,54 @@ fn push_came(
     )
 }
 
-/// Which men can't have come from home, if they can have been where the wider sketch says. The figure is one for whom there are too few
-/// homes.
+/// Which men can't have come from home, if they can have been where the wider sketch says. The figure with this number is one for whom
+/// there are too few homes.
 fn push_crowd(
     alloc: Global,
     odds: Odds,
     diagram: &Sketch,
     sketch: &Sketch,
     wide: &Sketch,
+    i: usize,
     figure: &Figure,
     out: &mut Vec<u8>,
 ) -> Result<(), AllocError>
-    ensures { IfOk result (λ _. out.new.items ≡ out.old.items ++ why_words odds diagram.now sketch.now wide.now (Some figure.now)) }
+    ensures { IfOk result (λ _. out.new.items ≡ out.old.items ++ why_at odds diagram.now sketch.now wide.now i (Some figure.now)) }
 {
     let first = array_of(odds);
     let homes = homes_on(&first, figure);
-    let wanted = lodgers(&first, homes, wide);
     let names = lodgers_list(alloc, odds, diagram, sketch, wide, figure)?;
     let home_list = list_of(alloc, homes)?;
     let squares = list_of(alloc, figure.squares)?;
     push_came(
-        wanted == 1,
+        alloc,
+        diagram,
+        i,
+        sketch.get(i),
         names.as_slice(),
         home_list.as_slice(),
         squares.as_slice(),
         out,
     )?;
     Ok(())
+}
+
+/// The same of the figure with this number, if there is one.
+fn push_why_at(
+    alloc: Global,
+    odds: Odds,
+    diagram: &Sketch,
+    sketch: &Sketch,
+    wide: &Sketch,
+    i: usize,
+    out: &mut Vec<u8>,
+) -> Result<(), AllocError>
+    ensures { IfOk result (λ _. out.new.items ≡ out.old.items ++ why_words odds diagram.now sketch.now wide.now (Some i)) }
+{
+    match wide.get(i) {
+        None => say(b" not all men can have come from home", out),
+        Some(figure) => push_crowd(alloc, odds, diagram, sketch, wide, i, &figure, out),
+    }
 }
 
 fn push_why(
@@ -268,7 +356,7 @@ fn push_why(
 {
     match first_crowded(odds, wide) {
         None => say(b" not all men can have come from home", out),
-        Some(figure) => push_crowd(alloc, odds, diagram, sketch, wide, &figure, out),
+        Some(i) => push_why_at(alloc, odds, diagram, sketch, wide, i, out),
     }
 }
 

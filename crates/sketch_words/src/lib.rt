@@ -4,18 +4,18 @@
 #![tactic(auto)]
 
 mod crowds;
+mod denials;
 mod names;
 mod sentences;
 mod sets;
 mod spots;
 mod steps;
 
-pub use crowds::why_list;
+pub use crowds::{Lack, why_list};
+pub use denials::push_denials;
 pub use names::figures_list;
 pub use sentences::{
-    push_astray, push_foreign, push_fresh, push_heading, push_marked, push_settled, push_shut,
-    push_stepped, push_unknown,
+    push_foreign, push_fresh, push_heading, push_marked, push_settled, push_stepped, push_unknown,
 };
 pub use sets::{list_of, without};
-pub use spots::{Last, Spot};
-pub use steps::is_same_move;
+pub use spots::{Child, Flaw, Spot, is_top};

@@ -1,8 +1,8 @@
 //! Names of figures.
 
-ghost use Rattle.std.specs.Prelude.{◌≡◌, ◌++◌, ◌-◌, IfOk, codes};
+ghost use Rattle.std.specs.Prelude.{◌≡◌, ◌++◌, ◌-◌, IfOk, Some, codes};
 ghost use Rattle.figures.specs.Figures.{figure_at, is_fixed_on};
-ghost use Rattle.sketch_words.specs.Words.{agree, figure_if, figure_words, figures_words, fixed_words, now_words};
+ghost use Rattle.sketch_words.specs.Words.{agree, called_words, figure_if, figure_words, figures_words, fixed_words, later_words, noun_of, now_words, officer_noun, place_words};
 
 use board_base::{Kind, Square};
 use figures::{Figure, Sketch};
@@ -58,6 +58,104 @@ pub(crate) fn push_figure(
         return push_now(alloc, diagram.get(i), out);
     }
     say(list.as_slice(), out)
+}
+
+/// What a man is called by his kinds.
+fn noun_of(figure: &Figure) -> &'static [u8]
+    ensures { result.now ≡ noun_of figure.now }
+{
+    if figure.may_be(Kind::Pawn) {
+        b"pawn"
+    } else if figure.may_be(Kind::King) {
+        b"king"
+    } else if figure.may_be(Kind::Bishop) {
+        b"bishop"
+    } else {
+        officer_noun(figure.may_be(Kind::Knight), figure.may_be(Kind::Rook))
+    }
+}
+
+/// The same of an officer who is no bishop.
+fn officer_noun(knight: bool, rook: bool) -> &'static [u8]
+    ensures { result.now ≡ officer_noun knight rook }
+{
+    if knight && rook {
+        b"officer"
+    } else if knight {
+        b"knight"
+    } else if rook {
+        b"rook"
+    } else {
+        b"queen"
+    }
+}
+
+/// Where a man stands in the diagram, if he does.
+fn push_later(alloc: Global, figure: Option<Figure>, out: &mut Vec<u8>) -> Result<(), AllocError>
+    ensures { IfOk result (λ _. out.new.items ≡ out.old.items ++ later_words figure) }
+{
+    match figure {
+        None => say(b" who fell", out),
+        Some(man) => {
+            let list = fixed_list(alloc, &man)?;
+            push_pair(b" now on", list.as_slice(), out)
+        }
+    }
+}
+
+fn push_pair(a: &[u8], b: &[u8], out: &mut Vec<u8>) -> Result<(), AllocError>
+    ensures { IfOk result (λ _. out.new.items ≡ out.old.items ++ (a.now ++ b.now)) }
+{
+    say(a, out)?;
+    say(b, out)?;
+    Ok(())
+}
+
+/// Where the figure with this number, counted from 0, stands: on his square, if he has one alone, and otherwise where he does in the diagram.
+fn push_place(
+    alloc: Global,
+    diagram: &Sketch,
+    i: usize,
+    figure: &Figure,
+    out: &mut Vec<u8>,
+) -> Result<(), AllocError>
+    ensures { IfOk result (λ _. out.new.items ≡ out.old.items ++ place_words diagram.now i figure.now) }
+{
+    let list = fixed_list(alloc, figure)?;
+    if list.len() == 0 {
+        return push_later(alloc, diagram.get(i), out);
+    }
+    push_pair(b" on", list.as_slice(), out)
+}
+
+fn push_called_one(
+    alloc: Global,
+    diagram: &Sketch,
+    i: usize,
+    figure: &Figure,
+    out: &mut Vec<u8>,
+) -> Result<(), AllocError>
+    ensures { IfOk result (λ _. out.new.items ≡ out.old.items ++ called_words diagram.now i (Some figure.now)) }
+{
+    push_pair(b" the ", noun_of(figure), out)?;
+    push_place(alloc, diagram, i, figure, out)?;
+    Ok(())
+}
+
+/// What a man is called by his kinds and where he stands, as in `the knight on h2`.
+pub(crate) fn push_called(
+    alloc: Global,
+    diagram: &Sketch,
+    i: usize,
+    figure: Option<Figure>,
+    out: &mut Vec<u8>,
+) -> Result<(), AllocError>
+    ensures { IfOk result (λ _. out.new.items ≡ out.old.items ++ called_words diagram.now i figure) }
+{
+    match figure {
+        None => say(b" a man", out),
+        Some(man) => push_called_one(alloc, diagram, i, &man, out),
+    }
 }
 
 fn agree(a: bool, b: bool) -> bool

@@ -6,12 +6,12 @@ ghost use Rattle.std.specs.Fmt.{decimal};
 ghost use Rattle.board_base.specs.Board.{array_of, at};
 ghost use Rattle.board_base.specs.Texts.{square_text};
 ghost use Rattle.prose_words.specs.Words.{man_words};
-ghost use Rattle.sketch_words.specs.Phrases.{astray_words, deed_words, denied_words, file_words, files_words, follows_shut, foreign_words, fresh_words, heading_words, is_named, kept_words, marked_words, neither_words, number_words, opening_words, or_words, said_of, settled_words, shut_words, stayed_words, stepped_words, unknown_words, unmoved_words};
+ghost use Rattle.sketch_words.specs.Phrases.{deed_words, file_words, files_words, foreign_words, fresh_words, heading_words, kept_words, marked_words, neither_words, number_words, or_words, said_of, settled_words, stayed_words, stepped_words, unknown_words, unmoved_words, without_words};
 ghost use Rattle.sketch_words.specs.Words.{common, held_homes, men_words, name_words, without};
 
 use crate::sets::{held_homes, list_of, push_either, push_men, without};
-use crate::spots::{Last, Spot};
-use crate::steps::{is_same_move, push_lead, push_name, push_shown};
+use crate::spots::Spot;
+use crate::steps::{push_lead, push_name};
 use board_base::{CastleSet, Odds, Square, SquareSet, array_of};
 use figures::both;
 use prose_words::{push_man, push_number, push_square, say};
@@ -207,53 +207,57 @@ fn push_deed(alloc: Global, exact: &[bool; 8], out: &mut Vec<u8>) -> Result<(), 
     Ok(())
 }
 
-fn push_since(
-    alloc: Global,
-    exact: &[bool; 8],
-    list: &[u8],
-    out: &mut Vec<u8>,
-) -> Result<(), AllocError>
-    ensures { IfOk result (λ _. out.new.items ≡ out.old.items ++ (codes " Since the last " ++ deed_words exact.now ++ codes " the" ++ men_words list.now ++ codes " can't have moved.")) }
+/// Who can't have moved since the last step, if there are any steps.
+pub fn push_settled(list: &[u8], count: u16, out: &mut Vec<u8>) -> Result<(), AllocError>
+    ensures { IfOk result (λ _. out.new.items ≡ out.old.items ++ settled_words list.now count) }
 {
-    say(b" Since the last ", out)?;
+    if count == 0 || list.len() == 0 {
+        return Ok(());
+    }
+    push_the(b" Since then the", list, b" can't have moved.", out)
+}
+
+fn push_without_a(alloc: Global, exact: &[bool; 8], out: &mut Vec<u8>) -> Result<(), AllocError>
+    ensures { IfOk result (λ _. out.new.items ≡ out.old.items ++ (codes " Without a " ++ deed_words exact.now)) }
+{
+    say(b" Without a ", out)?;
     push_deed(alloc, exact, out)?;
-    say(b" the", out)?;
-    push_men(list, out)?;
-    say(b" can't have moved.", out)?;
     Ok(())
 }
 
-/// Who can't have moved since the last step.
-pub fn push_settled(
+/// Without a step, or, below the first node, without another one.
+fn push_without(
     alloc: Global,
+    first: bool,
     exact: &[bool; 8],
-    list: &[u8],
     out: &mut Vec<u8>,
 ) -> Result<(), AllocError>
-    ensures { IfOk result (λ _. out.new.items ≡ out.old.items ++ settled_words exact.now list.now) }
+    ensures { IfOk result (λ _. out.new.items ≡ out.old.items ++ without_words first exact.now) }
 {
-    if list.len() == 0 {
-        return Ok(());
+    if first {
+        push_without_a(alloc, exact, out)
+    } else {
+        say(b" Without another such move", out)
     }
-    push_since(alloc, exact, list, out)
 }
 
-/// Why not all men can have come from home without a step, that there was a last one, and whether there are any.
+/// Why not all men can have come from home without a step, that there was a last one, and whether there are any. The step before which it
+/// is told is the first one, or not.
 pub fn push_stepped(
     alloc: Global,
+    first: bool,
     exact: &[bool; 8],
     why: &[u8],
     count: u16,
     out: &mut Vec<u8>,
 ) -> Result<(), AllocError>
-    ensures { IfOk result (λ _. out.new.items ≡ out.old.items ++ stepped_words exact.now why.now count) }
+    ensures { IfOk result (λ _. out.new.items ≡ out.old.items ++ stepped_words first exact.now why.now count) }
 {
-    say(b" Without a ", out)?;
-    push_deed(alloc, exact, out)?;
+    push_without(alloc, first, exact, out)?;
     say(why, out)?;
     push_either(
         count == 0,
-        b". But no such move can have been the last.",
+        b". But no such move can have been last.",
         b". So there was a last one.",
         out,
     )?;
@@ -279,103 +283,5 @@ pub fn push_foreign(odds: Odds, s: Square, out: &mut Vec<u8>) -> Result<(), Allo
     say(b" stood on ", out)?;
     push_square(s, out)?;
     say(b".", out)?;
-    Ok(())
-}
-
-fn push_beginning(spot: &Spot, out: &mut Vec<u8>) -> Result<(), AllocError>
-    ensures { IfOk result (λ _. out.new.items ≡ out.old.items ++ (spot.now.lead ++ codes "It wasn't ")) }
-{
-    say(spot.lead.as_slice(), out)?;
-    say(b"It wasn't ", out)?;
-    Ok(())
-}
-
-/// How the line of shut siblings goes on, or begins.
-fn push_opening(spot: &Spot, follows: bool, out: &mut Vec<u8>) -> Result<(), AllocError>
-    ensures { IfOk result (λ _. out.new.items ≡ out.old.items ++ opening_words spot.now follows) }
-{
-    if follows {
-        say(b", nor ", out)
-    } else {
-        push_beginning(spot, out)
-    }
-}
-
-/// That it wasn't this one.
-fn push_denied(spot: &Spot, follows: bool, this: &Last, out: &mut Vec<u8>) -> Result<(), AllocError>
-    ensures { IfOk result (λ _. out.new.items ≡ out.old.items ++ denied_words spot.now follows this.now) }
-{
-    push_opening(spot, follows, out)?;
-    push_shown(this.whole, &this.label, out)?;
-    Ok(())
-}
-
-fn follows_shut(last: &Option<Last>) -> bool
-    ensures { result ≡ follows_shut last.now }
-{
-    match last {
-        None => false,
-        Some(sibling) => sibling.shut,
-    }
-}
-
-/// Whether the same move was named there, whoever fell.
-fn is_named(last: &Option<Last>, this: &Last) -> bool
-    ensures { result ≡ is_named last.now this.now }
-{
-    match last {
-        None => false,
-        Some(sibling) => sibling.shut && this.whole && is_same_move(&sibling.label, &this.label),
-    }
-}
-
-fn push_denied_once(
-    spot: &Spot,
-    last: &Option<Last>,
-    this: &Last,
-    out: &mut Vec<u8>,
-) -> Result<(), AllocError>
-    ensures { IfOk result (λ _. out.new.items ≡ out.old.items ++ cond (is_named last.now this.now) [] (denied_words spot.now (follows_shut last.now) this.now)) }
-{
-    if is_named(last, this) {
-        Ok(())
-    } else {
-        push_denied(spot, follows_shut(last), this, out)
-    }
-}
-
-/// A sibling that an account shuts, behind the one that was told last; and what shuts it, if the next one isn't shut.
-pub fn push_shut(
-    spot: &Spot,
-    last: &Option<Last>,
-    this: &Last,
-    more: bool,
-    out: &mut Vec<u8>,
-) -> Result<(), AllocError>
-    ensures { IfOk result (λ _. out.new.items ≡ out.old.items ++ shut_words spot.now last.now this.now more) }
-{
-    push_denied_once(spot, last, this, out)?;
-    push_either(more, b"", b": the captures by pawns wouldn't balance.", out)?;
-    Ok(())
-}
-
-/// A sibling that is void.
-pub fn push_astray(
-    odds: Odds,
-    spot: &Spot,
-    s: Square,
-    label: &Label,
-    out: &mut Vec<u8>,
-) -> Result<(), AllocError>
-    ensures { IfOk result (λ _. out.new.items ≡ out.old.items ++ astray_words odds spot.now s label.now) }
-{
-    say(spot.lead.as_slice(), out)?;
-    say(b"It wasn't ", out)?;
-    push_name(label, out)?;
-    say(b": whoever stood on ", out)?;
-    push_square(s, out)?;
-    say(b" would never have moved, but at the beginning ", out)?;
-    push_man(array_of(odds).at(s), out)?;
-    say(b" stood there.", out)?;
     Ok(())
 }

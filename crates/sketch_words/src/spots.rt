@@ -1,4 +1,7 @@
-use board_base::SquareSet;
+ghost use Rattle.std.specs.Prelude.{◌≡◌};
+ghost use Rattle.sketch_words.specs.Phrases.{is_top};
+
+use board_base::{Square, SquareSet};
 use sketch_text::Label;
 use std::marker::Model;
 
@@ -10,6 +13,13 @@ pub struct Spot {
     pub known: SquareSet,
 }
 
+/// Whether the nodes below the first one are told there.
+pub fn is_top(spot: &Spot) -> bool
+    ensures { result ≡ is_top spot.now }
+{
+    spot.prefix.len() == 0
+}
+
 impl Model for Spot {
     ghost use Rattle.sketch_words.specs.Phrases.{Spot as ASpot};
 
@@ -18,10 +28,18 @@ impl Model for Spot {
     ghost view = { λ s. record { lead = s.lead.items; prefix = s.prefix.items; known = s.known } };
 }
 
-/// A node that was told: what leads to it, whether an account shuts it, and whether accounts shut all siblings to which the same move leads.
+/// Why a step or a case can't have been.
 #[derive(Clone, Copy)]
-pub struct Last {
+pub enum Flaw {
+    /// The account is above 0.
+    Unbalanced,
+    /// Who stood on this square never moved, but isn't the array's man.
+    Foreign(Square),
+}
+
+/// A step or a case: what leads to it, and why it can't have been, if no more is told of it.
+#[derive(Clone, Copy)]
+pub struct Child {
     pub label: Label,
-    pub shut: bool,
-    pub whole: bool,
+    pub flaw: Option<Flaw>,
 }

@@ -57,12 +57,12 @@ fn lead_word(label: &Label) -> &'static [u8]
     }
 }
 
-fn push_below(above: u8, out: &mut Vec<u8>) -> Result<(), AllocError>
-    ensures { IfOk result (λ _. out.new.items ≡ out.old.items ++ (codes " from below " ++ decimal above ++ codes " of the file's pawns")) }
+fn push_pawns_above(above: u8, out: &mut Vec<u8>) -> Result<(), AllocError>
+    ensures { IfOk result (λ _. out.new.items ≡ out.old.items ++ (codes " with " ++ decimal above ++ codes " pawns above it")) }
 {
-    say(b" from below ", out)?;
+    say(b" with ", out)?;
     push_number(usize::from(above), out)?;
-    say(b" of the file's pawns", out)?;
+    say(b" pawns above it", out)?;
     Ok(())
 }
 
@@ -73,7 +73,10 @@ fn push_above(above: u8, out: &mut Vec<u8>) -> Result<(), AllocError>
     if above == 0 {
         return Ok(());
     }
-    push_below(above, out)
+    if above == 1 {
+        return say(b" with a pawn above it", out);
+    }
+    push_pawns_above(above, out)
 }
 
 fn push_capture(victim: Victim, above: u8, out: &mut Vec<u8>) -> Result<(), AllocError>
@@ -162,7 +165,7 @@ pub(crate) fn push_shown(whole: bool, label: &Label, out: &mut Vec<u8>) -> Resul
 }
 
 /// Whether both are steps from one square to another.
-pub fn is_same_move(a: &Label, b: &Label) -> bool
+pub(crate) fn is_same_move(a: &Label, b: &Label) -> bool
     ensures { result ≡ is_same_move a.now b.now }
 {
     match (a, b) {

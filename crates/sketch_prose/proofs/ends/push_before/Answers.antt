@@ -8,5 +8,5 @@ use Rattle.sketch_words.specs.Words.{set_words, without}
 
 pub returns : goal.returns
 returns c =
-    thence c.args.out.now.items _ _ (settled_words c.args.base.now.exact (set_words (without (fixed_squares c.args.wide.now) (greatest_frozen c.args.base.now.held c.args.sketch.now)))) (stepped_words c.args.base.now.exact (why_words c.args.base.now.odds c.args.base.now.diagram c.args.sketch.now c.args.wide.now (first_crowded c.args.base.now.odds c.args.wide.now)) c.args.count)
-    (rw (c.as_slice.ensures.value, c.in_ok-list.ensures, c.without-still.ensures, c.fixed_squares.ensures, c.greatest_frozen.ensures.value) at c.in_ok-push_settled.ensures) (rw (c.as_slice-2.ensures.value, c.in_ok-why.ensures) at c.in_ok-push_stepped.ensures)
+    thence c.args.out.now.items _ _ (stepped_words c.args.first c.args.base.now.exact (why_words c.args.base.now.odds c.args.base.now.diagram c.args.sketch.now c.args.wide.now (first_crowded c.args.base.now.odds c.args.wide.now)) c.args.count) (settled_words (set_words (without (fixed_squares c.args.wide.now) (greatest_frozen c.args.base.now.held c.args.sketch.now))) c.args.count)
+    (rw (c.as_slice.ensures.value, c.in_ok-why.ensures) at c.in_ok-push_stepped.ensures) (rw (c.as_slice-2.ensures.value, c.in_ok-list.ensures, c.without-still.ensures, c.fixed_squares.ensures, c.greatest_frozen.ensures.value) at c.in_ok-push_settled.ensures)
