@@ -1,5 +1,5 @@
 -- What the men count at best, and who makes up for it, in words.
-use Rattle.std.specs.Prelude.{ℕ, ◌+◌, ◌-◌, ◌==◌, nat_le, Bool, cond, ◌&&◌, List, [], ◌∷◌, ◌++◌, codes, drop, slice_index, Option}
+use Rattle.std.specs.Prelude.{ℕ, ◌+◌, ◌-◌, ◌/◌, ◌==◌, nat_le, Bool, cond, ◌&&◌, List, [], ◌∷◌, ◌++◌, codes, drop, length, slice_index, Option}
 use Rattle.std.specs.List.{flat_map, range_with_len}
 use Rattle.std.specs.Fmt.{decimal}
 use Rattle.assignment.specs.Assignments.{is_among}
@@ -88,10 +88,14 @@ gate_too g = codes ", and " ++ square_text g.square ++ codes " for " ++ decimal 
 abbrev pub gate_alone : Gate → List ℕ
 gate_alone g = codes ", " ++ square_text g.square ++ codes " makes up for " ++ decimal g.toll
 
+-- who makes up for something: of so many men all, or those who aren't named as making up for nothing
+abbrev pub makers_words : ℕ → List ℕ → List ℕ
+makers_words men idle =
+    cond (length idle == 0) (cond (men == 1) (codes ": he makes up for ") (codes ": they make up for ")) (cond (length idle / 3 + 1 == men) (codes ": the other makes up for ") (codes ": the others make up for "))
+
 -- for how much so many men make up
-abbrev pub made_up_words : ℕ → ℕ → List ℕ
-made_up_words men n =
-    cond (men == 1) (codes ": he makes up for ") (codes ": they make up for ") ++ cond (n == 0) (codes "none") (decimal n)
+abbrev pub made_up_words : ℕ → List ℕ → ℕ → List ℕ
+made_up_words men idle n = cond (n == 0) (makers_words men [] ++ codes "none") (makers_words men idle ++ decimal n)
 
 -- of whom it is so that they make up for nothing, if others make up for something
 abbrev pub whom_words : ℕ → List ℕ → List ℕ
@@ -100,7 +104,7 @@ whom_words n idle = cond (n == 0) [] (around (codes ", of whom whoever began on"
 -- who makes up for how much, of so many men who are gone, or which gates alone if none is
 abbrev pub either_words : ℕ → List ℕ → ℕ → List Gate → List ℕ
 either_words men idle n gates =
-    cond (men == 0) (around (codes ": only") (drop 1 (flat_map gate_alone gates)) []) (whom_words n idle ++ made_up_words men n ++ flat_map gate_too gates)
+    cond (men == 0) (around (codes ": only") (drop 1 (flat_map gate_alone gates)) []) (whom_words n idle ++ made_up_words men idle n ++ flat_map gate_too gates)
 
 -- the same to the end of the sentence
 abbrev pub end_words : ℕ → List ℕ → ℕ → List Gate → List ℕ

@@ -7,7 +7,7 @@ ghost use Rattle.balance_prose.specs.Accounts.{CountTooMany, all_counted, all_ma
 ghost use Rattle.balance_prose.specs.Pricing.{around};
 ghost use Rattle.balance_prose.specs.declared.numbers.Numbers.TheVariants.{Exact, Enough};
 ghost use Rattle.capture_prices.specs.Prices.{all_gates};
-ghost use Rattle.balance_prose.specs.AccountWords.{best_words, counted_words, either_words, end_words, gate_alone, gate_too, made_up_words, ways_words, whom_words};
+ghost use Rattle.balance_prose.specs.AccountWords.{best_words, counted_words, either_words, end_words, gate_alone, gate_too, made_up_words, makers_words, ways_words, whom_words};
 
 use crate::accounts::{Tally, count_men, table_of};
 use crate::lacking::{all_missing, idle_of, push_lacks};
@@ -121,24 +121,50 @@ fn gates_alone(alloc: Global, gates: &[Gate]) -> Result<Vec<u8>, AllocError>
     Ok(list)
 }
 
-/// A number, or `none`.
-fn push_number_or_none(n: u32, out: &mut Vec<u8>) -> Result<(), AllocError>
-    ensures { IfOk result (λ _. out.new.items ≡ out.old.items ++ cond (n == 0) (codes "none") (decimal n)) }
+/// Who makes up for something: of so many men all, or those who aren't named, each after a space, as making up for nothing.
+fn makers(men: usize, idle: &[u8]) -> &'static [u8]
+    ensures { result.now ≡ makers_words men idle.now }
 {
-    if n == 0 {
-        say(b"none", out)
+    if idle.len() == 0 {
+        if men == 1 {
+            b": he makes up for "
+        } else {
+            b": they make up for "
+        }
+    } else if idle.len() / 3 + 1 == men {
+        b": the other makes up for "
     } else {
-        push_number(n as usize, out)
+        b": the others make up for "
     }
 }
 
-/// For how much so many men make up.
-fn push_made_up(men: usize, n: u32, out: &mut Vec<u8>) -> Result<(), AllocError>
-    ensures { IfOk result (λ _. out.new.items ≡ out.old.items ++ made_up_words men n) }
+/// That so many men make up for nothing.
+fn push_none(men: usize, out: &mut Vec<u8>) -> Result<(), AllocError>
+    ensures { IfOk result (λ _. out.new.items ≡ out.old.items ++ (makers_words men [] ++ codes "none")) }
 {
-    either(men == 1, b": he makes up for ", b": they make up for ", out)?;
-    push_number_or_none(n, out)?;
+    say(makers(men, b""), out)?;
+    say(b"none", out)?;
     Ok(())
+}
+
+/// For how much they make up.
+fn push_some(men: usize, idle: &[u8], n: u32, out: &mut Vec<u8>) -> Result<(), AllocError>
+    ensures { IfOk result (λ _. out.new.items ≡ out.old.items ++ (makers_words men idle.now ++ decimal n)) }
+{
+    say(makers(men, idle), out)?;
+    push_number(n as usize, out)?;
+    Ok(())
+}
+
+/// For how much so many men make up.
+fn push_made_up(men: usize, idle: &[u8], n: u32, out: &mut Vec<u8>) -> Result<(), AllocError>
+    ensures { IfOk result (λ _. out.new.items ≡ out.old.items ++ made_up_words men idle.now n) }
+{
+    if n == 0 {
+        push_none(men, out)
+    } else {
+        push_some(men, idle, n, out)
+    }
 }
 
 /// Who of them makes up for nothing, if others make up for something.
@@ -167,11 +193,11 @@ fn push_gone(
     out: &mut Vec<u8>,
 ) -> Result<(), AllocError>
     requires { All (λ g. g.square < 64) gates.now }
-    ensures { IfOk result (λ _. out.new.items ≡ out.old.items ++ (whom_words n idle.now ++ made_up_words men n ++ flat_map gate_too gates.now)) }
+    ensures { IfOk result (λ _. out.new.items ≡ out.old.items ++ (whom_words n idle.now ++ made_up_words men idle.now n ++ flat_map gate_too gates.now)) }
 {
     let too = gates_too(alloc, gates)?;
     push_whom(n, idle, out)?;
-    push_made_up(men, n, out)?;
+    push_made_up(men, idle, n, out)?;
     say(too.as_slice(), out)?;
     Ok(())
 }

@@ -181,6 +181,7 @@ fn push_who(
     Ok(())
 }
 
+/// What stands before the file on which the side's captures count twice.
 fn twice_front(side: Colour) -> &'static [u8]
     ensures { result.now ≡ twice_front side }
 {
@@ -190,6 +191,7 @@ fn twice_front(side: Colour) -> &'static [u8]
     }
 }
 
+/// The same before several files.
 fn twice_fronts(side: Colour) -> &'static [u8]
     ensures { result.now ≡ twice_fronts side }
 {

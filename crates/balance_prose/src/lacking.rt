@@ -134,6 +134,7 @@ pub(crate) fn idle_of(
     Ok(list)
 }
 
+/// A number of men that is not 0.
 fn push_some_men(n: usize, out: &mut Vec<u8>) -> Result<(), AllocError>
     ensures { IfOk result (λ _. out.new.items ≡ out.old.items ++ (decimal n ++ cond (n == 1) (codes " man") (codes " men"))) }
 {

@@ -16,6 +16,7 @@ fn price_on(takes: &[u8; 16], shade: u8, file: u8) -> u8
     takes[(2 * file + shade) as usize]
 }
 
+/// Whether captures on the squares of a file of one shade cost something.
 fn is_paid(takes: &[u8; 16], shade: u8, file: u8) -> bool
     requires shade { shade < 2 }
     requires file { file < 8 }
@@ -64,6 +65,7 @@ fn if_counted(takes: &[u8; 16], shade: u8, times: u8) -> u8
     }
 }
 
+/// Whether captures on a file count not at all, once or twice, and on each shade that counts alike.
 fn is_file_plain(takes: &[u8; 16], file: u8) -> bool
     requires { file < 8 }
     ensures { result ≡ is_file_plain takes.now file }
@@ -74,6 +76,7 @@ fn is_file_plain(takes: &[u8; 16], file: u8) -> bool
         && price_on(takes, 1, file) == if_counted(takes, 1, times)
 }
 
+/// The same of each file.
 fn is_side_plain(takes: &[u8; 16]) -> bool
     ensures { result ≡ is_side_plain takes.now }
 {
@@ -94,18 +97,21 @@ pub fn is_plain(prices: &Prices) -> bool
     is_side_plain(white) && is_side_plain(black) && (is_counted(white) || is_counted(black))
 }
 
+/// Whether the price is nothing, or the one that flat prices have.
 fn is_flat(price: u8) -> bool
     ensures { result ≡ is_flat price }
 {
     price == 0 || price == 24
 }
 
+/// The same of each price of a side.
 fn are_all_flat(takes: &[u8; 16]) -> bool
     ensures { result ≡ list_all is_flat takes.now }
 {
     takes.iter().all(|price| is_flat(*price))
 }
 
+/// Whether each capture that costs something costs the same, without gates.
 fn are_flat(prices: &Prices) -> bool
     ensures { result ≡ are_flat prices.now }
 {
@@ -114,6 +120,7 @@ fn are_flat(prices: &Prices) -> bool
         && prices.gates().len() == 0
 }
 
+/// 1 in the place of a price that is something.
 fn once(price: u8) -> u8
     ensures { result ≡ once price }
 {

@@ -135,6 +135,7 @@ fn push_prices(alloc: Global, prices: &[u8; 16], out: &mut Vec<u8>) -> Result<()
     Ok(())
 }
 
+/// After a comma, the toll of a gate and its square.
 fn push_gate(gate: &Gate, out: &mut Vec<u8>) -> Result<(), AllocError>
     requires { gate.now.square < 64 }
     ensures { IfOk result (λ _. out.new.items ≡ out.old.items ++ gate_words gate.now) }

@@ -32,6 +32,7 @@ fn are_joined(a: &Phrased, b: &Phrased) -> bool {
     }
 }
 
+/// Marks a place, if it is there.
 fn mark(joined: &mut Vec<bool>, i: usize) {
     if let Some(mark) = joined.get_mut(i) {
         *mark = true;

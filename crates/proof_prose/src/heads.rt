@@ -15,6 +15,7 @@ use prose_words::{kind_word, place_letter, push_number, push_square, say, side_w
 use query_base::{Claim, Query};
 use std::alloc::{AllocError, Global};
 
+/// What stands on a square, after a space.
 fn push_place(board: &Board, s: Square, out: &mut Vec<u8>) -> Result<(), AllocError>
     ensures { IfOk result (λ _. out.new.items ≡ out.old.items ++ place_text board.now s) }
 {
@@ -35,6 +36,7 @@ fn push_rank(board: &Board, rank: u8, out: &mut Vec<u8>) -> Result<(), AllocErro
     Ok(())
 }
 
+/// The same, with a line end.
 fn push_line(board: &Board, rank: u8, out: &mut Vec<u8>) -> Result<(), AllocError>
     requires { rank < 8 }
     ensures { IfOk result (λ _. out.new.items ≡ out.old.items ++ rank_line board.now rank) }
@@ -45,6 +47,7 @@ fn push_line(board: &Board, rank: u8, out: &mut Vec<u8>) -> Result<(), AllocErro
 }
 
 #[tactic(auto, unfolding(crate::specs::Heads::upper_text))]
+/// The upper half of the diagram.
 fn push_upper(board: &Board, out: &mut Vec<u8>) -> Result<(), AllocError>
     ensures { IfOk result (λ _. out.new.items ≡ out.old.items ++ upper_text board.now) }
 {
@@ -56,6 +59,7 @@ fn push_upper(board: &Board, out: &mut Vec<u8>) -> Result<(), AllocError>
 }
 
 #[tactic(auto, unfolding(crate::specs::Heads::lower_text))]
+/// The lower half, with the side to move behind it.
 fn push_lower(board: &Board, turn: Colour, out: &mut Vec<u8>) -> Result<(), AllocError>
     ensures { IfOk result (λ _. out.new.items ≡ out.old.items ++ lower_text board.now turn) }
 {
@@ -110,6 +114,7 @@ fn push_odds_words(alloc: Global, odds: Odds, out: &mut Vec<u8>) -> Result<(), A
     Ok(())
 }
 
+/// Which men the game began without.
 fn push_odds(alloc: Global, odds: Odds, out: &mut Vec<u8>) -> Result<(), AllocError>
     ensures { IfOk result (λ _. out.new.items ≡ out.old.items ++ odds_given odds) }
 {
@@ -120,6 +125,7 @@ fn push_odds(alloc: Global, odds: Odds, out: &mut Vec<u8>) -> Result<(), AllocEr
     Ok(())
 }
 
+/// What the half-move clock is.
 fn push_clock_words(n: u16, out: &mut Vec<u8>) -> Result<(), AllocError>
     ensures { IfOk result (λ _. out.new.items ≡ out.old.items ++ clock_words n) }
 {
@@ -132,6 +138,7 @@ fn push_clock_words(n: u16, out: &mut Vec<u8>) -> Result<(), AllocError>
     Ok(())
 }
 
+/// The same, if it is given.
 fn push_clock(clock: Option<u16>, out: &mut Vec<u8>) -> Result<(), AllocError>
     ensures { IfOk result (λ _. out.new.items ≡ out.old.items ++ clock_given clock) }
 {
@@ -141,6 +148,7 @@ fn push_clock(clock: Option<u16>, out: &mut Vec<u8>) -> Result<(), AllocError>
     }
 }
 
+/// What the last move was.
 fn push_last_words(m: &Move, out: &mut Vec<u8>) -> Result<(), AllocError>
     ensures { IfOk result (λ _. out.new.items ≡ out.old.items ++ last_words m.now) }
 {
@@ -152,6 +160,7 @@ fn push_last_words(m: &Move, out: &mut Vec<u8>) -> Result<(), AllocError>
     Ok(())
 }
 
+/// The same, if it is given.
 fn push_only(only: &Option<Move>, out: &mut Vec<u8>) -> Result<(), AllocError>
     ensures { IfOk result (λ _. out.new.items ≡ out.old.items ++ only_given only.now) }
 {
@@ -161,6 +170,7 @@ fn push_only(only: &Option<Move>, out: &mut Vec<u8>) -> Result<(), AllocError>
     }
 }
 
+/// That a right to castle is given.
 fn push_right_words(castle: Castle, out: &mut Vec<u8>) -> Result<(), AllocError>
     ensures { IfOk result (λ _. out.new.items ≡ out.old.items ++ right_words castle) }
 {
@@ -170,6 +180,7 @@ fn push_right_words(castle: Castle, out: &mut Vec<u8>) -> Result<(), AllocError>
     Ok(())
 }
 
+/// The same, if it is given.
 fn push_right(given: bool, castle: Castle, out: &mut Vec<u8>) -> Result<(), AllocError>
     ensures { IfOk result (λ _. out.new.items ≡ out.old.items ++ right_given given castle) }
 {
@@ -194,6 +205,7 @@ fn push_givens(alloc: Global, query: &Query, out: &mut Vec<u8>) -> Result<(), Al
     Ok(())
 }
 
+/// Whether some castling is held.
 fn has_rights(query: &Query) -> bool
     ensures { result ≡ has_rights query.now }
 {
@@ -203,12 +215,14 @@ fn has_rights(query: &Query) -> bool
         || query.held.has(Castle::BlackLong)
 }
 
+/// Whether the game began without some men.
 fn has_odds(odds: Odds) -> bool
     ensures { result ≡ not (is_no_odds odds) }
 {
     !odds.is_none()
 }
 
+/// Whether one of these is given.
 fn is_any(odds: bool, clock: bool, only: bool, rights: bool) -> bool
     ensures { result ≡ (odds || clock || only || rights) }
 {
@@ -227,6 +241,7 @@ fn has_givens(query: &Query) -> bool
     )
 }
 
+/// That something is given beside the diagram, if it is.
 fn push_given(query: &Query, out: &mut Vec<u8>) -> Result<(), AllocError>
     ensures { IfOk result (λ _. out.new.items ≡ out.old.items ++ given_words query.now) }
 {
@@ -250,6 +265,7 @@ pub(crate) fn push_move(
     Ok(())
 }
 
+/// What a pawn becomes.
 fn push_becoming(kind: Kind, out: &mut Vec<u8>) -> Result<(), AllocError>
     ensures { IfOk result (λ _. out.new.items ≡ out.old.items ++ (codes ", becoming a " ++ kind_word kind)) }
 {
@@ -258,6 +274,7 @@ fn push_becoming(kind: Kind, out: &mut Vec<u8>) -> Result<(), AllocError>
     Ok(())
 }
 
+/// The same, if it is promoted.
 fn push_promotion(promo: Option<Kind>, out: &mut Vec<u8>) -> Result<(), AllocError>
     ensures { IfOk result (λ _. out.new.items ≡ out.old.items ++ promotion_words promo) }
 {
@@ -280,6 +297,7 @@ fn push_going(m: &Move, out: &mut Vec<u8>) -> Result<(), AllocError>
     Ok(())
 }
 
+/// How the last move went.
 fn push_last(m: &Move, out: &mut Vec<u8>) -> Result<(), AllocError>
     ensures { IfOk result (λ _. out.new.items ≡ out.old.items ++ (codes "the last move " ++ going_words m.now)) }
 {
@@ -288,6 +306,7 @@ fn push_last(m: &Move, out: &mut Vec<u8>) -> Result<(), AllocError>
     Ok(())
 }
 
+/// That no game leads to the diagram.
 fn push_illegal(query: &Query, out: &mut Vec<u8>) -> Result<(), AllocError>
     ensures { IfOk result (λ _. out.new.items ≡ out.old.items ++ (codes "no game leads to this diagram" ++ given_words query.now)) }
 {
@@ -296,6 +315,7 @@ fn push_illegal(query: &Query, out: &mut Vec<u8>) -> Result<(), AllocError>
     Ok(())
 }
 
+/// That a right to castle is lost.
 fn push_lost(castle: Castle, out: &mut Vec<u8>) -> Result<(), AllocError>
     ensures { IfOk result (λ _. out.new.items ≡ out.old.items ++ lost_words castle) }
 {
@@ -306,6 +326,7 @@ fn push_lost(castle: Castle, out: &mut Vec<u8>) -> Result<(), AllocError>
     Ok(())
 }
 
+/// That a capture en passant is legal.
 fn push_legal(m: &Move, out: &mut Vec<u8>) -> Result<(), AllocError>
     ensures { IfOk result (λ _. out.new.items ≡ out.old.items ++ legal_words m.now) }
 {
@@ -329,6 +350,7 @@ fn push_claim(claim: &Claim, query: &Query, out: &mut Vec<u8>) -> Result<(), All
     }
 }
 
+/// That the last move wasn't this one.
 fn push_not(d: &Move, out: &mut Vec<u8>) -> Result<(), AllocError>
     ensures { IfOk result (λ _. out.new.items ≡ out.old.items ++ not_words d.now) }
 {
@@ -339,6 +361,7 @@ fn push_not(d: &Move, out: &mut Vec<u8>) -> Result<(), AllocError>
     Ok(())
 }
 
+/// That some game leads to the diagram, with what is given.
 fn push_reached(query: &Query, out: &mut Vec<u8>) -> Result<(), AllocError>
     ensures { IfOk result (λ _. out.new.items ≡ out.old.items ++ reached_words query.now) }
 {
@@ -347,6 +370,7 @@ fn push_reached(query: &Query, out: &mut Vec<u8>) -> Result<(), AllocError>
     Ok(())
 }
 
+/// That the king and the rook of a castling are what they were.
 fn push_kept(castle: Castle, out: &mut Vec<u8>) -> Result<(), AllocError>
     ensures { IfOk result (λ _. out.new.items ≡ out.old.items ++ kept_words castle) }
 {
@@ -358,6 +382,7 @@ fn push_kept(castle: Castle, out: &mut Vec<u8>) -> Result<(), AllocError>
     Ok(())
 }
 
+/// That the last move wasn't this double step; if there is none, that some game leads to the diagram.
 fn push_other(query: &Query, double: Option<Move>, out: &mut Vec<u8>) -> Result<(), AllocError>
     ensures { IfOk result (λ _. out.new.items ≡ out.old.items ++ other_words double query.now) }
 {
@@ -367,6 +392,7 @@ fn push_other(query: &Query, double: Option<Move>, out: &mut Vec<u8>) -> Result<
     }
 }
 
+/// What is supposed against a capture en passant.
 fn push_other_than(query: &Query, m: &Move, out: &mut Vec<u8>) -> Result<(), AllocError>
     ensures { IfOk result (λ _. out.new.items ≡ out.old.items ++ supposed_words (Claim.Ep m.now) query.now) }
 {
@@ -389,6 +415,7 @@ fn push_supposed(claim: &Claim, query: &Query, out: &mut Vec<u8>) -> Result<(), 
     }
 }
 
+/// The diagram of the query.
 fn push_position(query: &Query, out: &mut Vec<u8>) -> Result<(), AllocError>
     ensures { IfOk result (λ _. out.new.items ≡ out.old.items ++ diagram_text query.now.board query.now.turn) }
 {

@@ -11,6 +11,7 @@ use prose_words::{kind_word, push_square, say};
 use query_base::Query;
 use std::alloc::AllocError;
 
+/// What stands between the squares of a move, which captured somebody or not.
 fn sign_of(captured: Option<Kind>) -> u8
     ensures { result ≡ sign_of captured }
 {
@@ -20,6 +21,7 @@ fn sign_of(captured: Option<Kind>) -> u8
     }
 }
 
+/// After a comma, who was captured.
 fn push_capturing(kind: Kind, out: &mut Vec<u8>) -> Result<(), AllocError>
     ensures { IfOk result (λ _. out.new.items ≡ out.old.items ++ capturing kind) }
 {
@@ -28,6 +30,7 @@ fn push_capturing(kind: Kind, out: &mut Vec<u8>) -> Result<(), AllocError>
     Ok(())
 }
 
+/// The same, if somebody was.
 fn push_captured(captured: Option<Kind>, out: &mut Vec<u8>) -> Result<(), AllocError>
     ensures { IfOk result (λ _. out.new.items ≡ out.old.items ++ captured_words captured) }
 {
@@ -37,6 +40,7 @@ fn push_captured(captured: Option<Kind>, out: &mut Vec<u8>) -> Result<(), AllocE
     }
 }
 
+/// The squares of a move, with this sign between them.
 fn push_between(m: &Move, sign: u8, out: &mut Vec<u8>) -> Result<(), AllocError>
     ensures { IfOk result (λ _. out.new.items ≡ out.old.items ++ between m.now sign) }
 {
@@ -46,6 +50,7 @@ fn push_between(m: &Move, sign: u8, out: &mut Vec<u8>) -> Result<(), AllocError>
     Ok(())
 }
 
+/// A castling, by the squares of the king.
 fn push_castles(m: &Move, out: &mut Vec<u8>) -> Result<(), AllocError>
     ensures { IfOk result (λ _. out.new.items ≡ out.old.items ++ castles_words m.now) }
 {
@@ -54,6 +59,7 @@ fn push_castles(m: &Move, out: &mut Vec<u8>) -> Result<(), AllocError>
     Ok(())
 }
 
+/// A capture en passant.
 fn push_passing(m: &Move, out: &mut Vec<u8>) -> Result<(), AllocError>
     ensures { IfOk result (λ _. out.new.items ≡ out.old.items ++ passing_words m.now) }
 {
@@ -62,6 +68,7 @@ fn push_passing(m: &Move, out: &mut Vec<u8>) -> Result<(), AllocError>
     Ok(())
 }
 
+/// A move that was neither a capture en passant nor a castling.
 fn push_usual(query: &Query, u: &Unmove, out: &mut Vec<u8>) -> Result<(), AllocError>
     ensures { IfOk result (λ _. out.new.items ≡ out.old.items ++ plain_words None query.now u.now) }
 {

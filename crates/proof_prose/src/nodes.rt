@@ -78,6 +78,7 @@ fn earlier(query: &Query, ancestors: &[Query], steps: u8) -> Query
     ancestors[ancestors.len() - steps]
 }
 
+/// What a node says that rests on this sketch.
 fn sketched(alloc: Global, body: &SketchBody) -> Result<Line, AllocError>
     ensures { IfOk result (λ line. line ≡ Sketched body.now) }
 {
@@ -87,6 +88,7 @@ fn sketched(alloc: Global, body: &SketchBody) -> Result<Line, AllocError>
     }
 }
 
+/// What a node says, below these ancestors, of which the parent comes last.
 fn line_of(
     alloc: Global,
     query: &Query,

@@ -37,6 +37,7 @@ fn are_takings(a: &Unmove, b: &Unmove) -> bool
     taken_by(a).is_some() && taken_by(b).is_some() && is_move(&Some(a.mv), &b.mv)
 }
 
+/// Whether both are captures by the same move.
 fn are_labels_alike(a: &Option<Unmove>, b: &Option<Unmove>) -> bool
     ensures { result ≡ are_labels_alike a.now b.now }
 {
@@ -124,6 +125,7 @@ fn push_kinds(others: &[Spoken], out: &mut Vec<u8>) -> Result<(), AllocError>
     Ok(())
 }
 
+/// After a hyphen, the last number of a run of several.
 fn push_last(first: usize, last: usize, out: &mut Vec<u8>) -> Result<(), AllocError>
     ensures { IfOk result (λ _. out.new.items ≡ out.old.items ++ last_words first last) }
 {
@@ -135,6 +137,7 @@ fn push_last(first: usize, last: usize, out: &mut Vec<u8>) -> Result<(), AllocEr
     Ok(())
 }
 
+/// The first and the last number of a run, behind what both begin with.
 fn push_numbers(
     prefix: &[u8],
     first: usize,
@@ -171,6 +174,7 @@ fn push_name(first: &Spoken, others: &[Spoken], out: &mut Vec<u8>) -> Result<(),
     }
 }
 
+/// Which move a paragraph tells, with those who were captured by it.
 fn push_move_words(
     whence: &Query,
     label: &Unmove,
@@ -225,6 +229,7 @@ fn said_of(alloc: Global, first: &Spoken, others: &[Spoken]) -> Result<Said, All
     })
 }
 
+/// That it is as in the paragraph of this number.
 fn push_as_in(name: &[u8], out: &mut Vec<u8>) -> Result<(), AllocError>
     ensures { IfOk result (λ _. out.new.items ≡ out.old.items ++ as_in name.now) }
 {

@@ -29,6 +29,7 @@ pub struct Phrased {
     pub enough: Option<Letters>,
 }
 
+/// That the side that moved last has no move that can have been the last, or has so many.
 fn moves_sentence(count: usize, first: bool) -> Sentence
     ensures { result ≡ moves_sentence count first }
 {

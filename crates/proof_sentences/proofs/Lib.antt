@@ -3,3 +3,4 @@ pub mod Changes
 pub mod Parts
 pub mod Astray
 pub mod Homeless
+pub mod TooMany

@@ -37,8 +37,12 @@ use Rattle.retraction_bars.specs.Told.{NobodyMoved}
 use Rattle.prose_words.specs.Words.{man_words, side_word, squares_words}
 use Rattle.proof_sentences.specs.Firsts.{is_astray}
 use Rattle.proof_sentences.specs.Phrases.{unmoved_words}
+use Rattle.proof_sentences.specs.declared.sentences.BalanceFact.{BalanceFact}
+use Rattle.proof_sentences.specs.declared.sentences.BalanceFact.TheVariants.{Priced, Balanced, Counted, Best, Homeless}
+use Rattle.proof_sentences.specs.declared.sentences.PawnFact.{PawnFact}
+use Rattle.proof_sentences.specs.declared.sentences.PawnFact.TheVariants.{Count, Gone, Promoted, Way, AtLeast, Lacks}
 use Rattle.proof_sentences.specs.declared.sentences.Sentence.{Sentence}
-use Rattle.proof_sentences.specs.declared.sentences.Sentence.TheVariants.{Kings, Ranks, Check, Rights, Count, Caged, Changed, Settled, Gone, Promoted, Way, AtLeast, Lacks, Priced, Balanced, Counted, Best, Homeless, Back, Still, Moved}
+use Rattle.proof_sentences.specs.declared.sentences.Sentence.TheVariants.{Kings, Ranks, Check, Rights, Caged, Changed, Settled, OnPawns, OnBalance, Back, Still, Moved}
 
 -- an officer's home of this side, on which somebody began of whom nobody is left
 abbrev pub is_gone : Asked → Colour → List Bool → ℕ → Bool
@@ -61,42 +65,56 @@ free = priced (replicate 16 0) (replicate 16 0) []
 abbrev pub is_homeless : Asked → List Bool → Colour → Bool
 is_homeless q set c = nat_le never (side_cost q.odds q.board free set c)
 
+-- so many captures by the side's pawns are more than the men of the other side who are gone, without those whom no pawn took
+abbrev pub AreTooMany : ℕ → Asked → List Bool → Colour → Type 0
+AreTooMany captures q set c =
+    men_of (opponent c) is_any (array_of q.odds) < captures + (men_of (opponent c) is_any q.board + men_of (opponent c) (is_spent q.board set) (array_of q.odds))
+
+-- What is said of a side's pawns, or of the men whom it lacks. The side has so many pawns, with the men who must have been promoted so
+-- many, and began with so many, which is fewer. The men on the set never moved; meanwhile nobody is left of those who began on the homes
+-- that are named; so the side has more pawns and promoted men than it had pawns. Its pawns have made at least so many captures, as many as
+-- where they began on these files; or so many, which is more than the men whom the enemy lacks and who may have been taken by pawns. The
+-- side lacks so many men, of whom no pawn took those of the homes that are named, and the enemy's pawns need more than the others.
+abbrev pub PawnsSay : PawnFact → Asked → Type 0
+PawnsSay (Count c pawns together began first) q =
+    (pawns ≡ men c Pawn is_any q.board) × (together ≡ excess_of (counts_of c q.board) (allowance_of c is_any (array_of q.odds))) × (began ≡ men c Pawn is_any (array_of q.odds)) × (IsTrue (accounts_for q.odds q.board c) → ⊥)
+PawnsSay (Gone c set) q = NeverMoved q set
+PawnsSay (Promoted c set pawns began first) q =
+    (pawns ≡ men c Pawn is_any q.board) × (began ≡ men c Pawn is_any (array_of q.odds)) × HasTooMany q.odds q set c
+PawnsSay (Way c captures files) q =
+    (length (pawn_squares c q.board) ≤ 8) × IsInjection 8 (length (pawn_squares c q.board)) files.items × (captures ≡ assignment_cost (pawn_costs q.odds c q.board) files.items) × (captures ≡ least_cost 8 (pawn_costs q.odds c q.board))
+PawnsSay (AtLeast c set captures) q =
+    NeverMoved q set × (length (pawn_squares c q.board) ≤ 8) × (captures ≤ least_cost 8 (pawn_costs q.odds c q.board)) × AreTooMany captures q set c
+PawnsSay (Lacks c set missing first) q =
+    NeverMoved q set × (missing ≡ men_of c is_any (array_of q.odds) - men_of c is_any q.board) × ((p : Duals) × NeedTooMany q.odds q set (opponent c) p.u p.v)
+
+-- What is said of a balance of captures. Captures have these prices, and at these prices the men of both sides cost so much at least, which
+-- is more than the gates make up for. Captures count as these plain prices say, and of the two pawns of a file who keep to it at most one
+-- treads each square, in every game; with these homes, at which both sides cost the least, the men count more than they and the gates make
+-- up for. The men of a side can't all have begun on homes of their own.
+abbrev pub BalanceSays : BalanceFact → Asked → Type 0
+BalanceSays (Priced set p) q = NeverMoved q set
+BalanceSays (Balanced set p white black) q =
+    NeverMoved q set × (white ≡ side_cost q.odds q.board p set White) × (black ≡ side_cost q.odds q.board p set Black) × (most_cost q.odds p < white + black) × HasNoMore q White × HasNoMore q Black
+BalanceSays (Counted set p) q = NeverMoved q set × IsTrue (is_plain p) × ((s : ℕ) → OneTreads q.odds s)
+BalanceSays (Best set p white black first numbers) q = NeverMoved q set × CountTooMany q p set white.items black.items
+BalanceSays (Homeless c set) q = NeverMoved q set × HasNoMore q c × IsTrue (is_homeless q set c)
+
 -- What a sentence says of a query. Not each side has one king; a pawn stands on this square of rank 1 or 8; a king of the side that isn't
--- to move stands on this square in check; this right is held, and its king or its rook was left out or isn't at home. The side has so
--- many pawns, with the men who must have been promoted so many, and began with so many, which is fewer. The men on the set shut each other
--- in; this square of the set doesn't hold what it held in the array. The men on the set never moved; meanwhile nobody is left of those who
--- began on the homes that are named; so the side has more pawns and promoted men than it had pawns; its pawns have made at least so many
--- captures, as many as where they began on these files, or so many without a way; the side lacks so many men, of whom no pawn took those of the homes that are
--- named, and the enemy's pawns need more than the others. Captures have these prices, and at these prices the men of both sides cost so
--- much at least, which is more than the gates make up for. Captures count as these plain prices say, and of the two pawns of a file who
--- keep to it at most one treads each square, in every game; with these homes, at which both sides cost the least, the men count more than
--- they and the gates make up for. The men of a side can't all have begun on homes of their own. The query above, which speaks of the
--- position so many half-moves later, has the same position and asks no more. The side that isn't to move has no retraction, and what is
--- told of its men is so; or it has some.
+-- to move stands on this square in check; this right is held, and its king or its rook was left out or isn't at home. The men on the set
+-- shut each other in; this square of the set doesn't hold what it held in the array; the men on the set never moved. Something of pawns, or
+-- of a balance. The query above, which speaks of the position so many half-moves later, has the same position and asks no more. The side
+-- that isn't to move has no retraction, and what is told of its men is so; or it has some.
 abbrev pub Says : Sentence → Asked → Type 0
 Says Kings q = HasOneKingEach q.board → ⊥
 Says (Ranks s) q = IsTrue (is_end s && is_a Pawn (at q.board s))
 Says (Check c s) q = (c ≡ opponent q.turn) × IsTrue (is_the c King (at q.board s) && attacks q.board s (opponent c))
 Says (Rights x) q = IsTrue (is_astray q x)
-Says (Count c pawns together began first) q =
-    (pawns ≡ men c Pawn is_any q.board) × (together ≡ excess_of (counts_of c q.board) (allowance_of c is_any (array_of q.odds))) × (began ≡ men c Pawn is_any (array_of q.odds)) × (IsTrue (accounts_for q.odds q.board c) → ⊥)
 Says (Caged set) q = IsFrozen q set
 Says (Changed set s) q = IsTrue (is_in set s) × (at q.board s ≡ at (array_of q.odds) s → ⊥)
 Says (Settled set) q = NeverMoved q set
-Says (Gone c set) q = NeverMoved q set
-Says (Promoted c set pawns began first) q =
-    (pawns ≡ men c Pawn is_any q.board) × (began ≡ men c Pawn is_any (array_of q.odds)) × HasTooMany q.odds q set c
-Says (Way c captures files) q =
-    (length (pawn_squares c q.board) ≤ 8) × IsInjection 8 (length (pawn_squares c q.board)) files.items × (captures ≡ assignment_cost (pawn_costs q.odds c q.board) files.items) × (captures ≡ least_cost 8 (pawn_costs q.odds c q.board))
-Says (AtLeast c captures) q = (length (pawn_squares c q.board) ≤ 8) × (captures ≤ least_cost 8 (pawn_costs q.odds c q.board))
-Says (Lacks c set missing first) q =
-    NeverMoved q set × (missing ≡ men_of c is_any (array_of q.odds) - men_of c is_any q.board) × ((p : Duals) × NeedTooMany q.odds q set (opponent c) p.u p.v)
-Says (Priced set p) q = NeverMoved q set
-Says (Balanced set p white black) q =
-    NeverMoved q set × (white ≡ side_cost q.odds q.board p set White) × (black ≡ side_cost q.odds q.board p set Black) × (most_cost q.odds p < white + black) × HasNoMore q White × HasNoMore q Black
-Says (Counted set p) q = NeverMoved q set × IsTrue (is_plain p) × ((s : ℕ) → OneTreads q.odds s)
-Says (Best set p white black first numbers) q = NeverMoved q set × CountTooMany q p set white.items black.items
-Says (Homeless c set) q = NeverMoved q set × HasNoMore q c × IsTrue (is_homeless q set c)
+Says (OnPawns fact) q = PawnsSay fact q
+Says (OnBalance fact) q = BalanceSays fact q
 Says (Back k above) q = Covers above q
 Says (Still first) q = NobodyMoved q
 Says (Moved first) q = 0 < length (unmoves q)
@@ -250,26 +268,34 @@ barred_words q first = still_words (opponent q.turn) first ++ bars_text q
 abbrev pub moved_words : Colour → Bool → List ℕ
 moved_words c first = side_word c ++ cond first (codes "'s last move was one of these:") (codes "'s move before it was one of these:")
 
+-- the words of what is said of pawns
+unfoldable pub pawn_fact_words : PawnFact → Asked → List ℕ
+pawn_fact_words (Count c pawns together began first) q = count_words first c pawns (together - pawns) began
+pawn_fact_words (Gone c set) q = gone_words q c set
+pawn_fact_words (Promoted c set pawns began first) q = count_words first c pawns (began + 1 - pawns) began
+pawn_fact_words (Way c captures files) q = side_word c ++ captures_words q c captures files.items
+pawn_fact_words (AtLeast c set captures) q = side_word c ++ least_words captures
+pawn_fact_words (Lacks c set missing first) q = lacks_words first q c set missing
+
+-- the words of what is said of a balance
+unfoldable pub balance_fact_words : BalanceFact → Asked → List ℕ
+balance_fact_words (Priced set p) q = priced_words p
+balance_fact_words (Balanced set p white black) q = account_words q.odds (all_gates p) white black
+balance_fact_words (Counted set p) q = counting_words p
+balance_fact_words (Best set p white black first numbers) q = best_words numbers first q p set white.items black.items
+balance_fact_words (Homeless c set) q = homeless_words c
+
 -- the words of a sentence; after each but the last of a reason comes a space
 unfoldable pub words_of : Sentence → Asked → List ℕ
 words_of Kings q = codes "Not each side has exactly one king."
 words_of (Ranks s) q = end_words s
 words_of (Check c s) q = check_words c s
 words_of (Rights x) q = rights_words q.odds x
-words_of (Count c pawns together began first) q = count_words first c pawns (together - pawns) began
 words_of (Caged set) q = caged_words q set
 words_of (Changed set s) q = stood_words q.odds s
 words_of (Settled set) q = settled_words set
-words_of (Gone c set) q = gone_words q c set
-words_of (Promoted c set pawns began first) q = count_words first c pawns (began + 1 - pawns) began
-words_of (Way c captures files) q = side_word c ++ captures_words q c captures files.items
-words_of (AtLeast c captures) q = side_word c ++ least_words captures
-words_of (Lacks c set missing first) q = lacks_words first q c set missing
-words_of (Priced set p) q = priced_words p
-words_of (Balanced set p white black) q = account_words q.odds (all_gates p) white black
-words_of (Counted set p) q = counting_words p
-words_of (Best set p white black first numbers) q = best_words numbers first q p set white.items black.items
-words_of (Homeless c set) q = homeless_words c
+words_of (OnPawns fact) q = pawn_fact_words fact q
+words_of (OnBalance fact) q = balance_fact_words fact q
 words_of (Back k above) q = back_words k
 words_of (Still first) q = barred_words q first
 words_of (Moved first) q = moved_words (opponent q.turn) first

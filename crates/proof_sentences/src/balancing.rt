@@ -6,9 +6,10 @@ ghost use Rattle.balance_prose.specs.Accounts.{HasNoMore};
 ghost use Rattle.balance_rule.specs.Balance.{BalanceSupports};
 ghost use Rattle.proof_sentences.specs.Reasons.{Adds, CountsFor, TellsBalance, TellsBy, TellsCounted, TellsPriced, homeless_side};
 ghost use Rattle.proof_sentences.specs.Sentences.{is_homeless};
-ghost use Rattle.proof_sentences.specs.declared.sentences.Sentence.TheVariants.{Homeless, Settled};
+ghost use Rattle.proof_sentences.specs.declared.sentences.BalanceFact.TheVariants.{Homeless};
+ghost use Rattle.proof_sentences.specs.declared.sentences.Sentence.TheVariants.{OnBalance, Settled};
 
-use crate::sentences::Sentence;
+use crate::sentences::{BalanceFact, Sentence};
 use crate::telling::push_sentence;
 use balance_prose::{Numbers, balance_counts_too_many, is_plain, least_homes, lowered, one_treads};
 use balance_rule::{balances, side_cost};
@@ -53,10 +54,11 @@ fn push_homeless(
 ) -> Result<(), AllocError>
     requires supports { BalanceSupports query.now set prices.now }
     requires homeless { homeless_side query.now set ≡ Some side }
-    ensures { IfOk result (λ _. Adds query.now (Settled set ∷ Homeless side set ∷ []) out.old.items out.new.items) }
+    ensures { IfOk result (λ _. Adds query.now (Settled set ∷ OnBalance (Homeless side set) ∷ []) out.old.items out.new.items) }
 {
     push_sentence(alloc, query, &Sentence::Settled(set), out)?;
-    push_sentence(alloc, query, &Sentence::Homeless(side, set), out)?;
+    let homeless = Sentence::OnBalance(BalanceFact::Homeless(side, set));
+    push_sentence(alloc, query, &homeless, out)?;
     Ok(())
 }
 
@@ -84,9 +86,17 @@ fn push_counted(
     one_treads();
     let white = least_homes(query, prices, set, Colour::White);
     let black = least_homes(query, prices, set, Colour::Black);
-    let best = Sentence::Best(set, *prices, white, black, first, numbers);
+    let counted = Sentence::OnBalance(BalanceFact::Counted(set, *prices));
+    let best = Sentence::OnBalance(BalanceFact::Best {
+        set,
+        prices: *prices,
+        white,
+        black,
+        first,
+        numbers,
+    });
     push_sentence(alloc, query, &Sentence::Settled(set), out)?;
-    push_sentence(alloc, query, &Sentence::Counted(set, *prices), out)?;
+    push_sentence(alloc, query, &counted, out)?;
     push_sentence(alloc, query, &best, out)?;
     Ok(())
 }
@@ -104,14 +114,16 @@ fn push_priced(
 {
     let white = side_cost(query, set, prices, Colour::White).unwrap();
     let black = side_cost(query, set, prices, Colour::Black).unwrap();
+    let priced = Sentence::OnBalance(BalanceFact::Priced(set, *prices));
+    let balanced = Sentence::OnBalance(BalanceFact::Balanced {
+        set,
+        prices: *prices,
+        white,
+        black,
+    });
     push_sentence(alloc, query, &Sentence::Settled(set), out)?;
-    push_sentence(alloc, query, &Sentence::Priced(set, *prices), out)?;
-    push_sentence(
-        alloc,
-        query,
-        &Sentence::Balanced(set, *prices, white, black),
-        out,
-    )?;
+    push_sentence(alloc, query, &priced, out)?;
+    push_sentence(alloc, query, &balanced, out)?;
     Ok(())
 }
 

@@ -63,6 +63,7 @@ fn with_set(reason: &Reason, set: SquareSet) -> Reason
     }
 }
 
+/// What stands in the place, if the set has the square.
 fn place_if(set: SquareSet, s: Square, place: Option<Man>) -> Option<Man>
     ensures { result ≡ cond (is_in set s) place None }
 {

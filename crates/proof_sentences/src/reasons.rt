@@ -1,22 +1,23 @@
 //! The sentences of a reason that supports a query.
 
-ghost use Rattle.std.specs.Prelude.{◌≡◌, ◌-◌, ◌≤◌, ◌∷◌, [], length, true, IfOk, IfSome, IsSome, IsTrue, List};
+ghost use Rattle.std.specs.Prelude.{◌≡◌, ◌-◌, ◌≤◌, ◌∷◌, [], length, true, Bool, IfOk, IfSome, IsSome, IsTrue, List};
 ghost use Rattle.board_base.specs.Board.{array_of};
 ghost use Rattle.cert_checker.specs.Reasons.{ReasonSupports};
 ghost use Rattle.men_account.specs.Account.{is_any};
 ghost use Rattle.men_account.specs.Homes.{men_of};
-ghost use Rattle.pawn_assign.specs.PawnCosts.{pawn_squares};
+ghost use Rattle.assignment.specs.Assignments.{least_cost};
+ghost use Rattle.pawn_assign.specs.PawnCosts.{pawn_costs, pawn_squares};
 ghost use Rattle.static_rules.specs.SetRules.{CapsSupports, FrozenSupports, PromoSupports};
 ghost use Rattle.static_rules.specs.Supports.{Supports};
 ghost use Rattle.proof_sentences.specs.Firsts.{IsFirst, is_changed};
 ghost use Rattle.balance_prose.specs.declared.numbers.Numbers.TheVariants.{Exact, Enough};
 ghost use Rattle.proof_sentences.specs.Reasons.{Adds, AddsReason, IsCheapest, IsWayOf, TellsReason, TellsRule};
-ghost use Rattle.proof_sentences.specs.Sentences.{NeverMoved, Says};
+ghost use Rattle.proof_sentences.specs.Sentences.{AreTooMany, NeverMoved, Says};
 
 use crate::balancing::push_balance;
 use crate::lessening::lessened;
 use crate::rights::astray_right;
-use crate::sentences::Sentence;
+use crate::sentences::{PawnFact, Sentence};
 use crate::squares::{king_in_check, pawn_on_end};
 use crate::telling::push_sentence;
 use crate::ways::cheapest_way;
@@ -60,40 +61,13 @@ fn way_of(query: &Query, side: Colour) -> Option<Sentence>
         Some(costs) => {
             let least = least(&costs);
             let files = cheapest_way(&costs, &least);
-            Some(Sentence::Way(side, least.cost, files))
+            Some(Sentence::OnPawns(PawnFact::Way {
+                side,
+                captures: least.cost,
+                files,
+            }))
         }
         None => None,
-    }
-}
-
-/// The same by a number that is enough if the other side lacks so many men, or by that way if the pawns have none.
-fn enough_of(query: &Query, side: Colour, missing: u8) -> Option<Sentence>
-    ensures says { IfSome result (λ s. Says s query.now) }
-    ensures shape { IfSome result (IsWayOf Enough query.now side) }
-    ensures some { length (pawn_squares side query.now.board) ≤ 8 → IsSome result }
-{
-    match costs(&query.board, side, query.odds) {
-        Some(costs) => {
-            let captures = least(&costs).cost;
-            if captures < 64 {
-                Some(Sentence::AtLeast(side, captures.min(u16::from(missing) + 1)))
-            } else {
-                way_of(query, side)
-            }
-        }
-        None => None,
-    }
-}
-
-/// With how few captures the side's pawns came, by the numbers that are told; the other side lacks so many men.
-fn told_way(query: &Query, side: Colour, numbers: Numbers, missing: u8) -> Option<Sentence>
-    ensures says { IfSome result (λ s. Says s query.now) }
-    ensures shape { IfSome result (IsWayOf numbers query.now side) }
-    ensures some { length (pawn_squares side query.now.board) ≤ 8 → IsSome result }
-{
-    match numbers {
-        Numbers::Exact => way_of(query, side),
-        Numbers::Enough => enough_of(query, side, missing),
     }
 }
 
@@ -102,6 +76,54 @@ fn missing_of(query: &Query, side: Colour) -> u8
     ensures { result ≡ men_of side is_any (array_of query.now.odds) - men_of side is_any query.now.board }
 {
     men_of(&array_of(query.odds), side).saturating_sub(men_of(&query.board, side))
+}
+
+/// A number of captures that is too many already if the side's pawns made so many at least, and these are too many.
+fn enough(query: &Query, side: Colour, captures: u16) -> u16
+    ensures most { result ≤ captures }
+    ensures too_many { (set : List Bool) → AreTooMany captures query.now set side → AreTooMany result query.now set side }
+{
+    let missing = missing_of(query, side.other());
+    captures.min(u16::from(missing) + 1)
+}
+
+/// The same by a number that is enough, or by that way if the pawns have none, while the men on the set stood.
+fn enough_of(query: &Query, side: Colour, set: SquareSet) -> Option<Sentence>
+    requires never { NeverMoved query.now set }
+    requires too_many { AreTooMany (least_cost 8 (pawn_costs query.now.odds side query.now.board)) query.now set side }
+    ensures says { IfSome result (λ s. Says s query.now) }
+    ensures shape { IfSome result (IsWayOf Enough query.now side set) }
+    ensures some { length (pawn_squares side query.now.board) ≤ 8 → IsSome result }
+{
+    match costs(&query.board, side, query.odds) {
+        Some(costs) => {
+            let captures = least(&costs).cost;
+            if captures < 64 {
+                Some(Sentence::OnPawns(PawnFact::AtLeast {
+                    side,
+                    set,
+                    captures: enough(query, side, captures),
+                }))
+            } else {
+                way_of(query, side)
+            }
+        }
+        None => None,
+    }
+}
+
+/// With how few captures the side's pawns came, by the numbers that are told, while the men on the set stood.
+fn told_way(query: &Query, side: Colour, set: SquareSet, numbers: Numbers) -> Option<Sentence>
+    requires never { NeverMoved query.now set }
+    requires too_many { AreTooMany (least_cost 8 (pawn_costs query.now.odds side query.now.board)) query.now set side }
+    ensures says { IfSome result (λ s. Says s query.now) }
+    ensures shape { IfSome result (IsWayOf numbers query.now side set) }
+    ensures some { length (pawn_squares side query.now.board) ≤ 8 → IsSome result }
+{
+    match numbers {
+        Numbers::Exact => way_of(query, side),
+        Numbers::Enough => enough_of(query, side, set),
+    }
 }
 
 /// Who shut each other in, and which of them can't have begun there.
@@ -134,14 +156,17 @@ fn push_promo(
 {
     let pawns = counts(&query.board, side).pawns;
     let began = allowance(side, query.odds).pawns;
+    let gone = Sentence::OnPawns(PawnFact::Gone(side, set));
+    let promoted = Sentence::OnPawns(PawnFact::Promoted {
+        side,
+        set,
+        pawns,
+        began,
+        first,
+    });
     push_sentence(alloc, query, &Sentence::Settled(set), out)?;
-    push_sentence(alloc, query, &Sentence::Gone(side, set), out)?;
-    push_sentence(
-        alloc,
-        query,
-        &Sentence::Promoted(side, set, pawns, began, first),
-        out,
-    )?;
+    push_sentence(alloc, query, &gone, out)?;
+    push_sentence(alloc, query, &promoted, out)?;
     Ok(())
 }
 
@@ -161,15 +186,16 @@ fn push_caps(
 {
     let other = side.other();
     let missing = missing_of(query, other);
-    let way = told_way(query, side, numbers, missing).unwrap();
+    let way = told_way(query, side, set, numbers).unwrap();
+    let lacks = Sentence::OnPawns(PawnFact::Lacks {
+        side: other,
+        set,
+        missing,
+        first,
+    });
     push_sentence(alloc, query, &Sentence::Settled(set), out)?;
     push_sentence(alloc, query, &way, out)?;
-    push_sentence(
-        alloc,
-        query,
-        &Sentence::Lacks(other, set, missing, first),
-        out,
-    )?;
+    push_sentence(alloc, query, &lacks, out)?;
     Ok(())
 }
 
@@ -201,12 +227,14 @@ fn push_side(
     let men = counts(&query.board, side);
     let allowed = allowance(side, query.odds);
     let together = excess(&men, &allowed);
-    push_sentence(
-        alloc,
-        query,
-        &Sentence::Count(side, men.pawns, together, allowed.pawns, first),
-        out,
-    )?;
+    let count = Sentence::OnPawns(PawnFact::Count {
+        side,
+        pawns: men.pawns,
+        together,
+        began: allowed.pawns,
+        first,
+    });
+    push_sentence(alloc, query, &count, out)?;
     Ok(())
 }
 

@@ -15,41 +15,105 @@ pub enum Sentence {
     Check(Colour, Square),
     /// The king or the rook of this castling, which never moved, was left out or isn't at home.
     Rights(Castle),
-    /// The side has so many pawns, with the men who must have been promoted so many, and began with so many pawns; whether the query is
-    /// the first that is told.
-    Count(Colour, u8, u16, u8, bool),
     /// The men on these squares shut each other in.
     Caged(SquareSet),
     /// The square of the set doesn't hold what it held in the beginning.
     Changed(SquareSet, Square),
     /// The men on these squares never moved.
     Settled(SquareSet),
-    /// While the men on these squares stood, some officers of the side were captured.
-    Gone(Colour, SquareSet),
-    /// So the side has so many pawns, and with the promoted men more than the pawns with which it began; whether the query is the first
-    /// that is told.
-    Promoted(Colour, SquareSet, u8, u8, bool),
-    /// The side's pawns have made so many captures at least, as many as where they began on these files.
-    Way(Colour, u16, ArrayVec<u8, 8>),
-    /// The side's pawns have made so many captures at least.
-    AtLeast(Colour, u16),
-    /// The side lacks so many men, and no pawn took some of them; whether the query is the first that is told.
-    Lacks(Colour, SquareSet, u8, bool),
-    /// What a capture by a pawn of the side costs, and what a pawn that neither captured nor was taken as a pawn pays for squares.
-    Priced(SquareSet, Prices),
-    /// At these prices, while the men on these squares stood, the men of both sides cost so much at least, 96 for each man included.
-    Balanced(SquareSet, Prices, u32, u32),
-    /// The captures that count at these prices, while the men on these squares stood, and why each gate counts once at most.
-    Counted(SquareSet, Prices),
-    /// What the men count who began on these homes, at which they cost the least, and that those who are gone make up for less; whether
-    /// the query is the first that is told, and which number is told.
-    Best(SquareSet, Prices, ArrayVec<u8, 16>, ArrayVec<u8, 16>, bool, Numbers),
-    /// The men of this side can't all have begun on homes of their own, while the men on these squares stood.
-    Homeless(Colour, SquareSet),
+    /// What is said of the pawns of a side, or of the men whom it lacks.
+    OnPawns(PawnFact),
+    /// What is said of a balance of captures.
+    OnBalance(BalanceFact),
     /// The position stood so many half-moves later too, where this query asks no more.
     Back(u8, Query),
     /// The side that moved last has no move that can have been the last; whether the query is the first that is told.
     Still(bool),
     /// The side that moved last has several; whether the query is the first that is told.
     Moved(bool),
+}
+
+/// What a sentence says of the pawns of a side, or of the men whom it lacks. Many say it of a set: while the men on these squares stood,
+/// who never moved.
+#[derive(Drop)]
+pub enum PawnFact {
+    /// The side has more pawns, with the men who must have been promoted, than it began with.
+    Count {
+        side: Colour,
+        /// How many pawns it has.
+        pawns: u8,
+        /// The same, with the men who must have been promoted.
+        together: u16,
+        /// With how many pawns it began.
+        began: u8,
+        /// Whether the query is the first that is told.
+        first: bool,
+    },
+    /// While the men of the set stood, some officers of the side were captured.
+    Gone(Colour, SquareSet),
+    /// So the side has more pawns, with the promoted men, than it began with.
+    Promoted {
+        side: Colour,
+        set: SquareSet,
+        /// How many pawns it has.
+        pawns: u8,
+        /// With how many pawns it began.
+        began: u8,
+        /// Whether the query is the first that is told.
+        first: bool,
+    },
+    /// The side's pawns have made so many captures at least, as many as where they began on these files.
+    Way {
+        side: Colour,
+        captures: u16,
+        /// The file on which each pawn began, in ascending order of their squares.
+        files: ArrayVec<u8, 8>,
+    },
+    /// The side's pawns have made so many captures at least, which is more than the men of the other side whom they can have taken.
+    AtLeast {
+        side: Colour,
+        set: SquareSet,
+        captures: u16,
+    },
+    /// The side lacks so many men, and no pawn took some of them.
+    Lacks {
+        side: Colour,
+        set: SquareSet,
+        /// How many men it lacks.
+        missing: u8,
+        /// Whether the query is the first that is told.
+        first: bool,
+    },
+}
+
+/// What a sentence says of a balance of captures, while the men on a set stood, who never moved.
+#[derive(Drop)]
+pub enum BalanceFact {
+    /// What a capture by a pawn of the side costs, and what a pawn that neither captured nor was taken as a pawn pays for squares.
+    Priced(SquareSet, Prices),
+    /// At these prices the men of each side cost so much at least, 96 for each man included.
+    Balanced {
+        set: SquareSet,
+        prices: Prices,
+        /// What White's men cost.
+        white: u32,
+        /// What Black's men cost.
+        black: u32,
+    },
+    /// The captures that count at these prices, and why each gate counts once at most.
+    Counted(SquareSet, Prices),
+    /// What the men count who began on these homes, at which they cost the least, and that those who are gone make up for less.
+    Best {
+        set: SquareSet,
+        prices: Prices,
+        /// White's homes, by their places among White's sixteen.
+        white: ArrayVec<u8, 16>,
+        /// Black's homes, in the same way.
+        black: ArrayVec<u8, 16>,
+        /// Whether the query is the first that is told.
+        first: bool,
+        numbers: Numbers,
+    },
+    /// The men of this side can't all have begun on homes of their own.
+    Homeless(Colour, SquareSet),
 }

@@ -7,6 +7,7 @@ ghost use Rattle.proof_sentences.specs.Firsts.{IsFirst, is_king_attacked, is_paw
 
 use board_base::{Board, Colour, Kind, Square, is_a, is_king_attacked};
 
+/// Whether a pawn stands on the square, and this is one of rank 1 or 8.
 fn is_pawn_on_end(board: &Board, s: Square) -> bool
     ensures { result ≡ is_pawn_on_end board.now s }
 {

@@ -7,13 +7,13 @@ ghost use Rattle.board_base.specs.Board.{is_in, opponent};
 ghost use Rattle.assignment.specs.Assignments.{IsInjection};
 ghost use Rattle.pawn_assign.specs.PawnCosts.{pawn_costs, pawn_home, pawn_squares};
 ghost use Rattle.capture_prices.specs.Prices.{all_gates};
-ghost use Rattle.proof_sentences.specs.Sentences.{Says, account_words, at_time, back_words, barred_words, by_right, caged_words, captures_words, check_words, count_words, counted, difference_words, end_words, gone_words, homeless_words, is_gone, is_kept, is_safe, lacks_words, least_words, many_shut, missing_words, most_words, moved_words, net_words, one_shut, pawn_words, rights_words, settled_words, shut_words, some_words, still_words, stood_words, unmoved_men, way_words, ways_words, words_of};
+ghost use Rattle.proof_sentences.specs.Sentences.{BalanceSays, PawnsSay, Says, account_words, at_time, back_words, balance_fact_words, barred_words, by_right, caged_words, captures_words, check_words, count_words, counted, difference_words, end_words, gone_words, homeless_words, is_gone, is_kept, is_safe, lacks_words, least_words, many_shut, missing_words, most_words, moved_words, net_words, one_shut, pawn_fact_words, pawn_words, rights_words, settled_words, shut_words, some_words, still_words, stood_words, unmoved_men, way_words, ways_words, words_of};
 ghost use Rattle.prose_words.specs.Words.{side_word, squares_words};
 
 use crate::pawns::pawn_squares;
 use crate::phrases::{push_either, push_unmoved, set_squares};
 use crate::rights::is_held_home;
-use crate::sentences::Sentence;
+use crate::sentences::{BalanceFact, PawnFact, Sentence};
 use balance_prose::{
     all_gates, push_account as push_best, push_around, push_counts, push_priced, rest_of,
 };
@@ -28,12 +28,14 @@ use query_base::Query;
 use retraction_bars::push_bars;
 use std::alloc::{AllocError, Global};
 
+/// Whether an officer of the side began on the square of whom nobody is left, while the set stood.
 fn is_gone(query: &Query, side: Colour, set: SquareSet, s: Square) -> bool
     ensures { result ≡ is_gone query.now side set s }
 {
     is_of(side, array_of(query.odds).at(s)) && is_officer_home(s) && is_dead(&query.board, set, s)
 }
 
+/// Whether an officer of the side began on the square whom no pawn took, while the set stood.
 fn is_safe(query: &Query, side: Colour, set: SquareSet, s: Square) -> bool
     ensures { result ≡ is_safe query.now side set s }
 {
@@ -109,6 +111,7 @@ fn less(n: u16, m: u8) -> u16
     n.saturating_sub(m as u16)
 }
 
+/// How many pawns and promoted men a side has, and with how many pawns it began.
 fn push_count(
     first: bool,
     side: Colour,
@@ -129,6 +132,7 @@ fn push_count(
     Ok(())
 }
 
+/// Where a pawn came from, if it moved, and where it stands.
 fn push_way(home: Square, s: Square, out: &mut Vec<u8>) -> Result<(), AllocError>
     ensures { IfOk result (λ _. out.new.items ≡ out.old.items ++ way_words home s) }
 {
@@ -140,6 +144,7 @@ fn push_way(home: Square, s: Square, out: &mut Vec<u8>) -> Result<(), AllocError
     Ok(())
 }
 
+/// The square on which the side's pawn of a file begins.
 fn pawn_home(side: Colour, file: u8) -> Square
     requires { file < 8 }
     ensures { result ≡ pawn_home side file }
@@ -206,6 +211,7 @@ fn ways_of(alloc: Global, query: &Query, side: Colour, files: &[u8]) -> Result<V
     Ok(list)
 }
 
+/// How many captures the side's pawns made at least, with a way to it.
 fn push_few(
     alloc: Global,
     query: &Query,
@@ -252,6 +258,7 @@ fn push_captures(
     }
 }
 
+/// The same of a side that is named.
 fn push_pawns_came(
     alloc: Global,
     query: &Query,
@@ -280,6 +287,7 @@ fn push_at_least(side: Colour, captures: u16, out: &mut Vec<u8>) -> Result<(), A
     Ok(())
 }
 
+/// Who stood on a square at the beginning.
 fn push_stood(odds: Odds, s: Square, out: &mut Vec<u8>) -> Result<(), AllocError>
     ensures { IfOk result (λ _. out.new.items ≡ out.old.items ++ stood_words odds s) }
 {
@@ -291,6 +299,7 @@ fn push_stood(odds: Odds, s: Square, out: &mut Vec<u8>) -> Result<(), AllocError
     Ok(())
 }
 
+/// On which square of rank 1 or 8 a pawn stands.
 fn push_end(s: Square, out: &mut Vec<u8>) -> Result<(), AllocError>
     ensures { IfOk result (λ _. out.new.items ≡ out.old.items ++ end_words s) }
 {
@@ -300,6 +309,7 @@ fn push_end(s: Square, out: &mut Vec<u8>) -> Result<(), AllocError>
     Ok(())
 }
 
+/// That the side's king stands in check on a square, with the other side to move.
 fn push_check(side: Colour, s: Square, out: &mut Vec<u8>) -> Result<(), AllocError>
     ensures { IfOk result (λ _. out.new.items ≡ out.old.items ++ check_words side s) }
 {
@@ -346,6 +356,7 @@ fn kept_squares(alloc: Global, query: &Query, set: SquareSet) -> Result<Vec<u8>,
     Ok(list)
 }
 
+/// Of whom it is so since a right to castle is held.
 fn push_by_right(kept: &[u8], out: &mut Vec<u8>) -> Result<(), AllocError>
     ensures { IfOk result (λ _. out.new.items ≡ out.old.items ++ by_right kept.now) }
 {
@@ -392,6 +403,7 @@ fn push_shut(list: &[u8], kept: &[u8], out: &mut Vec<u8>) -> Result<(), AllocErr
     }
 }
 
+/// That the men on the set shut each other in.
 fn push_caged(
     alloc: Global,
     query: &Query,
@@ -417,6 +429,7 @@ fn push_never_moved(list: &[u8], out: &mut Vec<u8>) -> Result<(), AllocError>
     }
 }
 
+/// That the men on the set never moved.
 fn push_settled(alloc: Global, set: SquareSet, out: &mut Vec<u8>) -> Result<(), AllocError>
     ensures { IfOk result (λ _. out.new.items ≡ out.old.items ++ settled_words set) }
 {
@@ -425,6 +438,7 @@ fn push_settled(alloc: Global, set: SquareSet, out: &mut Vec<u8>) -> Result<(), 
     Ok(())
 }
 
+/// Whose officers were captured while the set stood: those of these homes.
 fn push_gone(
     alloc: Global,
     query: &Query,
@@ -444,6 +458,7 @@ fn push_gone(
     Ok(())
 }
 
+/// A number of men, or nobody.
 fn push_men(n: u8, out: &mut Vec<u8>) -> Result<(), AllocError>
     ensures { IfOk result (λ _. out.new.items ≡ out.old.items ++ cond (n == 0) (codes "nobody") (counted n (codes " man") (codes " men"))) }
 {
@@ -454,6 +469,7 @@ fn push_men(n: u8, out: &mut Vec<u8>) -> Result<(), AllocError>
     }
 }
 
+/// How many men a side lacks.
 fn push_missing(first: bool, side: Colour, missing: u8, out: &mut Vec<u8>) -> Result<(), AllocError>
     ensures { IfOk result (λ _. out.new.items ≡ out.old.items ++ missing_words first side missing) }
 {
@@ -462,6 +478,7 @@ fn push_missing(first: bool, side: Colour, missing: u8, out: &mut Vec<u8>) -> Re
     Ok(())
 }
 
+/// The same, with those whom no pawn took.
 fn push_lacks(
     alloc: Global,
     query: &Query,
@@ -485,6 +502,7 @@ fn push_lacks(
     Ok(())
 }
 
+/// By how much more a side pays at least than it earns.
 fn push_paid(n: u32, out: &mut Vec<u8>) -> Result<(), AllocError>
     ensures { IfOk result (λ _. out.new.items ≡ out.old.items ++ (codes "'s men pay at least " ++ decimal n ++ codes " more than they earn")) }
 {
@@ -494,6 +512,7 @@ fn push_paid(n: u32, out: &mut Vec<u8>) -> Result<(), AllocError>
     Ok(())
 }
 
+/// By how much more it earns at most than it pays.
 fn push_earned(n: u32, out: &mut Vec<u8>) -> Result<(), AllocError>
     ensures { IfOk result (λ _. out.new.items ≡ out.old.items ++ (codes "'s men earn at most " ++ decimal n ++ codes " more than they pay")) }
 {
@@ -523,6 +542,7 @@ fn push_net(side: Colour, cost: u32, men: u8, out: &mut Vec<u8>) -> Result<(), A
     Ok(())
 }
 
+/// That a side's men can't all have homes.
 fn push_homeless(side: Colour, out: &mut Vec<u8>) -> Result<(), AllocError>
     ensures { IfOk result (λ _. out.new.items ≡ out.old.items ++ homeless_words side) }
 {
@@ -534,6 +554,7 @@ fn push_homeless(side: Colour, out: &mut Vec<u8>) -> Result<(), AllocError>
     Ok(())
 }
 
+/// Why the men of both sides pay no more than they earn, but for what they pay for squares.
 fn push_gates_most(gates: u32, out: &mut Vec<u8>) -> Result<(), AllocError>
     ensures { IfOk result (λ _. out.new.items ≡ out.old.items ++ (codes ". But what is paid for captures is what is earned, and for squares at most " ++ decimal gates ++ codes " is paid.")) }
 {
@@ -588,6 +609,7 @@ fn push_accounts(
     push_account(query.odds, gates, white, black, out)
 }
 
+/// That the position stands so many half-moves later again.
 fn push_back(steps: u8, out: &mut Vec<u8>) -> Result<(), AllocError>
     ensures { IfOk result (λ _. out.new.items ≡ out.old.items ++ back_words steps) }
 {
@@ -628,6 +650,7 @@ fn push_barred(
     Ok(())
 }
 
+/// That the moves with which this side can have moved last follow.
 fn push_moved(side: Colour, first: bool, out: &mut Vec<u8>) -> Result<(), AllocError>
     ensures { IfOk result (λ _. out.new.items ≡ out.old.items ++ moved_words side first) }
 {
@@ -639,6 +662,100 @@ fn push_moved(side: Colour, first: bool, out: &mut Vec<u8>) -> Result<(), AllocE
         out,
     )?;
     Ok(())
+}
+
+/// The words of what is said of pawns, which holds of a query.
+#[tactic(auto, unfolding(crate::specs::Sentences::pawn_fact_words))]
+fn push_pawn_fact(
+    alloc: Global,
+    query: &Query,
+    fact: &PawnFact,
+    out: &mut Vec<u8>,
+) -> Result<(), AllocError>
+    requires { PawnsSay fact.now query.now }
+    ensures { IfOk result (λ _. out.new.items ≡ out.old.items ++ pawn_fact_words fact.now query.now) }
+{
+    match fact {
+        PawnFact::Count {
+            side,
+            pawns,
+            together,
+            began,
+            first,
+        } => {
+            let promoted = less(*together, *pawns);
+            push_count(*first, *side, *pawns, promoted, *began, out)
+        }
+        PawnFact::Gone(side, set) => push_gone(alloc, query, *side, *set, out),
+        PawnFact::Promoted {
+            side,
+            set: _,
+            pawns,
+            began,
+            first,
+        } => {
+            let promoted = less(*began as u16 + 1, *pawns);
+            push_count(*first, *side, *pawns, promoted, *began, out)
+        }
+        PawnFact::Way {
+            side,
+            captures,
+            files,
+        } => push_pawns_came(alloc, query, *side, *captures, files.as_slice(), out),
+        PawnFact::AtLeast {
+            side,
+            set: _,
+            captures,
+        } => push_at_least(*side, *captures, out),
+        PawnFact::Lacks {
+            side,
+            set,
+            missing,
+            first,
+        } => push_lacks(alloc, query, *first, *side, *set, *missing, out),
+    }
+}
+
+/// The words of what is said of a balance, which holds of a query.
+#[tactic(auto, unfolding(crate::specs::Sentences::balance_fact_words))]
+fn push_balance_fact(
+    alloc: Global,
+    query: &Query,
+    fact: &BalanceFact,
+    out: &mut Vec<u8>,
+) -> Result<(), AllocError>
+    requires { BalanceSays fact.now query.now }
+    ensures { IfOk result (λ _. out.new.items ≡ out.old.items ++ balance_fact_words fact.now query.now) }
+{
+    match fact {
+        BalanceFact::Priced(_, prices) => push_priced(alloc, prices, out),
+        BalanceFact::Balanced {
+            set: _,
+            prices,
+            white,
+            black,
+        } => push_accounts(query, prices, *white, *black, out),
+        BalanceFact::Counted(_, prices) => push_counts(alloc, prices, out),
+        BalanceFact::Best {
+            set,
+            prices,
+            white,
+            black,
+            first,
+            numbers,
+        } => push_best(
+            alloc,
+            *numbers,
+            *first,
+            query,
+            prices,
+            *set,
+            white.as_slice(),
+            black.as_slice(),
+            out,
+        ),
+        BalanceFact::Homeless(side, _) => push_homeless(*side, out),
+    }
 }
 
 /// The words of a sentence that holds of a query.
@@ -657,50 +774,11 @@ pub(crate) fn push_sentence(
         Sentence::Ranks(s) => push_end(*s, out),
         Sentence::Check(side, s) => push_check(*side, *s, out),
         Sentence::Rights(castle) => push_astray(query.odds, *castle, out),
-        Sentence::Count(side, pawns, together, began, first) => push_count(
-            *first,
-            *side,
-            *pawns,
-            less(*together, *pawns),
-            *began,
-            out,
-        ),
         Sentence::Caged(set) => push_caged(alloc, query, *set, out),
         Sentence::Changed(_, odd) => push_stood(query.odds, *odd, out),
         Sentence::Settled(set) => push_settled(alloc, *set, out),
-        Sentence::Gone(side, set) => push_gone(alloc, query, *side, *set, out),
-        Sentence::Promoted(side, _, pawns, began, first) => push_count(
-            *first,
-            *side,
-            *pawns,
-            less(*began as u16 + 1, *pawns),
-            *began,
-            out,
-        ),
-        Sentence::Way(side, captures, files) => {
-            push_pawns_came(alloc, query, *side, *captures, files.as_slice(), out)
-        }
-        Sentence::AtLeast(side, captures) => push_at_least(*side, *captures, out),
-        Sentence::Lacks(side, set, missing, first) => {
-            push_lacks(alloc, query, *first, *side, *set, *missing, out)
-        }
-        Sentence::Priced(_, prices) => push_priced(alloc, prices, out),
-        Sentence::Balanced(_, prices, white, black) => {
-            push_accounts(query, prices, *white, *black, out)
-        }
-        Sentence::Counted(_, prices) => push_counts(alloc, prices, out),
-        Sentence::Best(set, prices, white, black, first, numbers) => push_best(
-            alloc,
-            *numbers,
-            *first,
-            query,
-            prices,
-            *set,
-            white.as_slice(),
-            black.as_slice(),
-            out,
-        ),
-        Sentence::Homeless(side, _) => push_homeless(*side, out),
+        Sentence::OnPawns(fact) => push_pawn_fact(alloc, query, fact, out),
+        Sentence::OnBalance(fact) => push_balance_fact(alloc, query, fact, out),
         Sentence::Back(steps, _) => push_back(*steps, out),
         Sentence::Still(first) => push_barred(alloc, query, *first, out),
         Sentence::Moved(first) => push_moved(query.turn.other(), *first, out),

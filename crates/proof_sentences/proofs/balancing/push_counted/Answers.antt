@@ -1,6 +1,7 @@
 use Rattle.balance_prose.specs.Accounts.{CountTooMany}
 use Rattle.proof_sentences.specs.Sentences.{NeverMoved}
-use Rattle.proof_sentences.specs.declared.sentences.Sentence.TheVariants.{Best, Counted, Settled}
+use Rattle.proof_sentences.specs.declared.sentences.BalanceFact.TheVariants.{Best, Counted}
+use Rattle.proof_sentences.specs.declared.sentences.Sentence.TheVariants.{OnBalance, Settled}
 use Rattle.proof_sentences.proofs.Adding.{adds-three}
 use Rattle.proof_sentences.proofs.balancing.push_counted.Goals as goal
 
@@ -20,6 +21,6 @@ returns c =
       c.least_homes-black.result,
       c.least_homes-white.ensures.first,
       c.least_homes-black.ensures.first,
-      adds-three c.args.query.now (Settled c.args.set) (Counted c.args.set c.args.prices.now) (Best c.args.set c.args.prices.now c.least_homes-white.result c.least_homes-black.result c.args.first c.args.numbers) c.args.out.now.items _ _ _ never
+      adds-three c.args.query.now (Settled c.args.set) (OnBalance (Counted c.args.set c.args.prices.now)) (OnBalance (Best c.args.set c.args.prices.now c.least_homes-white.result c.least_homes-black.result c.args.first c.args.numbers)) c.args.out.now.items _ _ _ never
           (never, c.requires.0, c.one_treads.ensures c.args.query.now.odds) (never, best) c.in_ok-push_sentence.ensures c.in_ok-push_sentence-2.ensures c.in_ok-push_sentence-3.ensures,
     )

@@ -1,7 +1,8 @@
 use Rattle.std.proofs.Common.{◌<◌, ◌+◌}
 use Rattle.balance_rule.specs.Balance.{most_cost}
 use Rattle.proof_sentences.specs.Sentences.{NeverMoved}
-use Rattle.proof_sentences.specs.declared.sentences.Sentence.TheVariants.{Balanced, Priced, Settled}
+use Rattle.proof_sentences.specs.declared.sentences.BalanceFact.TheVariants.{Balanced, Priced}
+use Rattle.proof_sentences.specs.declared.sentences.Sentence.TheVariants.{OnBalance, Settled}
 use Rattle.proof_sentences.proofs.Adding.{adds-three, some-given}
 use Rattle.proof_sentences.proofs.balancing.push_priced.Goals as goal
 
@@ -25,6 +26,6 @@ returns c =
     let above : most_cost c.args.query.now.odds c.args.prices.now < c.unwrap-white.result + c.unwrap-black.result = rw (white, black) c.requires.above in (
       c.unwrap-white.result,
       c.unwrap-black.result,
-      adds-three c.args.query.now (Settled c.args.set) (Priced c.args.set c.args.prices.now) (Balanced c.args.set c.args.prices.now c.unwrap-white.result c.unwrap-black.result) c.args.out.now.items _ _ _ never never
+      adds-three c.args.query.now (Settled c.args.set) (OnBalance (Priced c.args.set c.args.prices.now)) (OnBalance (Balanced c.args.set c.args.prices.now c.unwrap-white.result c.unwrap-black.result)) c.args.out.now.items _ _ _ never never
           (never, white, black, above, c.requires.white, c.requires.black) c.in_ok-push_sentence.ensures c.in_ok-push_sentence-2.ensures c.in_ok-push_sentence-3.ensures,
     )

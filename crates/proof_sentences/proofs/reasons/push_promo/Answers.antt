@@ -6,7 +6,8 @@ use Rattle.men_account.specs.declared.tallies.Counts.{Counts}
 use Rattle.men_account.specs.declared.tallies.Allowance.{Allowance}
 use Rattle.query_base.specs.Asked.{Asked}
 use Rattle.proof_sentences.specs.Sentences.{NeverMoved}
-use Rattle.proof_sentences.specs.declared.sentences.Sentence.TheVariants.{Gone, Promoted, Settled}
+use Rattle.proof_sentences.specs.declared.sentences.PawnFact.TheVariants.{Gone, Promoted}
+use Rattle.proof_sentences.specs.declared.sentences.Sentence.TheVariants.{OnPawns, Settled}
 use Rattle.proof_sentences.proofs.Adding.{adds-three}
 use Rattle.proof_sentences.proofs.reasons.push_promo.Goals as goal
 
@@ -27,7 +28,7 @@ returns c =
     ap (λ (n : Allowance). n.pawns) c.allowance-began.ensures ∙ ap (λ (q : Asked). men c.args.side Pawn is_any (array_of q.odds)) c.query.view_is in (
       c.counts-pawns.result.pawns,
       c.allowance-began.result.pawns,
-      adds-three c.args.query.now (Settled c.args.set) (Gone c.args.side c.args.set) (Promoted c.args.side c.args.set c.counts-pawns.result.pawns c.allowance-began.result.pawns c.args.first) c.args.out.now.items _ _ _ never never
+      adds-three c.args.query.now (Settled c.args.set) (OnPawns (Gone c.args.side c.args.set)) (OnPawns (Promoted c.args.side c.args.set c.counts-pawns.result.pawns c.allowance-began.result.pawns c.args.first)) c.args.out.now.items _ _ _ never never
           (pawns, began, c.requires.more)
           c.in_ok-push_sentence.ensures c.in_ok-push_sentence-2.ensures c.in_ok-push_sentence-3.ensures,
     )

@@ -1,6 +1,7 @@
 use Rattle.std.proofs.Common.{rules}
 use Rattle.proof_sentences.proofs.Adding.{adds-one}
-use Rattle.proof_sentences.specs.declared.sentences.Sentence.TheVariants.{Count}
+use Rattle.proof_sentences.specs.declared.sentences.PawnFact.TheVariants.{Count}
+use Rattle.proof_sentences.specs.declared.sentences.Sentence.TheVariants.{OnPawns}
 use Rattle.proof_sentences.proofs.reasons.push_side.Goals as goal
 
 pub returns : goal.returns
@@ -8,5 +9,5 @@ returns c = (
   c.counts-men.result.pawns,
   c.excess-together.result,
   c.allowance-allowed.result.pawns,
-  adds-one c.args.query.now (Count c.args.side c.counts-men.result.pawns c.excess-together.result c.allowance-allowed.result.pawns c.args.first) c.args.out.now.items _ (search rules) c.in_ok-push_sentence.ensures,
+  adds-one c.args.query.now (OnPawns (Count c.args.side c.counts-men.result.pawns c.excess-together.result c.allowance-allowed.result.pawns c.args.first)) c.args.out.now.items _ (search rules) c.in_ok-push_sentence.ensures,
 )
