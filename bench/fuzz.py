@@ -12,7 +12,7 @@ otherwise than fuzz_sketches.py; a verdict that `solve` doesn't bear out; a lega
 length of `length` that `atleast` doesn't accept, a dossier of `dossier` that `line` doesn't accept; an answer of `explain` to what `check`
 refuses that isn't that of `check`, to what it accepts that explains nothing, or that shows another diagram; and two runs that differ. Each
 finding goes into a file of FOLDER, with the words, the input and what was wrong.
-The same seed gives the same cases, with any number of jobs. The exit status is 1 where something was found.
+The same seed gives the same cases, with any number of jobs. The exit status is 1 if something was found.
 """
 import argparse
 import json
@@ -34,12 +34,12 @@ SECONDS = 10
 CHUNK = 250
 STATUSES = {"check": (0, 1), "explain": (0, 1), "play": (0, 1, 6), "unmoves": (0, 6), "solve": (0, 2, 3, 4, 6), "settle": (0, 2, 3, 4, 6), "verdict": (0, 3, 6),
             "tree": (0, 3, 6), "sample": (0,), "san": (0, 1, 6), "spell": (0, 1), "length": (0, 2, 6), "atleast": (0, 1), "line": (0, 1),
-            "dossier": (0, 1, 2, 3, 6), "study": (0, 6), "--help": (0,), "--version": (0,)}
+            "dossier": (0, 1, 2, 3, 6), "study": (0, 6), "report": (0, 6), "--help": (0,), "--version": (0,)}
 RANGES = {"solve": [(0, 64), (1, 500_000)], "sample": [(0, 2**64 - 1), (1, 1000), (1, 200)]}
-RANGES["settle"] = RANGES["study"] = RANGES["verdict"] = RANGES["tree"] = RANGES["dossier"] = RANGES["solve"]
+RANGES["settle"] = RANGES["study"] = RANGES["report"] = RANGES["verdict"] = RANGES["tree"] = RANGES["dossier"] = RANGES["solve"]
 # The commands that may be called without their numbers, and those that read nothing.
-ALONE, UNREADING = ("settle", "study"), ("sample", "--help", "--version")
-LAST_LINE = {"study": 4, "play": 3, "san": 3, "unmoves": 4, "solve": 5, "settle": 5, "verdict": 4, "tree": 4, "length": 3, "dossier": 5}
+ALONE, UNREADING = ("settle", "study", "report"), ("sample", "--help", "--version")
+LAST_LINE = {"study": 4, "report": 4, "play": 3, "san": 3, "unmoves": 4, "solve": 5, "settle": 5, "verdict": 4, "tree": 4, "length": 3, "dossier": 5}
 
 MOVE = r"[a-h][1-8][a-h][1-8][nbrq]?"
 UNMOVE = rf"(?:{MOVE}(?:x[pnbrq])?|[a-h][1-8][a-h][1-8]ep)"
@@ -57,8 +57,8 @@ HINTING = ("check", "explain", "play", "san", "spell")
 FORMS = {
     ("check", 0): rf"accepted {CLAIM} {FEN}(?: {ODDS})?(?: {CLOCK})?\n",
     ("check", 1): rf"refused line [1-9]\d* {FAULT}\n",
-    ("explain", 0): r"  a b c d e f g h\n(?:[1-8](?: [.PNBRQKpnbrqk]){8}(?:     (?:White|Black) to move)?\n){8}(?:[!-~][ -~]{0,99}\n| {1,99}[!-~][ -~]{0,98}\n)+",
-    ("explain", 1): rf"refused line [1-9]\d* {FAULT}\n",
+    ("explain", 0): r"  a b c d e f g h\n(?:[1-8](?: [.PNBRQKpnbrqk]){8}(?:     (?:White|Black) to move)?\n){8}(?:(?:[!-~][ -~]{0,99}| {1,99}[!-~][ -~]{0,98})?\n)+",
+    ("explain", 1): rf"refused (?:unsupported|line [1-9]\d* {FAULT}|head|step [1-9]\d* unlisted|part [1-9]\d* (?:text|other|line [1-9]\d* {FAULT}))\n",
     ("play", 0): r"legal\n",
     ("play", 1): r"refused (?:(?:word|ply) [1-9]\d*|end)\n",
     ("unmoves", 0): rf"(?:{UNMOVE} {FEN}\n)*total \d+\n",
@@ -87,15 +87,28 @@ RIGHT = r"(?:lost [KQkq]|notboth [KQkq] [KQkq]|ep [a-h][1-8][a-h][1-8])"
 # A claim that isn't proved, with where the search for a proof of an open one got stuck.
 UNPROVED = lambda claim: rf"(?:(?:countered|spent) {claim}\n|open {claim}\n(?:stuck {claim}(?: {UNMOVE}){{0,8}}\n)?)"
 SQUARE = r"(?: [a-h][1-8])"
-LEDGER = (
-    rf"(?:unmoved{SQUARE}+\n)?(?:lacks [wb](?: q)*(?: r)*(?: bd)*(?: bl)*(?: n)*(?: p)*\n){{0,2}}(?:captures [wb] \d+ \d+ \d+(?: dark \d+ \d+)?(?: on [a-h]-(?:dark|light) \d+)*\n){{0,2}}(?:pawn{SQUARE} [a-h][1-8](?:,[a-h][1-8])* \d\+?\n)*(?:man{SQUARE}{{2}}\n)*(?:ahead{SQUARE}+\n)?(?:original{SQUARE}+\n)?(?:promoted{SQUARE} [a-h][1-8](?:,[a-h][1-8])*\n)*(?:among \d+{SQUARE}+\n)*"
-    rf"(?:fell{SQUARE}(?: pawn| officer)?(?: as-pawn| as-promoted)?\n)*(?:became{SQUARE}\n)*"
+# Each line of a ledger, and how often it comes; and what a ledger says only if a castling is held.
+LEDGER_LINES = (
+    (rf"unmoved{SQUARE}+", "?"),
+    (r"lacks [wb](?: q)*(?: r)*(?: bd)*(?: bl)*(?: n)*(?: p)*", "{0,2}"),
+    (r"captures [wb] \d+ \d+ \d+(?: dark \d+ \d+)?(?: on [a-h]-(?:dark|light) \d+)*", "{0,2}"),
+    (rf"pawn{SQUARE}(?: [a-h][1-8](?:,[a-h][1-8])* \d\+?|{SQUARE}{{2,6}})", "*"),
+    (rf"man{SQUARE}{{2}}", "*"),
+    (rf"ahead{SQUARE}+", "?"),
+    (rf"original{SQUARE}+", "?"),
+    (rf"promoted{SQUARE} [a-h][1-8](?:,[a-h][1-8])*", "*"),
+    (rf"among \d+{SQUARE}+", "*"),
+    (rf"fell{SQUARE}(?: pawn| officer)?(?: as-pawn| as-promoted)?", "*"),
+    (rf"became{SQUARE}", "*"),
 )
+LEDGER = "".join(rf"(?:{form}\n){times}" for form, times in LEDGER_LINES)
+HELD = "".join(rf"(?:if {right} {form}\n){times}" for right in "KQkq" for form, times in LEDGER_LINES)
 STUDY = (
     rf"(?:proved \d+ illegal\nother side {WORD} illegal\n|{UNPROVED('illegal')}(?:proved \d+ {RIGHT}\n|{UNPROVED(RIGHT)})*"
-    rf"(?:proved \d+ last {MOVE}\n)?(?:proved \d+ line {UNMOVE}(?: {UNMOVE}){{1,15}}\n)?left \d+ of \d+(?: {UNMOVE}){{0,24}}\n(?:possible [0-8] of [1-8](?: {UNMOVE}){{0,8}}\n)?{LEDGER}(?:atleast \d+\n)?)"
+    rf"(?:proved \d+ last {MOVE}\n)?(?:proved \d+ line {UNMOVE}(?: {UNMOVE}){{1,15}}\n)?left \d+ of \d+(?: {UNMOVE}){{0,24}}\n(?:possible [0-8] of [1-8](?: {UNMOVE}){{0,8}}\n)?{LEDGER}{HELD}(?:atleast \d+\n)?)"
 )
-FORMS |= {("study", 0): rf"{STUDY}(?:without demands\n{STUDY})?", ("--help", 0): r"usage:\n[^\0]+", ("--version", 0): r"retractor \d+\.\d+\n"}
+DRAWN = r"  a b c d e f g h\n(?:[1-8](?: [.PNBRQKpnbrqk]){8}(?:     (?:White|Black) to move)?\n){8}"
+FORMS |= {("report", 0): rf"{DRAWN}[^\0]+", ("study", 0): rf"{STUDY}(?:without demands\n{STUDY})?", ("--help", 0): r"usage:\n[^\0]+", ("--version", 0): r"retractor \d+\.\d+\n"}
 FORMS |= {("settle", status): FORMS["solve", status] for status in (0, 2, 4)}
 FORMS = {key: re.compile(form) for key, form in FORMS.items()}
 SPENT = re.compile(r"spent \d+\n")
@@ -104,7 +117,7 @@ NOTE = re.compile(r"closed|array|end|(?:back|expand) \d+")
 
 
 def command_of(words):
-    """The command that the words call, None where they call none."""
+    """The command that the words call, None if they call none."""
     if not words:
         return None
     name = words[0].decode("ascii", "replace")
@@ -143,7 +156,7 @@ class Program:
 
     @staticmethod
     def failing(fails):
-        """A folder, whose reads fail; a full device or a pipe without a reader, whose writes do; None where nothing is to fail."""
+        """A folder, whose reads fail; a full device or a pipe without a reader, whose writes do; None if nothing is to fail."""
         if fails == "read":
             return os.open("/", os.O_RDONLY)
         if fails == "write":
@@ -419,7 +432,7 @@ def unborne(program, case, out, rng):
 
 
 def wrong(program, case, rng):
-    """What is wrong with a run of the case, with the run; None where nothing is."""
+    """What is wrong with a run of the case, with the run; None if nothing is."""
     command = command_of(case.words)
     ended = program.run(case)
     status, out, _ = ended

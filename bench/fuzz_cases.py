@@ -312,11 +312,11 @@ class Maker:
         rng = random.Random(f"{seed} {number}")
         if rng.randrange(20_000) == 0:
             return Case([rng.choice([b"check", b"explain", b"play", b"unmoves"])], b"x" * (LIMIT + rng.choice([0, 1, 2])))
-        command = rng.choice([b"check", b"check", b"check", b"check", b"explain", b"explain", b"play", b"play", b"unmoves", b"solve", b"solve", b"settle", b"study", b"verdict",
+        command = rng.choice([b"check", b"check", b"check", b"check", b"explain", b"explain", b"play", b"play", b"unmoves", b"solve", b"solve", b"settle", b"study", b"report", b"verdict",
                               b"tree", b"sample", b"san", b"spell", b"length", b"atleast", b"line", b"line", b"dossier"])
         words = [command]
-        alone = command in (b"settle", b"study") and rng.random() < 0.02
-        if command in (b"solve", b"settle", b"study", b"verdict", b"tree", b"dossier") and not alone:
+        alone = command in (b"settle", b"study", b"report") and rng.random() < 0.02
+        if command in (b"solve", b"settle", b"study", b"report", b"verdict", b"tree", b"dossier") and not alone:
             words += [b"%d" % rng.choice([0, 1, 1, 2, 2, 3, 4, 9, 64]), b"%d" % rng.choice([1, 2, 5, 10, 30, 100, 100])]
         if command == b"sample":
             words += [b"%d" % rng.choice([0, 1, rng.randrange(2**64), 2**64 - 1]), b"%d" % rng.randint(1, 3), b"%d" % rng.randint(1, 6)]

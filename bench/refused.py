@@ -73,6 +73,7 @@ def cases():
     yield ["solve", "9", "281"], (EXAMPLES / "barred-kings.claim").read_bytes()
     yield ["settle", "64", "1000"], (EXAMPLES / "dawson-1940.claim").read_bytes()
     yield ["study", "2", "1000"], b"6nk/2p4p/3B1P1P/5KpP/8/8/8/8 w - -\n"
+    yield ["report", "2", "1000"], b"6nk/2p4p/3B1P1P/5KpP/8/8/8/8 w - -\n"
     yield ["verdict", "1", "100"], b"4k3/8/8/8/8/8/P7/4K2R b - -\n"
     yield ["tree", "4", "1000"], ARRAY.replace(b" w ", b" b ")
     yield ["sample", "0", "3", "20"], b""

@@ -1,12 +1,13 @@
 # Written by tools/completions.py for what `retractor --help` says.
 complete -c retractor -f
 complete -c retractor -n __fish_is_first_token -a check -d 'whether the certificate proves its claim'
-complete -c retractor -n __fish_is_first_token -a explain -d 'the proof of a certificate in plain words'
+complete -c retractor -n __fish_is_first_token -a explain -d 'the proof of a certificate, a dossier or a length in plain words'
 complete -c retractor -n __fish_is_first_token -a play -d 'whether the moves are a legal game that reaches the position'
 complete -c retractor -n __fish_is_first_token -a san -d 'whether the game in algebraic notation reaches the position'
 complete -c retractor -n __fish_is_first_token -a spell -d 'the game in algebraic notation'
 complete -c retractor -n __fish_is_first_token -a unmoves -d 'each move that may have been the last, and the position before it'
 complete -c retractor -n __fish_is_first_token -a study -d 'all that is proved of the position, a fact a line'
+complete -c retractor -n __fish_is_first_token -a report -d 'the same in sentences, with the ledger and the proofs'
 complete -c retractor -n __fish_is_first_token -a solve -d 'a certificate of the claim, or a game against it'
 complete -c retractor -n __fish_is_first_token -a settle -d 'the same, by the balance of captures too'
 complete -c retractor -n __fish_is_first_token -a verdict -d 'what the conventions say of castling and en passant'

@@ -6,9 +6,9 @@ use Rattle.board_base.specs.declared.unmoves.Unmove.{Unmove}
 use Rattle.cert_text.specs.SeenCert.{cert_of}
 use Rattle.cert_text.specs.Written.{cert_lines}
 use Rattle.cert_text.specs.declared.certificates.Cert.{Cert}
-use Rattle.claim_search.specs.Answers.{IfCountered, IfUndecided}
-use Rattle.claim_search.specs.Found.{Found}
-use Rattle.claim_search.specs.Found.TheVariants as found
+use Rattle.position_report.specs.Answers.{IfCountered, IfUndecided}
+use Rattle.position_report.specs.Found.{Found}
+use Rattle.position_report.specs.Found.TheVariants as found
 use Rattle.command_answers.specs.Solves.{countered_line, spent_line, undecided_line}
 use Rattle.command_answers.specs.Told.{TellsFound}
 use Rattle.command_answers.specs.declared.statuses.Status.{Status}

@@ -19,8 +19,8 @@ use Rattle.query_base.specs.Reach.{Contradicts}
 use Rattle.query_base.specs.Targets.{target}
 use Rattle.query_base.specs.declared.claims.Claim.{Claim}
 use Rattle.cert_checker.proofs.Contradicted.{contradiction-reaches}
-use Rattle.claim_search.specs.Answers.{IfCountered}
-use Rattle.claim_search.specs.Found.{Found}
+use Rattle.position_report.specs.Answers.{IfCountered}
+use Rattle.position_report.specs.Found.{Found}
 use Rattle.command_answers.proofs.Finding.{if_countered}
 
 officer-promotes : (k : Kind) → is_officer k ≡ true → can_promote (Some k) ≡ true

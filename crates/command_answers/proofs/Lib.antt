@@ -8,7 +8,9 @@ pub mod GameTexts
 pub mod Settled
 pub mod LegalGames
 pub mod Finding
-pub use Rattle.diagram_study.proofs.Truths
-pub use Rattle.claim_search.proofs.Unreached
+pub mod Formats
+pub use Rattle.position_report.proofs.Truths
+pub use Rattle.position_report.proofs.Unreached
 pub use Rattle.dossier_search.proofs.Lines
 pub use Rattle.dossier_checker.proofs.OneDossier
+pub use Rattle.dossier_checker.proofs.WholeReading

@@ -13,8 +13,8 @@ use Rattle.query_base.specs.Targets.{target}
 use Rattle.query_base.specs.declared.claims.Claim.{Claim}
 use Rattle.unmove_gen.specs.Listed.{unmoves}
 use Rattle.unmove_gen.specs.Predecessor.{predecessor}
-use Rattle.claim_search.specs.Lines.{IsFirstNot, IsFirstOpen, forwards}
-use Rattle.claim_search.specs.Unsettled.{IsOpenLine, StaysUnsettled}
+use Rattle.position_report.specs.Lines.{IsFirstNot, IsFirstOpen, forwards}
+use Rattle.position_report.specs.Unsettled.{IsOpenLine, StaysUnsettled}
 use Rattle.command_answers.specs.Told.{IsSpelled}
 
 -- each unmove of a query has a text

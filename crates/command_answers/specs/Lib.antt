@@ -12,6 +12,7 @@ pub mod Settles
 pub mod Unmoves
 pub mod Verdicts
 pub mod Studies
+pub mod Reports
 pub mod Trees
 pub mod Lengths
 pub mod AtLeasts
@@ -21,14 +22,15 @@ pub mod Explains
 pub mod Samples
 pub mod Forms
 pub mod Told
-pub use Rattle.diagram_study.specs.Facts
-pub use Rattle.diagram_study.specs.Studies as DiagramStudyStudies
-pub use Rattle.claim_search.specs.Settlements
-pub use Rattle.proof_prose.specs.Prose
-pub use Rattle.claim_search.specs.Answers
-pub use Rattle.claim_search.specs.Plain
-pub use Rattle.claim_search.specs.Refutable
-pub use Rattle.claim_search.specs.SearchSizes
-pub use Rattle.claim_search.specs.Lines as ClaimSearchLines
+pub use Rattle.position_report.specs.Facts
+pub use Rattle.position_report.specs.Studies as DiagramStudyStudies
+pub use Rattle.position_report.specs.Reports as PositionReports
+pub use Rattle.position_report.specs.Settlements
+pub use Rattle.position_report.specs.Prose
+pub use Rattle.position_report.specs.Answers
+pub use Rattle.position_report.specs.Plain
+pub use Rattle.position_report.specs.Refutable
+pub use Rattle.position_report.specs.SearchSizes
+pub use Rattle.position_report.specs.Lines as ClaimSearchLines
 pub use Rattle.dossier_checker.specs.DossierAnswers
 pub use Rattle.dossier_checker.specs.Proving

@@ -8,11 +8,11 @@ use Rattle.query_base.specs.Targets.{target}
 use Rattle.query_base.specs.declared.claims.Claim.{Claim}
 use Rattle.cert_text.specs.Certificate.{Certificate, IsTextOf}
 use Rattle.price_search.specs.FlatPrices.{FlatPricesSupport}
-use Rattle.claim_search.specs.Settlements.{IsCounterable}
-use Rattle.claim_search.specs.Answers.{IsProofOf}
-use Rattle.claim_search.specs.Plain.{HasPlainSketch}
-use Rattle.claim_search.specs.SearchSizes.{IsLargeSearch}
-use Rattle.claim_search.specs.Unsettled.{IsUnpriced, StaysUnsettled, WhereRefutable}
+use Rattle.position_report.specs.Settlements.{IsCounterable}
+use Rattle.position_report.specs.Answers.{IsProofOf}
+use Rattle.position_report.specs.Plain.{HasPlainSketch}
+use Rattle.position_report.specs.SearchSizes.{IsLargeSearch}
+use Rattle.position_report.specs.Unsettled.{IsUnpriced, StaysUnsettled, WhereRefutable}
 use Rattle.command_answers.specs.Limits.{most_bytes}
 use Rattle.command_answers.specs.Questions.{fault_line}
 use Rattle.command_answers.specs.Solves.{countered_line, spent_line, undecided_line}

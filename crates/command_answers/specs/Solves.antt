@@ -9,10 +9,10 @@ use Rattle.query_base.specs.Targets.{target}
 use Rattle.query_base.specs.declared.claims.Claim.{Claim}
 use Rattle.cert_text.specs.Certificate.{Certificate, IsTextOf}
 use Rattle.cert_text.specs.Lines.{ended}
-use Rattle.claim_search.specs.Refutable.{IsRefutable}
-use Rattle.claim_search.specs.Costs.{IsCost}
-use Rattle.claim_search.specs.Lone.{IsAfforded, IsDear}
-use Rattle.claim_search.specs.Answers.{IsCounter, IsProofOf, IsUndecided}
+use Rattle.position_report.specs.Refutable.{IsRefutable}
+use Rattle.position_report.specs.Costs.{IsCost}
+use Rattle.position_report.specs.Lone.{IsAfforded, IsDear}
+use Rattle.position_report.specs.Answers.{IsCounter, IsProofOf, IsUndecided}
 use Rattle.command_answers.specs.Plays.{number_line}
 use Rattle.command_answers.specs.Questions.{fault_line}
 use Rattle.command_answers.specs.Statements.{IsNoStatement, States}

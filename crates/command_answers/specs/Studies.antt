@@ -1,7 +1,7 @@
 -- What `study` answers.
 use Rattle.std.specs.Prelude.{ℕ, List}
 use Rattle.query_base.specs.Asked.{Asked}
-use Rattle.diagram_study.specs.Studies.{IsStudy}
+use Rattle.position_report.specs.Studies.{IsStudy}
 use Rattle.command_answers.specs.Questions.{AnswersAlone}
 use Rattle.command_answers.specs.declared.statuses.Status.{Status}
 use Rattle.command_answers.specs.declared.statuses.Status.TheVariants as status

@@ -11,9 +11,9 @@ use Rattle.cert_text.specs.Tree.{Forest, Tree}
 use Rattle.cert_text.specs.Certificate.{AreBelow, AreKids, Lines, body_of}
 use Rattle.cert_text.specs.SeenCert.{cert_of}
 use Rattle.cert_text.specs.Written.{IsSketchLine, cert_lines}
-use Rattle.claim_search.specs.Lone.{IsDear}
-use Rattle.claim_search.specs.Found.{Found}
-use Rattle.claim_search.specs.Found.TheVariants as found
+use Rattle.position_report.specs.Lone.{IsDear}
+use Rattle.position_report.specs.Found.{Found}
+use Rattle.position_report.specs.Found.TheVariants as found
 use Rattle.command_answers.specs.Solves.{countered_line, spent_line, undecided_line}
 use Rattle.command_answers.specs.declared.statuses.Status.{Status}
 use Rattle.command_answers.specs.declared.statuses.Status.TheVariants as status

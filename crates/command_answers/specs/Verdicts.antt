@@ -5,8 +5,8 @@ use Rattle.query_base.specs.Asked.{Asked}
 use Rattle.query_base.specs.Reach.{Holds}
 use Rattle.query_base.specs.Targets.{target}
 use Rattle.cert_text.specs.Lines.{ended}
-use Rattle.claim_search.specs.Lone.{IsAfforded, IsDear}
-use Rattle.claim_search.specs.Refutable.{IsRefutable}
+use Rattle.position_report.specs.Lone.{IsAfforded, IsDear}
+use Rattle.position_report.specs.Refutable.{IsRefutable}
 use Rattle.codex_verdict.specs.Rights.{AreRights, claim_of}
 use Rattle.codex_verdict.specs.Verdicts.{verdict_text}
 use Rattle.codex_verdict.specs.declared.kinds.Right.{Right}

@@ -10,8 +10,8 @@ use crate::solves::write_spent;
 use crate::statements::{LineStatement, read_line_statement};
 use crate::statuses::Status;
 use crate::told::refused_step;
-use claim_search::Limits;
 use dossier_search::{Dossier, solve_line};
+use position_report::Limits;
 use std::alloc::{AllocError, Global};
 
 /// The line that tells which part isn't proved.

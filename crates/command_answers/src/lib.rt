@@ -10,6 +10,7 @@ mod lengths;
 mod lines;
 mod plays;
 mod questions;
+mod reports;
 mod samples;
 mod sans;
 mod settles;
@@ -27,7 +28,6 @@ mod verdicts;
 
 pub use atleasts::answer_atleast;
 pub use checks::answer_check;
-pub use claim_search::Limits;
 pub use dossier_checker::{
     accepted_are_dossiers, accepted_lines_are_written, dossiers_prove, one_dossier_answer,
 };
@@ -36,6 +36,8 @@ pub use explains::answer_explain;
 pub use lengths::answer_length;
 pub use lines::answer_line;
 pub use plays::answer_play;
+pub use position_report::Limits;
+pub use reports::answer_report;
 pub use samples::answer_sample;
 pub use sans::answer_san;
 pub use settles::answer_settle;

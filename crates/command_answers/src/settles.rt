@@ -7,7 +7,7 @@ use crate::solves::write_found;
 use crate::statements::read_statement;
 use crate::statuses::Status;
 use crate::texts::Text;
-use claim_search::{Limits, settle};
+use position_report::{Limits, settle};
 use std::alloc::{AllocError, Global};
 use unmove_gen::unmoves_have_texts;
 

@@ -3,7 +3,7 @@ ghost use Rattle.std.specs.List.{All};
 ghost use Rattle.board_base.specs.Texts.{can_promote, move_text, unmove_text};
 ghost use Rattle.cert_text.specs.Certificate.{HasText};
 ghost use Rattle.cert_text.specs.SeenCert.{cert_of};
-ghost use Rattle.claim_search.specs.Answers.{IfCountered, IfProved, IfUndecided};
+ghost use Rattle.position_report.specs.Answers.{IfCountered, IfProved, IfUndecided};
 ghost use Rattle.command_answers.specs.Limits.{most_bytes};
 ghost use Rattle.command_answers.specs.Solves.{AnswersSolve, countered_line, spent_line, undecided_line};
 ghost use Rattle.command_answers.specs.Told.{IsSpelled, TellsFound};
@@ -14,7 +14,7 @@ use crate::statuses::Status;
 use crate::texts::Text;
 use arrayvec::ArrayVec;
 use board_base::{Move, MoveList, Unmove, UnmoveList, write_move, write_unmove};
-use claim_search::{Found, Limits, solve};
+use position_report::{Found, Limits, solve};
 use std::alloc::{AllocError, Global};
 use unmove_gen::unmoves_have_texts;
 

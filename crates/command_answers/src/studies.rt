@@ -4,8 +4,7 @@ ghost use Rattle.command_answers.specs.Studies.{AnswersStudy, AnswersStudyOf};
 
 use crate::questions::write_fault;
 use crate::statuses::Status;
-use claim_search::Limits;
-use diagram_study::study;
+use position_report::{Limits, study};
 use question_text::{Position, read_lone_question};
 use std::alloc::{AllocError, Global};
 

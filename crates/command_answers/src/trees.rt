@@ -5,7 +5,7 @@ ghost use Rattle.command_answers.specs.Trees.{AnswersTree, AnswersTreeOf};
 use crate::questions::write_fault;
 use crate::solves::write_spent;
 use crate::statuses::Status;
-use claim_search::Limits;
+use position_report::Limits;
 use question_text::{Position, read_lone_question};
 use std::alloc::{AllocError, Global};
 use tree_browser::{TreeFault, tree_text};

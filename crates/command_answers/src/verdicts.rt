@@ -3,7 +3,7 @@ ghost use Rattle.std.specs.List.{All};
 ghost use Rattle.codex_verdict.specs.Rights.{claim_of};
 ghost use Rattle.codex_verdict.specs.Verdicts.{Promotes, verdict_text};
 ghost use Rattle.command_answers.specs.Limits.{most_bytes};
-ghost use Rattle.claim_search.specs.Lone.{IsDear};
+ghost use Rattle.position_report.specs.Lone.{IsDear};
 ghost use Rattle.command_answers.specs.Verdicts.{AnswersPosition, AnswersVerdict, Each, IsSettled, verdicts_text};
 ghost use Rattle.command_answers.specs.Told.{HasDearRight};
 
@@ -11,8 +11,8 @@ use crate::questions::write_fault;
 use crate::solves::write_spent;
 use crate::statuses::Status;
 use arrayvec::ArrayVec;
-use claim_search::{Found, Limits, solve};
 use codex_verdict::{Right, claim_of, rights, verdict_line};
+use position_report::{Found, Limits, solve};
 use question_text::{Position, read_lone_question};
 use std::alloc::{AllocError, Global};
 

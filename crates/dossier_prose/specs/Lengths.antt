@@ -49,9 +49,9 @@ plural n = cond (n == 1) [] (codes "s")
 abbrev pub counted : ℕ → List ℕ → List ℕ
 counted n kind = decimal n ++ codes " " ++ kind ++ plural n
 
--- what castling may have saved of so many moves: nothing if a right to castle is kept
+-- what castling may have saved of so many moves, if there are any: nothing if a right to castle is kept
 abbrev pub saved_words : Bool → ℕ → List ℕ
-saved_words kept sum = cond kept (codes ", and the side never castled") (cond (sum == 0) [] (codes ", of which castling may have saved up to 2"))
+saved_words kept sum = cond (sum == 0) [] (cond kept (codes ", of which castling saved none, since a right to castle is kept") (codes ", of which castling may have saved up to 2"))
 
 -- what the men of a side need with these homes, the sum, and how long a game is at least
 abbrev pub side_line : Asked → Colour → List ℕ → ℕ → ℕ → List ℕ

@@ -193,14 +193,14 @@ fn push_counted(count: u16, kind: &[u8], out: &mut Vec<u8>) -> Result<(), AllocE
     Ok(())
 }
 
-/// What castling may have saved of so many moves.
+/// What castling may have saved of so many moves, if there are any.
 fn saved_words(kept: bool, sum: u16) -> &'static [u8]
     ensures { result.now ≡ saved_words kept sum }
 {
-    if kept {
-        b", and the side never castled"
-    } else if sum == 0 {
+    if sum == 0 {
         b""
+    } else if kept {
+        b", of which castling saved none, since a right to castle is kept"
     } else {
         b", of which castling may have saved up to 2"
     }

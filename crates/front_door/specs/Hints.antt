@@ -11,7 +11,7 @@ use Rattle.hint_texts.specs.declared.advice.FenAdvice.{FenAdvice}
 use Rattle.hint_texts.specs.declared.advice.LineAdvice.{LineAdvice}
 use Rattle.hint_texts.specs.declared.advice.LineAdvice.TheVariants.{Empty}
 use Rattle.hint_texts.specs.declared.advice.TextAdvice.{TextAdvice}
-use Rattle.hint_texts.specs.declared.advice.TextAdvice.TheVariants.{Dossier, DossierToExplain, Length, Claim, ClaimToExplain, CarriageReturns, ReturnsToExplain, PositionToExplain}
+use Rattle.hint_texts.specs.declared.advice.TextAdvice.TheVariants.{Dossier, Length, Claim, ClaimToExplain, CarriageReturns, ReturnsToExplain, PositionToExplain}
 use Rattle.hint_texts.specs.declared.advice.WordAdvice.{WordAdvice}
 use Rattle.hint_texts.specs.declared.advice.WordAdvice.TheVariants.{StandsAlone, NoCommand, NearestCommand}
 
@@ -51,15 +51,18 @@ TellsLines advice input = Unit {0}
 abbrev pub HasReturns : List ℕ → Type 0
 HasReturns input = Says input (codes "retro 1" ++ 13 ∷ 10 ∷ []) ⊎ Says input (codes "retro 2" ++ 13 ∷ 10 ∷ [])
 
+-- the same with the first line of a certificate, a dossier or a length
+abbrev pub HasProofReturns : List ℕ → Type 0
+HasProofReturns input = HasReturns input ⊎ Says input (codes "retro line 1" ++ 13 ∷ 10 ∷ []) ⊎ Says input (codes "retro length 1" ++ 13 ∷ 10 ∷ [])
+
 -- The input begins as the text that the advice takes it for; of a position this isn't said.
 abbrev pub TellsText : TextAdvice → List ℕ → Type 0
 TellsText Dossier input = Says input (codes "retro line")
-TellsText DossierToExplain input = Says input (codes "retro line")
 TellsText Length input = Says input (codes "retro length")
 TellsText Claim input = Says input (codes "claim ")
 TellsText ClaimToExplain input = Says input (codes "claim ")
 TellsText CarriageReturns input = HasReturns input
-TellsText ReturnsToExplain input = HasReturns input
+TellsText ReturnsToExplain input = HasProofReturns input
 TellsText PositionToExplain input = Unit {0}
 
 -- What the advice takes the run for. Of words and of lines it says what stands above. Of a FEN line advice comes only where the answer

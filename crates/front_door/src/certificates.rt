@@ -1,7 +1,7 @@
-//! What was given to `check` or `explain` that is no certificate.
+//! What was given to `check` that is no certificate, or to `explain` that is no proof.
 
 ghost use Rattle.std.specs.Prelude.{IfSome, IsTrue};
-ghost use Rattle.front_door.specs.Hints.{HasReturns, TellsText};
+ghost use Rattle.front_door.specs.Hints.{HasProofReturns, HasReturns, TellsText};
 
 use hint_texts::TextAdvice;
 use question_text::read_lone_question;
@@ -11,6 +11,15 @@ fn has_returns(input: &[u8]) -> bool
     ensures { IsTrue result → HasReturns input.now }
 {
     input.starts_with(b"retro 1\r\n") || input.starts_with(b"retro 2\r\n")
+}
+
+/// The lines are those of a certificate, a dossier or a length, but each ends with a carriage return too.
+fn has_proof_returns(input: &[u8]) -> bool
+    ensures { IsTrue result → HasProofReturns input.now }
+{
+    has_returns(input)
+        || input.starts_with(b"retro line 1\r\n")
+        || input.starts_with(b"retro length 1\r\n")
 }
 
 /// The input is the lines of a position alone, none of which is long.
@@ -40,13 +49,9 @@ fn advise_check(input: &[u8]) -> Option<TextAdvice>
 fn advise_explain(input: &[u8]) -> Option<TextAdvice>
     ensures { IfSome result (λ advice. TellsText advice input.now) }
 {
-    if input.starts_with(b"retro line") {
-        Some(TextAdvice::DossierToExplain)
-    } else if input.starts_with(b"retro length") {
-        Some(TextAdvice::Length)
-    } else if input.starts_with(b"claim ") {
+    if input.starts_with(b"claim ") {
         Some(TextAdvice::ClaimToExplain)
-    } else if has_returns(input) {
+    } else if has_proof_returns(input) {
         Some(TextAdvice::ReturnsToExplain)
     } else if is_position(input) {
         Some(TextAdvice::PositionToExplain)

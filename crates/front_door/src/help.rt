@@ -21,7 +21,7 @@ fn further(alloc: Global) -> Result<String, AllocError> {
 
 DEPTH: how many moves are taken back at most, from {least_depth} to {most_depth}. NODES: how many positions a search visits, or how many lines
 a tree has, at most, from {least_nodes} to {most_nodes}. START: any number. GAMES: from {least_games} to {most_games}. PLIES: from {least_plies} to {most_plies}.
-`settle` alone is `settle {settle_depth} {settle_nodes}`, and `study` alone is `study {study_depth} {study_nodes}`.
+`settle` alone is `settle {settle_depth} {settle_nodes}`, `study` alone is `study {study_depth} {study_nodes}`, and `report` likewise.
 
 Statuses: 0 done, 1 refused, 2 undecided, 3 nodes spent, 4 a game against the claim, 5 bad words, 6 bad input, 7 reading
 failed, 8 writing failed, 9 not enough memory, 10 the input has more than 67108864 bytes.

@@ -5,7 +5,7 @@ ghost use Rattle.std.specs.Global.{Global as AGlobal};
 ghost use Rattle.retro_top.specs.Status.TheVariants.{BadInput, BadWords, Refused};
 ghost use Rattle.retro_top.specs.Names.{Begin, NameCommand};
 ghost use Rattle.front_door.specs.Hints.{AskForCertificate, AskForGame, Concerns, GoesWith, IsOfFen, Says, status_of};
-ghost use Rattle.front_door.specs.Kinds.{IsGame};
+ghost use Rattle.front_door.specs.Kinds.{IsCertificate, IsGame};
 ghost use Rattle.hint_texts.specs.declared.advice.Advice.TheVariants.{Lines, Words};
 ghost use Rattle.hint_texts.specs.declared.advice.LineAdvice.TheVariants.{Empty};
 ghost use Rattle.hint_texts.specs.declared.advice.WordAdvice.TheVariants.{NearestCommand};
@@ -82,12 +82,19 @@ fn ask_for_game(words: &[String]) -> bool
     }
 }
 
+/// It is a certificate, or may be one.
+fn is_certificate(kind: InputKind) -> bool
+    ensures { IsTrue result → IsCertificate kind }
+{
+    matches!(kind, InputKind::Certificate | InputKind::Proof)
+}
+
 /// The words ask for a command that reads a certificate.
 fn ask_for_certificate(words: &[String]) -> bool
     ensures { IsTrue result → AskForCertificate words.now }
 {
     match first_row(words) {
-        Some(row) => matches!(row.input, InputKind::Certificate),
+        Some(row) => is_certificate(row.input),
         None => false,
     }
 }

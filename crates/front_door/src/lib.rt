@@ -109,7 +109,7 @@ fn failure(status: Status) -> Option<&'static str> {
 }
 
 /// The name of the program, and its version.
-const VERSION: &str = "retractor 1.0\n";
+const VERSION: &str = "retractor 1.1\n";
 
 /// Writes a text that answers `--help` or `--version`.
 fn tell<K: Sink>(sink: &mut K, text: &str) -> Status {

@@ -12,6 +12,7 @@ fn nodes_of(command: Command) -> Option<u32> {
         | Command::Settle { nodes, .. }
         | Command::Verdict { nodes, .. }
         | Command::Study { nodes, .. }
+        | Command::Report { nodes, .. }
         | Command::Dossier { nodes, .. } => Some(nodes),
         Command::Check
         | Command::Explain

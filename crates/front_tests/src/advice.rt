@@ -41,11 +41,7 @@ const WORDS: [(&[&str], WordAdvice, &str); 38] = [
     ),
     (&["chek"], WordAdvice::NearestCommand, "check < CERTIFICATE"),
     (&["lenght"], WordAdvice::NearestCommand, "length < FEN"),
-    (
-        &["explian"],
-        WordAdvice::NearestCommand,
-        "explain < CERTIFICATE",
-    ),
+    (&["explian"], WordAdvice::NearestCommand, "explain < PROOF"),
     (&["mate"], WordAdvice::NoCommand, ""),
     (&["xyz"], WordAdvice::NoCommand, ""),
     (&[""], WordAdvice::NoCommand, ""),
@@ -157,11 +153,12 @@ const WORDS: [(&[&str], WordAdvice, &str); 38] = [
 ];
 
 /// The words of commands that read a position, and how each is called.
-const READING: [(&[&str], &str); 4] = [
+const READING: [(&[&str], &str); 5] = [
     (&["solve", "1", "100"], "solve DEPTH NODES < CLAIM-AND-FEN"),
     (&["settle"], "settle [DEPTH NODES] < CLAIM-AND-FEN"),
     (&["unmoves"], "unmoves < FEN"),
     (&["study"], "study [DEPTH NODES] < FEN"),
+    (&["report"], "report [DEPTH NODES] < FEN"),
 ];
 
 /// The words of a command with a claim and of one without, and inputs of theirs with a bad line.
@@ -400,14 +397,14 @@ const GAMES: [(&str, &[u8], MoveAdvice); 16] = [
 /// What isn't a certificate, and what `check` and `explain` say of it.
 const TEXTS: [(&[u8], Option<TextAdvice>, TextAdvice); 6] = [
     (
-        b"retro line 1\nclaim notboth K Q\n",
+        b"retro line 1\r\nclaim notboth K Q\r\n",
         Some(TextAdvice::Dossier),
-        TextAdvice::DossierToExplain,
+        TextAdvice::ReturnsToExplain,
     ),
     (
-        b"retro length 1\n",
+        b"retro length 1\r\n",
         Some(TextAdvice::Length),
-        TextAdvice::Length,
+        TextAdvice::ReturnsToExplain,
     ),
     (
         b"claim illegal\n4k3/8/8/8/8/8/8/4K3 w - -",

@@ -232,7 +232,7 @@ fn ends_with_the_number_of_the_status(rt: HostRuntime) {
         (beginning(HELP, b"", Some(b"retractor")), 8),
         (beginning(HELP, b"", None), 8),
         (unreadable(VERSION), 0),
-        (beginning(VERSION, b"", Some(b"retractor 1.0\n")), 0),
+        (beginning(VERSION, b"", Some(b"retractor ")), 0),
         (beginning(VERSION, b"", Some(b"usage:\n")), 8),
     ] {
         let ears = Ears::new(rt.alloc(), "", false);

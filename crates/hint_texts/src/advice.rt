@@ -210,7 +210,6 @@ pub enum TextAdvice {
     Length,
     Claim,
     CarriageReturns,
-    DossierToExplain,
     ClaimToExplain,
     PositionToExplain,
     ReturnsToExplain,
@@ -229,9 +228,6 @@ impl TextAdvice {
             TextAdvice::CarriageReturns => {
                 "the lines end with \\r\\n, those of a certificate with \\n alone: `tr -d '\\r' < FILE | retractor check`"
             }
-            TextAdvice::DossierToExplain => {
-                "this is a dossier, which `retractor line` checks; each of its parts, cut out, is a certificate to explain"
-            }
             TextAdvice::ClaimToExplain => {
                 "this is a claim and a position; `retractor settle` writes a certificate of it: `retractor settle < FILE | retractor explain`"
             }
@@ -239,7 +235,7 @@ impl TextAdvice {
                 "this is a position; with a claim before it, as `claim illegal`, `retractor settle` writes a certificate to explain"
             }
             TextAdvice::ReturnsToExplain => {
-                "the lines end with \\r\\n, those of a certificate with \\n alone: `tr -d '\\r' < FILE | retractor explain`"
+                "the lines end with \\r\\n, those of a proof with \\n alone: `tr -d '\\r' < FILE | retractor explain`"
             }
         }
     }

@@ -32,9 +32,10 @@ use Rattle.command_answers.specs.Statuses.{IsAnswer}
 use Rattle.command_answers.specs.Trees.{AnswersTreeOf}
 use Rattle.command_answers.specs.Verdicts.{AnswersPosition, AnswersRights}
 use Rattle.command_answers.specs.Studies.{AnswersStudyOf}
+use Rattle.command_answers.specs.Reports.{AnswersReportOf}
 use Rattle.retro_top.proofs.Explaining.{explain-answered}
 use Rattle.retro_top.specs.declared.commands.Command.{Command}
-use Rattle.retro_top.specs.declared.commands.Command.TheVariants.{Check, Explain, Play, San, Spell, Unmoves, Solve, Settle, Verdict, Study, Tree, Length, AtLeast, Line, Dossier, Sample}
+use Rattle.retro_top.specs.declared.commands.Command.TheVariants.{Check, Explain, Play, San, Spell, Unmoves, Solve, Settle, Verdict, Study, Report, Tree, Length, AtLeast, Line, Dossier, Sample}
 use Rattle.command_answers.specs.declared.statuses.Status.{Status}
 use Rattle.command_answers.specs.declared.statuses.Status.TheVariants.{Done, Refused, Undecided, Spent, Countered, BadInput}
 
@@ -134,6 +135,10 @@ study-answered : (depth nodes : ℕ) (q : Asked) (ending : Status) (text : List 
 study-answered depth nodes q Done text answers = tt
 study-answered depth nodes q _ text answers = absurd answers
 
+report-answered : (depth nodes : ℕ) (q : Asked) (ending : Status) (text : List ℕ) → AnswersReportOf depth nodes q ending text → IsAnswer ending
+report-answered depth nodes q Done text answers = tt
+report-answered depth nodes q _ text answers = absurd answers
+
 -- a command's own answer has the status of an answer
 pub answered : (command : Command) (input : List ℕ) (ending : Status) (text : List ℕ) → AnswersAs command input ending text → IsAnswer ending
 answered Check input ending text answers = told-answered (cut input) answers.0 ending text answers.2
@@ -162,6 +167,7 @@ answered (Settle depth nodes) input ending text answers = elim answers [
 answered (Verdict depth nodes) input ending text answers =
     one-answered (AsksAlone input) (IsNoLoneQuestion input) (AnswersPosition depth nodes) (λ q other lines said. rights-answered depth nodes q said.0 other lines said.2) ending text answers
 answered (Study depth nodes) input ending text answers = one-answered (AsksAlone input) (IsNoLoneQuestion input) (AnswersStudyOf depth nodes) (study-answered depth nodes) ending text answers
+answered (Report depth nodes) input ending text answers = one-answered (AsksAlone input) (IsNoLoneQuestion input) (AnswersReportOf depth nodes) (report-answered depth nodes) ending text answers
 answered (Tree depth nodes) input ending text answers = one-answered (AsksAlone input) (IsNoLoneQuestion input) (AnswersTreeOf depth nodes) (tree-answered depth nodes) ending text answers
 answered Length input ending text answers = one-answered (IsLonePosition input) (IsNoLonePosition input) AnswersLengthOf length-answered ending text answers
 answered AtLeast input ending text answers = bound-answered answers.0 ending text answers.2

@@ -7,9 +7,11 @@ use Rattle.command_answers.specs.Unmoves.{ListsUnmoves}
 use Rattle.command_answers.specs.Trees.{AnswersTreeOf}
 use Rattle.command_answers.specs.Verdicts.{AnswersPosition}
 use Rattle.command_answers.specs.Studies.{AnswersStudyOf}
+use Rattle.command_answers.specs.Reports.{AnswersReportOf}
+use Rattle.retro_top.proofs.Reporting.{report-done}
 use Rattle.retro_top.proofs.Studying.{study-done}
 use Rattle.retro_top.specs.declared.commands.Command.{Command}
-use Rattle.retro_top.specs.declared.commands.Command.TheVariants.{Check, Explain, Play, San, Spell, Unmoves, Solve, Settle, Verdict, Study, Tree, Length, AtLeast, Line, Dossier, Sample}
+use Rattle.retro_top.specs.declared.commands.Command.TheVariants.{Check, Explain, Play, San, Spell, Unmoves, Solve, Settle, Verdict, Study, Report, Tree, Length, AtLeast, Line, Dossier, Sample}
 use Rattle.command_answers.specs.declared.statuses.Status.{Status}
 use Rattle.command_answers.specs.declared.statuses.Status.TheVariants.{Done, Countered}
 use Rattle.retro_top.proofs.Gaming.{NoGameFault, OneGame, done-game, done-moves, done-notation, play-done, san-done, spell-done}
@@ -20,13 +22,13 @@ use Rattle.retro_top.proofs.Solving.{cheap-unspent, counterable-countered, done-
 use Rattle.retro_top.proofs.Settling.{done-provable-claim, settle-countered, settle-done, settle-unspent}
 use Rattle.retro_top.proofs.LineProofs.{AcceptedAreDossiers, OneDossier, done-line, done-proved-line, line-done, dossier-done, dossier-unspent}
 use Rattle.retro_top.proofs.Lengthy.{OneLength, done-length, done-shown, length-done, shown-done}
-use Rattle.retro_top.proofs.Explaining.{explain-done}
+use Rattle.retro_top.proofs.Explaining.{done-proof, explain-done}
 use Rattle.retro_top.proofs.Headline.{OneAnswer, CertificatesProve, done-proved, proves-done}
 
 -- with an input with which the command must succeed it does
 pub succeeds-done : OneAnswer → OneLength → OneDossier → AcceptedAreDossiers → OneTextEach → OneGame → NoGameFault → (command : Command) (input : List ℕ) (ending : Status) (text : List ℕ) → AnswersAs command input ending text → MustSucceed command input → ending ≡ Done
 succeeds-done law length dossier accepted one game sound Check input ending text answers good = proves-done law input text ending answers good
-succeeds-done law length dossier accepted one game sound Explain input ending text answers good = explain-done law input ending text answers good
+succeeds-done law length dossier accepted one game sound Explain input ending text answers good = explain-done law length dossier accepted input ending text answers good
 succeeds-done law length dossier accepted one game sound Play input ending text answers good = play-done input ending text answers good
 succeeds-done law length dossier accepted one game sound San input ending text answers good = san-done game sound input ending text answers good
 succeeds-done law length dossier accepted one game sound Spell input ending text answers good = spell-done input ending text answers good
@@ -35,6 +37,7 @@ succeeds-done law length dossier accepted one game sound (Solve depth nodes) inp
 succeeds-done law length dossier accepted one game sound (Settle depth nodes) input ending text answers good = settle-done depth nodes input ending text answers good
 succeeds-done law length dossier accepted one game sound (Verdict depth nodes) input ending text answers good = cheap-done depth nodes input ending text answers good
 succeeds-done law length dossier accepted one game sound (Study depth nodes) input ending text answers good = study-done depth nodes input ending text answers good
+succeeds-done law length dossier accepted one game sound (Report depth nodes) input ending text answers good = report-done depth nodes input ending text answers good
 succeeds-done law length dossier accepted one game sound (Tree depth nodes) input ending text answers good = few-done one depth nodes input ending text answers good
 succeeds-done law length dossier accepted one game sound Length input ending text answers good = length-done input ending text answers good
 succeeds-done law length dossier accepted one game sound AtLeast input ending text answers good = shown-done length input ending text answers good
@@ -48,6 +51,7 @@ suffices-unspent one (Solve depth nodes) input ending text answers enough = chea
 suffices-unspent one (Settle depth nodes) input ending text answers enough = settle-unspent depth nodes input ending text answers enough
 suffices-unspent one (Verdict depth nodes) input ending text answers enough = subst IsUnspent (sym (cheap-done depth nodes input ending text answers enough)) tt
 suffices-unspent one (Study depth nodes) input ending text answers enough = subst IsUnspent (sym (study-done depth nodes input ending text answers enough)) tt
+suffices-unspent one (Report depth nodes) input ending text answers enough = subst IsUnspent (sym (report-done depth nodes input ending text answers enough)) tt
 suffices-unspent one (Tree depth nodes) input ending text answers enough = subst IsUnspent (sym (few-done one depth nodes input ending text answers enough)) tt
 suffices-unspent one (Dossier depth nodes) input ending text answers enough = dossier-unspent depth nodes input ending text answers enough
 suffices-unspent one _ input ending text answers enough = absurd enough
@@ -61,7 +65,7 @@ must-counter _ input ending text answers can = absurd can
 -- where the command succeeds, its input is such a one
 pub done-succeeds : CertificatesProve → AcceptedAreDossiers → (command : Command) (input text : List ℕ) → AnswersAs command input Done text → Succeeds command input
 done-succeeds law accepted Check input text answers = let proved = done-proved law input text answers in (proved.cert, proved.is_text, proved.proves)
-done-succeeds law accepted Explain input text answers = (answers.0, answers.1, answers.2)
+done-succeeds law accepted Explain input text answers = done-proof input text answers
 done-succeeds law accepted Play input text answers = done-game input text answers
 done-succeeds law accepted San input text answers = done-notation input text answers
 done-succeeds law accepted Spell input text answers = done-moves input text answers
@@ -70,6 +74,7 @@ done-succeeds law accepted (Solve depth nodes) input text answers = done-refutab
 done-succeeds law accepted (Settle depth nodes) input text answers = done-provable-claim depth nodes input text answers
 done-succeeds law accepted (Verdict depth nodes) input text answers = let alone = done-alone (AnswersPosition depth nodes) input text answers in (alone.0, alone.1)
 done-succeeds law accepted (Study depth nodes) input text answers = let alone = done-alone (AnswersStudyOf depth nodes) input text answers in (alone.0, alone.1)
+done-succeeds law accepted (Report depth nodes) input text answers = let alone = done-alone (AnswersReportOf depth nodes) input text answers in (alone.0, alone.1)
 done-succeeds law accepted (Tree depth nodes) input text answers = let alone = done-alone (AnswersTreeOf depth nodes) input text answers in (alone.0, alone.2.0, text, alone.1, alone.2.1, alone.2.2)
 done-succeeds law accepted Length input text answers = done-length input text answers
 done-succeeds law accepted AtLeast input text answers = done-shown input text answers

@@ -11,7 +11,7 @@ use Rattle.retro_top.specs.Commands.{AreShortWordsOf, AreWordsOf, IsInRange, wor
 use Rattle.retro_top.specs.Names.{IsCommand, IsReadBy}
 use Rattle.retro_top.specs.Rows.{Facts, IsMade, IsSample, IsSearch, IsUsual, one_each, said_of, search_of, table}
 use Rattle.retro_top.specs.declared.commands.Command.{Command}
-use Rattle.retro_top.specs.declared.commands.Command.TheVariants.{Check, Explain, Play, San, Spell, Unmoves, Study, Solve, Settle, Verdict, Tree, Length, AtLeast, Line, Dossier, Sample}
+use Rattle.retro_top.specs.declared.commands.Command.TheVariants.{Check, Explain, Play, San, Spell, Unmoves, Study, Report, Solve, Settle, Verdict, Tree, Length, AtLeast, Line, Dossier, Sample}
 use Rattle.retro_top.specs.declared.rows.Calls.{Calls}
 use Rattle.retro_top.specs.declared.rows.Calls.TheVariants as calls
 use Rattle.retro_top.specs.declared.rows.Search.{Search}
@@ -39,6 +39,7 @@ commands-placed San = refl
 commands-placed Spell = refl
 commands-placed Unmoves = refl
 commands-placed (Study depth nodes) = refl
+commands-placed (Report depth nodes) = refl
 commands-placed (Solve depth nodes) = refl
 commands-placed (Settle depth nodes) = refl
 commands-placed (Verdict depth nodes) = refl
@@ -57,6 +58,7 @@ first-word San name words e = cc
 first-word Spell name words e = cc
 first-word Unmoves name words e = cc
 first-word (Study depth nodes) name words e = cc
+first-word (Report depth nodes) name words e = cc
 first-word (Solve depth nodes) name words e = cc
 first-word (Settle depth nodes) name words e = cc
 first-word (Verdict depth nodes) name words e = cc
@@ -84,6 +86,7 @@ behind-made San name words e r = (cc, refl)
 behind-made Spell name words e r = (cc, refl)
 behind-made Unmoves name words e r = (cc, refl)
 behind-made (Study depth nodes) name words e r = inl (depth, nodes, cc, r, refl)
+behind-made (Report depth nodes) name words e r = inl (depth, nodes, cc, r, refl)
 behind-made (Solve depth nodes) name words e r = inl (depth, nodes, cc, r, refl)
 behind-made (Settle depth nodes) name words e r = inl (depth, nodes, cc, r, refl)
 behind-made (Verdict depth nodes) name words e r = inl (depth, nodes, cc, r, refl)
@@ -100,8 +103,12 @@ short-made said command words h (inl e) =
     let name : said.name ≡ codes "settle" = cc in
     let none : words ≡ [] = cc in
     subst (λ (other : Facts). IsMade other.makes words command) (sym (by-name said h ∙ ap looked_up name)) (inr (none, e.1))
-short-made said command words h (inr e) =
+short-made said command words h (inr (inl e)) =
     let name : said.name ≡ codes "study" = cc in
+    let none : words ≡ [] = cc in
+    subst (λ (other : Facts). IsMade other.makes words command) (sym (by-name said h ∙ ap looked_up name)) (inr (none, e.1))
+short-made said command words h (inr (inr e)) =
+    let name : said.name ≡ codes "report" = cc in
     let none : words ≡ [] = cc in
     subst (λ (other : Facts). IsMade other.makes words command) (sym (by-name said h ∙ ap looked_up name)) (inr (none, e.1))
 
@@ -120,15 +127,16 @@ held San = (3, omega arith, refl)
 held Spell = (4, omega arith, refl)
 held Unmoves = (5, omega arith, refl)
 held (Study depth nodes) = (6, omega arith, refl)
-held (Solve depth nodes) = (7, omega arith, refl)
-held (Settle depth nodes) = (8, omega arith, refl)
-held (Verdict depth nodes) = (9, omega arith, refl)
-held (Tree depth nodes) = (10, omega arith, refl)
-held Length = (11, omega arith, refl)
-held AtLeast = (12, omega arith, refl)
-held Line = (13, omega arith, refl)
-held (Dossier depth nodes) = (14, omega arith, refl)
-held (Sample start games plies) = (15, omega arith, refl)
+held (Report depth nodes) = (7, omega arith, refl)
+held (Solve depth nodes) = (8, omega arith, refl)
+held (Settle depth nodes) = (9, omega arith, refl)
+held (Verdict depth nodes) = (10, omega arith, refl)
+held (Tree depth nodes) = (11, omega arith, refl)
+held Length = (12, omega arith, refl)
+held AtLeast = (13, omega arith, refl)
+held Line = (14, omega arith, refl)
+held (Dossier depth nodes) = (15, omega arith, refl)
+held (Sample start games plies) = (16, omega arith, refl)
 
 -- the names of the table, in order
 abbrev pub names : List (List ℕ)
@@ -149,6 +157,7 @@ headed San = (_, refl)
 headed Spell = (_, refl)
 headed Unmoves = (_, refl)
 headed (Study depth nodes) = (_, refl)
+headed (Report depth nodes) = (_, refl)
 headed (Solve depth nodes) = (_, refl)
 headed (Settle depth nodes) = (_, refl)
 headed (Verdict depth nodes) = (_, refl)
@@ -173,17 +182,18 @@ abbrev ReadsRight : Facts → Type 0
 ReadsRight said = IsReadBy said.input said.name
 
 read-right : (command : Command) → ReadsRight (said_of command)
-read-right Check = inl refl
-read-right Explain = inr refl
+read-right Check = refl
+read-right Explain = refl
 read-right Play = refl
 read-right San = refl
 read-right Spell = refl
 read-right Unmoves = inl refl
 read-right (Study depth nodes) = inr (inl refl)
+read-right (Report depth nodes) = inr (inr (inl refl))
 read-right (Solve depth nodes) = inl refl
 read-right (Settle depth nodes) = inr refl
-read-right (Verdict depth nodes) = inr (inr (inl refl))
-read-right (Tree depth nodes) = inr (inr (inr refl))
+read-right (Verdict depth nodes) = inr (inr (inr (inl refl)))
+read-right (Tree depth nodes) = inr (inr (inr (inr refl)))
 read-right Length = refl
 read-right AtLeast = refl
 read-right Line = refl
@@ -210,7 +220,8 @@ called-behind words command r (inl full) = record {
   made = behind-made command (said_of command).name (headed command).0 (headed command).1 r;
 }
 called-behind words command r (inr (inl settles)) = record { said = said_of (Settle 0 0); rest = []; held = held (Settle 0 0); words_are = settles.0; made = inr (refl, settles.1) }
-called-behind words command r (inr (inr studies)) = record { said = said_of (Study 0 0); rest = []; held = held (Study 0 0); words_are = studies.0; made = inr (refl, studies.1) }
+called-behind words command r (inr (inr (inl studies))) = record { said = said_of (Study 0 0); rest = []; held = held (Study 0 0); words_are = studies.0; made = inr (refl, studies.1) }
+called-behind words command r (inr (inr (inr reports))) = record { said = said_of (Report 0 0); rest = []; held = held (Report 0 0); words_are = reports.0; made = inr (refl, reports.1) }
 
 -- two words are one depth and one number of nodes
 one-search : (search : Search) (words : List (List ℕ)) (a b : Command) → IsSearch search words a → IsSearch search words b → a ≡ b

@@ -16,7 +16,6 @@ use Rattle.cert_text.specs.Certificate.{Certificate, IsTextOf}
 use Rattle.game_text.specs.Words.{words, AreTextsOf}
 use Rattle.san_text.specs.FromArray.{Tells}
 use Rattle.cert_checker.specs.Proving.{ProvesClaim}
-use Rattle.command_answers.specs.Prose.{Explains}
 use Rattle.price_search.specs.FlatPrices.{FlatPricesSupport}
 use Rattle.command_answers.specs.Settlements.{IsCounterable}
 use Rattle.command_answers.specs.Answers.{IsProofOf}
@@ -48,15 +47,18 @@ use Rattle.command_answers.specs.Lengths.{AnswersLength, AsksForLength, TellsLen
 use Rattle.command_answers.specs.Explains.{AnswersExplain}
 use Rattle.command_answers.specs.Dossiers.{AnswersDossier, StatesCheapLine, StatesClearLine, StatesProvedLine}
 use Rattle.command_answers.specs.Lines.{AnswersLine, ProvesLine, accepted_steps_line}
+use Rattle.command_answers.specs.Proving.{IsDossier}
 use Rattle.command_answers.specs.AtLeasts.{AnswersAtLeast, ShowsLength, bound_line}
 use Rattle.command_answers.specs.Studies.{AnswersStudy}
+use Rattle.command_answers.specs.Reports.{AnswersReport}
+use Rattle.command_answers.specs.PositionReports.{IsReport}
 use Rattle.command_answers.specs.Facts.{SaysTrue}
 use Rattle.command_answers.specs.DiagramStudyStudies.{IsStudy}
 use Rattle.command_answers.specs.Verdicts.{AnswersVerdict, AsksForCheap, Each, verdicts_text}
 use Rattle.command_answers.specs.declared.statuses.Status.{Status}
 use Rattle.command_answers.specs.declared.statuses.Status.TheVariants.{Done, Refused, Undecided, Countered, Memory}
 use Rattle.retro_top.specs.declared.commands.Command.{Command}
-use Rattle.retro_top.specs.declared.commands.Command.TheVariants.{Check, Explain, Play, San, Spell, Unmoves, Solve, Settle, Verdict, Study, Tree, Length, AtLeast, Line, Dossier, Sample}
+use Rattle.retro_top.specs.declared.commands.Command.TheVariants.{Check, Explain, Play, San, Spell, Unmoves, Solve, Settle, Verdict, Study, Report, Tree, Length, AtLeast, Line, Dossier, Sample}
 
 -- the status and the text with which a command answers an input
 abbrev pub AnswersAs : Command → List ℕ → Status → List ℕ → Type 0
@@ -70,6 +72,7 @@ AnswersAs (Solve depth nodes) input status text = AnswersSolve depth nodes input
 AnswersAs (Settle depth nodes) input status text = AnswersSettle depth nodes input status text
 AnswersAs (Verdict depth nodes) input status text = AnswersVerdict depth nodes input status text
 AnswersAs (Study depth nodes) input status text = AnswersStudy depth nodes input status text
+AnswersAs (Report depth nodes) input status text = AnswersReport depth nodes input status text
 AnswersAs (Tree depth nodes) input status text = AnswersTree depth nodes input status text
 AnswersAs Length input status text = AnswersLength input status text
 AnswersAs AtLeast input status text = AnswersAtLeast input status text
@@ -110,18 +113,38 @@ ProvesSome input = (cert : Certificate) × IsTextOf input cert × ProvesClaim ce
 abbrev pub ProvesNothing : List ℕ → Type 0
 ProvesNothing input = ProvesSome input → ⊥
 
+-- the bytes prove something, and so `check`, `line` or `atleast` accepts them: they are a certificate or a dossier that proves its claim, or the
+-- text of a length that its potentials show
+abbrev pub IsProof : List ℕ → Type 0
+IsProof input = ProvesSome input ⊎ ProvesLine input ⊎ ShowsLength input
+
+-- each game that reaches the query has at least so many half-moves
+abbrev pub BoundsGames : Asked → ℕ → Type 0
+BoundsGames q n = (g : List Move) → Reaches g q → n ≤ length g
+
 -- the bytes are the text of a certificate whose claim no game contradicts
+abbrev pub IsTrueCertificate : List ℕ → Type 0
+IsTrueCertificate input = (cert : Certificate) × IsTextOf input cert × Holds cert.claim cert.query
+
+-- the bytes are a dossier whose claim holds
+abbrev pub IsTrueDossier : List ℕ → Type 0
+IsTrueDossier input = (claim : LineClaim) × (q : Asked) × IsDossier input claim q × HoldsLine claim q
+
+-- the bytes are the text of a length that no game undercuts
+abbrev pub IsTrueLength : List ℕ → Type 0
+IsTrueLength input = (text : LengthText) × AreLengthLines (cut input) text × BoundsGames text.query text.at_least
+
+-- what the bytes say, as a certificate, a dossier or the text of a length, holds of every game
 abbrev pub ProvesTrue : List ℕ → Type 0
-ProvesTrue input = (cert : Certificate) × IsTextOf input cert × Holds cert.claim cert.query
+ProvesTrue input = IsTrueCertificate input ⊎ IsTrueDossier input ⊎ IsTrueLength input
 
--- what was taken grew by the proof in plain words of the certificate whose text the input is, and which proves its claim
+-- what was taken grew by the proof in plain words of what the input is
 abbrev pub WritesExplanation : List ℕ → Option (List ℕ) → Option (List ℕ) → Type 0
-WritesExplanation input old new =
-    (cert : Certificate) × (text : List ℕ) × IsTextOf input cert × ProvesClaim cert × Explains cert text × Appends old new text
+WritesExplanation input old new = (text : List ℕ) × AnswersExplain input Done text × Appends old new text
 
--- the bytes are the text of no certificate that proves its claim, and what was taken grew by the line with which `check` refuses them
+-- the bytes prove nothing, and what was taken grew by the line with which `check`, `line` or `atleast` refuses them
 abbrev pub WritesRefusal : List ℕ → Option (List ℕ) → Option (List ℕ) → Type 0
-WritesRefusal input old new = ProvesNothing input × ((line : List ℕ) × AnswersCheck input Refused line × Appends old new line)
+WritesRefusal input old new = (IsProof input → ⊥) × ((line : List ℕ) × AnswersExplain input Refused line × Appends old new line)
 
 -- Where the source tells its bytes, they are no more than the limit, and its count of faults and the sink's didn't rise: this
 -- holds of the bytes then. `sample` reads nothing: whatever the source does, it holds of no bytes.
@@ -176,7 +199,7 @@ StatesProved depth input = (claim : Claim) × (q : Asked) × (cert : Certificate
 -- only with such an input does the command succeed
 abbrev pub Succeeds : Command → List ℕ → Type 0
 Succeeds Check input = ProvesSome input
-Succeeds Explain input = ProvesSome input
+Succeeds Explain input = IsProof input
 Succeeds Play input = TellsGame input
 Succeeds San input = TellsNotation input
 Succeeds Spell input = TellsMoves input
@@ -185,6 +208,7 @@ Succeeds (Solve depth nodes) input = StatesRefutable depth input
 Succeeds (Settle depth nodes) input = StatesProved depth input
 Succeeds (Verdict depth nodes) input = AsksForOne input
 Succeeds (Study depth nodes) input = AsksForOne input
+Succeeds (Report depth nodes) input = AsksForOne input
 Succeeds (Tree depth nodes) input = AsksForFewLines depth nodes input
 Succeeds Length input = AsksForLength input
 Succeeds AtLeast input = ShowsLength input
@@ -238,13 +262,14 @@ WritesVerdicts depth input old new =
 abbrev pub WritesStudy : ℕ → ℕ → List ℕ → Option (List ℕ) → Option (List ℕ) → Type 0
 WritesStudy depth nodes input old new = (q : Asked) × (text : List ℕ) × AsksAlone input q × IsStudy q depth nodes text × Appends old new text
 
+-- What was taken grew by the report of the query that the input asks: each of its sentences says what is so of every game that reaches the
+-- query, or what a game shows, and each of its proofs is that of a certificate that proves its claim.
+abbrev pub WritesReport : ℕ → ℕ → List ℕ → Option (List ℕ) → Option (List ℕ) → Type 0
+WritesReport depth nodes input old new = (q : Asked) × (text : List ℕ) × AsksAlone input q × IsReport q depth nodes text × Appends old new text
+
 -- What was taken grew by a text whose lines say what is so of the query that the input asks, and then perhaps of it without its demands.
 abbrev pub WritesTruths : List ℕ → Option (List ℕ) → Option (List ℕ) → Type 0
 WritesTruths input old new = (q : Asked) × (text : List ℕ) × AsksAlone input q × SaysTrue q text × Appends old new text
-
--- each game that reaches the query has at least so many half-moves
-abbrev pub BoundsGames : Asked → ℕ → Type 0
-BoundsGames q n = (g : List Move) → Reaches g q → n ≤ length g
 
 -- What was taken grew by the text of a length of the games that reach the input's query, and each has at least as many half-moves.
 abbrev pub WritesLength : List ℕ → Option (List ℕ) → Option (List ℕ) → Type 0
@@ -272,6 +297,7 @@ Suffices (Settle depth nodes) input = (StatesRefutable depth input × StatesChea
 Suffices (Verdict depth nodes) input = AsksForCheap depth nodes input
 Suffices (Dossier depth nodes) input = StatesCheapLine depth nodes input
 Suffices (Study depth nodes) input = AsksForOne input
+Suffices (Report depth nodes) input = AsksForOne input
 Suffices (Tree depth nodes) input = AsksForFewLines depth nodes input
 Suffices command input = ⊥
 

@@ -4,7 +4,7 @@ use Rattle.std.specs.Global.{Global}
 use Rattle.std.specs.Fmt.{decimal}
 use Rattle.command_answers.specs.Limits.{AreLimits, AreSampleNumbers}
 use Rattle.retro_top.specs.declared.commands.Command.{Command}
-use Rattle.retro_top.specs.declared.commands.Command.TheVariants.{Check, Explain, Play, San, Spell, Unmoves, Solve, Settle, Verdict, Study, Tree, Length, AtLeast, Line, Dossier, Sample}
+use Rattle.retro_top.specs.declared.commands.Command.TheVariants.{Check, Explain, Play, San, Spell, Unmoves, Solve, Settle, Verdict, Study, Report, Tree, Length, AtLeast, Line, Dossier, Sample}
 
 -- the words, as bytes, by which each command is called in full
 abbrev pub words_of : Command → List (List ℕ)
@@ -18,6 +18,7 @@ words_of (Solve depth nodes) = codes "solve" ∷ decimal depth ∷ decimal nodes
 words_of (Settle depth nodes) = codes "settle" ∷ decimal depth ∷ decimal nodes ∷ []
 words_of (Verdict depth nodes) = codes "verdict" ∷ decimal depth ∷ decimal nodes ∷ []
 words_of (Study depth nodes) = codes "study" ∷ decimal depth ∷ decimal nodes ∷ []
+words_of (Report depth nodes) = codes "report" ∷ decimal depth ∷ decimal nodes ∷ []
 words_of (Tree depth nodes) = codes "tree" ∷ decimal depth ∷ decimal nodes ∷ []
 words_of Length = codes "length" ∷ []
 words_of AtLeast = codes "atleast" ∷ []
@@ -25,10 +26,10 @@ words_of Line = codes "line" ∷ []
 words_of (Dossier depth nodes) = codes "dossier" ∷ decimal depth ∷ decimal nodes ∷ []
 words_of (Sample start games plies) = codes "sample" ∷ decimal start ∷ decimal games ∷ decimal plies ∷ []
 
--- the words call the command without its numbers, which are the usual ones: `settle` alone, or `study` alone
+-- the words call the command without its numbers, which are the usual ones: `settle`, `study` or `report` alone
 abbrev pub AreShortWordsOf : List (List ℕ) → Command → Type 0
 AreShortWordsOf words command =
-    ((words ≡ codes "settle" ∷ []) × (command ≡ Settle 64 250000)) ⊎ ((words ≡ codes "study" ∷ []) × (command ≡ Study 64 20000))
+    ((words ≡ codes "settle" ∷ []) × (command ≡ Settle 64 250000)) ⊎ ((words ≡ codes "study" ∷ []) × (command ≡ Study 64 20000)) ⊎ ((words ≡ codes "report" ∷ []) × (command ≡ Report 64 20000))
 
 -- the words, as bytes, call the command: in full, or without its numbers
 abbrev pub AreWordsOf : List (List ℕ) → Command → Type 0
@@ -40,6 +41,7 @@ IsInRange (Solve depth nodes) = AreLimits depth nodes
 IsInRange (Settle depth nodes) = AreLimits depth nodes
 IsInRange (Verdict depth nodes) = AreLimits depth nodes
 IsInRange (Study depth nodes) = AreLimits depth nodes
+IsInRange (Report depth nodes) = AreLimits depth nodes
 IsInRange (Tree depth nodes) = AreLimits depth nodes
 IsInRange (Dossier depth nodes) = AreLimits depth nodes
 IsInRange (Sample start games plies) = AreSampleNumbers start games plies

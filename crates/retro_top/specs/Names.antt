@@ -7,7 +7,7 @@ use Rattle.retro_top.specs.declared.commands.Command.{Command}
 use Rattle.retro_top.specs.declared.numbers.Number.{Number}
 use Rattle.retro_top.specs.declared.numbers.Number.TheVariants.{Depth, Nodes, Start, Games, Plies}
 use Rattle.retro_top.specs.declared.rows.InputKind.{InputKind}
-use Rattle.retro_top.specs.declared.rows.InputKind.TheVariants.{Nothing, Certificate, Game, Notation, Moves, Position, PlainPosition, Claim, Steps, Length, Dossier}
+use Rattle.retro_top.specs.declared.rows.InputKind.TheVariants.{Nothing, Certificate, Proof, Game, Notation, Moves, Position, PlainPosition, Claim, Steps, Length, Dossier}
 use Rattle.retro_top.specs.declared.parsing.WordFault.{WordFault}
 use Rattle.retro_top.specs.declared.parsing.WordFault.TheVariants.{Name, Rest}
 
@@ -36,11 +36,12 @@ MayStand Plies n = AreSampleNumbers 0 1 n
 -- the command of this name reads this
 abbrev pub IsReadBy : InputKind → List ℕ → Type 0
 IsReadBy Nothing name = name ≡ codes "sample"
-IsReadBy Certificate name = (name ≡ codes "check") ⊎ (name ≡ codes "explain")
+IsReadBy Certificate name = name ≡ codes "check"
+IsReadBy Proof name = name ≡ codes "explain"
 IsReadBy Game name = name ≡ codes "play"
 IsReadBy Notation name = name ≡ codes "san"
 IsReadBy Moves name = name ≡ codes "spell"
-IsReadBy Position name = (name ≡ codes "unmoves") ⊎ (name ≡ codes "study") ⊎ (name ≡ codes "verdict") ⊎ (name ≡ codes "tree")
+IsReadBy Position name = (name ≡ codes "unmoves") ⊎ (name ≡ codes "study") ⊎ (name ≡ codes "report") ⊎ (name ≡ codes "verdict") ⊎ (name ≡ codes "tree")
 IsReadBy PlainPosition name = name ≡ codes "length"
 IsReadBy Claim name = (name ≡ codes "solve") ⊎ (name ≡ codes "settle")
 IsReadBy Steps name = name ≡ codes "dossier"

@@ -4,7 +4,7 @@ use Rattle.std.specs.Prelude.{ℕ, ◌≡◌, ◌⊎◌, List, [], ◌∷◌, ma
 use Rattle.std.specs.Fmt.{decimal}
 use Rattle.command_answers.specs.Limits.{AreLimits, AreSampleNumbers}
 use Rattle.retro_top.specs.declared.commands.Command.{Command}
-use Rattle.retro_top.specs.declared.commands.Command.TheVariants.{Check, Explain, Play, San, Spell, Unmoves, Solve, Settle, Verdict, Study, Tree, Length, AtLeast, Line, Dossier, Sample}
+use Rattle.retro_top.specs.declared.commands.Command.TheVariants.{Check, Explain, Play, San, Spell, Unmoves, Solve, Settle, Verdict, Study, Report, Tree, Length, AtLeast, Line, Dossier, Sample}
 use Rattle.retro_top.specs.declared.rows.Calls.{Calls}
 use Rattle.retro_top.specs.declared.rows.Calls.TheVariants as calls
 use Rattle.retro_top.specs.declared.rows.InputKind.{InputKind}
@@ -20,6 +20,7 @@ search_of searches.Solve depth nodes = Solve depth nodes
 search_of searches.Settle depth nodes = Settle depth nodes
 search_of searches.Verdict depth nodes = Verdict depth nodes
 search_of searches.Study depth nodes = Study depth nodes
+search_of searches.Report depth nodes = Report depth nodes
 search_of searches.Tree depth nodes = Tree depth nodes
 search_of searches.Dossier depth nodes = Dossier depth nodes
 
@@ -67,12 +68,13 @@ searching name search usual input = record { name = name; makes = calls.Search s
 -- what is said of each command
 abbrev pub said_of : Command → Facts
 said_of Check = plain (codes "check") Check inputs.Certificate
-said_of Explain = plain (codes "explain") Explain inputs.Certificate
+said_of Explain = plain (codes "explain") Explain inputs.Proof
 said_of Play = plain (codes "play") Play inputs.Game
 said_of San = plain (codes "san") San inputs.Notation
 said_of Spell = plain (codes "spell") Spell inputs.Moves
 said_of Unmoves = plain (codes "unmoves") Unmoves inputs.Position
 said_of (Study depth nodes) = searching (codes "study") searches.Study (Some (record { depth = 64; nodes = 20000 })) inputs.Position
+said_of (Report depth nodes) = searching (codes "report") searches.Report (Some (record { depth = 64; nodes = 20000 })) inputs.Position
 said_of (Solve depth nodes) = searching (codes "solve") searches.Solve None inputs.Claim
 said_of (Settle depth nodes) = searching (codes "settle") searches.Settle (Some (record { depth = 64; nodes = 250000 })) inputs.Claim
 said_of (Verdict depth nodes) = searching (codes "verdict") searches.Verdict None inputs.Position
@@ -86,7 +88,7 @@ said_of (Sample start games plies) = record { name = codes "sample"; makes = cal
 -- a command of each name, in the order of the table
 abbrev pub one_each : List Command
 one_each =
-    Check ∷ Explain ∷ Play ∷ San ∷ Spell ∷ Unmoves ∷ Study 0 0 ∷ Solve 0 0 ∷ Settle 0 0 ∷ Verdict 0 0 ∷ Tree 0 0 ∷ Length ∷ AtLeast ∷ Line ∷ Dossier 0 0 ∷ Sample 0 0 0 ∷ []
+    Check ∷ Explain ∷ Play ∷ San ∷ Spell ∷ Unmoves ∷ Study 0 0 ∷ Report 0 0 ∷ Solve 0 0 ∷ Settle 0 0 ∷ Verdict 0 0 ∷ Tree 0 0 ∷ Length ∷ AtLeast ∷ Line ∷ Dossier 0 0 ∷ Sample 0 0 0 ∷ []
 
 -- what the table says, in order
 abbrev pub table : List Facts

@@ -6,7 +6,7 @@ ghost use Rattle.retro_top.specs.Commands.{Reads, TakesMemory};
 pub enum Command {
     /// Whether a certificate proves its claim.
     Check,
-    /// The proof of a certificate in plain words.
+    /// The proof of a certificate, a dossier or a length in plain words.
     Explain,
     /// Whether words are a legal game that reaches a position.
     Play,
@@ -39,6 +39,13 @@ pub enum Command {
     },
     /// Everything that can be proved of a position.
     Study {
+        /// How many moves are taken back at most, from 0 to 64.
+        depth: u8,
+        /// How many queries each search visits at most, from 1 to 500,000.
+        nodes: u32,
+    },
+    /// What a study proves of a position, told in sentences, with proofs.
+    Report {
         /// How many moves are taken back at most, from 0 to 64.
         depth: u8,
         /// How many queries each search visits at most, from 1 to 500,000.

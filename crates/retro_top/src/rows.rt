@@ -14,6 +14,8 @@ pub enum InputKind {
     Nothing,
     /// A certificate.
     Certificate,
+    /// A certificate, a dossier or the text of a length.
+    Proof,
     /// A position, and the moves of a game.
     Game,
     /// A position, and a game in algebraic notation.
@@ -41,6 +43,7 @@ pub(crate) enum Search {
     Settle,
     Verdict,
     Study,
+    Report,
     Tree,
     Dossier,
 }
@@ -55,6 +58,7 @@ impl Search {
             Search::Settle => Command::Settle { depth, nodes },
             Search::Verdict => Command::Verdict { depth, nodes },
             Search::Study => Command::Study { depth, nodes },
+            Search::Report => Command::Report { depth, nodes },
             Search::Tree => Command::Tree { depth, nodes },
             Search::Dossier => Command::Dossier { depth, nodes },
         }
@@ -108,14 +112,14 @@ pub const USUAL_SETTLE: Usual = Usual {
     nodes: 250_000,
 };
 
-/// What `study` alone calls: as far as a search may go, but with fewer nodes each, for there are many searches.
+/// What `study` or `report` alone calls: as far as a search may go, but with fewer nodes each, for there are many searches.
 pub const USUAL_STUDY: Usual = Usual {
     depth: 64,
     nodes: 20_000,
 };
 
 /// The commands, in the order in which the usage names them.
-pub const ROWS: [Row; 16] = [
+pub const ROWS: [Row; 17] = [
     Row {
         name: "check",
         calls: Calls::Plain(Command::Check),
@@ -126,9 +130,9 @@ pub const ROWS: [Row; 16] = [
     Row {
         name: "explain",
         calls: Calls::Plain(Command::Explain),
-        input: InputKind::Certificate,
-        line: "explain < CERTIFICATE",
-        answer: "the proof of a certificate in plain words",
+        input: InputKind::Proof,
+        line: "explain < PROOF",
+        answer: "the proof of a certificate, a dossier or a length in plain words",
     },
     Row {
         name: "play",
@@ -164,6 +168,13 @@ pub const ROWS: [Row; 16] = [
         input: InputKind::Position,
         line: "study [DEPTH NODES] < FEN",
         answer: "all that is proved of the position, a fact a line",
+    },
+    Row {
+        name: "report",
+        calls: Calls::Search(Search::Report, Some(USUAL_STUDY)),
+        input: InputKind::Position,
+        line: "report [DEPTH NODES] < FEN",
+        answer: "the same in sentences, with the ledger and the proofs",
     },
     Row {
         name: "solve",

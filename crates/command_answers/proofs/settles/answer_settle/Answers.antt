@@ -3,8 +3,8 @@ use Rattle.std.proofs.lemmas.Result.{IfOk-weaker}
 use Rattle.cert_text.specs.SeenCert.{cert_of}
 use Rattle.query_base.specs.Targets.{target}
 use Rattle.cert_text.proofs.CertTexts.{text_written}
-use Rattle.claim_search.specs.Plain.{HasPlainSketch}
-use Rattle.claim_search.specs.Settlements.{IsCounterable}
+use Rattle.position_report.specs.Plain.{HasPlainSketch}
+use Rattle.position_report.specs.Settlements.{IsCounterable}
 use Rattle.command_answers.specs.Settles.{AnswersSettling}
 use Rattle.command_answers.specs.Solves.{spent_line}
 use Rattle.command_answers.specs.declared.statuses.Status.{Status}

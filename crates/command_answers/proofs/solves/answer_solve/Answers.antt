@@ -8,7 +8,7 @@ use Rattle.board_base.specs.declared.unmoves.Unmove.{Unmove}
 use Rattle.query_base.specs.Targets.{target}
 use Rattle.cert_text.specs.SeenCert.{cert_of}
 use Rattle.cert_text.proofs.CertTexts.{text_written}
-use Rattle.claim_search.specs.Answers.{IsCounter, IsUndecided}
+use Rattle.position_report.specs.Answers.{IsCounter, IsUndecided}
 use Rattle.command_answers.specs.Solves.{AnswersClaim, spent_line}
 use Rattle.command_answers.proofs.Finding.{found-told, if_countered, if_undecided}
 use Rattle.command_answers.proofs.OpenTexts.{first_open-spelled, forwards-spelled, spelled}

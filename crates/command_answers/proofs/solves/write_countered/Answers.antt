@@ -3,7 +3,7 @@ use Rattle.std.specs.Prelude.{IsTrue, codes}
 use Rattle.board_base.specs.Texts.{can_promote, move_text}
 use Rattle.board_base.specs.declared.moves.Move.{Move}
 use Rattle.command_answers.specs.Solves.{move_words}
-use Rattle.diagram_study.proofs.Steps.{some_within}
+use Rattle.position_report.proofs.Steps.{some_within}
 use Rattle.command_answers.proofs.Pieces.{all_at, piece_more}
 use Rattle.command_answers.proofs.solves.write_countered.Goals as goal
 

@@ -3,7 +3,7 @@ use Rattle.std.specs.Prelude.{codes}
 use Rattle.board_base.specs.Texts.{unmove_text, unmove_words}
 use Rattle.board_base.specs.declared.unmoves.Unmove.{Unmove}
 use Rattle.command_answers.specs.Told.{IsSpelled}
-use Rattle.diagram_study.proofs.Steps.{some_within}
+use Rattle.position_report.proofs.Steps.{some_within}
 use Rattle.command_answers.proofs.Pieces.{all_at, piece_more}
 use Rattle.command_answers.proofs.solves.write_undecided.Goals as goal
 

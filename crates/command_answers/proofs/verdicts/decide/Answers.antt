@@ -2,8 +2,8 @@ use Rattle.std.proofs.Common.{[], refl, subst}
 use Rattle.query_base.specs.Reach.{Holds}
 use Rattle.query_base.specs.Targets.{target}
 use Rattle.query_base.specs.declared.claims.Claim.{Claim}
-use Rattle.claim_search.specs.Lone.{IsAfforded, IsDear}
-use Rattle.claim_search.specs.Refutable.{IsRefutable}
+use Rattle.position_report.specs.Lone.{IsAfforded, IsDear}
+use Rattle.position_report.specs.Refutable.{IsRefutable}
 use Rattle.command_answers.proofs.verdicts.decide.Goals as goal
 
 pub returns : goal.returns

@@ -3,9 +3,9 @@ use Rattle.cert_text.specs.Lines.{cut}
 use Rattle.cert_text.specs.SeenCert.{cert_of}
 use Rattle.cert_checker.specs.Answers.{bad_text, fault}
 use Rattle.cert_checker.specs.Walk.{unlisted, unsupported}
-use Rattle.proof_prose.specs.Prose.{Explains}
+use Rattle.position_report.specs.Prose.{Explains}
 use Rattle.command_answers.specs.Checks.{refusal_line}
-use Rattle.command_answers.proofs.explains.answer_explain.Goals as goal
+use Rattle.command_answers.proofs.explains.answer_certificate.Goals as goal
 
 pub returns-in_ok-explain-in-Ok : goal.returns-in_ok-explain-in-Ok
 returns-in_ok-explain-in-Ok c =
