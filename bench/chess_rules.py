@@ -154,7 +154,7 @@ class Position:
 
     @staticmethod
     def replayed(words):
-        """The position after a game, and its moves; None where one isn't legal."""
+        """The position after a game, and its moves; None if one isn't legal."""
         position, moves = Position.array(), []
         for word in words:
             move = position.named(word)

@@ -183,7 +183,7 @@ class Costs:
         return min(costs)
 
     def table(self):
-        """A row for each man of the side and each that is missing, or None where there are more than there were in the array."""
+        """A row for each man of the side and each that is missing, or None if there are more than there were in the array."""
         first = array(self.query.odds)
         homes = range(16) if self.side == "w" else range(48, 64)
         began = [h for h in homes if first[h]]
@@ -225,7 +225,7 @@ def least_cost(table):
 
 
 def balance_sums(query, frozen, prices):
-    """What the men of both sides cost at least, and what they may cost; None where the set or the men don't fit."""
+    """What the men of both sides cost at least, and what they may cost; None if the set or the men don't fit."""
     if not is_settled(query, frozen):
         return None
     tables = [Costs(query, frozen, prices, side).table() for side in "wb"]

@@ -65,7 +65,7 @@ def surely_touched(side, kinds, s):
 
 
 def enemy_king(sketch, side):
-    """The square of the enemy king, None where it isn't one square."""
+    """The square of the enemy king, None if it isn't one square."""
     return next((min(f.squares) for f in sketch if f.side != side and f.kinds == "k" and f.is_fixed()), None)
 
 
@@ -96,7 +96,7 @@ def in_order(pawns, sets):
 
 
 def trimmed(sketch):
-    """The sketch of one moment, with places counted anew; None where somebody has no square."""
+    """The sketch of one moment, with places counted anew; None if somebody has no square."""
     if not all(f.squares for f in sketch):
         return None
     files = files_of(sketch).values()
@@ -503,7 +503,7 @@ def held_homes(rights):
 
 
 def sketch_fault(query, sketch):
-    """The first fault of a sketch that was read, None where it supports the query: its line, and `rule` or `stray`."""
+    """The first fault of a sketch that was read, None if it supports the query: its line, and `rule` or `stray`."""
     first = array(query.odds)
     if not may_ask(query, first):
         return Fault(sketch.line + 1 + len(sketch.prices), "rule")

@@ -28,7 +28,7 @@ def squares_of(word):
 
 
 def prices_of(words):
-    """Sixteen prices a side and the gates, by square; None where the words are none."""
+    """Sixteen prices a side and the gates, by square; None if the words are none."""
     if words.count("/") != 2 or len(words) < 34 or words[16] != "/" or words[33] != "/":
         return None
     white, black, gates = words[:16], words[17:33], words[34:]
@@ -66,7 +66,7 @@ def is_rule(words):
 
 
 def children(body, depth):
-    """How many children a body tells, None where it is none at this depth."""
+    """How many children a body tells, None if it is none at this depth."""
     kind, *words = body.split(" ")
     if kind == "rule" and words:
         return 0 if is_rule(words) else None
@@ -82,7 +82,7 @@ def children(body, depth):
 
 
 def sketch_head(words):
-    """How many lines of prices a sketch has, and its exact files; None where the words behind `sketch` say none."""
+    """How many lines of prices a sketch has, and its exact files; None if the words behind `sketch` say none."""
     number, files = words[:1], words[2:]
     if not number or not is_number(number[0], 0, MOST_PRICES) or words[1:2] not in ([], ["files"]) or len(files) != len(words[1:2]):
         return None
@@ -111,7 +111,7 @@ class Marks:
 
 
 def node_of(line, prices):
-    """What the line of a node of a sketch says, None where it says nothing."""
+    """What the line of a node of a sketch says, None if it says nothing."""
     label, *words = line.split(" ")
     if label == "case":
         if words[:1] not in (["n"], ["r"], ["q"]):
@@ -135,7 +135,7 @@ def node_of(line, prices):
 
 
 def marks_of(line, prices):
-    """What a line of marks says, None where it says nothing."""
+    """What a line of marks says, None if it says nothing."""
     kind, *words = line.split(" ")
     if kind != "mark" or len(words) < 2 or not is_number(words[0], 1, prices) or not all(is_number(word, 1, 32) for word in words[1:]):
         return None
@@ -198,7 +198,7 @@ class Node:
 
 
 def read_nodes(text, first):
-    """The nodes of a certificate, from the root's on, which has the number `first`; and the line at which they go bad, None where they don't."""
+    """The nodes of a certificate, from the root's on, which has the number `first`; and the line at which they go bad, None if they don't."""
     *lines, rest = text.split("\n")
     nodes, wanted, sketch, units = [], [1], None, 0
     for number, line in enumerate(lines[first - 1 :], first):
@@ -228,10 +228,10 @@ def read_nodes(text, first):
 
 
 def root_of(text):
-    """The number of the root's line, behind the line of the FEN; None where there is no such line among the first five."""
+    """The number of the root's line, behind the line of the FEN; None if there is no such line among the first five."""
     return next((at + 2 for at, line in enumerate(text.split("\n")[:5]) if line.startswith("fen ")), None)
 
 
 def bad_node(text, first):
-    """The number of the line at which the nodes go bad, None where they don't."""
+    """The number of the line at which the nodes go bad, None if they don't."""
     return read_nodes(text, first)[1]

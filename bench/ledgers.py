@@ -8,7 +8,7 @@ PROGRAM is ledger.program, built. The games are random ones with more captures, 
 they made as pawns, and who fell to whom. At half of the positions the rights that the game still has are demanded. Each fact of the ledger
 is compared with that. Without a number it goes through 2,000 positions.
 
-It prints each position with a false fact, and how many facts there were, and ends with status 1 where one is false.
+It prints each position with a false fact, and how many facts there were, and ends with status 1 if one is false.
 """
 import argparse
 import random
@@ -20,8 +20,8 @@ from chess_rules import CASTLINGS, Position, name
 FATES = ("stands", "stands_promoted", "taken", "struck", "taken_promoted", "struck_promoted")
 # Of each ledger: homes for each square, pawns who captured or didn't, fates; for each side three ranges and the least of each class.
 WIDTH, COUNTS = 64 + 2 + len(FATES), 3 * 2 + 16
-# The first words of the lines of a ledger that `study` writes.
-LINES = ("unmoved", "lacks", "captures", "pawn", "man", "ahead", "original", "promoted", "among", "fell", "became")
+# The first words of the lines of a ledger that `study` writes, also of those that are so if a right is held.
+LINES = ("unmoved", "lacks", "captures", "pawn", "man", "ahead", "original", "promoted", "among", "fell", "became", "if")
 
 
 class Labelled:
@@ -115,10 +115,12 @@ def lacking_words(board, white):
 
 
 def is_false_line(line, game):
-    """Whether a line of the ledger that `study` tells isn't so of a game."""
+    """Whether a line of the ledger that `study` tells isn't so of a game. A line behind `if` is so of games that have lost the right."""
     word, *words = line.split()
+    if word == "if":
+        return words[0] in game.position.rights and is_false_line(" ".join(words[1:]), game)
     numbers = [int(one) for one in words if one.isdigit()]
-    squares = [8 * (int(one[1]) - 1) + "abcdefgh".index(one[0]) for one in words if len(one) == 2 and one[1].isdigit()]
+    squares = [8 * (int(one[1]) - 1) + "abcdefgh".index(one[0]) for one in words if len(one) == 2 and one[0].isalpha() and one[1].isdigit()]
     board, homes = game.position.board, [game.labels.get(s) for s in squares]
     if word == "unmoved":
         return bool(game.touched & set(squares))
@@ -133,7 +135,10 @@ def is_false_line(line, game):
         few = any(several.count(k) > made.count(k) for k in several) or not dark[0] <= sum(k % 2 == 0 for k in made) <= dark[1]
         return few or not least <= len(made) <= most or lacking != 16 - standing
     if word == "pawn":
-        return name(homes[0]) not in words[1].split(",") or (len(game.captures[homes[0]]) < int(words[2][:-1]) if words[2].endswith("+") else len(game.captures[homes[0]]) != int(words[2]))
+        made = game.captures[homes[0]]
+        if not words[2][0].isdigit():
+            return name(homes[0]) != words[1] or [name(s) for s in made] != words[2:]
+        return name(homes[0]) not in words[1].split(",") or (len(made) < int(words[2][:-1]) if words[2].endswith("+") else len(made) != int(words[2]))
     if word == "man":
         return homes[0] != squares[1]
     if word == "ahead":

@@ -137,7 +137,7 @@ def is_of_kind(node, words):
 
 
 def looked_up(text, root):
-    """The words of each node by the retractions that lead there, or None where the node isn't found."""
+    """The words of each node by the retractions that lead there, or None if the node isn't found."""
     paragraphs = paragraphs_of(text)
     todo, found = [((), root, paragraphs[""])], {}
     while todo:

@@ -3,7 +3,7 @@
 
 programs.py
 
-Tells which programs don't compile, fail or print nothing; the exit status is 1 where there is one. A program's crates are those that
+Tells which programs don't compile, fail or print nothing; the exit status is 1 if there is one. A program's crates are those that
 its `use` lines name.
 """
 import pathlib

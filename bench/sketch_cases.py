@@ -49,7 +49,7 @@ def certificate(lines):
 
 
 def sketch_at(lines):
-    """The number of the first line of a sketch, None where there is none."""
+    """The number of the first line of a sketch, None if there is none."""
     return next((at for at, line in enumerate(lines) if line.startswith("sketch ") or " sketch " in line), None)
 
 
@@ -240,7 +240,7 @@ CHANGES = REFUSED | {
 
 
 def changed(rng, lines, kind=None):
-    """The lines with a change of this kind, or of any, to the first sketch; None where there is none or nothing changes."""
+    """The lines with a change of this kind, or of any, to the first sketch; None if there is none or nothing changes."""
     at = sketch_at(lines)
     if at is None or at + 1 >= len(lines):
         return None

@@ -8,7 +8,7 @@ sketches.py --second --limits                                          these tex
 
 The certificates are those of sketch_cases.py, or those of FOLDER: files of a line `fen ..` and a sketch. Each has to be accepted, each case
 by hand refused as the table says, and each text with a line dropped or doubled, lines swapped, a label or a count changed refused. The exit
-status is 1 where an answer differs.
+status is 1 if an answer differs.
 """
 import argparse
 import collections

@@ -21,7 +21,7 @@ man more, less or elsewhere, the other side to move, with rights and a double st
 a game are looked for (`two_answers.py`). No position has both. It ends after so many minutes where a number is named. PATH is games.program,
 built, which looks for games alone.
 
-It prints each finding, with the game's moves, and ends with status 1 where there is one.
+It prints each finding, with the game's moves, and ends with status 1 if there is one.
 """
 import argparse
 import collections

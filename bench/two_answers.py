@@ -65,7 +65,7 @@ def gainsaid(lines):
 
 
 def game_to(program, fen):
-    """The status of the search for a game to a position, and the words of the game, None where none is found."""
+    """The status of the search for a game to a position, and the words of the game, None if none is found."""
     status, text = run(program, GAME, f"claim illegal\n{fen}\n")
     return status, text.split()[1:] if status == 4 else None
 

@@ -6,11 +6,11 @@ wrong_bodies.py [CRATE ..] --edits      the must-fail edits of these crates, or 
 
 A wrong body stands under a line `# name`, as a must-fail edit does: a file, and pairs of an old and a new text. They are tried by `rt ci CRATE ..`
 on a copy of the crates that has no other edits, so what a gate passed on this machine isn't proved again. Those of known.txt are let through, each
-with why. The exit status is 1 where another is let through, where one of known.txt is refused, and where one can't be tried; each is printed.
+with why. The exit status is 1 if another is let through, where one of known.txt is refused, and where one can't be tried; each is printed.
 A body is refused at a goal of the source, or at a proof in `proofs/` that no longer fits, which says less of the clause; both are counted.
 
 Of these two `rt ci` and `rt must-fail` print one line, and a proof that no longer fits goes before a goal. So with `--edits` each edit is tried by
-`rt check`, which prints all of them, on a copy of the crates. The exit status is 1 where an edit falls at no goal of the source.
+`rt check`, which prints all of them, on a copy of the crates. The exit status is 1 if an edit falls at no goal of the source.
 """
 import argparse
 import pathlib

@@ -4,9 +4,9 @@
 Usage: tools/believed.py [--repo DIR] [--all] [CRATE ...]
   --all   also list what stands in the files that say so
 
-A definition is to be believed where a public clause cites it, directly or through other definitions. All others serve inner
+A definition is to be believed if a public clause cites it, directly or through other definitions. All others serve inner
 functions or proofs: they stand in files of their own, whose first line is INNER below, and which specs/Lib.antt lists last. There
-is a line for each file where this isn't so, and exit status 1. The clauses of all crates count; naming crates limits what is told.
+is a line for each file of which this isn't so, and exit status 1. The clauses of all crates count; naming crates limits what is printed.
 
 Public are the clauses of what lib.rt re-exports or declares: functions, methods, traits and what fulfils them. So is the value as
 which a type is seen; its view and its invariant only where its fields are public. Of a program every clause in main.rt counts. A

@@ -6,13 +6,13 @@ collection.py FILE.. [--program PATH] [--jobs N] [--depth N] [--nodes N] [--seco
                      [--certificates FOLDER] [--study-alone] [--resume]
 
 A FILE is an .olv file, as Debian's package pychess has them, or a list of FEN or EPD lines. The side to move is that of the stipulation:
-White in `#n`, `s#n`, `r#n`, `hs#n`, series but `ser-h#n`, `+` and `=`; Black in `h#n` and `ser-h#n`; the other one where a half move
-is added (`h#2.5`) or Black is named; both in a duplex and where the stipulation doesn't tell. Each diagram is studied with no right
+White in `#n`, `s#n`, `r#n`, `hs#n`, series but `ser-h#n`, `+` and `=`; Black in `h#n` and `ser-h#n`; the other one if a half move
+is added (`h#2.5`) or Black is named; both in a duplex and if the stipulation doesn't say. Each diagram is studied with no right
 demanded, unless a FEN line demands one; what `study` leaves open is put to `settle`, which looks for a game against it too. The table has
-Markdown, or CSV where its name ends with .csv.
+Markdown, or CSV if its name ends with .csv.
 
-Each answer is kept beside the table in a file .journal; with --resume those that stand there aren't run again. The exit status is 1 where
-something couldn't be read or studied, and 2 where the words are wrong.
+Each answer is kept beside the table in a file .journal; with --resume those that stand there aren't run again. The exit status is 1 if
+something couldn't be read or studied, and 2 if the words are wrong.
 """
 import argparse
 import collections
@@ -54,7 +54,7 @@ class Journal:
         for line in lines[1:]:
             said = json.loads(line)
             self.answers[tuple(said["key"])] = said["answer"]
-        # (a last line that was cut off is left out; the file is changed at once, so that nothing is lost where this run is stopped too)
+        # (a last line that was cut off is left out; the file is changed at once, so that nothing is lost if this run is stopped too)
         whole = path.with_name(path.name + ".new")
         whole.write_text("\n".join(lines) + "\n")
         whole.replace(path)
@@ -195,21 +195,38 @@ def certify_all(rows, journal, args, program):
     for row in rows:
         for fact in row.mine:
             if fact.word != "open":
-                stem = re.sub(r"[^0-9A-Za-z]+", "-", f"{row.diagram.place} {row.fen.split(' ')[1]} {fact.claim}")
-                items[str(args.certificates / stem), fact.fen, fact.claim, fact.text] = row, fact
+                items[str(args.certificates / stem_of(row, fact.claim)), fact.fen, fact.claim, fact.text] = row, fact
     run = lambda key: write_down(program, items[key][1], max(args.nodes, DEEPER[1]), pathlib.Path(key[0])) or ""
     failed = ask_all(run, list(items), journal, args.jobs)
     for key, (row, _) in items.items():
         row.remarks += [it for it in [failed.get(key) or journal.answers.get(key)] if it]
 
 
+def report_all(rows, journal, args, program):
+    """Writes a report of each diagram of which something is proved or countered, beside what `certify_all` writes, and has the rows remark
+    if there is none."""
+    depth, nodes = max(args.depth, DEEPER[0]), max(args.nodes, DEEPER[1])
+    asked = {("report", str(args.certificates / f"{stem_of(row)}.report"), row.fen): row for row in rows if any(fact.word != "open" for fact in row.mine)}
+
+    def run(key):
+        pathlib.Path(key[1]).write_text(program.report(key[2], depth, nodes))
+
+    for key, why in ask_all(run, list(asked), journal, args.jobs).items():
+        asked[key].remarks.append(f"no report: {why}")
+
+
+def stem_of(row, claim=""):
+    """How the names of the files of a diagram begin, or of those about a claim."""
+    return re.sub(r"[^0-9A-Za-z]+", "-", f"{row.diagram.place} {row.fen.split(' ')[1]} {claim}".rstrip())
+
+
 def write_down(program, fact, nodes, path):
-    """Writes the certificate of a fact and its explanation, or the game against it, and says what couldn't be written; None where all was."""
+    """Writes the certificate of a fact and its explanation, or the game against it, and says what couldn't be written; None if all was."""
     return certify(program, fact, nodes, path) if fact.word == "proved" else keep_game(program, fact, path)
 
 
 def progress(done, total):
-    """The runs as they end, with a bar on a terminal where tqdm is installed, and a line on standard error now and then elsewhere."""
+    """The runs as they end, with a bar on a terminal if tqdm is installed, and a line on standard error now and then elsewhere."""
     if tqdm and sys.stderr.isatty():
         yield from tqdm(done, total=total, unit="diagram")
         return
@@ -284,7 +301,7 @@ def options():
     parser.add_argument("--seconds", type=number(1, 86_400), default=300, help="how long a run of the program may take (300)")
     parser.add_argument("--table", type=pathlib.Path, default=pathlib.Path("collection.md"), help="the table (collection.md)")
     parser.add_argument("--findings", action="store_true", help="only rows in which something was found")
-    parser.add_argument("--certificates", type=pathlib.Path, metavar="FOLDER", help="a certificate and an explanation of each finding, and each game")
+    parser.add_argument("--certificates", type=pathlib.Path, metavar="FOLDER", help="a certificate and an explanation of each finding, each game, and a report of each diagram")
     parser.add_argument("--study-alone", action="store_true", help="what a study leaves open stays open: no game is looked for by `settle`")
     parser.add_argument("--resume", action="store_true", help="go on where a run with the same settings was stopped")
     return parser.parse_args()
@@ -311,6 +328,7 @@ def main():
     rows = rows_of(tasks, journal, args, program)
     if args.certificates:
         certify_all(rows, journal, args, program)
+        report_all(rows, journal, args, program)
     write_table(args.table, [row.cells() for row in rows if row.is_found or not args.findings])
     status = report(rows, [it for it in items if not isinstance(it, Diagram)])
     spent = resource.getrusage(resource.RUSAGE_CHILDREN)

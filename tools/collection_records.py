@@ -102,7 +102,7 @@ def scalar(text):
 
 
 def parse(text):
-    """The record of an `.olv` text, by PyYAML where it is installed."""
+    """The record of an `.olv` text, by PyYAML if it is installed."""
     if yaml is None:
         return parse_plainly(text)
     try:
@@ -146,7 +146,7 @@ def placement(board):
 
 
 def sides_of(stipulation, options):
-    """The sides that may be to move: one by the stipulation, both where it doesn't say or the problem is a duplex."""
+    """The sides that may be to move: one by the stipulation, both if it doesn't say or the problem is a duplex."""
     words = stipulation.strip().lower()
     black, white = bool(BLACK_FIRST.match(words)), bool(WHITE_FIRST.match(words))
     if not (black or white) or re.search(r"how many|who|retract|\bb\)", words) or "duplex" in options:
@@ -156,7 +156,7 @@ def sides_of(stipulation, options):
 
 
 def lacking(board):
-    """Which king is wanting or one too many, for no reading of such a diagram is orthodox; None where there is one of each."""
+    """Which king is missing or one too many, for no reading of such a diagram is orthodox; None if there is one of each."""
     kings = [(side, list(board.values()).count(man)) for side, man in (("white", "K"), ("black", "k"))]
     return next((f"not orthodox: {count or 'no'} {side} king{'s' * (count > 1)}" for side, count in kings if count != 1), None)
 
@@ -224,7 +224,7 @@ def twin_of(board, text):
 
 
 def section(solution, letter):
-    """The part of a solution that is headed by the letter of a twin; the whole where it has no such heads."""
+    """The part of a solution that is headed by the letter of a twin; the whole if it has no such heads."""
     parts = re.split(r'(?m)^\s*"?\s*([a-z])\)', solution)
     sections = dict(zip(parts[1::2], parts[2::2]))
     return sections.get(letter, solution if len(sections) < 2 else "")

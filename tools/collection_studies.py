@@ -44,7 +44,7 @@ class Failed(Exception):
 @dataclasses.dataclass
 class Fact:
     """What is known of a claim: the FEN that it is about, the claim, whether it is proved, countered or open, how many moves its proof takes
-    back, and the game that counters it, where they are known."""
+    back, and the game that counters it, if they are known."""
 
     fen: str
     claim: str
@@ -112,6 +112,15 @@ class Program:
         status, answer = self.run(["study", str(depth), str(nodes)], fen + "\n")
         if status != 0:
             raise Failed(f"`study` ends with status {status}: {answer.strip() or 'no answer'}")
+        return answer
+
+    def report(self, fen, depth, nodes):
+        """The report of a FEN."""
+        status, answer = self.run(["report", str(depth), str(nodes)], fen + "\n")
+        if status == 5:
+            raise Failed("this program doesn't know `report`")
+        if status != 0:
+            raise Failed(f"`report` ends with status {status}: {answer.strip() or 'no answer'}")
         return answer
 
     def settle(self, text, depth, nodes):
@@ -256,7 +265,7 @@ def height(certificate):
 
 
 def certify(program, fact, nodes, path):
-    """Writes the certificate of a fact and its explanation, and says what couldn't be written; None where all was."""
+    """Writes the certificate of a fact and its explanation, and says what couldn't be written; None if all was."""
     kind, checker = ("dossier", "line") if fact.claim.startswith("line ") else ("settle", "check")
     text = f"claim {fact.claim}\n{fact.fen}\n" if kind == "dossier" else claim_text(fact)
     status, certificate = program.run([kind, str(fact.depth), str(nodes)], text)
@@ -269,7 +278,7 @@ def certify(program, fact, nodes, path):
 
 
 def keep_game(program, fact, path):
-    """Writes the game that counters a fact, and says what is wrong with it; None where nothing is."""
+    """Writes the game that counters a fact, and says what is wrong with it; None if nothing is."""
     if fact.game is None:
         return f"no game against `{fact.claim}`: `settle` finds none"
     text = game_text(fact)
@@ -280,7 +289,7 @@ def keep_game(program, fact, path):
 
 
 def explain(program, fact, certificate, path):
-    """Writes the explanation of a certificate, and says where there is none."""
+    """Writes the explanation of a certificate, and says so if there is none."""
     status, explained = program.run(["explain"], certificate)
     if status == 5:
         return "no explanation: this program doesn't know `explain`"

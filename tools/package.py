@@ -1,5 +1,5 @@
 #!/usr/bin/env python3
-"""Makes a Debian package of the built program, its manual page, completions, pages and examples.
+"""Makes a Debian package of the built program, its manual page, completions, pages, examples and the second checker of certificates.
 
 package.py PROGRAM [FOLDER]
   FOLDER   where the package is put; the working directory if it is left out
@@ -14,6 +14,8 @@ import sys
 import tempfile
 
 TOP = pathlib.Path(__file__).resolve().parent.parent
+# The second checker of certificates, and what it imports.
+SECOND_CHECK = ("second_check", "chess_rules", "fuzz_rules", "fuzz_sketches", "fuzz_texts")
 # What the toolchain builds for.
 ARCHITECTURE = "amd64"
 CONTROL = """Package: retractor
@@ -22,6 +24,7 @@ Architecture: {architecture}
 Maintainer: The developers of Retractor <retractor@localhost>
 Section: utils
 Priority: optional
+Depends: libc6
 Description: prove facts about the past of a chess position
  Whether a diagram can arise at all, what the last move was, who may still
  castle, whether a capture en passant is permitted: for composers, solvers,
@@ -52,7 +55,8 @@ def lay_out(program, root):
     manual.write_bytes(gzip.compress((TOP / "docs" / "retractor.1").read_bytes(), mtime=0))
     manual.chmod(0o644)
     pages = share / "doc" / "retractor"
-    for page in [TOP / "README.md", TOP / "CHANGELOG.md", *sorted((TOP / "docs").glob("*.md")), *sorted((TOP / "examples").iterdir())]:
+    scripts = [TOP / "bench" / f"{name}.py" for name in SECOND_CHECK]
+    for page in [TOP / "README.md", TOP / "CHANGELOG.md", *sorted((TOP / "docs").glob("*.md")), *sorted((TOP / "examples").iterdir()), *scripts]:
         put(page, pages / page.relative_to(TOP))
 
 

@@ -11,6 +11,7 @@ TOP = pathlib.Path(__file__).resolve().parent.parent
 sys.path.insert(0, str(TOP / "bench"))
 
 from chess_rules import Position, games_of, placed  # noqa: E402
+from second_check import checked, played  # noqa: E402
 from two_answers import changed, gainsaid  # noqa: E402
 
 
@@ -37,6 +38,40 @@ class SecondReading(unittest.TestCase):
         self.assertEqual(position.named("e5d6").retraction(), "e5d6ep")
         moved = Position.replayed("e2e4 a7a6 e1e2 d7d5 e2e1 a6a5".split())[0]
         self.assertEqual([moved.meets(f"{moved.fen().split(' ')[0]} w {rights} -") for rights in ("kq", "K")], [True, False])
+
+
+class SecondCheck(unittest.TestCase):
+    def certificate(self, name):
+        return (TOP / "examples" / f"{name}.cert").read_text()
+
+    def test_examples_are_accepted(self):
+        for path in sorted((TOP / "examples").glob("*.cert")):
+            answer, status = checked(path.read_text())
+            said = "refused line 4 unsupported rule" if path.stem == "array" else "accepted "
+            self.assertTrue(answer.startswith(said), f"{path.name}: {answer}")
+            self.assertEqual(status, 1 if path.stem == "array" else 0)
+
+    def test_first_faults(self):
+        good = self.certificate("dawson-1913")
+        for old, new, said in (
+            ("root expand 6\nh7h6 expand 0\n", "root expand 5\n", "refused line 5 unlisted h7h6"),
+            ("c8b8 expand 0", "c8b8xp expand 0", "refused line 6 unlisted c8b8"),
+            ("h7h6 expand", "a2a3 expand", "refused line 5 unsupported stray"),
+            ("c8b8 expand 0", "c8b8 back 1", "refused line 6 unsupported back"),
+            ("frozen 034f070200000090", "frozen 0000000200000000", "refused line 7 unsupported rule"),
+            ("claim lost K", "claim lost X", "refused line 2 text"),
+            ("expand 6", "expand 7", "refused line 11 text"),
+            ("w - -", "w - d3", "refused line 3 text"),
+        ):
+            self.assertEqual(good.count(old) > 0 and checked(good.replace(old, new, 1))[0], said, new)
+        odds = "retro 2\nclaim illegal\nodds 0000000000000100\nfen 4k3/8/8/8/8/8/P7/4K3 w - -\nroot rule frozen 0000000000000100\n"
+        self.assertEqual(checked(odds)[1], 0)
+        self.assertEqual(checked(odds.replace("retro 2", "retro 1").replace("odds 0000000000000100\n", ""))[0], "refused line 4 unsupported rule")
+
+    def test_games(self):
+        for file, said in (("wheeler-1887.game", "legal"), ("castling.game", "legal"), ("blocked.game", "refused ply 3")):
+            self.assertEqual(played((TOP / "examples" / file).read_text())[0], said)
+        self.assertEqual(played("rnbqkbnr/pppppppp/8/8/8/8/PPPPPPPP/RNBQKBNR b - -\n")[0], "refused end")
 
 
 class Answers(unittest.TestCase):

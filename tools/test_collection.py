@@ -75,8 +75,8 @@ if words[0] in ("settle", "dossier"):
     sys.stdout.write("retro 1\\n" + text)
 elif words[0] == "play":
     sys.exit(0 if text.split("\\n")[1] in games.values() else 1)
-elif words[0] == "explain":
-    sys.exit(5) if not {explains} else sys.stdout.write("Claim.\\n")
+elif words[0] in ("explain", "report"):
+    sys.exit(5) if not {explains} else sys.stdout.write("Claim.\\n" if words[0] == "explain" else "Report of " + text)
 """
 
 
@@ -351,7 +351,9 @@ class Runs(unittest.TestCase):
         names = sorted(path.name for path in (self.folder / "proofs").iterdir())
         claims = ["1-b-lost-K", "1-b-lost-Q", "2-w-illegal", "3-w-ep-h5g6", "3-w-last-g7g5"]
         games = ["list-fen-1-b-illegal.game", "list-fen-4-w-illegal.game"]
-        self.assertEqual(names, sorted(games + [f"list-fen-{claim}.{ending}" for claim in claims for ending in ("cert", "txt")]))
+        reports = [f"list-fen-{diagram}.report" for diagram in ("1-b", "2-w", "3-w", "4-w")]
+        self.assertEqual(names, sorted(games + reports + [f"list-fen-{claim}.{ending}" for claim in claims for ending in ("cert", "txt")]))
+        self.assertEqual((self.folder / "proofs/list-fen-2-w.report").read_text(), f"Report of {LOYD}\n")
         self.assertEqual((self.folder / "proofs/list-fen-2-w-illegal.cert").read_text(), f"retro 1\nclaim illegal\n{LOYD}\n")
         self.assertEqual((self.folder / "proofs" / games[0]).read_text(), f"{BENKO}\ne2e4 e7e5 g1f3\n")
 
@@ -362,13 +364,15 @@ class Runs(unittest.TestCase):
         (self.folder / "three.fen").write_text("\n".join(open_claims))
         self.run_tool("--certificates", "proofs", files=["three.fen"])
         names = {"three-fen-1-w-lost-K": rook.replace("- -", "K -"), "three-fen-2-w-notboth-k-q": both.replace("- -", "kq -"), "three-fen-3-w-ep-h5g6": pawn}
-        self.assertEqual({path.stem: path.read_text().split("\n")[0] for path in (self.folder / "proofs").iterdir()}, names)
+        self.assertEqual({path.stem: path.read_text().split("\n")[0] for path in (self.folder / "proofs").glob("*.game")}, names)
         self.assertIn("no game against `illegal`: `settle` finds none", (self.folder / "collection.md").read_text())
 
     def test_no_explanation(self):
         self.program(explains=False)
         self.run_tool("--certificates", "proofs")
-        self.assertIn("no explanation: this program doesn't know `explain`", (self.folder / "collection.md").read_text())
+        table = (self.folder / "collection.md").read_text()
+        self.assertIn("no explanation: this program doesn't know `explain`", table)
+        self.assertIn("no report: this program doesn't know `report`", table)
         self.assertEqual(sorted(path.suffix for path in (self.folder / "proofs").iterdir()), [".cert"] * 5 + [".game"] * 2)
 
     def test_no_program(self):

@@ -30,7 +30,7 @@ def shown(words):
 class Completions(unittest.TestCase):
     def test_they_name_the_commands_of_the_code(self):
         commands = completions.commands_of(usage_of_rows())
-        self.assertEqual(len(commands), 16)
+        self.assertEqual(len(commands), 17)
         folder = completions.FOLDER
         self.assertEqual((folder / "retractor.bash").read_text(), completions.bash(commands))
         self.assertEqual((folder / "retractor.fish").read_text(), completions.fish(commands))

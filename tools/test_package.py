@@ -48,6 +48,9 @@ class Package(unittest.TestCase):
         for folder in ("docs", "examples"):
             own = sorted(page.name for page in (TOP / folder).iterdir() if page.name != "retractor.1")
             self.assertEqual(sorted(page.name for page in (pages / folder).iterdir()), own)
+        certificate = (TOP / "examples" / "benko-1996.cert").read_text()
+        done = subprocess.run(["python3", "bench/second_check.py"], input=certificate, capture_output=True, text=True, cwd=pages)
+        self.assertEqual(done.stdout, "accepted ep a5b6 kbN5/n1p5/B1N5/PpK5/8/8/8/8 w - -\n", done.stderr)
         for file in ("bash-completion/completions/retractor", "zsh/vendor-completions/_retractor", "fish/vendor_completions.d/retractor.fish"):
             self.assertTrue((root / "usr/share" / file).exists(), file)
 

@@ -10,7 +10,7 @@ cites it, directly or through other definitions, as tools/believed.py finds it. 
 that of `run`, each with the number of the definitions that it reaches, and with those that no clause before it reaches. The cases of
 a data type stand in the entry of the type. The definitions of the headline stand in the order of READING, each behind those that it
 uses; the others by crate, lowest first. There is a line for each definition that has no comment or stands before one that it uses, for
-each entry that is missing, old or too many, and where the page of the headline is longer than MOST_BYTES: then the exit status is 1.
+each entry that is missing, old or too many, and if the page of the headline is longer than MOST_BYTES: then the exit status is 1.
 """
 import argparse
 import itertools
