@@ -28,17 +28,15 @@ use Rattle.cage_rules.specs.Laws.{Caged}
 use Rattle.cage_rules.specs.Reach.{LeadsTo}
 use Rattle.cage_rules.proofs.WalledGames.{caged-walled}
 use Rattle.cage_rules.proofs.Histories.{reaches-leads}
-use Rattle.price_search.specs.FlatPrices.{flat_prices}
 use Rattle.ledger_facts.specs.Refuted.{IsRuledOut}
 use Rattle.ledger_facts.specs.Supposed.{captures}
 use Rattle.ledger_facts.specs.declared.suppositions.Squares.{Squares}
 use Rattle.ledger_facts.specs.declared.suppositions.Squares.TheVariants.{All, Dark, Light, Class}
-use Rattle.ledger_facts.specs.declared.suppositions.Supposition.{Supposition}
-use Rattle.ledger_facts.specs.declared.suppositions.Supposition.TheVariants.{Began as BeganAt, Went, Stands, Gone, AtMost as Most, AtLeast as Least}
+use Rattle.ledger_facts.specs.declared.suppositions.Supposition.TheVariants.{Began as BeganAt, Stands, Gone}
 use Rattle.ledger_facts.proofs.Known.{gone-so, has-captured, kept-file, less-than, more-than, never-promoted, struck-so, unstruck-so, was-promoted}
 use Rattle.ledger_facts.proofs.Sound.{refuted}
 use Rattle.ledger_search.specs.Ledgers.{AreCounts, IsLeast, IsLedger, IsLedgerOf, IsMost}
-use Rattle.ledger_search.specs.Questions.{IsFlatlyRefuted, is_asked, is_man, only, shares_side}
+use Rattle.ledger_search.specs.Questions.{is_asked, is_man, only, shares_side}
 use Rattle.ledger_search.specs.declared.counts.Range.{Range}
 use Rattle.ledger_search.specs.declared.ledgers.Ledger.{Ledger}
 use Rattle.ledger_search.specs.declared.questions.Question.TheVariants.{Home}
@@ -79,10 +77,7 @@ not-not true false h = absurd (both_ways true h refl)
 not-not false true h = absurd (both_ways true h refl)
 not-not false false h = refl
 
-module _ (q : Asked) (l : Ledger) (set : List Bool) (frozen : IsFrozen q set) (is : IsLedger q set l) (g : List Move) (leads : LeadsTo q.odds g q) where
-  out : (x : Supposition) → IsFlatlyRefuted x q set → IsRuledOut x q
-  out x it = (set, flat_prices it.0, it.1)
-
+module _ (q : Asked) (l : Ledger) (set : List Bool) (frozen : IsFrozen q set) (is : IsLedger q l) (g : List Move) (leads : LeadsTo q.odds g q) where
   -- whoever stands on a square began on a home of his side that isn't ruled out
   not-barred : (s h : ℕ) → s < 64 → is_man (at q.board s) ≡ true → label_at (labels_after q.odds g) s ≡ Some h → (h < 64) × (is_asked (Home s) q.board (array_of q.odds) h ≡ true) × (is_in (slice_index_or l.homes s []) h ≡ false)
   not-barred s h inside here label =
@@ -95,8 +90,8 @@ module _ (q : Asked) (l : Ledger) (set : List Bool) (frozen : IsFrozen q set) (i
         asked,
         elim (cases_Bool (is_in (slice_index_or l.homes s []) h)) [
           | inl barred ↦
-              let found = ((is.homes s inside h low).0 barred).1 in
-              absurd (refuted (BeganAt s (only h)) q set (flat_prices found.0) found.1 g leads (h, label, in-only h low))
+              let found = (is.homes s inside h low barred).1 in
+              absurd (refuted (BeganAt s (only h)) q found.0 found.1 found.2 g leads (h, label, in-only h low))
           | inr open_to ↦ open_to
         ],
       )
@@ -159,32 +154,32 @@ module _ (q : Asked) (l : Ledger) (set : List Bool) (frozen : IsFrozen q set) (i
       let near = not-ruled-out s h (λ k. nat_lt (files_apart k s) n) low far label in
       omega (arith, ltb-false (files_apart h s) n near, (came s h pawn label).0)
   took-holds s n low pawn (inr once) h label =
-      let it = (is.captured s low).0 once.1 in
-      let aside = has-captured q s (out (Went s true) it.1) it.0 g leads h label in
+      let it = is.captured s low once.1 in
+      let aside = has-captured q s it.1 it.0 g leads h label in
       omega (arith, captured-once h (way_of q.odds g h) aside, leb-true n 1 once.0)
 
-  least-holds : (c : Colour) (squares : Squares) (n m : ℕ) → IsLeast c squares q set m → n ≤ m → n ≤ captures q.odds g c squares
+  least-holds : (c : Colour) (squares : Squares) (n m : ℕ) → IsLeast c squares q m → n ≤ m → n ≤ captures q.odds g c squares
   least-holds c squares zero m least low = omega arith
   least-holds c squares (suc n) m least low =
-      let more = more-than q c squares n (out (Most c squares n) (least.refuted n (omega arith))) g leads in
+      let more = more-than q c squares n (least.refuted n (omega arith)) g leads in
       omega arith
 
-  most-holds : (c : Colour) (squares : Squares) (n m : ℕ) → IsMost c squares q set m → m ≤ n → n < 16 → captures q.odds g c squares ≤ n
+  most-holds : (c : Colour) (squares : Squares) (n m : ℕ) → IsMost c squares q m → m ≤ n → n < 16 → captures q.odds g c squares ≤ n
   most-holds c squares n m most low few =
-      let less = less-than q c squares (n + 1) (out (Least c squares (n + 1)) (most.refuted (n + 1) (omega arith) (omega arith))) g leads in
+      let less = less-than q c squares (n + 1) (most.refuted (n + 1) (omega arith) (omega arith)) g leads in
       omega arith
 
-  in-counts : (c : Colour) → AreCounts c q set (counts_of l c)
+  in-counts : (c : Colour) → AreCounts c q (counts_of l c)
   in-counts White = is.white
   in-counts Black = is.black
 
-  least-known : (c : Colour) (squares : Squares) → is_class squares ≡ true → IsLeast c squares q set (least_of (counts_of l c) squares)
+  least-known : (c : Colour) (squares : Squares) → is_class squares ≡ true → IsLeast c squares q (least_of (counts_of l c) squares)
   least-known c All k = (in-counts c).all.least
   least-known c Dark k = (in-counts c).dark.least
   least-known c Light k = (in-counts c).light.least
   least-known c (Class n) k = (in-counts c).least_on n (ltb-true n 16 k)
 
-  few-known : (c : Colour) (squares : Squares) (range : Range) (n : ℕ) → IsMost c squares q set range.most → is_few range n ≡ true → captures q.odds g c squares ≤ n
+  few-known : (c : Colour) (squares : Squares) (range : Range) (n : ℕ) → IsMost c squares q range.most → is_few range n ≡ true → captures q.odds g c squares ≤ n
   few-known c squares range n most few = let both = and_parts _ (nat_lt n 16) few in most-holds c squares n range.most most (leb-true range.most n both.0) (ltb-true n 16 both.1)
 
   all-few : (c : Colour) (squares : Squares) (n : ℕ) → is_few (counts_of l c).all n ≡ true → captures q.odds g c squares ≤ n
@@ -223,22 +218,22 @@ module _ (q : Asked) (l : Ledger) (set : List Bool) (frozen : IsFrozen q set) (i
 
   module _ (h : ℕ) (inside : h < 64) where
     up : is_in l.fates.stands_promoted h ≡ true → IsRuledOut (Stands h true) q
-    up it = out (Stands h true) ((is.fates.stands_promoted h inside).0 it).1
+    up it = (is.fates.stands_promoted h inside it).1
 
     down : is_in l.fates.stands h ≡ true → IsRuledOut (Stands h false) q
-    down it = out (Stands h false) ((is.fates.stands h inside).0 it).1
+    down it = (is.fates.stands h inside it).1
 
     taken : is_in l.fates.taken h ≡ true → IsRuledOut (Gone h false false) q
-    taken it = out (Gone h false false) ((is.fates.taken h inside).0 it).1
+    taken it = (is.fates.taken h inside it).1
 
     struck : is_in l.fates.struck h ≡ true → IsRuledOut (Gone h false true) q
-    struck it = out (Gone h false true) ((is.fates.struck h inside).0 it).1
+    struck it = (is.fates.struck h inside it).1
 
     taken-later : is_in l.fates.taken_promoted h ≡ true → IsRuledOut (Gone h true false) q
-    taken-later it = out (Gone h true false) ((is.fates.taken_promoted h inside).0 it).1
+    taken-later it = (is.fates.taken_promoted h inside it).1
 
     struck-later : is_in l.fates.struck_promoted h ≡ true → IsRuledOut (Gone h true true) q
-    struck-later it = out (Gone h true true) ((is.fates.struck_promoted h inside).0 it).1
+    struck-later it = (is.fates.struck_promoted h inside it).1
 
     -- a man of a side began there
     owner : is_man (at (array_of q.odds) h) ≡ true → (c : Colour) × (is_of c (at (array_of q.odds) h) ≡ true)
@@ -248,11 +243,11 @@ module _ (q : Asked) (l : Ledger) (set : List Bool) (frozen : IsFrozen q set) (i
   holds (Began s homes) on known = λ h label. from-not (is_in homes h) (not-ruled-out s h (λ k. not (is_in homes k)) on known label)
   holds (Original s) on known = λ h label. not-not false (is_a Pawn (at (array_of q.odds) h)) (not-ruled-out s h (λ k. not (beq false (is_a Pawn (at (array_of q.odds) k)))) on known label)
   holds (Promoted s) on known = λ h label. not-not true (is_a Pawn (at (array_of q.odds) h)) (not-ruled-out s h (λ k. not (beq true (is_a Pawn (at (array_of q.odds) k)))) on known label)
-  holds (Captured s) on known = let it = (is.captured s on).0 known in has-captured q s (out (Went s true) it.1) it.0 g leads
+  holds (Captured s) on known = let it = is.captured s on known in has-captured q s it.1 it.0 g leads
   holds (Took s n) on known = took-holds s n on known.0 known.1
   holds (TookAtMost s n) on known = few-taken s n on known.0 known.1
   holds (Slanted s) on known = λ h label. slanted s h known label
-  holds (Straight s) on known = let it = (is.straight s on).0 known in kept-file q s (out (Went s false) it.1) it.0 g leads
+  holds (Straight s) on known = let it = is.straight s on known in kept-file q s it.1 it.0 g leads
   holds (Fell h) on known =
       let b = and_parts _ (is_in l.fates.stands_promoted h) known in
       let a = and_parts (is_man (at (array_of q.odds) h)) (is_in l.fates.stands h) b.0 in

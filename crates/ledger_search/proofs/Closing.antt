@@ -1,5 +1,5 @@
 -- A ledger that contradicts itself leaves no game.
-use Rattle.std.proofs.Common.{◌≡◌, ℕ, ◌+◌, ◌-◌, ◌<◌, inl, inr, Bool, true, false, ◌||◌, List, refl, ap, ◌∙◌, arith}
+use Rattle.std.proofs.Common.{◌≡◌, ℕ, ◌+◌, ◌-◌, ◌<◌, inl, inr, true, false, ◌||◌, List, refl, ap, ◌∙◌, arith}
 use Rattle.std.proofs.lemmas.Bool.{and_parts, both_ways, ltb-true, or_cases}
 use Rattle.std.proofs.lemmas.List.{get_or-set_same}
 use Rattle.std.specs.Prelude.{Option, None, Some}
@@ -19,24 +19,18 @@ use Rattle.query_base.specs.Asked.{Asked}
 use Rattle.query_base.specs.Reach.{Reaches}
 use Rattle.cage_rules.specs.Reach.{LeadsTo}
 use Rattle.cage_rules.proofs.Histories.{reaches-leads}
-use Rattle.price_search.specs.FlatPrices.{flat_prices}
-use Rattle.ledger_facts.specs.Refuted.{IsRuledOut}
 use Rattle.ledger_facts.specs.declared.suppositions.Squares.{Squares}
 use Rattle.ledger_facts.specs.declared.suppositions.Squares.TheVariants.{All, Dark, Light}
-use Rattle.ledger_facts.specs.declared.suppositions.Supposition.{Supposition}
-use Rattle.ledger_facts.specs.declared.suppositions.Supposition.TheVariants.{Began, Went, Stands, Gone, AtMost, AtLeast}
+use Rattle.ledger_facts.specs.declared.suppositions.Supposition.TheVariants.{Began}
 use Rattle.ledger_facts.proofs.Known.{has-captured, kept-file, less-than, more-than, never-promoted, was-promoted}
 use Rattle.ledger_facts.proofs.Sound.{refuted}
 use Rattle.ledger_search.specs.Contradictions.{IsContradictory, IsHomeless, are_void, has_no_fate, is_torn, is_void}
 use Rattle.ledger_search.specs.Ledgers.{AreCounts, IsLedger, IsLedgerOf, IsRange}
-use Rattle.ledger_search.specs.Questions.{IsFlatlyRefuted, is_asked, is_man, only, shares_side}
+use Rattle.ledger_search.specs.Questions.{is_asked, is_man, only, shares_side}
 use Rattle.ledger_search.specs.declared.counts.Counts.{Counts}
 use Rattle.ledger_search.specs.declared.counts.Range.{Range}
 use Rattle.ledger_search.specs.declared.ledgers.Ledger.{Ledger}
 use Rattle.ledger_search.specs.declared.questions.Question.TheVariants.{Home}
-
-ruled-out : (x : Supposition) (q : Asked) (set : List Bool) → IsFlatlyRefuted x q set → IsRuledOut x q
-ruled-out x q set it = (set, flat_prices it.0, it.1)
 
 man-on : (place : Option Man) → is_man place ≡ true → (m : Man) × (place ≡ Some m)
 man-on None h = absurd (both_ways false refl h)
@@ -61,7 +55,7 @@ module _ (q : Asked) (g : List Move) (leads : LeadsTo q.odds g q) where
       let label = label-of (at (board_after q.odds g) s) (label_at (labels_after q.odds g) s) m on (labels-each_man q.odds g leads.game s) in
       (label.0, label.1, labels-colours q.odds g leads.game s label.0 m label.1 on)
 
-  module _ (set : List Bool) (l : Ledger) (is : IsLedger q set l) where
+  module _ (l : Ledger) (is : IsLedger q l) where
     no-homeless : (s : ℕ) → s < 64 → IsHomeless q l s → ⊥
     no-homeless s inside (here, all) =
         let m = man-on (at q.board s) here in
@@ -69,17 +63,17 @@ module _ (q : Asked) (g : List Move) (leads : LeadsTo q.odds g q) where
         let h : ℕ = label.0 in
         let low : h < 64 = array-inside q.odds (is_of m.0.colour) h refl label.2 in
         let asked : is_asked (Home s) q.board (array_of q.odds) h ≡ true = ap (λ (p : Option Man). shares_side p (at (array_of q.odds) h)) m.1 ∙ label.2 in
-        let found = ((is.homes s inside h low).0 (all h low asked)).1 in
-        refuted (Began s (only h)) q set (flat_prices found.0) found.1 g leads (h, label.1, in-only h low)
+        let found = (is.homes s inside h low (all h low asked)).1 in
+        refuted (Began s (only h)) q found.0 found.1 found.2 g leads (h, label.1, in-only h low)
 
     no-torn : (s : ℕ) → s < 64 → is_torn l s ≡ true → ⊥
     no-torn s inside torn =
         let both = and_parts (is_in l.captured s) (is_in l.straight s) torn in
-        let first = (is.captured s inside).0 both.0 in
-        let second = (is.straight s inside).0 both.1 in
+        let first = is.captured s inside both.0 in
+        let second = is.straight s inside both.1 in
         let m = pawn-on (at q.board s) first.0 in
         let label = label-there s m.0 m.1 in
-        both_ways _ (has-captured q s (ruled-out (Went s true) q set first.1) first.0 g leads label.0 label.1) (kept-file q s (ruled-out (Went s false) q set second.1) first.0 g leads label.0 label.1)
+        both_ways _ (has-captured q s first.1 first.0 g leads label.0 label.1) (kept-file q s second.1 first.0 g leads label.0 label.1)
 
     no-fate : (h : ℕ) → h < 64 → has_no_fate q l.fates h ≡ true → ⊥
     no-fate h inside none =
@@ -92,24 +86,23 @@ module _ (q : Asked) (g : List Move) (leads : LeadsTo q.odds g q) where
         let z = and_parts (is_man (at (array_of q.odds) h)) (is_in f.stands h) a.0 in
         let m = man-on (at (array_of q.odds) h) z.0 in
         let home : is_of m.0.colour (at (array_of q.odds) h) ≡ true = ap (is_of m.0.colour) m.1 ∙ colour-self m.0.colour in
-        let out = ruled-out in
-        let stands = out (Stands h false) q set ((is.fates.stands h inside).0 z.1).1 in
-        let turned = out (Stands h true) q set ((is.fates.stands_promoted h inside).0 a.1).1 in
-        let taken = out (Gone h false false) q set ((is.fates.taken h inside).0 b.1).1 in
-        let struck = out (Gone h false true) q set ((is.fates.struck h inside).0 c.1).1 in
-        let taken_later = out (Gone h true false) q set ((is.fates.taken_promoted h inside).0 d.1).1 in
-        let struck_later = out (Gone h true true) q set ((is.fates.struck_promoted h inside).0 e.1).1 in
+        let stands = (is.fates.stands h inside z.1).1 in
+        let turned = (is.fates.stands_promoted h inside a.1).1 in
+        let taken = (is.fates.taken h inside b.1).1 in
+        let struck = (is.fates.struck h inside c.1).1 in
+        let taken_later = (is.fates.taken_promoted h inside d.1).1 in
+        let struck_later = (is.fates.struck_promoted h inside e.1).1 in
         both_ways _ (never-promoted q m.0.colour h home g leads turned struck_later taken_later) (was-promoted q m.0.colour h home g leads stands struck taken)
 
-    no-void : (c : Colour) (squares : Squares) (r : Range) → IsRange c squares q set r → is_void r ≡ true → ⊥
+    no-void : (c : Colour) (squares : Squares) (r : Range) → IsRange c squares q r → is_void r ≡ true → ⊥
     no-void c squares r range void =
         let less : r.most < r.least = ltb-true r.most r.least void in
         let few = range.least.few in
-        let low = more-than q c squares (r.least - 1) (ruled-out (AtMost c squares (r.least - 1)) q set (range.least.refuted (r.least - 1) (omega arith))) g leads in
-        let high = less-than q c squares (r.most + 1) (ruled-out (AtLeast c squares (r.most + 1)) q set (range.most.refuted (r.most + 1) (omega arith) (omega arith))) g leads in
+        let low = more-than q c squares (r.least - 1) (range.least.refuted (r.least - 1) (omega arith)) g leads in
+        let high = less-than q c squares (r.most + 1) (range.most.refuted (r.most + 1) (omega arith) (omega arith)) g leads in
         omega arith
 
-    no-voids : (c : Colour) (counts : Counts) → AreCounts c q set counts → are_void counts ≡ true → ⊥
+    no-voids : (c : Colour) (counts : Counts) → AreCounts c q counts → are_void counts ≡ true → ⊥
     no-voids c counts are void = elim (or_cases (is_void counts.all || is_void counts.dark) (is_void counts.light) void) [
       | inl first ↦ elim (or_cases (is_void counts.all) (is_void counts.dark) first) [
         | inl whole ↦ no-void c All counts.all are.all whole
@@ -134,7 +127,7 @@ module _ (q : Asked) (g : List Move) (leads : LeadsTo q.odds g q) where
     ]
 
 pub closed : (q : Asked) (l : Ledger) → IsLedgerOf q l → IsContradictory q l → (g : List Move) → LeadsTo q.odds g q → ⊥
-closed q l is contradiction g leads = no-contradiction q g leads is.set l is.ledger contradiction
+closed q l is contradiction g leads = no-contradiction q g leads l is.ledger contradiction
 
 pub closed-reached : (q : Asked) (l : Ledger) → IsLedgerOf q l → IsContradictory q l → (g : List Move) → Reaches g q → ⊥
 closed-reached q l is contradiction g reaches = closed q l is contradiction g (reaches-leads g q reaches)

@@ -7,18 +7,6 @@ use Rattle.board_base.specs.Board.{is_in}
 use Rattle.board_base.specs.Squares.{squares_of}
 use Rattle.board_base.specs.SquareNumbers.{length-squares_of}
 use Rattle.cage_rules.proofs.Filling.{none-in-zero}
-use Rattle.query_base.specs.Asked.{Asked}
-use Rattle.price_search.specs.FlatPrices.{flat_prices}
-use Rattle.price_search.specs.declared.payers.Payers.TheVariants.{Both, WhiteAlone, BlackAlone}
-use Rattle.ledger_facts.specs.Refuted.{IsRefuted}
-use Rattle.ledger_facts.specs.declared.suppositions.Supposition.{Supposition}
-use Rattle.ledger_search.specs.Questions.{IsFlatlyRefuted}
-
--- where two of the flat prices fail, only the third is left
-pub flat-last : (x : Supposition) (q : Asked) (set : List Bool) (a b d : Bool) → (IsTrue a ↔ IsRefuted x q set (flat_prices Both)) → (IsTrue b ↔ IsRefuted x q set (flat_prices WhiteAlone)) → (IsTrue d ↔ IsRefuted x q set (flat_prices BlackAlone)) → a ≡ false → b ≡ false → IsFlatlyRefuted x q set → IsTrue d
-flat-last x q set a b d first second third none_first none_second (Both, it) = absurd (both_ways a none_first (first.1 it))
-flat-last x q set a b d first second third none_first none_second (WhiteAlone, it) = absurd (both_ways b none_second (second.1 it))
-flat-last x q set a b d first second third none_first none_second (BlackAlone, it) = third.1 it
 
 -- the set has those of the first i squares of which it is told
 pub record Found (P : ℕ → Type 0) (found : List Bool) (i : ℕ) : Type 0 where

@@ -1,4 +1,5 @@
 pub mod Found
-pub mod AtFlat
-pub mod Counting
+pub mod Learned
+pub mod Grown
+pub mod Nothing
 pub mod Closing

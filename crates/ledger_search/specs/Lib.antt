@@ -1,4 +1,4 @@
 pub mod Questions
 pub mod Ledgers
 pub mod Contradictions
-pub mod Desks
+pub mod Learning

@@ -1,13 +1,14 @@
--- What a ledger asks of each square, and when flat prices answer it.
-use Rattle.std.specs.Prelude.{ℕ, ◌<◌, ◌↔◌, Bool, true, false, IsTrue, List, Option, Some, None, slice_set}
+-- What a ledger asks of each square, and which answers are ruled out.
+use Rattle.std.specs.Prelude.{ℕ, ◌<◌, Bool, true, false, IsTrue, List, Option, Some, None, slice_set}
 use Rattle.board_base.specs.Board.{Places, array_of, at, is_a, is_in, is_of}
 use Rattle.board_base.specs.Squares.{squares_of}
 use Rattle.board_base.specs.declared.men.Kind.TheVariants.{Pawn}
 use Rattle.board_base.specs.declared.men.Man.{Man}
 use Rattle.query_base.specs.Asked.{Asked}
+use Rattle.capture_prices.specs.Prices.{PriceList}
 use Rattle.price_search.specs.FlatPrices.{flat_prices}
 use Rattle.price_search.specs.declared.payers.Payers.{Payers}
-use Rattle.ledger_facts.specs.Refuted.{IsRefuted}
+use Rattle.ledger_facts.specs.Refuted.{IsRefuted, IsRuledOut}
 use Rattle.ledger_facts.specs.declared.suppositions.Supposition.{Supposition}
 use Rattle.ledger_facts.specs.declared.suppositions.Supposition.TheVariants.{Began, Went, Stands, Gone}
 use Rattle.ledger_search.specs.declared.questions.Question.{Question}
@@ -46,6 +47,10 @@ is_asked (Way straight) board first s = is_a Pawn (at board s)
 is_asked (Stay promoted) board first s = is_man (at first s)
 is_asked (Loss promoted struck) board first s = is_man (at first s)
 
--- the set has the squares of which a question is asked and of which flat prices refute that the answer is yes
-abbrev pub AreAnswered : Question → Asked → List Bool → List Bool → Type 0
-AreAnswered question q set found = (s : ℕ) → s < 64 → IsTrue (is_in found s) ↔ (IsTrue (is_asked question q.board (array_of q.odds) s) × IsFlatlyRefuted (about question s) q set)
+-- of each square in the set the question is asked, and some prices rule out that the answer is yes
+abbrev pub AreDenied : Question → Asked → List Bool → Type 0
+AreDenied question q found = (s : ℕ) → s < 64 → IsTrue (is_in found s) → IsTrue (is_asked question q.board (array_of q.odds) s) × IsRuledOut (about question s) q
+
+-- the set has each square of which the question is asked, if these prices beside the other set refute that the answer is yes
+abbrev pub HasRefuted : Question → Asked → List Bool → PriceList → List Bool → Type 0
+HasRefuted question q set p found = (s : ℕ) → s < 64 → IsTrue (is_asked question q.board (array_of q.odds) s) → IsRefuted (about question s) q set p → IsTrue (is_in found s)

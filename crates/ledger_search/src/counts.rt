@@ -1,14 +1,8 @@
-ghost use Rattle.std.specs.Prelude.{◌<◌, ◌≤◌, ◌↔◌, ℕ, Bool, IfSome, List, slice_index};
-ghost use Rattle.price_search.specs.FlatPrices.{flat_prices};
-ghost use Rattle.price_search.specs.declared.payers.Payers.{Payers};
-ghost use Rattle.ledger_facts.specs.Refuted.{IsRefuted};
+ghost use Rattle.std.specs.Prelude.{◌<◌, ℕ, slice_index};
 ghost use Rattle.ledger_facts.specs.declared.suppositions.Squares.TheVariants.{Class};
-ghost use Rattle.ledger_facts.specs.declared.suppositions.Supposition.TheVariants.{AtLeast, AtMost};
 ghost use Rattle.ledger_rule.specs.Kept.{IsAccount};
-ghost use Rattle.ledger_search.specs.Desks.{IsDesk, IsKept};
-ghost use Rattle.ledger_search.specs.Ledgers.{AreCounts, IsLeast, IsMost, IsRange};
+ghost use Rattle.ledger_search.specs.Learning.{CountsOn, Lowers, Narrows, Raises};
 
-use crate::refuting::Desk;
 use board_base::Colour;
 use ledger_facts::Squares;
 use ledger_rule::{Account, least_count, most_count};
@@ -31,84 +25,71 @@ pub struct Counts {
     pub least_on: [u8; 16],
 }
 
-/// The least number of captures that an account's prices don't refute to be the most; 0 if there is none.
-fn least_at(query: &Query, account: &Option<Account>, side: Colour, squares: Squares) -> u8
-    requires { IfSome account.now (IsAccount query.now) }
-    ensures few { result ≤ 16 }
-    ensures refuted { (set : List Bool) (p : Payers) → IsKept query.now set p account.now → (n : ℕ) → n < 16 → (n < result) ↔ IsRefuted (AtMost side squares n) query.now set (flat_prices p) }
+/// Nothing is known.
+const ANY: Range = Range { least: 0, most: 16 };
+
+/// Nothing is known of any squares.
+pub(crate) const ANY_COUNTS: Counts = Counts {
+    all: ANY,
+    dark: ANY,
+    light: ANY,
+    least_on: [0; 16],
+};
+
+/// The least number that is known, with what the account's prices refute.
+fn raised(query: &Query, account: &Account, side: Colour, squares: Squares, least: u8) -> u8
+    requires { IsAccount query.now account.now }
+    ensures { Raises side squares query.now account.now.set account.now.prices least result }
 {
-    match account {
-        Some(kept) => least_count(query, kept, side, squares),
-        None => 0,
-    }
+    least.max(least_count(query, account, side, squares))
 }
 
-/// The greatest number of captures, of at most 16, that they don't refute to be the least; 16 if there is none.
-fn most_at(query: &Query, account: &Option<Account>, side: Colour, squares: Squares) -> u8
-    requires { IfSome account.now (IsAccount query.now) }
-    ensures few { result ≤ 16 }
-    ensures refuted { (set : List Bool) (p : Payers) → IsKept query.now set p account.now → (n : ℕ) → 0 < n → n ≤ 16 → (result < n) ↔ IsRefuted (AtLeast side squares n) query.now set (flat_prices p) }
+/// The same of the greatest.
+fn lowered(query: &Query, account: &Account, side: Colour, squares: Squares, most: u8) -> u8
+    requires { IsAccount query.now account.now }
+    ensures { Lowers side squares query.now account.now.set account.now.prices most result }
 {
-    match account {
-        Some(kept) => most_count(query, kept, side, squares),
-        None => 16,
-    }
-}
-
-/// The least number of captures that flat prices don't refute to be the most.
-fn least(query: &Query, desk: &Desk, side: Colour, squares: Squares) -> u8
-    requires { IsDesk query.now desk.now }
-    ensures { IsLeast side squares query.now desk.now.set result }
-{
-    let both = least_at(query, &desk.both, side, squares);
-    let white_alone = least_at(query, &desk.white_alone, side, squares);
-    let black_alone = least_at(query, &desk.black_alone, side, squares);
-    both.max(white_alone).max(black_alone)
-}
-
-/// The greatest number of captures, of at most 16, that flat prices don't refute to be the least.
-fn most(query: &Query, desk: &Desk, side: Colour, squares: Squares) -> u8
-    requires { IsDesk query.now desk.now }
-    ensures { IsMost side squares query.now desk.now.set result }
-{
-    let both = most_at(query, &desk.both, side, squares);
-    let white_alone = most_at(query, &desk.white_alone, side, squares);
-    let black_alone = most_at(query, &desk.black_alone, side, squares);
-    both.min(white_alone).min(black_alone)
+    most.min(most_count(query, account, side, squares))
 }
 
 /// Both of these.
-fn range_of(query: &Query, desk: &Desk, side: Colour, squares: Squares) -> Range
-    requires { IsDesk query.now desk.now }
-    ensures { IsRange side squares query.now desk.now.set result }
+fn narrowed(query: &Query, account: &Account, side: Colour, squares: Squares, range: Range) -> Range
+    requires { IsAccount query.now account.now }
+    ensures { Narrows side squares query.now account.now.set account.now.prices range result }
 {
     Range {
-        least: least(query, desk, side, squares),
-        most: most(query, desk, side, squares),
+        least: raised(query, account, side, squares, range.least),
+        most: lowered(query, account, side, squares, range.most),
     }
 }
 
-/// The least numbers of captures on each class of squares.
-fn least_on(query: &Query, desk: &Desk, side: Colour) -> [u8; 16]
-    requires { IsDesk query.now desk.now }
-    ensures { (k : ℕ) → k < 16 → IsLeast side (Class k) query.now desk.now.set (slice_index result k) }
+/// The least numbers of captures on each class of squares, with what they refute.
+fn raised_on(query: &Query, account: &Account, side: Colour, least_on: [u8; 16]) -> [u8; 16]
+    requires { IsAccount query.now account.now }
+    ensures { (k : ℕ) → k < 16 → Raises side (Class k) query.now account.now.set account.now.prices (slice_index least_on k) (slice_index result k) }
 {
     let mut numbers = [0; 16];
     for k in 0..16 {
-        numbers[k as usize] = least(query, desk, side, Squares::Class(k));
+        let least = least_on[k as usize];
+        numbers[k as usize] = raised(query, account, side, Squares::Class(k), least);
     }
     numbers
 }
 
-/// How many captures a side's pawns made.
-pub(crate) fn counts_of(query: &Query, desk: &Desk, side: Colour) -> Counts
-    requires { IsDesk query.now desk.now }
-    ensures { AreCounts side query.now desk.now.set result }
+/// How many captures a side's pawns made, with what they refute.
+pub(crate) fn narrowed_counts(
+    query: &Query,
+    account: &Account,
+    side: Colour,
+    counts: &Counts,
+) -> Counts
+    requires { IsAccount query.now account.now }
+    ensures { CountsOn side query.now account.now.set account.now.prices counts.now result }
 {
     Counts {
-        all: range_of(query, desk, side, Squares::All),
-        dark: range_of(query, desk, side, Squares::Dark),
-        light: range_of(query, desk, side, Squares::Light),
-        least_on: least_on(query, desk, side),
+        all: narrowed(query, account, side, Squares::All, counts.all),
+        dark: narrowed(query, account, side, Squares::Dark, counts.dark),
+        light: narrowed(query, account, side, Squares::Light, counts.light),
+        least_on: raised_on(query, account, side, counts.least_on),
     }
 }

@@ -1,12 +1,17 @@
-ghost use Rattle.ledger_search.specs.Desks.{IsDesk};
-ghost use Rattle.ledger_search.specs.Ledgers.{AreFates, AreHomes, IsLedger, IsLedgerOf};
-ghost use Rattle.ledger_search.specs.declared.questions.Question.TheVariants.{Home};
+ghost use Rattle.std.specs.Prelude.{Bool, List};
+ghost use Rattle.price_search.specs.FlatPrices.{flat_prices};
+ghost use Rattle.query_base.specs.Asked.{Asked};
+ghost use Rattle.ledger_search.specs.Learning.{Grows};
+ghost use Rattle.ledger_search.specs.Ledgers.{HasAll, IsLedger, IsLedgerOf};
 
-use crate::counts::{Counts, counts_of};
-use crate::questions::Question;
-use crate::refuting::{Desk, denied, desk_of};
-use board_base::{Colour, Square, SquareSet};
+use crate::counts::{ANY_COUNTS, Counts};
+use crate::flat::flat_prices;
+use crate::learning::learn;
+use crate::near::learn_near;
+use board_base::SquareSet;
 use cage_rules::greatest_as_array;
+use ledger_rule::account_of;
+use price_search::Payers;
 use query_base::Query;
 
 /// Of each fate the homes whose men didn't meet it.
@@ -40,54 +45,48 @@ pub struct Ledger {
     pub black: Counts,
 }
 
-/// For each square, the homes of his side on which the man who stands there didn't begin.
-fn homes(query: &Query, desk: &Desk) -> [SquareSet; 64]
-    requires { IsDesk query.now desk.now }
-    ensures { AreHomes query.now desk.now.set result }
+/// A ledger that says nothing.
+fn no_ledger() -> Ledger
+    ensures { (q : Asked) → IsLedger q result }
 {
-    let mut homes = [SquareSet::from_bits(0); 64];
-    for i in 0..64 {
-        homes[i as usize] = denied(query, desk, &Question::Home(Square::known(i)));
-    }
-    homes
-}
-
-/// Of each fate the homes whose men didn't meet it.
-fn fates_of(query: &Query, desk: &Desk) -> Fates
-    requires { IsDesk query.now desk.now }
-    ensures { AreFates query.now desk.now.set result }
-{
-    Fates {
-        stands: denied(query, desk, &Question::Stay(false)),
-        stands_promoted: denied(query, desk, &Question::Stay(true)),
-        taken: denied(query, desk, &Question::Loss(false, false)),
-        struck: denied(query, desk, &Question::Loss(false, true)),
-        taken_promoted: denied(query, desk, &Question::Loss(true, false)),
-        struck_promoted: denied(query, desk, &Question::Loss(true, true)),
-    }
-}
-
-/// The ledger beside a set.
-fn ledger_beside(query: &Query, desk: &Desk) -> Ledger
-    requires { IsDesk query.now desk.now }
-    ensures { IsLedger query.now desk.now.set result }
-{
+    let none = SquareSet::from_bits(0);
     Ledger {
-        homes: homes(query, desk),
-        captured: denied(query, desk, &Question::Way(true)),
-        straight: denied(query, desk, &Question::Way(false)),
-        fates: fates_of(query, desk),
-        white: counts_of(query, desk, Colour::White),
-        black: counts_of(query, desk, Colour::Black),
+        homes: [none; 64],
+        captured: none,
+        straight: none,
+        fates: Fates {
+            stands: none,
+            stands_promoted: none,
+            taken: none,
+            struck: none,
+            taken_promoted: none,
+            struck_promoted: none,
+        },
+        white: ANY_COUNTS,
+        black: ANY_COUNTS,
     }
 }
 
-/// The ledger of a position: exactly what flat prices refute beside the greatest frozen set that is as in the array. The prices are 24 for
-/// each capture by a pawn, for each by a white one, or for each by a black one, without gates. By `flat_prices_rule_out` all of it is ruled
-/// out in every game that leads to the query.
+/// The ledger, with all that these flat prices refute beside a set.
+fn learn_flat(query: &Query, set: SquareSet, payers: Payers, ledger: &Ledger) -> Ledger
+    ensures grows { Grows query.now ledger.now result }
+    ensures all { HasAll query.now set (flat_prices payers) result }
+{
+    match account_of(query, set, &flat_prices(payers)) {
+        Some(account) => learn(query, &account, ledger),
+        None => *ledger,
+    }
+}
+
+/// The ledger of a position: all that flat prices refute beside the greatest frozen set that is as in the array, and what prices near them
+/// refute besides. Flat prices are 24 for each capture by a pawn, for each by a white one, or for each by a black one, without gates. All
+/// that the ledger says is ruled out by some prices, so that it is so in every game that leads to the query.
 pub fn ledger_of(query: &Query) -> Ledger
     ensures { IsLedgerOf query.now result }
 {
-    let desk = desk_of(query, greatest_as_array(query));
-    ledger_beside(query, &desk)
+    let set = greatest_as_array(query);
+    let both = learn_flat(query, set, Payers::Both, &no_ledger());
+    let white = learn_flat(query, set, Payers::WhiteAlone, &both);
+    let black = learn_flat(query, set, Payers::BlackAlone, &white);
+    learn_near(query, set, &black)
 }

@@ -1,15 +1,17 @@
-//! The ledger of a position: what flat prices refute of where its men began, what became of them, and how many captures pawns made. It
-//! takes no memory.
+//! The ledger of a position: what flat prices, and prices near them, refute of where its men began, of what became of them, and of how many
+//! captures pawns made. It takes no memory.
 //!
 //! Articles are those of the FIDE Laws of Chess, in force from 1 January 2023.
 #![tactic(auto)]
 
 mod contradictions;
 mod counts;
+mod flat;
 mod laws;
+mod learning;
 mod ledgers;
+mod near;
 mod questions;
-mod refuting;
 
 pub use contradictions::is_contradictory;
 pub use counts::{Counts, Range};
