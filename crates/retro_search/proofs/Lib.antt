@@ -10,6 +10,7 @@ pub mod Bound
 pub mod Roots
 pub mod SketchLines
 pub mod TextSizes
+pub mod SharedLines
 pub mod Telling
 mod Examples
 pub use Rattle.sketch_findings.proofs.Contradicted

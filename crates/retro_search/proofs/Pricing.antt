@@ -1,5 +1,5 @@
 -- Queries that flat prices support, and lines on which none stands that they support.
-use Rattle.std.proofs.Common.{◌≡◌, Bool, true, false, List, [], ◌∷◌, ◌++◌, reverse, sym, ap, ◌∙◌, subst, arith}
+use Rattle.std.proofs.Common.{◌≡◌, List, [], ◌∷◌, ◌++◌, reverse, sym, ap, ◌∙◌, subst, arith}
 use Rattle.board_base.specs.declared.unmoves.Unmove.{Unmove}
 use Rattle.general_lemmas.proofs.Lasts.{pushed}
 use Rattle.query_base.specs.Asked.{Asked}

@@ -9,9 +9,9 @@ use Rattle.cert_text.proofs.Short.{item_short}
 use Rattle.sketch_text.specs.Heads.{are_files}
 use Rattle.sketch_text.specs.Marks.{is_some_figure}
 use Rattle.sketch_text.specs.Trees.{Line, of_marks, of_node}
-use Rattle.sketch_body.specs.Bodies.{AreTextsOf, Body, Item, SayEach, head_of, items_of, of_line, of_prices, units_of, units_of_line}
+use Rattle.sketch_body.specs.Bodies.{AreTextsOf, Body, Item, SayEach, items_of, of_line, of_prices, units_of, units_of_line}
 use Rattle.sketch_body.specs.Texts.{is_item}
-use Rattle.sketch_body.specs.Whole.{first_due, is_body, runs_out}
+use Rattle.sketch_body.specs.Whole.{is_body}
 use Rattle.sketch_body.proofs.Closing.{says_is}
 
 each_short : (P : ℕ) (texts : List (List ℕ)) (is : List Item) → P ≤ 64 → SayEach P texts is → length (concat (map ended texts)) ≤ 256 * length is

@@ -3,7 +3,7 @@ pub mod Ancestors
 pub mod Forests
 pub mod LineCounts
 pub mod Heights
-pub mod FirstKids
+pub mod Repriced
 pub mod Fitting
 pub mod Refuting
 pub mod EagerTrees

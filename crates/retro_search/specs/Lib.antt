@@ -20,6 +20,7 @@ pub mod Grown
 pub mod Searched
 pub mod Attempts
 pub mod Told
+pub mod SharedLines
 pub mod Good
 pub use Rattle.sketch_findings.specs.Proving
 pub use Rattle.sketch_findings.specs.Plain

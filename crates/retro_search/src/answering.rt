@@ -12,6 +12,7 @@ use crate::attempts::refute;
 use crate::limits::Limits;
 use crate::refutations::Refutation;
 use crate::runs::{Reasons, Run};
+use crate::shared_lines::with_lines_shared;
 use crate::unrefuted::{OpenLine, Unrefuted};
 use board_base::{Memory, MoveList, Unmove, UnmoveList};
 use cert_text::Cert;
@@ -109,6 +110,8 @@ pub(crate) fn answer(
     ensures reasons { run.new.reasons ≡ run.old.reasons }
 {
     are_known(query, claim);
-    let came = refute(alloc, &target(query, claim), limits, run);
-    told(alloc, query, claim, limits.nodes, came)
+    let asked = target(query, claim);
+    let came = refute(alloc, &asked, limits, run);
+    let shared = with_lines_shared(alloc, &asked, run.reasons, came);
+    told(alloc, query, claim, limits.nodes, shared)
 }

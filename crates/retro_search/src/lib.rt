@@ -16,6 +16,7 @@ mod refutations;
 mod runs;
 mod searchers;
 mod searching;
+mod shared_lines;
 mod shutting;
 mod solving;
 mod unrefuted;

@@ -110,9 +110,9 @@ impl Searcher {
     /// - `Refuted` comes wherever rule lines refute the query at some depth up to that of the limits at a cost of at most their nodes, by
     ///   all reasons also where flat prices support it, and often elsewhere. A tree of the height that it gives proves the query, and no
     ///   game of any length reaches it.
-    /// - `Open` comes only where rule lines don't refute the query at the depth. By rule lines alone it comes wherever they don't, unless
+    /// - `Open` comes only if rule lines don't refute the query at the depth. By rule lines alone it comes wherever they don't, unless
     ///   `Spent` comes.
-    /// - `Spent` comes only where the whole search of the query to the depth is larger than the nodes; and its cost is above them at each
+    /// - `Spent` comes only if the whole search of the query to the depth is larger than the nodes; and its cost is above them at each
     ///   depth up to that of the limits at which rule lines refute it.
     ///
     /// Want of memory is a free answer: `Memory` may take the place of each of these, and the next question may be asked all the same.
@@ -164,7 +164,7 @@ impl Searcher {
     /// captures. What earlier questions kept serves this one, and no clause depends on it. The query bars no move of its own.
     ///
     /// - `Proved` comes wherever rule lines refute the target at some depth up to that of the limits at a cost of at most their nodes, by
-    ///   all reasons also where flat prices support it, and often elsewhere; by rule lines alone, exactly where they refute it at the depth
+    ///   all reasons also where flat prices support it, and often elsewhere; by rule lines alone, if and only if they refute it at the depth
     ///   and `Spent` doesn't come. The certificate is of this claim and this query, proves it, goes back no further than the depth, and has
     ///   at most 500,000 nodes. It has a text where the claim has one, and no text of more than 64 MiB. No game of any length contradicts
     ///   the claim.
@@ -172,7 +172,7 @@ impl Searcher {
     ///   has as many unmoves as the depth, and doesn't end at the array. By all reasons and with at most 250,000 nodes, flat prices
     ///   support no query on it.
     /// - `Countered` comes with a game that contradicts the claim, and has no more moves than the depth.
-    /// - `Spent` comes only where the whole search of the target to the depth is larger than the nodes; and its cost is above them at each
+    /// - `Spent` comes only if the whole search of the target to the depth is larger than the nodes; and its cost is above them at each
     ///   depth up to that of the limits at which rule lines refute it. It says how many queries were visited, which are all that were
     ///   allowed.
     ///

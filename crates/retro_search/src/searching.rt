@@ -44,7 +44,7 @@ fn taken(alloc: Global, kept: &Kept) -> Result<Refutation, Unrefuted>
     }
 }
 
-/// Keeps the refutation, if it leans on no ancestor. False where memory is wanting.
+/// Keeps the refutation, if it leans on no ancestor. False if out of memory.
 fn keep_alone(alloc: Global, query: &Query, found: &Refutation, run: &mut Run) -> bool
     requires sound { IsSound run.old.memo }
     requires alone { found.now.lean ≡ 0 → StandsAlone (tree_of found.now.node) query.now found.now.height found.now.lines }

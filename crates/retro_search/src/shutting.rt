@@ -44,7 +44,7 @@ fn by_ancestor(steps: u8) -> Refutation
 }
 
 /// A tree of one node that refutes the query below these fewer than 256 ancestors, the parent last: a rule line that supports it, or a
-/// step back to an ancestor that covers it. None exactly where neither is there.
+/// step back to an ancestor that covers it. None if and only if neither is there.
 pub(crate) fn shut(query: &Query, ancestors: &[Query]) -> Option<Refutation>
     requires { length ancestors.now < 256 }
     ensures shut { MatchOption result (IsShut query.now (reverse ancestors.now) → ⊥) (λ found. IsRefutation found query.now 0 (reverse ancestors.now)) }

@@ -2,7 +2,7 @@ use Rattle.std.proofs.Common.{◌∙◌, ap, sym, arith}
 use Rattle.cert_text.specs.Seen.{tree_of}
 use Rattle.cert_text.specs.Tree.{Forest, with_last}
 use Rattle.cert_text.proofs.Forests.{kid_smaller}
-use Rattle.retro_search.proofs.Trees.FirstKids.{first_kids, first_kids-all, first_kids-more}
+use Rattle.price_sharing.proofs.FirstKids.{first_kids, first_kids-all, first_kids-more}
 use Rattle.retro_search.proofs.copying.+copying.Goals as goal
 
 pub copied_all-copied-requires : goal.copied_all-copied-requires

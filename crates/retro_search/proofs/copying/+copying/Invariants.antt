@@ -1,7 +1,7 @@
 use Rattle.std.proofs.Common.{◌≡◌}
 use Rattle.cert_text.specs.Sizes.{size, size_all}
 use Rattle.cert_text.specs.Seen.{tree_of}
-use Rattle.retro_search.proofs.Trees.FirstKids.{first_kids}
+use Rattle.price_sharing.proofs.FirstKids.{first_kids}
 use Rattle.retro_search.proofs.copying.+copying.Given as goal
 
 abbrev pub decreases-copied : goal.decreases-copied

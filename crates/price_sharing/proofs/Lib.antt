@@ -1,0 +1,3 @@
+pub mod FirstKids
+pub mod Children
+pub mod Repriced

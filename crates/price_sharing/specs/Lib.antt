@@ -1,0 +1,3 @@
+pub mod Repriced
+pub mod Proved
+pub mod Children
