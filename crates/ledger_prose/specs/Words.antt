@@ -218,13 +218,26 @@ way_words q single (line.Pawn s homes n exact) =
     names_words Slash Squares q (line.Pawn s homes n exact ∷ []) ++ cond (tells_way homes s) (slants_words (codes "x") homes s) (gone_words s single exact n)
 way_words q single _ = []
 
--- the same for several lines, if there are any
-abbrev pub ways_words : Asked → Bool → List Line → List ℕ
-ways_words q single ways = cond (length ways == 0) [] (codes ": " ++ parted (codes ", ") (map (way_words q single) ways))
+-- how many captures are spoken of before the ways: as many as the other side lacks men, or the least number
+abbrev pub number_told : Takings → ℕ
+number_told x = cond (nat_le x.lacking x.all.least) x.lacking x.all.least
+
+-- the pawns of these lines took fewer than so many
+abbrev pub are_fewer : ℕ → List Line → Bool
+are_fewer n [] = nat_lt 0 n
+are_fewer n (x ∷ xs) = are_fewer (n - taken_by x) xs
+
+-- what stands before the ways if they are fewer captures than were spoken of, or all of these
+abbrev pub ways_sign : Bool → List ℕ
+ways_sign fewer = cond fewer (codes ", among them ") (codes ": ")
+
+-- the ways of several lines behind such a sign, if there are any
+abbrev pub ways_words : Asked → Bool → Bool → List Line → List ℕ
+ways_words q single fewer ways = cond (length ways == 0) [] (ways_sign fewer ++ parted (codes ", ") (map (way_words q single) ways))
 
 -- what a line of captures says, with the lines of the side's pawns
 abbrev pub side_took : Colour → Asked → Takings → List Line → List ℕ
-side_took side q x ways = taken_words side (are_more x.all.least ways) x ++ ways_words q (x.lacking == 1) ways
+side_took side q x ways = taken_words side (are_more x.all.least ways) x ++ ways_words q (x.lacking == 1) (are_fewer (number_told x) ways) ways
 
 -- what a line of captures says, with the lines of the pawns who made them
 abbrev pub took_words : Asked → Line → List Line → List ℕ

@@ -3,7 +3,7 @@
 ghost use Rattle.std.specs.Prelude.{◌≡◌, ◌==◌, ◌++◌, [], IfOk, codes, cond, map};
 ghost use Rattle.ledger_lines.specs.Slants.{tells_way, way_words as slants_words};
 ghost use Rattle.proof_story.specs.Rendering.{parted};
-ghost use Rattle.ledger_prose.specs.Words.{all_words, are_more, both_words, few_words, gone_words, it_words, least_words, limit_words, number_taken, of_them, part_words, share_words, side_took, taken_by, taken_words, took_words, way_words, ways_words};
+ghost use Rattle.ledger_prose.specs.Words.{all_words, are_fewer, are_more, both_words, few_words, gone_words, it_words, least_words, limit_words, number_taken, number_told, of_them, part_words, share_words, side_took, taken_by, taken_words, took_words, way_words, ways_sign, ways_words};
 
 use crate::names::{Joint, Style, push_names};
 use crate::numbers::push_count;
@@ -240,19 +240,48 @@ fn push_list(
     Ok(())
 }
 
-/// The same behind a colon, if there are any.
+/// How many captures are spoken of before the ways.
+fn number_told(x: &Takings) -> u8
+    ensures { result ≡ number_told x.now }
+{
+    if x.lacking <= x.all.least {
+        x.lacking
+    } else {
+        x.all.least
+    }
+}
+
+/// Whether the pawns of these lines took fewer than so many.
+fn are_fewer(n: u8, ways: &[Line]) -> bool
+    ensures { result ≡ are_fewer n ways.now }
+{
+    match ways {
+        [] => n > 0,
+        [way, others @ ..] => are_fewer(n.saturating_sub(taken_by(way)), others),
+    }
+}
+
+/// What stands before the ways.
+fn ways_sign(fewer: bool) -> &'static [u8]
+    ensures { result.now ≡ ways_sign fewer }
+{
+    if fewer { b", among them " } else { b": " }
+}
+
+/// Adds the same behind what stands before them, if there are any.
 fn push_ways(
     query: &Query,
     single: bool,
+    fewer: bool,
     ways: &[Line],
     out: &mut Vec<u8>,
 ) -> Result<(), AllocError>
-    ensures { IfOk result (λ _. out.new.items ≡ out.old.items ++ ways_words query.now single ways.now) }
+    ensures { IfOk result (λ _. out.new.items ≡ out.old.items ++ ways_words query.now single fewer ways.now) }
 {
     if ways.len() == 0 {
         return Ok(());
     }
-    say(b": ", out)?;
+    say(ways_sign(fewer), out)?;
     push_list(query, single, ways, out)
 }
 
@@ -267,8 +296,9 @@ fn push_side_took(
     ensures { IfOk result (λ _. out.new.items ≡ out.old.items ++ side_took side query.now x.now ways.now) }
 {
     let more = are_more(x.all.least, ways);
+    let fewer = are_fewer(number_told(x), ways);
     push_taken(side, more, x, out)?;
-    push_ways(query, x.lacking == 1, ways, out)
+    push_ways(query, x.lacking == 1, fewer, ways, out)
 }
 
 /// Adds what a line of captures says, with the lines of the side's pawns.

@@ -8,11 +8,13 @@ mod laws;
 mod losses;
 mod men;
 mod names;
+mod news;
 mod numbers;
 mod parts;
 mod telling;
 
-pub use laws::{sentences_hold, sentences_rest_on_lines};
+pub use laws::{news_hold, sentences_hold, sentences_rest_on_lines};
 pub use names::{Joint, Style};
+pub use news::news_of_all;
 pub use parts::{Group, Part, Topic};
 pub use telling::tell_ledger_prose;

@@ -10,10 +10,10 @@ use std::alloc::{AllocError, Global};
 const DAWSON: &str = "1KRqb3/p2krpp1/3pp3/Pp6/BrPPP3/1p1P4/2p1P3/Q7 w - -";
 
 const DAWSON_TOLD: &str = "\
-White lacks a rook, the dark bishop, both knights and two pawns. Black's pawns took all six:
-    h7xg6xf5xe4xd3xc2. Black lacks the dark bishop and both knights. White's pawns took all three:
-    f2-e4 one. No capture is to spare. White's g-pawn was taken as a pawn. The bishop on a4 is not a
-    promoted pawn.
+White lacks a rook, the dark bishop, both knights and two pawns. Black's pawns took all six, among
+    them h7xg6xf5xe4xd3xc2. Black lacks the dark bishop and both knights. White's pawns took all
+    three, among them f2-e4 one. No capture is to spare. White's g-pawn was taken as a pawn. The
+    bishop on a4 is not a promoted pawn.
 ";
 
 /// Both castlings are held, so that nothing is said of the king's and the rooks' never having moved.

@@ -15,7 +15,7 @@ use Rattle.prose_words.specs.Words.{side_word, wing_word}
 use Rattle.proof_story.specs.Movers.{became}
 use Rattle.proof_story.specs.Rows.{rows_of}
 use Rattle.verdict_prose.specs.declared.verdicts.Verdict.{Verdict}
-use Rattle.verdict_prose.specs.declared.verdicts.Verdict.TheVariants.{Shown, Countered, Unsettled, NotBoth, UnsettledBoth, OtherShown, OtherCountered, OtherUnsettled, AtLeast}
+use Rattle.verdict_prose.specs.declared.verdicts.Verdict.TheVariants.{Shown, Countered, Unsettled, NotBoth, UnsettledBoth, OtherShown, OtherCountered, OtherUnsettled, GivenShown, PlainShown, PlainCountered, AtLeast}
 
 -- whence and where a move went; whether it captured isn't told
 unfoldable pub move_words : Move → List ℕ
@@ -122,6 +122,9 @@ words_of q (UnsettledBoth x y) = unsettled_both_words x y
 words_of q OtherShown = turned_words q (codes "no game leads here either")
 words_of q OtherCountered = turned_words q (codes "a game leads here: was the wrong side typed?")
 words_of q OtherUnsettled = turned_words q (codes "the position isn't known to be illegal: was the wrong side typed?")
+words_of q GivenShown = codes "No game leads to this position with what is given below it"
+words_of q PlainShown = codes "Without that no game leads here either"
+words_of q PlainCountered = codes "Without that a game leads here"
 words_of q (AtLeast n) = length_words n
 
 -- a question ends by itself

@@ -1,6 +1,7 @@
 -- When what a sentence says of a position is so.
 use Rattle.std.specs.Prelude.{ℕ, ◌≤◌, List, length, None}
 use Rattle.board_base.specs.Board.{opponent}
+use Rattle.board_base.specs.Rights.{no_rights}
 use Rattle.board_base.specs.declared.moves.Move.{Move}
 use Rattle.query_base.specs.Asked.{Asked}
 use Rattle.query_base.specs.Reach.{Contradicts, Holds, Reaches}
@@ -9,11 +10,15 @@ use Rattle.query_base.specs.declared.claims.Claim.TheVariants.{Illegal}
 use Rattle.line_claims.specs.Holding.{HoldsLine}
 use Rattle.line_claims.specs.declared.claims.LineClaim.TheVariants.{NotBoth as NeverBoth}
 use Rattle.verdict_prose.specs.declared.verdicts.Verdict.{Verdict}
-use Rattle.verdict_prose.specs.declared.verdicts.Verdict.TheVariants.{Shown, Countered, Unsettled, NotBoth, UnsettledBoth, OtherShown, OtherCountered, OtherUnsettled, AtLeast}
+use Rattle.verdict_prose.specs.declared.verdicts.Verdict.TheVariants.{Shown, Countered, Unsettled, NotBoth, UnsettledBoth, OtherShown, OtherCountered, OtherUnsettled, GivenShown, PlainShown, PlainCountered, AtLeast}
 
 -- the same board with the other side to move, without the double step that belongs to the side to move
 abbrev pub turned : Asked → Asked
 turned q = record q { turn = opponent q.turn; only = None; barred = None }
+
+-- the same position without what is demanded, at the same odds
+abbrev pub plain : Asked → Asked
+plain q = record q { held = no_rights; only = None; barred = None; clock = None }
 
 -- some game contradicts the claim
 abbrev pub IsCountered : Claim → Asked → Type 0
@@ -30,4 +35,7 @@ IsSo q (UnsettledBoth x y) = Unit {0}
 IsSo q OtherShown = Holds Illegal (turned q)
 IsSo q OtherCountered = IsCountered Illegal (turned q)
 IsSo q OtherUnsettled = Unit {0}
+IsSo q GivenShown = Holds Illegal q
+IsSo q PlainShown = Holds Illegal (plain q)
+IsSo q PlainCountered = IsCountered Illegal (plain q)
 IsSo q (AtLeast n) = (g : List Move) → Reaches g q → n ≤ length g

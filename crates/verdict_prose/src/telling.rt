@@ -41,6 +41,12 @@ fn push_words(query: &Query, verdict: &Verdict, out: &mut Vec<u8>) -> Result<(),
             b"the position isn't known to be illegal: was the wrong side typed?",
             out,
         ),
+        Verdict::GivenShown => say(
+            b"No game leads to this position with what is given below it",
+            out,
+        ),
+        Verdict::PlainShown => say(b"Without that no game leads here either", out),
+        Verdict::PlainCountered => say(b"Without that a game leads here", out),
         Verdict::AtLeast(n) => push_length(*n, out),
     }
 }

@@ -20,6 +20,12 @@ pub enum Verdict {
     OtherCountered,
     /// Neither is known.
     OtherUnsettled,
+    /// No game leads to the position, of which something is demanded that is given below the diagram.
+    GivenShown,
+    /// Nor does one lead to it without what is demanded.
+    PlainShown,
+    /// A game leads to it without what is demanded.
+    PlainCountered,
     /// Each game has so many half-moves at least.
     AtLeast(u16),
 }

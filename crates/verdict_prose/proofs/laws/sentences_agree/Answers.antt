@@ -5,6 +5,9 @@ use Rattle.verdict_prose.proofs.laws.sentences_agree.Goals as goal
 pub returns-clause-shown : goal.returns-clause-shown
 returns-clause-shown c = λ q claim shown against. shown against.0 against.1
 
+pub returns-clause-plain : goal.returns-clause-plain
+returns-clause-plain c = λ q shown against. shown against.0 against.1
+
 pub returns-clause-one_of : goal.returns-clause-one_of
 returns-clause-one_of c = λ q left u was end. subst (Contains left) end.2 (was.among end.0 u.mv end.1)
 
