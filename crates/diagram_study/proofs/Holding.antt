@@ -8,7 +8,8 @@ use Rattle.general_lemmas.proofs.Splits.{up_to}
 use Rattle.board_base.specs.declared.castles.Castle.{Castle}
 use Rattle.query_base.specs.Asked.{Asked}
 use Rattle.ledger_told.specs.Line.{Line}
-use Rattle.diagram_study.specs.Held.{AddsHeld, AreHeldFound, IsHeldFound, one_castling, unsettled_castling}
+use Rattle.diagram_study.specs.Held.{AreHeldFound, IsHeldFound, one_castling, unsettled_castling}
+use Rattle.diagram_study.specs.HeldSteps.{AddsHeld}
 use Rattle.diagram_study.specs.declared.held.HeldFound.{HeldFound}
 use Rattle.diagram_study.specs.declared.rights.RightFound.{RightFound}
 

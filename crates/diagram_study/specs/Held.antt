@@ -1,5 +1,5 @@
 -- What the ledger says besides if a right to castle is held.
-use Rattle.std.specs.Prelude.{◌≡◌, Bool, true, false, cond, List, [], ◌∷◌, ◌++◌, map, Option, Some, None}
+use Rattle.std.specs.Prelude.{◌≡◌, Bool, true, false, cond, List, [], ◌∷◌, map, Option, Some, None}
 use Rattle.std.specs.List.{All, flat_map}
 use Rattle.board_base.specs.declared.castles.Castle.{Castle}
 use Rattle.query_base.specs.Asked.{Asked}
@@ -43,8 +43,3 @@ pub record IsHeldFound (q : Asked) (known : List Line) (h : HeldFound) : Type 0 
 pub record AreHeldFound (q : Asked) (known : List Line) (rights : List RightFound) (held : List HeldFound) : Type 0 where
   pub castlings : map (λ h. h.castle) held ≡ flat_map (λ f. one_castling (unsettled_castling f)) rights
   pub each : All (IsHeldFound q known) held
-
--- what was found of this castling was added, if there is one
-abbrev pub AddsHeld : Asked → List Line → Option Castle → List HeldFound → List HeldFound → Type 0
-AddsHeld q known None old new = new ≡ old
-AddsHeld q known (Some x) old new = (h : HeldFound) × (h.castle ≡ x) × IsHeldFound q known h × (new ≡ old ++ h ∷ [])

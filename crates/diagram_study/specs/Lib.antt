@@ -16,3 +16,4 @@ pub use Rattle.claim_findings.specs.Ends
 pub use Rattle.claim_findings.specs.Findings as ClaimFindings
 pub use Rattle.claim_findings.specs.Proving
 pub use Rattle.claim_findings.specs.declared.findings.Finding
+pub mod HeldSteps

@@ -1,5 +1,6 @@
 ghost use Rattle.std.specs.Prelude.{◌≡◌, ◌++◌, IfOk, OnOk, Some};
-ghost use Rattle.diagram_study.specs.Held.{AddsHeld, AreHeldFound, castling_of, is_open, unsettled_castling};
+ghost use Rattle.diagram_study.specs.Held.{AreHeldFound, castling_of, is_open, unsettled_castling};
+ghost use Rattle.diagram_study.specs.HeldSteps.{AddsHeld};
 ghost use Rattle.diagram_study.specs.Texts.{held_text, if_line, if_lines};
 
 use crate::rights::RightFound;

@@ -12,7 +12,7 @@ use board_base::{Move, is_move};
 use claim_findings::{Finding, Outcome, Subject};
 use query_base::is_array;
 
-/// The greatest height of the trees that refute what is before these unmoves, but those of the move, if one is given. None where the
+/// The greatest height of the trees that refute what is before these unmoves, but those of the move, if one is given. None if the
 /// search didn't refute one of them.
 fn greatest_height(looked: &[Looked], but: &Option<Move>) -> Option<u8>
     ensures heights { IfSome result (λ height. AreHeights but.now looked.now height) }

@@ -23,4 +23,4 @@ pub use held::{HeldFound, is_open};
 pub use pairs::{PairFound, with_both};
 pub use retractions::MoveFound;
 pub use rights::RightFound;
-pub use studies::study;
+pub use studies::{makes_demands, study, without_demands};

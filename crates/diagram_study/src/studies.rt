@@ -74,7 +74,7 @@ fn tell_position(
 }
 
 /// The query demands a right, a last move or a clock.
-fn makes_demands(query: &Query) -> bool
+pub fn makes_demands(query: &Query) -> bool
     ensures { result ≡ makes_demands query.now }
 {
     let held = query.held;
@@ -87,7 +87,7 @@ fn makes_demands(query: &Query) -> bool
 }
 
 /// The query without its demands, at the same odds.
-fn without_demands(query: &Query) -> Query
+pub fn without_demands(query: &Query) -> Query
     ensures { result ≡ without_demands query.now }
 {
     Query {

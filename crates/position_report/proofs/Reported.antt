@@ -1,13 +1,15 @@
 -- What a report says, part by part.
-use Rattle.std.proofs.Common.{◌≡◌, ℕ, List, [], ◌∷◌, ◌++◌, sym, ap, ◌∙◌, append-nil}
+use Rattle.std.proofs.Common.{◌≡◌, ℕ, List, [], ◌∷◌, ◌++◌, map, ap}
+use Rattle.std.specs.Prelude.{Option}
 use Rattle.std.specs.List.{All}
-use Rattle.std.proofs.lemmas.List.Elements.{All-cons, All-nil, All-weaker}
+use Rattle.std.proofs.lemmas.List.Elements.{All-weaker}
 use Rattle.board_base.specs.declared.moves.Move.{Move}
 use Rattle.query_base.specs.Asked.{Asked}
 use Rattle.query_base.specs.Reach.{Holds, Reaches}
 use Rattle.query_base.specs.declared.claims.Claim.TheVariants.{Illegal}
 use Rattle.ledger_lines.specs.declared.lines.Line.{Line}
 use Rattle.ledger_told.specs.Told.{IsLineTrue, TellsLines}
+use Rattle.ledger_prose.specs.News.{news_of}
 use Rattle.ledger_prose.specs.Saying.{SentenceSays}
 use Rattle.ledger_prose.specs.Sentences.{sentences_of}
 use Rattle.ledger_prose.specs.Words.{prose_text}
@@ -17,39 +19,29 @@ use Rattle.diagram_study.specs.Findings.{AreFindings, IsFoundOf, other_side}
 use Rattle.diagram_study.specs.declared.findings.Findings.{Findings}
 use Rattle.diagram_study.specs.declared.findings.Found.{Found}
 use Rattle.proof_prose.specs.Heads.{drawn_text}
-use Rattle.verdict_prose.specs.Sentences.{verdict_text}
-use Rattle.verdict_prose.specs.Verdicts.{IsSo}
-use Rattle.verdict_prose.specs.declared.verdicts.Verdict.{Verdict}
-use Rattle.verdict_prose.specs.declared.verdicts.Verdict.TheVariants.{Shown as IsShown}
 use Rattle.ledger_told.specs.Held.{with_held}
 use Rattle.diagram_study.specs.Held.{IsHeldFound}
 use Rattle.diagram_study.specs.declared.held.HeldFound.{HeldFound}
-use Rattle.position_report.specs.Held.{IsIfSo, held_prose}
+use Rattle.position_report.specs.Held.{IsIfSo, held_prose, if_lines}
 use Rattle.position_report.specs.LastMoves.{TellsLast}
 use Rattle.position_report.specs.Lengths.{TellsGame, length_text}
 use Rattle.position_report.specs.Open.{all_open}
 use Rattle.position_report.specs.Parts.{part_text, parts_text}
 use Rattle.position_report.specs.Proofs.{TellsProofs}
-use Rattle.position_report.specs.Reports.{IsReport, TellsFindings, TellsFound, TellsImpossible, verdicts_text}
-use Rattle.position_report.specs.Sayings.{other_of, shown_of}
+use Rattle.position_report.specs.Reports.{IsPlainFound, IsReport, TellsFindings, TellsFound, TellsImpossible, verdicts_text}
+use Rattle.position_report.specs.Sayings.{impossible_of, shown_of}
 use Rattle.position_report.specs.Shown.{illegal_shown, shown_claims}
 use Rattle.position_report.proofs.Joining.{from-text, six-parts, two-parts}
-use Rattle.position_report.proofs.Saying.{length-so, other-so, shown-so}
-
--- two verdicts, from the beginning
-pub two-verdicts : (q : Asked) (v w : Verdict) (o p r : List ℕ) → o ≡ [] → p ≡ o ++ verdict_text q v → r ≡ p ++ verdict_text q w → r ≡ verdicts_text q (v ∷ w ∷ [])
-unfolding verdicts_text
-two-verdicts q v w o p r none first last =
-    last
-    ∙ ap (λ (l : List ℕ). l ++ verdict_text q w) (first ∙ ap (λ (l : List ℕ). l ++ verdict_text q v) none)
-    ∙ ap (λ (l : List ℕ). verdict_text q v ++ l) (sym (append-nil (verdict_text q w)))
+use Rattle.position_report.proofs.Saying.{impossible-so, length-so, shown-so}
 
 -- the parts of a position that is illegal
-pub impossible-told : (q : Asked) (depth nodes : ℕ) (against : Finding) (o p r said proofs : List ℕ) → Holds Illegal q → IsFound (other_side q) Illegal depth nodes against → said ≡ verdicts_text q (IsShown Illegal ∷ other_of against ∷ []) → TellsProofs depth nodes 1 (illegal_shown q ∷ []) proofs → p ≡ o ++ part_text said → r ≡ p ++ part_text proofs → (own : List ℕ) × TellsImpossible q depth nodes against own × (r ≡ o ++ own)
-impossible-told q depth nodes against o p r said proofs holds found says told first last = (
+pub impossible-told : (q : Asked) (depth nodes : ℕ) (against : Finding) (plain : Option Finding) (o p r said proofs : List ℕ) → Holds Illegal q → IsFound (other_side q) Illegal depth nodes against → IsPlainFound q depth nodes plain → said ≡ verdicts_text q (impossible_of against plain) → TellsProofs depth nodes 1 (illegal_shown q ∷ []) proofs → p ≡ o ++ part_text said → r ≡ p ++ part_text proofs → (own : List ℕ) × TellsImpossible q depth nodes against own × (r ≡ o ++ own)
+impossible-told q depth nodes against plain o p r said proofs holds found without says told first last = (
   parts_text (said ∷ proofs ∷ []),
   record {
-    so = All-cons (IsSo q) (IsShown Illegal) (other_of against ∷ []) holds (All-cons (IsSo q) (other_of against) [] (other-so q depth nodes against found) (All-nil (IsSo q)));
+    plain = plain;
+    plain_found = without;
+    so = impossible-so q depth nodes against plain holds found without;
     proofs = proofs;
     proofs_told = told;
     text_is = ap (λ (l : List ℕ). parts_text (l ∷ proofs ∷ [])) says;
@@ -65,11 +57,15 @@ abbrev pub SentencesHold : Type 0
 SentencesHold =
     (q : Asked) (lines : List Line) → All (IsLineTrue q) lines → (g : List Move) → Reaches g q → All (SentenceSays q g) (sentences_of q lines)
 
+abbrev pub NewsHold : Type 0
+NewsHold =
+    (q : Asked) (known lines : List Line) → All (IsLineTrue q) lines → All (IsLineTrue q) (map (news_of known) lines)
+
 -- the parts of a position that isn't proved to be illegal, each as it is told
 pub record AreParts (q : Asked) (depth nodes : ℕ) (by : List (List Move)) (f : Found) (said ledger held proofs unsettled ends : List ℕ) : Type 0 where
   pub said_told : (last : List ℕ) × TellsLast q f last × (said ≡ verdicts_text q (shown_of f) ++ last)
   pub ledger_told : ledger ≡ prose_text q (sentences_of q f.ledger.items)
-  pub held_told : held ≡ held_prose q f.held.items
+  pub held_told : held ≡ held_prose q f.ledger.items f.held.items
   pub proofs_told : TellsProofs depth nodes 1 (shown_claims q f) proofs
   pub unsettled_told : unsettled ≡ all_open q f
   pub ends_told : (game : List ℕ) × TellsGame q by game × (ends ≡ length_text q f.length ++ game)
@@ -78,12 +74,14 @@ same-parts : (a b c d e f x y z w v : List ℕ) → a ≡ x → b ≡ y → c �
 same-parts a b c d e f x y z w v ax by cv ez fw = cc
 
 -- what is said if a castling is held is so
-if-so : SentencesHold → (q : Asked) (known : List Line) (held : List HeldFound) → All (IsHeldFound q known) held → All (IsIfSo q) held
-if-so sentences q known held found =
-    All-weaker (IsHeldFound q known) (IsIfSo q) (λ h is. record { true_ = is.true_; says = sentences (with_held q h.castle) h.lines.items is.true_ }) held found
+if-so : SentencesHold → NewsHold → (q : Asked) (known : List Line) (held : List HeldFound) → All (IsHeldFound q known) held → All (IsIfSo q known) held
+if-so sentences news q known held found =
+    All-weaker (IsHeldFound q known) (IsIfSo q known) (λ h is.
+    let so : All (IsLineTrue (with_held q h.castle)) (if_lines known h) = news (with_held q h.castle) known h.lines.items is.true_ in
+    record { true_ = so; says = sentences (with_held q h.castle) (if_lines known h) so }) held found
 
-pub parts-told : (q : Asked) (depth nodes : ℕ) (by : List (List Move)) (f : Found) (said ledger held proofs unsettled ends : List ℕ) → LinesHold → SentencesHold → AreFindings q depth nodes by f → AreParts q depth nodes by f said ledger held proofs unsettled ends → TellsFound q depth nodes by f (parts_text (said ∷ ledger ∷ held ∷ proofs ∷ unsettled ∷ ends ∷ []))
-parts-told q depth nodes by f said ledger held proofs unsettled ends lines sentences found are =
+pub parts-told : (q : Asked) (depth nodes : ℕ) (by : List (List Move)) (f : Found) (said ledger held proofs unsettled ends : List ℕ) → LinesHold → SentencesHold → NewsHold → AreFindings q depth nodes by f → AreParts q depth nodes by f said ledger held proofs unsettled ends → TellsFound q depth nodes by f (parts_text (said ∷ ledger ∷ held ∷ proofs ∷ unsettled ∷ ends ∷ []))
+parts-told q depth nodes by f said ledger held proofs unsettled ends lines sentences news found are =
     let true_lines : All (IsLineTrue q) f.ledger.items = lines q f.ledger.items found.ledger in
     record {
       so = shown-so q depth nodes by f found;
@@ -91,7 +89,7 @@ parts-told q depth nodes by f said ledger held proofs unsettled ends lines sente
       last_told = are.said_told.1;
       true_ = true_lines;
       says = sentences q f.ledger.items true_lines;
-      if_so = if-so sentences q f.ledger.items f.held.items found.held.each;
+      if_so = if-so sentences news q f.ledger.items f.held.items found.held.each;
       proofs = proofs;
       proofs_told = are.proofs_told;
       long = length-so q f.length found.games;
@@ -100,10 +98,10 @@ parts-told q depth nodes by f said ledger held proofs unsettled ends lines sente
       text_is = same-parts said ledger held proofs unsettled ends _ _ _ _ _ are.said_told.2 are.ledger_told are.held_told are.unsettled_told are.ends_told.2;
     }
 
-pub found-told : (q : Asked) (depth nodes : ℕ) (by : List (List Move)) (f : Found) (said ledger held proofs unsettled ends o p1 p2 p3 p4 p5 p6 : List ℕ) → LinesHold → SentencesHold → AreFindings q depth nodes by f → AreParts q depth nodes by f said ledger held proofs unsettled ends → p1 ≡ o ++ part_text said → p2 ≡ p1 ++ part_text ledger → p3 ≡ p2 ++ part_text held → p4 ≡ p3 ++ part_text proofs → p5 ≡ p4 ++ part_text unsettled → p6 ≡ p5 ++ part_text ends → (own : List ℕ) × TellsFound q depth nodes by f own × (p6 ≡ o ++ own)
-found-told q depth nodes by f said ledger held proofs unsettled ends o p1 p2 p3 p4 p5 p6 lines sentences found are e1 e2 e3 e4 e5 e6 = (
+pub found-told : (q : Asked) (depth nodes : ℕ) (by : List (List Move)) (f : Found) (said ledger held proofs unsettled ends o p1 p2 p3 p4 p5 p6 : List ℕ) → LinesHold → SentencesHold → NewsHold → AreFindings q depth nodes by f → AreParts q depth nodes by f said ledger held proofs unsettled ends → p1 ≡ o ++ part_text said → p2 ≡ p1 ++ part_text ledger → p3 ≡ p2 ++ part_text held → p4 ≡ p3 ++ part_text proofs → p5 ≡ p4 ++ part_text unsettled → p6 ≡ p5 ++ part_text ends → (own : List ℕ) × TellsFound q depth nodes by f own × (p6 ≡ o ++ own)
+found-told q depth nodes by f said ledger held proofs unsettled ends o p1 p2 p3 p4 p5 p6 lines sentences news found are e1 e2 e3 e4 e5 e6 = (
   parts_text (said ∷ ledger ∷ held ∷ proofs ∷ unsettled ∷ ends ∷ []),
-  parts-told q depth nodes by f said ledger held proofs unsettled ends lines sentences found are,
+  parts-told q depth nodes by f said ledger held proofs unsettled ends lines sentences news found are,
   six-parts o p1 p2 p3 p4 p5 p6 said ledger held proofs unsettled ends e1 e2 e3 e4 e5 e6,
 )
 

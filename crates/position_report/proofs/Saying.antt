@@ -18,7 +18,10 @@ use Rattle.codex_verdict.specs.Rights.{claim_of}
 use Rattle.diagram_study.specs.ClaimFindings.{IsFound, is_proved}
 use Rattle.diagram_study.specs.Finding.{Finding}
 use Rattle.diagram_study.specs.Finding.TheVariants as finding
-use Rattle.diagram_study.specs.Findings.{AreFindings, HasLength, IsLength, other_side}
+use Rattle.diagram_study.specs.Findings.{AreFindings, HasLength, IsFoundOf, IsLength, finding_of, other_side}
+use Rattle.diagram_study.specs.Studies.{without_demands}
+use Rattle.diagram_study.specs.declared.findings.Findings.{Findings}
+use Rattle.diagram_study.specs.declared.findings.Findings.TheVariants.{Impossible, Unproved}
 use Rattle.diagram_study.specs.Forced.{AreStepsFound, IsStepsFound}
 use Rattle.diagram_study.specs.Pairs.{IsPairFound}
 use Rattle.diagram_study.specs.Possible.{AreEnds, HasEnds, HasFewLeft}
@@ -30,9 +33,10 @@ use Rattle.diagram_study.specs.declared.rights.RightFound.{RightFound}
 use Rattle.verdict_prose.specs.LastMoves.{IsEnd, WereLast}
 use Rattle.verdict_prose.specs.Verdicts.{IsSo}
 use Rattle.verdict_prose.specs.declared.verdicts.Verdict.{Verdict}
-use Rattle.verdict_prose.specs.declared.verdicts.Verdict.TheVariants.{AtLeast, Countered, NotBoth, Shown}
+use Rattle.verdict_prose.specs.declared.verdicts.Verdict.TheVariants.{AtLeast, Countered, GivenShown, NotBoth, PlainCountered, PlainShown, Shown}
 use Rattle.position_report.specs.LastMoves.{proved_steps, steps_in}
-use Rattle.position_report.specs.Sayings.{is_asked, other_of, pair_verdicts, right_verdicts, settled_of, shown_of}
+use Rattle.position_report.specs.Reports.{IsPlainFound}
+use Rattle.position_report.specs.Sayings.{impossible_of, is_asked, other_of, pair_verdicts, plain_of, right_verdicts, settled_of, shown_of}
 
 -- a claim that is found proved holds
 pub proved-holds : (q : Asked) (claim : Claim) (most nodes : ℕ) (f : Finding) → IsFound q claim most nodes f → IsTrue (is_proved f) → Holds claim q
@@ -54,6 +58,25 @@ other-so q most nodes (finding.Proved depth) found = found.proved.holds
 other-so q most nodes finding.Countered found = found
 other-so q most nodes finding.Open found = tt
 other-so q most nodes finding.Spent found = tt
+
+-- what is said of it without its demands
+plain-so : (q : Asked) (most nodes : ℕ) (f : Finding) → IsFound (without_demands q) Illegal most nodes f → All (IsSo q) (plain_of f)
+plain-so q most nodes (finding.Proved depth) found = All-cons (IsSo q) PlainShown [] found.proved.holds (All-nil (IsSo q))
+plain-so q most nodes finding.Countered found = All-cons (IsSo q) PlainCountered [] found (All-nil (IsSo q))
+plain-so q most nodes finding.Open found = All-nil (IsSo q)
+plain-so q most nodes finding.Spent found = All-nil (IsSo q)
+
+-- all that is said of a position that is illegal
+pub impossible-so : (q : Asked) (most nodes : ℕ) (against : Finding) (plain : Option Finding) → Holds Illegal q → IsFound (other_side q) Illegal most nodes against → IsPlainFound q most nodes plain → All (IsSo q) (impossible_of against plain)
+impossible-so q most nodes against None holds found none =
+    All-cons (IsSo q) (Shown Illegal) (other_of against ∷ []) holds (All-cons (IsSo q) (other_of against) [] (other-so q most nodes against found) (All-nil (IsSo q)))
+impossible-so q most nodes against (Some plain) holds found (demands, here) =
+    All-cons (IsSo q) GivenShown (plain_of plain) holds (plain-so q most nodes plain here)
+
+-- what was found of the claim that a position is illegal
+pub found-illegal : (q : Asked) (most nodes : ℕ) (by : List (List Move)) (f : Findings) → IsFoundOf q most nodes by f → IsFound q Illegal most nodes (finding_of f)
+found-illegal q most nodes by (Impossible f against) found = found.0
+found-illegal q most nodes by (Unproved f) found = found.illegal.decided.found
 
 asked-so : (q : Asked) (b : Bool) (xs : List Verdict) → All (IsSo q) xs → All (IsSo q) (cond b xs [])
 asked-so q true xs so = so

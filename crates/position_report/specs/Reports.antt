@@ -1,5 +1,5 @@
 -- What a report says of a position, and that it is so.
-use Rattle.std.specs.Prelude.{ℕ, ◌≡◌, IfSome, List, ◌++◌, ◌∷◌, []}
+use Rattle.std.specs.Prelude.{ℕ, ◌≡◌, false, IfSome, IsTrue, List, ◌++◌, ◌∷◌, [], Option, Some, None}
 use Rattle.std.specs.List.{All, flat_map}
 use Rattle.board_base.specs.declared.moves.Move.{Move}
 use Rattle.query_base.specs.Asked.{Asked}
@@ -9,8 +9,10 @@ use Rattle.ledger_prose.specs.Saying.{SentenceSays}
 use Rattle.ledger_prose.specs.Sentences.{sentences_of}
 use Rattle.ledger_prose.specs.Words.{prose_text}
 use Rattle.ledger_told.specs.Told.{IsLineTrue}
+use Rattle.diagram_study.specs.ClaimFindings.{IsFound}
 use Rattle.diagram_study.specs.Finding.{Finding}
 use Rattle.diagram_study.specs.Findings.{IsFoundOf}
+use Rattle.diagram_study.specs.Studies.{makes_demands, without_demands}
 use Rattle.diagram_study.specs.declared.findings.Findings.{Findings}
 use Rattle.diagram_study.specs.declared.findings.Findings.TheVariants.{Impossible, Unproved}
 use Rattle.diagram_study.specs.declared.findings.Found.{Found}
@@ -18,14 +20,14 @@ use Rattle.proof_prose.specs.Heads.{drawn_text}
 use Rattle.verdict_prose.specs.Verdicts.{IsSo}
 use Rattle.verdict_prose.specs.Sentences.{verdict_text}
 use Rattle.verdict_prose.specs.declared.verdicts.Verdict.{Verdict}
-use Rattle.verdict_prose.specs.declared.verdicts.Verdict.TheVariants.{AtLeast, Shown as IsShown}
+use Rattle.verdict_prose.specs.declared.verdicts.Verdict.TheVariants.{AtLeast}
 use Rattle.position_report.specs.Held.{IsIfSo, held_prose}
 use Rattle.position_report.specs.LastMoves.{TellsLast}
 use Rattle.position_report.specs.Lengths.{TellsGame, length_text}
 use Rattle.position_report.specs.Open.{all_open}
 use Rattle.position_report.specs.Parts.{parts_text}
 use Rattle.position_report.specs.Proofs.{TellsProofs}
-use Rattle.position_report.specs.Sayings.{other_of, shown_of}
+use Rattle.position_report.specs.Sayings.{impossible_of, shown_of}
 use Rattle.position_report.specs.Shown.{illegal_shown, shown_claims}
 
 -- the sentences of these verdicts
@@ -41,20 +43,28 @@ pub record TellsFound (q : Asked) (depth nodes : ℕ) (by : List (List Move)) (f
   pub last_told : TellsLast q f last
   pub true_ : All (IsLineTrue q) f.ledger.items
   pub says : (g : List Move) → Reaches g q → All (SentenceSays q g) (sentences_of q f.ledger.items)
-  pub if_so : All (IsIfSo q) f.held.items
+  pub if_so : All (IsIfSo q f.ledger.items) f.held.items
   pub proofs : List ℕ
   pub proofs_told : TellsProofs depth nodes 1 (shown_claims q f) proofs
   pub long : IfSome f.length (λ n. IsSo q (AtLeast n))
   pub game : List ℕ
   pub game_told : TellsGame q by game
-  pub text_is : text ≡ parts_text ((verdicts_text q (shown_of f) ++ last) ∷ prose_text q (sentences_of q f.ledger.items) ∷ held_prose q f.held.items ∷ proofs ∷ all_open q f ∷ (length_text q f.length ++ game) ∷ [])
+  pub text_is : text ≡ parts_text ((verdicts_text q (shown_of f) ++ last) ∷ prose_text q (sentences_of q f.ledger.items) ∷ held_prose q f.ledger.items f.held.items ∷ proofs ∷ all_open q f ∷ (length_text q f.length ++ game) ∷ [])
 
--- What is told of a position that is illegal: that it is, what was found with the other side to move, and the proof.
+-- what was found of the claim that the position is illegal without its demands, if it makes any
+abbrev pub IsPlainFound : Asked → ℕ → ℕ → Option Finding → Type 0
+IsPlainFound q depth nodes None = makes_demands q ≡ false
+IsPlainFound q depth nodes (Some plain) = IsTrue (makes_demands q) × IsFound (without_demands q) Illegal depth nodes plain
+
+-- What is told of a position that is illegal: that it is, what was found with the other side to move, or without its demands if it makes any,
+-- and the proof.
 pub record TellsImpossible (q : Asked) (depth nodes : ℕ) (against : Finding) (text : List ℕ) : Type 0 where
-  pub so : All (IsSo q) (IsShown Illegal ∷ other_of against ∷ [])
+  pub plain : Option Finding
+  pub plain_found : IsPlainFound q depth nodes plain
+  pub so : All (IsSo q) (impossible_of against plain)
   pub proofs : List ℕ
   pub proofs_told : TellsProofs depth nodes 1 (illegal_shown q ∷ []) proofs
-  pub text_is : text ≡ parts_text (verdicts_text q (IsShown Illegal ∷ other_of against ∷ []) ∷ proofs ∷ [])
+  pub text_is : text ≡ parts_text (verdicts_text q (impossible_of against plain) ∷ proofs ∷ [])
 
 -- what is told of what was found
 abbrev pub TellsFindings : Asked → ℕ → ℕ → List (List Move) → Findings → List ℕ → Type 0

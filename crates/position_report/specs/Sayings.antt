@@ -1,5 +1,5 @@
 -- Which verdicts a report tells.
-use Rattle.std.specs.Prelude.{Bool, true, false, not, cond, List, [], ◌∷◌, ◌++◌}
+use Rattle.std.specs.Prelude.{Bool, true, false, not, cond, List, [], ◌∷◌, ◌++◌, Option, Some, None}
 use Rattle.std.specs.List.{flat_map}
 use Rattle.query_base.specs.declared.claims.Claim.{Claim}
 use Rattle.query_base.specs.declared.claims.Claim.TheVariants.{Illegal}
@@ -13,7 +13,7 @@ use Rattle.diagram_study.specs.declared.findings.Found.{Found}
 use Rattle.diagram_study.specs.declared.pairs.PairFound.{PairFound}
 use Rattle.diagram_study.specs.declared.rights.RightFound.{RightFound}
 use Rattle.verdict_prose.specs.declared.verdicts.Verdict.{Verdict}
-use Rattle.verdict_prose.specs.declared.verdicts.Verdict.TheVariants.{Shown, Countered, NotBoth, OtherShown, OtherCountered, OtherUnsettled}
+use Rattle.verdict_prose.specs.declared.verdicts.Verdict.TheVariants.{Shown, Countered, NotBoth, OtherShown, OtherCountered, OtherUnsettled, GivenShown, PlainShown, PlainCountered}
 
 -- what was found of a claim, if it is settled
 abbrev pub settled_of : Finding → Claim → List Verdict
@@ -46,3 +46,16 @@ other_of (finding.Proved depth) = OtherShown
 other_of finding.Countered = OtherCountered
 other_of finding.Open = OtherUnsettled
 other_of finding.Spent = OtherUnsettled
+
+-- what is said of the position without its demands, if that is settled
+abbrev pub plain_of : Finding → List Verdict
+plain_of (finding.Proved depth) = PlainShown ∷ []
+plain_of finding.Countered = PlainCountered ∷ []
+plain_of finding.Open = []
+plain_of finding.Spent = []
+
+-- What is said of a position that is illegal: that it is, and what was found with the other side to move. If it makes demands, that it is with
+-- what is given, and what was found without them.
+abbrev pub impossible_of : Finding → Option Finding → List Verdict
+impossible_of against None = Shown Illegal ∷ other_of against ∷ []
+impossible_of against (Some plain) = GivenShown ∷ plain_of plain

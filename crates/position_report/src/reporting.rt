@@ -1,6 +1,6 @@
 //! A report.
 
-ghost use Rattle.std.specs.Prelude.{List, ℕ, ◌≡◌, ◌∷◌, ◌++◌, [], IfOk, None, Some, length};
+ghost use Rattle.std.specs.Prelude.{List, ℕ, ◌≡◌, ◌++◌, IfOk, None, Some, length};
 ghost use Rattle.std.specs.List.{All};
 ghost use Rattle.board_base.specs.declared.unmoves.Unmove.{Unmove as AnUnmove};
 ghost use Rattle.query_base.specs.Reach.{Holds};
@@ -9,15 +9,15 @@ ghost use Rattle.unmove_gen.specs.Listed.{unmoves};
 ghost use Rattle.ledger_prose.specs.Sentences.{sentences_of};
 ghost use Rattle.ledger_prose.specs.Words.{prose_text};
 ghost use Rattle.diagram_study.specs.ClaimFindings.{IsFound};
+ghost use Rattle.diagram_study.specs.Studies.{without_demands};
 ghost use Rattle.diagram_study.specs.Findings.{AreFindings, IsFoundOf, other_side};
 ghost use Rattle.verdict_prose.specs.LastMoves.{EndsWithOneOf, WereLast};
-ghost use Rattle.verdict_prose.specs.declared.verdicts.Verdict.TheVariants.{Shown as IsShown};
 ghost use Rattle.position_report.specs.Held.{held_prose};
 ghost use Rattle.position_report.specs.LastMoves.{TellsLast, proved_steps};
 ghost use Rattle.position_report.specs.Lengths.{TellsGame, length_text};
 ghost use Rattle.position_report.specs.Proofs.{TellsProofs};
-ghost use Rattle.position_report.specs.Reports.{IsReport, TellsFindings, TellsFound, TellsImpossible, verdicts_text};
-ghost use Rattle.position_report.specs.Sayings.{other_of, shown_of};
+ghost use Rattle.position_report.specs.Reports.{IsPlainFound, IsReport, TellsFindings, TellsFound, TellsImpossible, verdicts_text};
+ghost use Rattle.position_report.specs.Sayings.{impossible_of, shown_of};
 ghost use Rattle.position_report.specs.Told.{HaveEnds};
 
 use crate::games::{push_first, push_length};
@@ -25,16 +25,18 @@ use crate::held::push_each_held;
 use crate::last_moves::push_last;
 use crate::parts::push_part;
 use crate::proofs::push_proofs;
-use crate::sayings::{other_of, shown_of};
+use crate::sayings::{impossible_of, shown_of};
 use crate::shown::{Shown, illegal_shown, shown_claims};
 use crate::unsettled::open_part;
 use board_base::MoveList;
 use claim_search::Limits;
-use diagram_study::{Finding, Findings, Found, Games, Searchers, Subject, find};
-use ledger_prose::{sentences_hold, tell_ledger_prose};
+use diagram_study::{
+    Finding, Findings, Found, Games, Searchers, Subject, find, makes_demands, without_demands,
+};
+use ledger_prose::{news_hold, sentences_hold, tell_ledger_prose};
 use ledger_told::told_lines_hold;
 use proof_prose::draw;
-use query_base::{Claim, Query};
+use query_base::Query;
 use std::alloc::{AllocError, Global};
 use verdict_prose::{Verdict, tell_verdict};
 
@@ -79,10 +81,11 @@ fn ledger_part(alloc: Global, query: &Query, found: &Found) -> Result<Vec<u8>, A
 
 /// What the ledger says only if a castling is held that isn't settled.
 fn held_part(alloc: Global, query: &Query, found: &Found) -> Result<Vec<u8>, AllocError>
-    ensures { IfOk result (λ part. part.items ≡ held_prose query.now found.now.held.items) }
+    ensures { IfOk result (λ part. part.items ≡ held_prose query.now found.now.ledger.items found.now.held.items) }
 {
     let mut part = Vec::new(alloc);
-    push_each_held(alloc, query, found.held.as_slice(), &mut part)?;
+    let known = found.ledger.as_slice();
+    push_each_held(alloc, query, known, found.held.as_slice(), &mut part)?;
     Ok(part)
 }
 
@@ -111,13 +114,43 @@ fn games_part(
     Ok(part)
 }
 
-/// What is said of a position that is illegal.
-fn impossible_part(alloc: Global, query: &Query, against: Finding) -> Result<Vec<u8>, AllocError>
-    ensures { IfOk result (λ part. part.items ≡ verdicts_text query.now (IsShown Illegal ∷ other_of against ∷ [])) }
+/// What is found of the claim that the position is illegal without its demands.
+fn find_without(alloc: Global, query: &Query, limits: Limits) -> Result<Finding, AllocError>
+    ensures { IfOk result (IsFound (without_demands query.now) Illegal limits.depth limits.nodes) }
 {
+    let subject = &Subject {
+        query: without_demands(query),
+        limits,
+    };
+    let mut searchers = Searchers::new(alloc);
+    let mut games = Games::new(alloc);
+    let findings = find(&mut searchers, &mut games, subject)?;
+    Ok(findings.finding())
+}
+
+/// The same, if it makes any.
+fn find_plain(alloc: Global, query: &Query, limits: Limits) -> Result<Option<Finding>, AllocError>
+    ensures { IfOk result (IsPlainFound query.now limits.depth limits.nodes) }
+{
+    if !makes_demands(query) {
+        return Ok(None);
+    }
+    let finding = find_without(alloc, query, limits)?;
+    Ok(Some(finding))
+}
+
+/// What is said of a position that is illegal.
+fn impossible_part(
+    alloc: Global,
+    query: &Query,
+    against: Finding,
+    plain: Option<Finding>,
+) -> Result<Vec<u8>, AllocError>
+    ensures { IfOk result (λ part. part.items ≡ verdicts_text query.now (impossible_of against plain)) }
+{
+    let verdicts = impossible_of(alloc, against, plain)?;
     let mut part = Vec::new(alloc);
-    tell_verdict(alloc, query, &Verdict::Shown(Claim::Illegal), &mut part)?;
-    tell_verdict(alloc, query, &other_of(against), &mut part)?;
+    push_verdicts(alloc, query, verdicts.as_slice(), &mut part)?;
     Ok(part)
 }
 
@@ -134,7 +167,8 @@ fn push_impossible(
     requires against { IsFound (other_side query.now) Illegal limits.depth limits.nodes against }
     ensures { IfOk result (λ _. (own : List ℕ) × TellsImpossible query.now limits.depth limits.nodes against own × (out.new.items ≡ out.old.items ++ own)) }
 {
-    let said = impossible_part(alloc, query, against)?;
+    let plain = find_plain(alloc, query, limits)?;
+    let said = impossible_part(alloc, query, against, plain)?;
     let proofs = proofs_part(alloc, limits, &[illegal_shown(query)])?;
     push_part(said.as_slice(), out)?;
     push_part(proofs.as_slice(), out)
@@ -155,6 +189,7 @@ fn push_found(
 {
     told_lines_hold();
     sentences_hold();
+    news_hold();
     let said = said_part(alloc, query, found)?;
     let ledger = ledger_part(alloc, query, found)?;
     let held = held_part(alloc, query, found)?;

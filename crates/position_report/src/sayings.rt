@@ -1,8 +1,10 @@
 //! What is said of a position that isn't proved to be illegal.
 
-ghost use Rattle.std.specs.Prelude.{◌≡◌, ◌++◌, IfOk};
+ghost use Rattle.std.specs.Prelude.{◌≡◌, ◌∷◌, ◌++◌, [], IfOk};
 ghost use Rattle.std.specs.List.{flat_map};
-ghost use Rattle.position_report.specs.Sayings.{is_asked, other_of, pair_verdicts, right_verdicts, settled_of, shown_of};
+ghost use Rattle.query_base.specs.declared.claims.Claim.TheVariants.{Illegal};
+ghost use Rattle.verdict_prose.specs.declared.verdicts.Verdict.TheVariants.{GivenShown, Shown as IsShown};
+ghost use Rattle.position_report.specs.Sayings.{impossible_of, is_asked, other_of, pair_verdicts, plain_of, right_verdicts, settled_of, shown_of};
 
 use codex_verdict::{Right, claim_of};
 use diagram_study::{Finding, Found, PairFound, RightFound};
@@ -101,7 +103,7 @@ pub(crate) fn shown_of(alloc: Global, found: &Found) -> Result<Vec<Verdict>, All
 }
 
 /// What is said of the other side, of a position that is illegal.
-pub(crate) fn other_of(against: Finding) -> Verdict
+fn other_of(against: Finding) -> Verdict
     ensures { result ≡ other_of against }
 {
     match against {
@@ -110,4 +112,63 @@ pub(crate) fn other_of(against: Finding) -> Verdict
         Finding::Open => Verdict::OtherUnsettled,
         Finding::Spent => Verdict::OtherUnsettled,
     }
+}
+
+/// Adds that the position is illegal, and what is said of the other side.
+fn add_turned(against: Finding, verdicts: &mut Vec<Verdict>) -> Result<(), AllocError>
+    ensures { IfOk result (λ _. verdicts.new.items ≡ verdicts.old.items ++ (IsShown Illegal ∷ other_of against ∷ [])) }
+{
+    verdicts.push(Verdict::Shown(Claim::Illegal))?;
+    verdicts.push(other_of(against))?;
+    Ok(())
+}
+
+/// Adds what is said of the position without its demands, if that is settled.
+fn add_plain(plain: Finding, verdicts: &mut Vec<Verdict>) -> Result<(), AllocError>
+    ensures { IfOk result (λ _. verdicts.new.items ≡ verdicts.old.items ++ plain_of plain) }
+{
+    let _claim = Claim::Illegal;
+    match plain {
+        Finding::Proved(_) => verdicts.push(Verdict::PlainShown)?,
+        Finding::Countered => verdicts.push(Verdict::PlainCountered)?,
+        Finding::Open => return Ok(()),
+        Finding::Spent => return Ok(()),
+    }
+    Ok(())
+}
+
+/// Adds that the position is illegal with what is given, and the same.
+fn add_given(plain: Finding, verdicts: &mut Vec<Verdict>) -> Result<(), AllocError>
+    ensures { IfOk result (λ _. verdicts.new.items ≡ verdicts.old.items ++ (GivenShown ∷ plain_of plain)) }
+{
+    let _claim = Claim::Illegal;
+    verdicts.push(Verdict::GivenShown)?;
+    add_plain(plain, verdicts)
+}
+
+/// Adds what is said of a position that is illegal.
+fn add_impossible(
+    against: Finding,
+    plain: Option<Finding>,
+    verdicts: &mut Vec<Verdict>,
+) -> Result<(), AllocError>
+    ensures { IfOk result (λ _. verdicts.new.items ≡ verdicts.old.items ++ impossible_of against plain) }
+{
+    match plain {
+        None => add_turned(against, verdicts),
+        Some(plain) => add_given(plain, verdicts),
+    }
+}
+
+/// What is said of a position that is illegal.
+pub(crate) fn impossible_of(
+    alloc: Global,
+    against: Finding,
+    plain: Option<Finding>,
+) -> Result<Vec<Verdict>, AllocError>
+    ensures { IfOk result (λ verdicts. verdicts.items ≡ impossible_of against plain) }
+{
+    let mut verdicts = Vec::new(alloc);
+    add_impossible(against, plain, &mut verdicts)?;
+    Ok(verdicts)
 }

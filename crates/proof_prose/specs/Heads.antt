@@ -73,9 +73,9 @@ abbrev pub clock_given : Option ℕ → List ℕ
 clock_given None = []
 clock_given (Some n) = clock_words n
 
--- what the last move was
+-- that it is given what the last move was
 abbrev pub last_words : Move → List ℕ
-last_words m = codes "The last move was " ++ square_text m.from ++ codes "-" ++ square_text m.to ++ ended (codes ".")
+last_words m = codes "It is given that the last move was " ++ square_text m.from ++ codes "-" ++ square_text m.to ++ ended (codes ".")
 
 -- the double step that was the last move, if it is given
 abbrev pub only_given : Option Move → List ℕ

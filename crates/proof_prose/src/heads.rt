@@ -148,11 +148,11 @@ fn push_clock(clock: Option<u16>, out: &mut Vec<u8>) -> Result<(), AllocError>
     }
 }
 
-/// What the last move was.
+/// That it is given what the last move was.
 fn push_last_words(m: &Move, out: &mut Vec<u8>) -> Result<(), AllocError>
     ensures { IfOk result (λ _. out.new.items ≡ out.old.items ++ last_words m.now) }
 {
-    say(b"The last move was ", out)?;
+    say(b"It is given that the last move was ", out)?;
     push_square(m.from, out)?;
     say(b"-", out)?;
     push_square(m.to, out)?;

@@ -4,4 +4,4 @@ use Rattle.position_report.specs.Held.{if_prose}
 use Rattle.position_report.proofs.held.push_each_held.Given as goal
 
 abbrev pub invariant-loop-found : goal.invariant-loop-found
-invariant-loop-found l = l.out.items ≡ l.fn.out.items ++ flat_map (if_prose l.query) (take l.found-index l.held)
+invariant-loop-found l = l.out.items ≡ l.fn.out.items ++ flat_map (if_prose l.query l.known) (take l.found-index l.held)

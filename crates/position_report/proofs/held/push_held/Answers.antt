@@ -4,7 +4,7 @@ use Rattle.std.proofs.lemmas.Result.{IfOk-equal}
 use Rattle.ledger_lines.specs.declared.lines.Line.{Line}
 use Rattle.ledger_prose.specs.Sentences.{sentences_of}
 use Rattle.ledger_prose.specs.Words.{prose_text}
-use Rattle.position_report.specs.Held.{behind_if}
+use Rattle.position_report.specs.Held.{behind_if, if_lines}
 use Rattle.position_report.proofs.held.push_held.Goals as goal
 
 pub returns : goal.returns
@@ -14,6 +14,6 @@ returns c =
     let written =
     c.in_ok-tell_ledger_prose.ensures
     ∙ ap (λ (l : List ℕ). l ++ prose_text c.with_held-held.result (sentences_of c.with_held-held.result c.as_slice.result.now)) c.new-prose.ensures.items
-    ∙ ap (λ (l : List Line). prose_text c.with_held-held.result (sentences_of c.with_held-held.result l)) c.as_slice.ensures.value
-    ∙ ap (λ (q : Asked). prose_text q (sentences_of q c.args.found.now.lines.items)) c.with_held-held.ensures in
+    ∙ ap (λ (l : List Line). prose_text c.with_held-held.result (sentences_of c.with_held-held.result l)) (c.as_slice.ensures.value ∙ c.in_ok-lines.ensures)
+    ∙ ap (λ (q : Asked). prose_text q (sentences_of q (if_lines c.args.known.now c.args.found.now))) c.with_held-held.ensures in
     IfOk-equal c.push_behind.result _ _ _ c.push_behind.ensures (ap (λ (l : List ℕ). c.args.out.now.items ++ behind_if x l) (c.as_slice-2.ensures.value ∙ written))

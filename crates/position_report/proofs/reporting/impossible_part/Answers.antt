@@ -1,9 +1,12 @@
-use Rattle.query_base.specs.declared.claims.Claim.TheVariants.{Illegal}
-use Rattle.verdict_prose.specs.declared.verdicts.Verdict.TheVariants.{Shown as IsShown}
-use Rattle.position_report.specs.Sayings.{other_of}
-use Rattle.position_report.proofs.Reported.{two-verdicts}
+use Rattle.std.proofs.Common.{List, ℕ, ◌++◌, ap, ◌∙◌}
+use Rattle.verdict_prose.specs.declared.verdicts.Verdict.{Verdict}
+use Rattle.position_report.specs.Reports.{verdicts_text}
+use Rattle.position_report.specs.Sayings.{impossible_of}
 use Rattle.position_report.proofs.reporting.impossible_part.Goals as goal
 
 pub returns : goal.returns
 returns c =
-    two-verdicts c.args.query.now (IsShown Illegal) (other_of c.args.against) c.new-part.result.items _ _ c.new-part.ensures.items c.in_ok-tell_verdict.ensures (rw c.other_of.ensures at c.in_ok-tell_verdict-2.ensures)
+    let q = c.args.query.now in
+    c.in_ok-push_verdicts.ensures
+    ∙ ap (λ (l : List ℕ). l ++ verdicts_text q c.as_slice.result.now) c.new-part.ensures.items
+    ∙ ap (λ (l : List Verdict). verdicts_text q l) (c.as_slice.ensures.value ∙ c.in_ok-verdicts.ensures)

@@ -28,7 +28,7 @@ open_part-requires-clause-pairs c = pairs-listed c.args.query.now c.args.limits.
 pub returns : goal.returns
 returns c =
     on_ok_weaker c.push_part-6.result
-    (λ e. found-told c.args.query.now c.args.limits.depth c.args.limits.nodes c.args.games.now c.args.found.now _ _ _ _ _ _ c.args.out.now.items _ _ _ _ _ _ c.told_lines_hold.ensures c.sentences_hold.ensures.reached c.requires.found
+    (λ e. found-told c.args.query.now c.args.limits.depth c.args.limits.nodes c.args.games.now c.args.found.now _ _ _ _ _ _ c.args.out.now.items _ _ _ _ _ _ c.told_lines_hold.ensures c.sentences_hold.ensures.reached c.news_hold.ensures c.requires.found
     (record {
       said_told = c.in_ok-said.ensures;
       ledger_told = c.in_ok-ledger.ensures;

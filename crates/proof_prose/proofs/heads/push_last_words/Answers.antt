@@ -7,8 +7,8 @@ use Rattle.proof_prose.proofs.heads.push_last_words.Goals as goal
 pub returns : goal.returns
 returns c =
     let h0 = c.in_ok-say.ensures in
-    let h1 = thence c.args.out.now.items _ _ (codes "The last move was ") (square_text c.args.m.now.from) h0 c.in_ok-push_square.ensures in
-    let h2 = thence c.args.out.now.items _ _ ((codes "The last move was ") ++ (square_text c.args.m.now.from)) (codes "-") h1 c.in_ok-say-2.ensures in
-    let h3 = thence c.args.out.now.items _ _ (((codes "The last move was ") ++ (square_text c.args.m.now.from)) ++ (codes "-")) (square_text c.args.m.now.to) h2 c.in_ok-push_square-2.ensures in
-    let h4 = thence c.args.out.now.items _ _ ((((codes "The last move was ") ++ (square_text c.args.m.now.from)) ++ (codes "-")) ++ (square_text c.args.m.now.to)) (codes "." ++ 10 ∷ []) h3 c.in_ok-say-3.ensures in
+    let h1 = thence c.args.out.now.items _ _ (codes "It is given that the last move was ") (square_text c.args.m.now.from) h0 c.in_ok-push_square.ensures in
+    let h2 = thence c.args.out.now.items _ _ ((codes "It is given that the last move was ") ++ (square_text c.args.m.now.from)) (codes "-") h1 c.in_ok-say-2.ensures in
+    let h3 = thence c.args.out.now.items _ _ (((codes "It is given that the last move was ") ++ (square_text c.args.m.now.from)) ++ (codes "-")) (square_text c.args.m.now.to) h2 c.in_ok-push_square-2.ensures in
+    let h4 = thence c.args.out.now.items _ _ ((((codes "It is given that the last move was ") ++ (square_text c.args.m.now.from)) ++ (codes "-")) ++ (square_text c.args.m.now.to)) (codes "." ++ 10 ∷ []) h3 c.in_ok-say-3.ensures in
     h4
