@@ -80,7 +80,7 @@ impl LineAdvice {
                 "`claim illegal`, `claim last`, `claim lost` and `claim ep` belong to `settle` and `solve DEPTH NODES`"
             }
             LineAdvice::MoveOfClaim => {
-                "a claim's move is its origin and its target, and n, b, r or q where a pawn promotes: `claim last f3g3`, `claim last b7b8q`, `claim ep e5d6`"
+                "a claim's move is its origin and its target, and n, b, r or q if a pawn promotes: `claim last f3g3`, `claim last b7b8q`, `claim ep e5d6`"
             }
             LineAdvice::RightOfClaim => {
                 "`claim lost` names one right: K or Q of White's, k or q of Black's"
@@ -101,7 +101,7 @@ impl LineAdvice {
                 "nothing may follow the FEN line, and no empty line; only `play` and `san` read moves behind it"
             }
             LineAdvice::Lines => {
-                "the lines are, in this order: the claim where one is asked for, `odds ..` and `clock ..` where they are wanted, and the FEN"
+                "the lines are, in this order: the claim if one is asked for, `odds ..` and `clock ..` if they are wanted, and the FEN"
             }
         }
     }
@@ -143,14 +143,14 @@ impl FenAdvice {
             FenAdvice::OtherText => {
                 "a FEN is due, and this is a certificate, a length or a dossier, which `check`, `atleast` and `line` read"
             }
-            FenAdvice::Tab => "one space parts the fields, and no tab",
-            FenAdvice::Blanks => "one space parts the fields, and none stands before the first",
+            FenAdvice::Tab => "one space stands between two fields, and no tab",
+            FenAdvice::Blanks => "one space stands between two fields, and none before the first",
             FenAdvice::BlankAtEnd => "a blank stands at the end of the FEN",
             FenAdvice::Knight => "the knight is N for White and n for Black, not S",
             FenAdvice::Digits =>
                 "no digit follows a digit: write their sum, as 8 for an empty rank",
             FenAdvice::Placement => {
-                "field 1 is eight ranks from 8 down to 1 parted by /, each of eight squares: PNBRQK for White's men, pnbrqk for Black's, a digit for so many empty squares"
+                "field 1 is eight ranks from 8 down to 1, separated by /, each of eight squares: PNBRQK for White's men, pnbrqk for Black's, a digit for so many empty squares"
             }
             FenAdvice::NoSide => {
                 "side, rights and en passant square are missing: write ` w - -` or ` b - -` behind the men"
@@ -160,7 +160,7 @@ impl FenAdvice {
                 "field 3 is -, or the rights that are still held, in the order KQkq"
             }
             FenAdvice::Passant => {
-                "field 4 is -, or the square that a double step has just crossed: a file and 6 where White is to move, 3 where Black is"
+                "field 4 is -, or the square that a double step has just crossed: a file, and 6 if White is to move or 3 if Black is"
             }
             FenAdvice::Fields => {
                 "a FEN has four fields or six: men, side, rights, en passant square, and two numbers or none"
@@ -194,7 +194,7 @@ impl MoveAdvice {
             MoveAdvice::CastlingLetters => "castling is O-O or O-O-O, with the letter O",
             MoveAdvice::Marks => "no e.p., ! or ?, no comment, variation or tag is read",
             MoveAdvice::Move => {
-                "a move is its origin and its target, and n, b, r or q where a pawn promotes: e2e4, e1g1, e7e8q"
+                "a move is its origin and its target, and n, b, r or q if a pawn promotes: e2e4, e1g1, e7e8q"
             }
             MoveAdvice::San => {
                 "a word is a number (12.), a move (Nf3, exd5, O-O, e8=Q) or, as the last, a result (1-0, 0-1, 1/2-1/2, *)"
@@ -223,7 +223,7 @@ impl TextAdvice {
             TextAdvice::Dossier => "this is a dossier, which `retractor line` checks",
             TextAdvice::Length => "this is the text of a length, which `retractor atleast` checks",
             TextAdvice::Claim => {
-                "this is a claim and a position; `retractor solve DEPTH NODES` searches for a certificate of it"
+                "this is a claim and a position; `retractor settle` searches for a certificate of it, or for a game against it"
             }
             TextAdvice::CarriageReturns => {
                 "the lines end with \\r\\n, those of a certificate with \\n alone: `tr -d '\\r' < FILE | retractor check`"

@@ -6,7 +6,8 @@ use Rattle.general_lemmas.proofs.Lists.{same_first, same_rest}
 use Rattle.sketch_checker.specs.DueNodes.{Due}
 use Rattle.sketch_checker.specs.Walks.{AreDue}
 use Rattle.sketch_proof.specs.Proofs.{Holds, Setting}
-use Rattle.sketch_prose.specs.Children.{AddsChild, AreChildren, count_below, due_behind, is_past}
+use Rattle.sketch_prose.specs.Behind.{AddsChild, count_below, due_behind, is_past}
+use Rattle.sketch_prose.specs.Children.{AreChildren}
 use Rattle.sketch_prose.specs.Leaves.{own_line}
 use Rattle.sketch_text.specs.Marks.{Marks}
 use Rattle.sketch_text.specs.Trees.{Line, Node, Nodes, Reason, closed, count, end_of, lines_below, lines_each, lines_of, more, node, none, of_marks, of_node, split, steps, void}

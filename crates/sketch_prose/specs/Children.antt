@@ -1,5 +1,5 @@
 -- The nodes below one, as they are told together.
-use Rattle.std.specs.Prelude.{ℕ, ◌≡◌, ◌+◌, ◌-◌, ◌==◌, ◌++◌, Bool, false, cond, List, [], ◌∷◌, Option, Some, None}
+use Rattle.std.specs.Prelude.{ℕ, ◌≡◌, ◌++◌, cond, List, [], ◌∷◌, Option, Some, None}
 use Rattle.figures.specs.Figures.{Sketch}
 use Rattle.sketch_checker.specs.DueNodes.{Due}
 use Rattle.sketch_proof.specs.Proofs.{Setting}
@@ -7,43 +7,18 @@ use Rattle.sketch_prose.specs.Leaves.{leaf_of, own_line}
 use Rattle.sketch_prose.specs.Sentences.{IsForeign, Sentence, denied}
 use Rattle.sketch_prose.specs.declared.leaves.Leaf.{Leaf}
 use Rattle.sketch_prose.specs.declared.leaves.Leaf.TheVariants.{Shut, Astray, Open}
-use Rattle.sketch_text.specs.Trees.{Line, Nodes, more, none, of_marks, of_node}
-use Rattle.sketch_text.specs.declared.labels.Label.{Label}
-use Rattle.sketch_text.specs.declared.nodes.SketchNode.{SketchNode}
-use Rattle.sketch_text.specs.declared.nodes.End.{End}
-use Rattle.sketch_text.specs.declared.nodes.End.TheVariants.{Void, Closed, Steps, Split}
+use Rattle.sketch_text.specs.Trees.{Nodes, more, none}
 use Rattle.sketch_words.specs.Denials.{is_told}
 use Rattle.sketch_words.specs.Phrases.{Spot}
 use Rattle.sketch_words.specs.declared.spots.Child.{Child}
 use Rattle.sketch_words.specs.declared.spots.Flaw.{Flaw}
 use Rattle.sketch_words.specs.declared.spots.Flaw.TheVariants.{Unbalanced, Foreign}
 
--- how many nodes are below one that ends so
-abbrev pub count_below : End → ℕ
-count_below Void = 0
-count_below (Closed k) = 0
-count_below (Steps m) = m
-count_below (Split s) = 3
-
 -- why a node can't have been, if no more is told of it
 abbrev pub FlawOf : Leaf → Setting → Sketch → Option Flaw → Type 0
 FlawOf (Shut k) g S w = w ≡ Some Unbalanced
 FlawOf Astray g S w = (s : ℕ) × IsForeign g S s × (w ≡ Some (Foreign s))
 FlawOf Open g S w = w ≡ None
-
--- a child with this line was put behind others
-abbrev pub AddsChild : SketchNode → Setting → Label → Sketch → List Child → List Child → Type 0
-AddsChild x g label S old new = (w : Option Flaw) × FlawOf (leaf_of x) g S w × (new ≡ old ++ record { label = label; flaw = w } ∷ [])
-
--- how many nodes are due behind this line, if so many were before it
-abbrev pub due_behind : ℕ → Line → ℕ
-due_behind due (of_node x) = (due - 1) + count_below x.end
-due_behind due (of_marks m) = due
-
--- a node is on this line, and none was due before it
-abbrev pub is_past : ℕ → Line → Bool
-is_past due (of_node x) = due == 0
-is_past due (of_marks m) = false
 
 -- these are the nodes that are due, in order, each with what leads to it and why it can't have been
 abbrev pub AreChildren : Nodes → Setting → List Due → List Child → Type 0

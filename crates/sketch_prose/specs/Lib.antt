@@ -8,3 +8,4 @@ pub mod Bases
 pub mod Dues
 pub mod Levels
 pub mod Ending
+pub mod Behind

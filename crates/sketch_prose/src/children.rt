@@ -3,7 +3,8 @@
 ghost use Rattle.std.specs.Prelude.{◌≡◌, ◌++◌, ◌≤◌, ◌<◌, ◌^◌, IfOk, List, drop, map};
 ghost use Rattle.sketch_body.specs.Seen.{line_of};
 ghost use Rattle.sketch_prose.specs.Bases.{setting_with};
-ghost use Rattle.sketch_prose.specs.Children.{AddsChild, AreChildren, FlawOf, count_below, due_behind, is_past};
+ghost use Rattle.sketch_prose.specs.Behind.{AddsChild, count_below, due_behind, is_past};
+ghost use Rattle.sketch_prose.specs.Children.{AreChildren, FlawOf};
 ghost use Rattle.sketch_prose.specs.Dues.{due_by};
 ghost use Rattle.sketch_prose.specs.Leaves.{leaf_of, own_line};
 ghost use Rattle.sketch_prose.specs.declared.leaves.Leaf.TheVariants.{Astray};

@@ -5,7 +5,7 @@ use Rattle.sketch_body.specs.declared.lines.SketchLine.{SketchLine}
 use Rattle.sketch_prose.proofs.Beneath.{NodesLeft, left-few, left-first, left-on, left-past, left-some}
 use Rattle.sketch_prose.proofs.Leaving.{drop-few, drop-lines, lines-from}
 use Rattle.sketch_prose.proofs.children.behind_node.Goals as goal
-use Rattle.sketch_prose.specs.Children.{due_behind, is_past}
+use Rattle.sketch_prose.specs.Behind.{due_behind, is_past}
 use Rattle.general_lemmas.proofs.Lists.{same_first}
 use Rattle.sketch_text.specs.Trees.{Line}
 
