@@ -9,8 +9,8 @@ writes, or too long an input don't allow; something written at a status that wri
 certificate of `solve` or `settle` that `check` doesn't accept; a game of theirs that `play` doesn't call legal; nodes that `check` calls
 bad text at another line than fuzz_texts.py, a balance at the root that it weighs otherwise than fuzz_rules.py, and a sketch that it judges
 otherwise than fuzz_sketches.py; a verdict that `solve` doesn't bear out; a legal game that `spell` doesn't spell or `san` doesn't read; a
-length of `length` that `atleast` doesn't accept, a dossier of `dossier` that `line` doesn't accept; an answer of `explain` to what `check`
-refuses that isn't that of `check`, to what it accepts that explains nothing, or that shows another diagram; and two runs that differ. Each
+length of `length` that `atleast` doesn't accept, a dossier of `dossier` that `line` doesn't accept; an answer of `explain` to what the
+checker of such proofs refuses that isn't that checker's, to what it accepts that explains nothing, or that shows another diagram; and two runs that differ. Each
 finding goes into a file of FOLDER, with the words, the input and what was wrong.
 The same seed gives the same cases, with any number of jobs. The exit status is 1 if something was found.
 """
@@ -221,6 +221,11 @@ def misformed(case, command, status, out):
     return check(case, text) if check else None
 
 
+def checker_of(text):
+    """The command that checks such a proof: its first line says which."""
+    return {b"retro line 1": "line", b"retro length 1": "atleast"}.get(text.partition(b"\n")[0] if b"\n" in text else b"", "check")
+
+
 def wrong_said(case, text):
     """An accepted line names the claim, the position, the odds and the clock of the input."""
     _, claim, *lines = case.input.decode("ascii").split("\n")
@@ -238,9 +243,11 @@ def wrong_accepted(case, text):
 
 
 def wrong_refused(case, text):
-    """Whether the nodes go bad at the line of the answer, where the head is good."""
+    """Whether the nodes of a certificate go bad at the line of the answer, where the head is good."""
     words = text.split()
     given = case.input.decode("latin-1")
+    if checker_of(case.input) != "check" and case.words[0] == b"explain":
+        return None
     line, root = int(words[2]), root_of(given)
     if words[3] == "text" and (root is None or line < root):
         return None
@@ -264,8 +271,8 @@ def wrong_sketches(text, root, line=sys.maxsize, word=""):
 
 
 def wrong_explained(case, text):
-    """Whether the text begins with the diagram of the certificate's position, ends with its end, and has no long line and none that ends with a blank."""
-    _, _, *lines = case.input.decode("ascii").split("\n")
+    """Whether the text begins with the diagram of the proof's position, ends with its end, and has no long line and none that ends with a blank."""
+    lines = case.input.decode("ascii").split("\n")
     placement, turn = next(line for line in lines if line.startswith("fen ")).split(" ")[1:3]
     men = men_of(placement)
     ranks = [f"{rank + 1} {' '.join(man or '.' for man in men[8 * rank : 8 * rank + 8])}" for rank in range(7, -1, -1)]
@@ -381,11 +388,12 @@ def unexplained(program, text):
 
 
 def unlike_check(program, case, status, out):
-    """What is wrong with an answer of `explain`: it explains what `check` accepts, and writes what `check` writes where it refuses."""
-    checked, line, _ = program.answers(["check"], case.input)
+    """What is wrong with an answer of `explain`: it explains what the checker accepts, and writes what the checker writes where it refuses."""
+    checker = checker_of(case.input)
+    checked, line, _ = program.answers([checker], case.input)
     if (checked, status) == (0, 0):
         return None
-    return None if (checked, line) == (status, out) else f"an answer unlike that of check: {checked}, {line!r}"
+    return None if (checked, line) == (status, out) else f"an answer unlike that of {checker}: {checked}, {line!r}"
 
 
 def uncountered(program, case, out):

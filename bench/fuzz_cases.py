@@ -292,6 +292,10 @@ class Maker:
         number = rng.choice([number, number, number + 1, 0, 9999, 10_000])
         return f"retro length 1\n{odds}fen {' '.join(fen.split(' ')[:4])}\natleast {number}\nmoves {side} {' '.join(words)}\n".encode()
 
+    def proof(self, rng):
+        """A certificate, a dossier or a length, for `explain`."""
+        return rng.choice([self.certificate, self.certificate, self.certificate, self.dossier, self.length])(rng)
+
     def certificate(self, rng):
         text = resketched(rng, rng.choice(self.certs))
         lines = text.split(b"\n")
@@ -320,7 +324,7 @@ class Maker:
             words += [b"%d" % rng.choice([0, 1, 1, 2, 2, 3, 4, 9, 64]), b"%d" % rng.choice([1, 2, 5, 10, 30, 100, 100])]
         if command == b"sample":
             words += [b"%d" % rng.choice([0, 1, rng.randrange(2**64), 2**64 - 1]), b"%d" % rng.randint(1, 3), b"%d" % rng.randint(1, 6)]
-        makers = {b"check": self.certificate, b"explain": self.certificate, b"play": self.game, b"solve": self.statement, b"settle": self.statement, b"san": self.notation,
+        makers = {b"check": self.certificate, b"explain": self.proof, b"play": self.game, b"solve": self.statement, b"settle": self.statement, b"san": self.notation,
                   b"spell": self.moves, b"atleast": self.length, b"line": self.dossier, b"dossier": self.line_claim}
         text = makers.get(command, lambda rng: self.position(rng).encode())(rng)
         for _ in range(rng.choice([0, 0, 0, 0, 0, 1, 1, 2, 5])):

@@ -26,7 +26,7 @@ pub enum Status {
     ReadFault,
     /// A write failed.
     WriteFault,
-    /// Memory was wanting.
+    /// Out of memory.
     Memory,
     /// The input has more bytes than a command reads.
     TooLong,

@@ -73,7 +73,7 @@ pub fn write_retractions<K: Sink>(sink: &mut K, query: &Query) -> Result<(), Fai
     write_all(sink, total_line(total).as_slice())
 }
 
-/// The status and the text with which `unmoves` answers these bytes. It takes memory only where they aren't the lines of
+/// The status and the text with which `unmoves` answers these bytes. It takes memory only if they aren't the lines of
 /// a query.
 pub fn answer_unmoves(alloc: Global, input: &[u8]) -> Result<(Status, Text), AllocError>
     requires { length input.now ≤ most_bytes }

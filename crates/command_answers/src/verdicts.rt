@@ -16,7 +16,7 @@ use position_report::{Found, Limits, solve};
 use question_text::{Position, read_lone_question};
 use std::alloc::{AllocError, Global};
 
-/// Whether the right's claim is settled; None where the search was spent.
+/// Whether the right's claim is settled; None if the search was spent.
 fn decide(
     alloc: Global,
     position: &Position,
@@ -42,7 +42,7 @@ fn decide(
     }
 }
 
-/// Which of the rights are settled, each by a search of its own; None where one of these was spent.
+/// Which of the rights are settled, each by a search of its own; None if one of these was spent.
 fn decide_all(
     alloc: Global,
     position: &Position,

@@ -59,14 +59,14 @@ fn push_part(proof: &[u8], out: &mut Vec<u8>) -> Result<(), Memory>
 /// reasons, and if it stays open by sketches too; and one that costs more than `nodes` likewise, with nothing taken back. The query bars no
 /// move of its own, and the claim has a line: two castlings stand in the order `K`, `Q`, `k`, `q`, and each step has a text.
 ///
-/// - `Unlisted` comes exactly where some step isn't among the unmoves of what the steps before it leave, with the first of them; no
+/// - `Unlisted` comes if and only if some step isn't among the unmoves of what the steps before it leave, with the first of them; no
 ///   part is then due.
 /// - `Written` comes with the text of a dossier: its parts prove exactly the parts due, each goes back no further than `depth`, and has at
-///   most 500,000 nodes. No game of any length contradicts the claim. It comes only where `solve` may prove each part with `nodes` or
+///   most 500,000 nodes. No game of any length contradicts the claim. It comes only if `solve` may prove each part with `nodes` or
 ///   doesn't refute its target, or the part is proved with nothing taken back.
-/// - `Undecided` comes only where the target of some part isn't refutable at the depth by rule lines, nor do flat prices support it or one
+/// - `Undecided` comes only if the target of some part isn't refutable at the depth by rule lines, nor do flat prices support it or one
 ///   node of a sketch refute it, with the first such part. Each part before it was proved.
-/// - `Spent` comes only where a part costs more than `nodes`, in the ways that `solve` says, and neither flat prices nor one node of a
+/// - `Spent` comes only if a part costs more than `nodes`, in the ways that `solve` says, and neither flat prices nor one node of a
 ///   sketch refute its target. Each part before it was proved.
 ///
 /// Want of memory is a free answer: `Memory` may take the place of each of these.

@@ -28,7 +28,7 @@ fn is_position(input: &[u8]) -> bool {
     read_lone_question(front).is_ok()
 }
 
-/// What the input is that `check` refused at its first line; None where it isn't known.
+/// What the input is that `check` refused at its first line; None if it isn't known.
 fn advise_check(input: &[u8]) -> Option<TextAdvice>
     ensures { IfSome result (λ advice. TellsText advice input.now) }
 {
@@ -45,7 +45,7 @@ fn advise_check(input: &[u8]) -> Option<TextAdvice>
     }
 }
 
-/// What the input is that `explain` refused at its first line; None where it isn't known.
+/// What the input is that `explain` refused at its first line; None if it isn't known.
 fn advise_explain(input: &[u8]) -> Option<TextAdvice>
     ensures { IfSome result (λ advice. TellsText advice input.now) }
 {
@@ -60,7 +60,7 @@ fn advise_explain(input: &[u8]) -> Option<TextAdvice>
     }
 }
 
-/// What the input is that `explain`, or else `check`, refused at its first line; None where it isn't known.
+/// What the input is that `explain`, or else `check`, refused at its first line; None if it isn't known.
 pub(crate) fn advise_text(explain: bool, input: &[u8]) -> Option<TextAdvice>
     ensures { IfSome result (λ advice. TellsText advice input.now) }
 {

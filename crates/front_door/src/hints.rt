@@ -119,7 +119,7 @@ fn advise_input(kind: InputKind, input: &[u8], answer: &[u8]) -> Advice
     }
 }
 
-/// What is wrong with a game that is refused, by the line that says so; None where it is a game's text.
+/// What is wrong with a game that is refused, by the line that says so; None if it is a game's text.
 fn advise_game(kind: InputKind, input: &[u8], answer: &[u8]) -> Option<MoveAdvice>
     ensures { IsSome result →
         Says answer.now (codes "refused word ") ⊎ Says answer.now (codes "refused ply ") }
@@ -143,7 +143,7 @@ fn refuses_first_line(answer: &[u8]) -> bool
     matches!(refusal_of(answer), Some(Refusal::FirstLine))
 }
 
-/// What is wrong with an input that is refused; None where it is of the command's form, or isn't known.
+/// What is wrong with an input that is refused; None if it is of the command's form, or isn't known.
 fn advise_refused(words: &[String], input: &[u8], answer: &[u8]) -> Option<Advice>
     ensures { IfSome result (λ advice. GoesWith advice words.now input.now Refused answer.now) }
 {
@@ -176,7 +176,7 @@ fn with_call(words: &[String], advice: Advice) -> Hint
 }
 
 /// What a user is told after a run with these words, by the front of its input, its status, and the front of what it wrote. It comes
-/// at each bad words and each bad input; else only where a text was refused that is of another kind than a certificate or a game's.
+/// at each bad words and each bad input; else only if a text was refused that is of another kind than a certificate or a game's.
 pub fn advise(
     alloc: Global,
     words: &[String],

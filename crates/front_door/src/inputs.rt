@@ -10,7 +10,7 @@ pub(crate) fn asks_for_claim(kind: InputKind) -> bool {
     matches!(kind, InputKind::Claim | InputKind::Steps)
 }
 
-/// The text from the line of this number on, counted from 1; None where there is none.
+/// The text from the line of this number on, counted from 1; None if there is none.
 fn from_line(text: &[u8], number: u32) -> Option<&[u8]> {
     let mut rest = text;
     for _ in 1..number {
@@ -19,7 +19,7 @@ fn from_line(text: &[u8], number: u32) -> Option<&[u8]> {
     if rest.is_empty() { None } else { Some(rest) }
 }
 
-/// The line of this number, counted from 1, without its end; None where there is none.
+/// The line of this number, counted from 1, without its end; None if there is none.
 pub(crate) fn line_at(text: &[u8], number: u32) -> Option<&[u8]> {
     match from_line(text, number) {
         Some(rest) => Some(split_first_line(rest).0),

@@ -44,7 +44,7 @@ fn behind<'a>(line: &'a [u8], text: &[u8]) -> Option<&'a [u8]>
     }
 }
 
-/// What the line refuses; None where it is no such line.
+/// What the line refuses; None if it is no such line.
 pub(crate) fn refusal_of(line: &[u8]) -> Option<Refusal>
     ensures front { IfSome result (λ refusal. Says line.now (front_of refusal)) }
     ensures fen { Says line.now (codes "bad fen field ") → RefusesField result }

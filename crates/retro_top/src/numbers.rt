@@ -55,7 +55,7 @@ fn is_decimal(word: &str, number: u64) -> bool
 }
 
 /// The number that the word is in decimal, without sign and without a leading zero, where it is in the range from `least` to `most`.
-/// None comes exactly where the word is no such number.
+/// None comes if and only if the word is no such number.
 fn read_number(word: &String, least: u64, most: u64) -> Option<u64>
     ensures { MatchOption result ((n : ℕ) → IsNumber (string_bytes word.now) least most n →
         ⊥) (IsNumber (string_bytes word.now) least most) }

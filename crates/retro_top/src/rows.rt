@@ -264,7 +264,7 @@ pub(crate) fn look_up(name: &[u8]) -> Option<Row>
     find(&ROWS, name)
 }
 
-/// The row of the command of this name; None exactly where no command has it.
+/// The row of the command of this name; None if and only if no command has it.
 pub fn row_of(name: &[u8]) -> Option<Row>
     ensures named { IfSome result (λ row. row.name.now ≡ name.now) }
     ensures reading { IfSome result (λ row. IsReadBy row.input name.now) }
