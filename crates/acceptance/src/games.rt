@@ -51,7 +51,7 @@ fn clock_of(state: &State) -> Option<u16>
 }
 
 /// Whether the move from this state to the next is a retraction of the position after it, and its predecessor is the position before,
-/// whose clock is told where the move didn't set it to 0.
+/// whose clock is told if the move didn't set it to 0.
 fn is_taken_back(odds: Odds, state: &State, m: &Move, next: &State) -> bool {
     let u = unmove_of(state, m);
     let query = Query {
@@ -90,7 +90,7 @@ fn first_otherwise(odds: Odds, moves: &[Move]) -> Option<usize> {
     None
 }
 
-/// A game that isn't taken back, with the number of its first move that isn't, or None where it can't be read.
+/// A game that isn't taken back, with the number of its first move that isn't, or None if it can't be read.
 type Otherwise = (&'static [u8], Option<usize>);
 
 /// The game at these odds, if it isn't taken back.

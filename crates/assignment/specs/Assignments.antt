@@ -25,7 +25,7 @@ injections width zero = [] ∷ []
 injections width (suc rows) =
     flat_map (λ columns. map (λ j. j ∷ columns) (filter (λ j. not (is_among j columns)) (range_with_len 0 width))) (injections width rows)
 
--- the least of these numbers, and 0 where there is none
+-- the least of these numbers, and 0 if there is none
 abbrev pub least_of : List ℕ → ℕ
 least_of [] = 0
 least_of (x ∷ xs) = fold min x xs

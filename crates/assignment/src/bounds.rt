@@ -47,7 +47,7 @@ fn total(numbers: &[i8]) -> i32
     sum
 }
 
-/// The sum of the potentials, where they bound the cost; None exactly where they don't.
+/// The sum of the potentials, if they bound the cost; None if and only if they don't.
 pub fn bound<const W: usize>(costs: &[[u8; W]], u: &[i8], v: &[i8; W]) -> Option<i32>
     requires { IsTable costs.now W 64 }
     ensures { SomeIff result (IsBounded W costs.now u.now v.now) (total u.now +ℤ total v.now) }

@@ -66,7 +66,7 @@ fn narrowed_all<const W: usize>(numbers: &[i16; W]) -> [i8; W]
     narrowed
 }
 
-/// A least assignment of the rows to the columns, as `solve_large` finds it, where no cost is above 64.
+/// A least assignment of the rows to the columns, as `solve_large` finds it, if no cost is above 64.
 pub fn solve<const W: usize>(costs: &[[u8; W]]) -> Solution<W>
     requires { IsTable costs.now W 64 }
     ensures injection { IsInjection W (length costs.now) result.columns.items }

@@ -20,7 +20,7 @@ file_if takes times f = cond (times_on takes f == times) (32 ∷ (97 + f) ∷ []
 unfoldable pub files_words : List ℕ → ℕ → List ℕ
 files_words takes times = flat_map (file_if takes times) (range_with_len 0 8)
 
--- what stands around one file or several, and nothing where there is none
+-- what stands around one file or several, and nothing if there is none
 abbrev pub on_files : List ℕ → List ℕ → List ℕ → List ℕ → List ℕ → List ℕ
 on_files list one one_end several several_end =
     cond (length list == 0) [] (cond (length list == 2) (one ++ list ++ one_end) (several ++ list ++ several_end))

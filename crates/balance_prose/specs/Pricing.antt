@@ -6,7 +6,7 @@ use Rattle.board_base.specs.Texts.{square_text}
 use Rattle.capture_prices.specs.Prices.{PriceList, all_gates}
 use Rattle.capture_prices.specs.declared.prices.Gate.{Gate}
 
--- nothing where there is no list, else the list with what stands around it
+-- nothing if there is no list, else the list with what stands around it
 abbrev pub around : List ℕ → List ℕ → List ℕ → List ℕ
 around front [] back = []
 around front (x ∷ list) back = front ++ (x ∷ list) ++ back

@@ -97,7 +97,7 @@ fn gates_too(alloc: Global, gates: &[Gate]) -> Result<Vec<u8>, AllocError>
     Ok(list)
 }
 
-/// What a gate makes up for, where no man is gone.
+/// What a gate makes up for, if no man is gone.
 fn push_gate_alone(gate: &Gate, out: &mut Vec<u8>) -> Result<(), AllocError>
     requires { gate.now.square < 64 }
     ensures { IfOk result (λ _. out.new.items ≡ out.old.items ++ gate_alone gate.now) }

@@ -15,7 +15,7 @@ use capture_prices::Prices;
 use first_pairing::first_pairing;
 use query_base::Query;
 
-/// What each man of a side costs from each of its homes, and then each man who is gone; None exactly where it has more men than it
+/// What each man of a side costs from each of its homes, and then each man who is gone; None if and only if it has more men than it
 /// began with.
 fn some_table(
     query: &Query,

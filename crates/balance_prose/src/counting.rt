@@ -12,7 +12,7 @@ use capture_prices::{Gate, Prices};
 use prose_words::{push_number, push_square, say, side_word};
 use std::alloc::{AllocError, Global};
 
-/// A file after a space, where captures on it count so often.
+/// A file after a space, if captures on it count so often.
 fn push_file_if(takes: &[u8; 16], times: u8, file: u8, list: &mut Vec<u8>) -> Result<(), AllocError>
     requires { file < 8 }
     ensures { IfOk result (λ _. list.new.items ≡ list.old.items ++ file_if takes.now times file) }
@@ -45,7 +45,7 @@ fn push_between(front: &[u8], list: &[u8], back: &[u8], out: &mut Vec<u8>) -> Re
     Ok(())
 }
 
-/// What stands around one file or several, and nothing where there is none.
+/// What stands around one file or several, and nothing if there is none.
 fn push_on_files(
     list: &[u8],
     one: &[u8],

@@ -12,7 +12,7 @@ use capture_prices::{Gate, Prices};
 use prose_words::{push_number, push_square, say};
 use std::alloc::{AllocError, Global};
 
-/// A file after a space, where a capture on its squares of this shade has this price; the dark shade is 0, the light one 1.
+/// A file after a space, if a capture on its squares of this shade has this price; the dark shade is 0, the light one 1.
 fn push_file_if(
     prices: &[u8; 16],
     shade: u8,

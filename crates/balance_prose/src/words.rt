@@ -9,7 +9,7 @@ use board_base::{Colour, Square};
 use prose_words::say;
 use std::alloc::AllocError;
 
-/// Nothing where there is no list, else the list with what stands around it.
+/// Nothing if there is no list, else the list with what stands around it.
 pub fn push_around(
     front: &[u8],
     list: &[u8],

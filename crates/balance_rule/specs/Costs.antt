@@ -22,7 +22,7 @@ abbrev pub least : List ℕ → ℕ
 least [] = never
 least (x ∷ xs) = min x (least xs)
 
--- the greatest of these numbers, and 0 where there is none
+-- the greatest of these numbers, and 0 if there is none
 abbrev pub greatest : List ℕ → ℕ
 greatest [] = 0
 greatest (x ∷ xs) = max x (greatest xs)
@@ -70,7 +70,7 @@ pawn_stands p set c h k s = least (map (way_cost p c h) (filter (λ way. brings 
 unfoldable pub pawn_gone : PriceList → List Bool → Colour → ℕ → ℕ
 pawn_gone p set c h = least (map (loss_cost p set c h) (ways_from c set h))
 
--- That the man of h, who is no pawn, stands on s as a man of this kind costs nothing where he may: he is what he was, and stands in his
+-- That the man of h, who is no pawn, stands on s as a man of this kind costs nothing if he may: he is what he was, and stands in his
 -- region, where he isn't the king.
 abbrev pub piece_stands : List Bool → Kind → ℕ → Kind → ℕ → ℕ
 piece_stands set first h k s = cond (same_kind first k && (same_kind first King || is_in (region set h) s)) 96 never

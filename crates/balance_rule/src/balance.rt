@@ -39,7 +39,7 @@ fn least_cost(rows: &[[u16; 16]]) -> u32
     solve_large(rows).cost
 }
 
-/// The least that the men of a side cost with homes of their own, 96 for each man included; None exactly where it has more men than it
+/// The least that the men of a side cost with homes of their own, 96 for each man included; None if and only if it has more men than it
 /// began with. What can't be costs 5000.
 pub fn side_cost(query: &Query, frozen: SquareSet, prices: &Prices, side: Colour) -> Option<u32>
     ensures value { SomeIff result (men_on side query.now.board ≤ men_on side (array_of query.now.odds)) (side_cost query.now.odds query.now.board prices.now frozen side) }

@@ -50,7 +50,7 @@ pub fn squares_of_class(class: usize) -> SquareSet
     SquareSet::from_bits(CLASSES[class])
 }
 
-/// The greatest of these numbers of classes that have a square in the set, and 0 where it has none.
+/// The greatest of these numbers of classes that have a square in the set, and 0 if it has none.
 pub(crate) fn most_on(takes: &[u8; 16], within: SquareSet) -> u16
     ensures { result ≡ greatest_on (is_in within) (λ s. slice_index takes.now (class_of s)) }
 {
@@ -63,7 +63,7 @@ pub(crate) fn most_on(takes: &[u8; 16], within: SquareSet) -> u16
     most as u16
 }
 
-/// What a man who is taken within a set earns at most, where he is exposed on another and these are the enemy's prices.
+/// What a man who is taken within a set earns at most, if he is exposed on another and these are the enemy's prices.
 fn earned_within(exposed: SquareSet, takes: &[u8; 16], within: SquareSet) -> u16
     ensures { (p : PriceList) (frozen : List Bool) (c : AColour) → exposed ≡ squares_that (may_fall frozen c) → takes.now ≡ takes_of p (opponent c) → result ≡ most_earned p frozen c (is_in within) }
 {

@@ -154,7 +154,7 @@ fn gone_as(ground: &Ground, first: Kind, n: u8) -> u16
     }
 }
 
-/// What it costs at least that the man on this place of a square began on this number of the side; `NEVER` where nobody of the side did.
+/// What it costs at least that the man on this place of a square began on this number of the side; `NEVER` if nobody of the side did.
 pub fn stands(ground: &Ground, n: u8, place: Option<Man>, s: Square) -> u16
     requires { n < 16 }
     ensures small { result ≤ never }
@@ -169,7 +169,7 @@ pub fn stands(ground: &Ground, n: u8, place: Option<Man>, s: Square) -> u16
     }
 }
 
-/// What it costs at least that the man who began on this number of the side is gone; `NEVER` where nobody of the side did.
+/// What it costs at least that the man who began on this number of the side is gone; `NEVER` if nobody of the side did.
 pub(crate) fn gone(ground: &Ground, n: u8) -> u16
     requires { n < 16 }
     ensures small { result ≤ never }

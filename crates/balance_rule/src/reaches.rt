@@ -23,14 +23,14 @@ pub struct Reach {
     pub aside: [u16; 64],
 }
 
-/// The sum, or `NEVER` where that is less.
+/// The sum, or `NEVER` if that is less.
 pub fn capped_sum(a: u16, b: u16) -> u16
     ensures { result ≡ min never (a + b) }
 {
     NEVER.min(a.saturating_add(b))
 }
 
-/// The least fee of all ways to a square: nothing where he needs no capture.
+/// The least fee of all ways to a square: nothing if he needs no capture.
 pub fn fee_at(reach: &Reach, i: u8) -> u16
     requires { i < 64 }
     ensures { result ≡ fee_of (slice_index reach.now.straight i) (slice_index reach.now.aside i) }
@@ -52,7 +52,7 @@ pub fn toll_at(reach: &Reach, i: u8) -> u16
     reach.straight[i].min(reach.aside[i])
 }
 
-/// The least fee of the ways to the square from which a step to the side comes, where there is such a step.
+/// The least fee of the ways to the square from which a step to the side comes, if there is such a step.
 fn fee_behind(reach: &Reach, is_step: bool, from: u8) -> u16
     requires { from < 64 }
     ensures { result ≡ cond is_step (fee_of (slice_index reach.now.straight from) (slice_index reach.now.aside from)) never }

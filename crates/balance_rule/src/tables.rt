@@ -73,7 +73,7 @@ pub fn begun_with(side: Colour, odds: Odds) -> u8
     men_on(&array_of(odds), side)
 }
 
-/// What each man of the side costs from each of its homes, in ascending order of their squares; None exactly where there are more than
+/// What each man of the side costs from each of its homes, in ascending order of their squares; None if and only if there are more than
 /// so many.
 fn stand_rows(ground: &Ground, board: &Board, begun: u8) -> Option<ArrayVec<[u16; 16], 16>>
     requires { begun ≤ 16 }
@@ -108,7 +108,7 @@ fn fill_up(rows: &mut ArrayVec<[u16; 16], 16>, row: [u16; 16], begun: u8)
     }
 }
 
-/// A row for each man of the side, and one for each who is missing of so many; None exactly where it has more.
+/// A row for each man of the side, and one for each who is missing of so many; None if and only if it has more.
 pub fn cost_table(ground: &Ground, board: &Board, begun: u8) -> Option<ArrayVec<[u16; 16], 16>>
     requires { begun ≤ 16 }
     ensures table { IfSome result (λ rows. IsTable rows.items 16 never) }

@@ -80,7 +80,7 @@ fn gates_seen(side: Colour, gates: &[Gate]) -> [u16; 64]
     seen
 }
 
-/// What a side's pawns pay on each square, and what its men earn there, where they are exposed on a set of squares.
+/// What a side's pawns pay on each square, and what its men earn there, if they are exposed on a set of squares.
 pub(crate) fn tariff_of(side: Colour, exposed: SquareSet, prices: &Prices) -> Tariff
     ensures { (frozen : List Bool) → exposed ≡ squares_that (may_fall frozen side) → IsTariff prices.now frozen side result }
 {

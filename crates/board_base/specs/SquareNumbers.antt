@@ -12,7 +12,7 @@ pub length-squares_of : (bits : ℕ) → length (squares_of bits) ≡ 64
 unfolding squares_of
 length-squares_of bits = length-map-range_with_len (λ s. bit_at bits s == 1) 0 64
 
--- square s is in the set exactly where bit s is 1
+-- square s is in the set if and only if bit s is 1
 pub is_in-squares_of : (bits s : ℕ) → s < 64 → is_in (squares_of bits) s ≡ (bit_at bits s == 1)
 unfolding squares_of
 is_in-squares_of bits s below = get_or-map-range_with_len (λ s. bit_at bits s == 1) 0 64 s s false below (let e : 0 + s ≡ s = omega arith in e)

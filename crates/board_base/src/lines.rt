@@ -58,7 +58,7 @@ fn changed(change: Change, start: u8, steps: u8) -> Option<u8>
     }
 }
 
-/// The square so many steps on from `start`, at most seven; None exactly where it is off the board.
+/// The square so many steps on from `start`, at most seven; None if and only if it is off the board.
 pub fn along(direction: Direction, start: Square, steps: u8) -> Option<Square>
     requires { steps < 8 }
     ensures value { IfSome result (λ end. end ≡ along direction start steps) }

@@ -38,7 +38,7 @@ impl MoveList {
         self.moves.len()
     }
 
-    /// The move at this place, counted from 0. None exactly where the place isn't below `len`.
+    /// The move at this place, counted from 0. None if and only if the place isn't below `len`.
     pub fn get(&self, i: usize) -> Option<Move>
         ensures { result ≡ slice_get self.now i }
     {
@@ -90,7 +90,7 @@ impl UnmoveList {
         self.unmoves.len()
     }
 
-    /// The unmove at this place, counted from 0. None exactly where the place isn't below `len`.
+    /// The unmove at this place, counted from 0. None if and only if the place isn't below `len`.
     pub fn get(&self, i: usize) -> Option<Unmove>
         ensures { result ≡ slice_get self.now i }
     {

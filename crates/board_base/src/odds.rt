@@ -49,7 +49,7 @@ fn are_odds(set: SquareSet) -> bool
 }
 
 impl Odds {
-    /// The odds that leave out the men of these squares; None exactly where the set has a square outside ranks 1, 2, 7 and 8, or
+    /// The odds that leave out the men of these squares; None if and only if the set has a square outside ranks 1, 2, 7 and 8, or
     /// e1, or e8.
     pub fn new(set: SquareSet) -> Option<Odds>
         ensures { SomeIff result (AreOdds set) set }

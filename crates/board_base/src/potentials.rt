@@ -47,7 +47,7 @@ pub fn are_within_limit(numbers: &[i8]) -> bool
 impl Potentials {
     ghost use Rattle.board_base.specs.Potentials.{duals};
 
-    /// The potentials with these numbers; None exactly where more than eight `u` are given or a number is below -64 or above 64.
+    /// The potentials with these numbers; None if and only if more than eight `u` are given or a number is below -64 or above 64.
     pub fn new(u: &[i8], v: &[i8; 8]) -> Option<Potentials>
         ensures { SomeIff result (ArePotentials (duals u.now v.now)) (duals u.now v.now) }
     {

@@ -140,7 +140,7 @@ fn is_hit_by_knight(board: &Board, s: Square, by: Colour) -> bool
 }
 
 impl Board {
-    /// Whether a man of this colour attacks the square by articles 3.1 to 3.8. A man attacks it even where its own move there would
+    /// Whether a man of this colour attacks the square by articles 3.1 to 3.8. A man attacks it even if its own move there would
     /// leave its king open to attack, and whoever stands on the square.
     pub fn attacked(&self, s: Square, by: Colour) -> bool
         ensures { result ≡ attacks self.now s by }

@@ -67,7 +67,7 @@ impl SquareSet {
         SquareSet { bits }
     }
 
-    /// The number whose bit `s` is 1 exactly where square `s` is in the set.
+    /// The number whose bit `s` is 1 if and only if square `s` is in the set.
     pub fn bits(self) -> u64
         ensures number { result ≡ number_of self }
         ensures squares { squares_of result ≡ self }

@@ -6,7 +6,7 @@ use crate::moves::Move;
 pub struct Unmove {
     /// The move that is taken back.
     pub mv: Move,
-    /// The kind that the move captured, a pawn where it did so en passant; None where it captured nothing.
+    /// The kind that the move captured, a pawn if it did so en passant; None if it captured nothing.
     pub captured: Option<Kind>,
     /// Whether the move captured en passant (article 3.7).
     pub ep: bool,

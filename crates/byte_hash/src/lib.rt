@@ -16,7 +16,7 @@ pub struct ByteHasher {
     state: u64,
 }
 
-/// The first byte, or 0 where there is none.
+/// The first byte, or 0 if there is none.
 fn first_of(bytes: &[u8]) -> u8
     ensures { result ≡ slice_index bytes.now 0 }
 {

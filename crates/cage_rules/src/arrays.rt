@@ -20,7 +20,7 @@ fn squares_alike(board: &Board, first: &Board) -> SquareSet
     alike
 }
 
-/// Whether each square of the set holds what the array at these odds has there (article 2.3): nobody where his home is among them.
+/// Whether each square of the set holds what the array at these odds has there (article 2.3): nobody if his home is among them.
 pub fn as_array(board: &Board, set: SquareSet, odds: Odds) -> bool
     ensures { IsTrue result ↔ IsAsArray odds board.now set }
 {

@@ -21,8 +21,8 @@ pub fn frozen_men_stood()
     ensures reached { (g : List Move) (q : Asked) → Reaches g q → LeadsTo q.odds g q }
 {}
 
-/// The law that where a frozen set holds what the array without any of its men doesn't, no game leads from there to the query; so
-/// where the array at the query's odds doesn't hold it, no game reaches the query.
+/// The law that if a frozen set holds what the array without any of its men doesn't, no game leads from there to the query; so
+/// if the array at the query's odds doesn't hold it, no game reaches the query.
 pub fn frozen_refutes()
     ensures from_odds { (o : List Bool) (q : Asked) (set : List Bool) → IsFrozen q set → (IsAsArray o q.board set → ⊥) → (g : List Move) → LeadsTo o g q → ⊥ }
     ensures reached { (q : Asked) (set : List Bool) → IsFrozen q set → (IsAsArray q.odds q.board set → ⊥) → (g : List Move) → Reaches g q → ⊥ }
@@ -58,7 +58,7 @@ pub fn walled_men_stay()
     ensures shielded { (o : List Bool) (g : List Move) (set : List Bool) (h : ℕ) → Walled o g set → IsTrue (is_officer_home h) → is_in o h ≡ false → IsTrue (is_shielded set h) → IsNotPawned o g h }
 {}
 
-/// The laws of sets together: two frozen sets are frozen together, and two that are as in the array are so together; and where a
+/// The laws of sets together: two frozen sets are frozen together, and two that are as in the array are so together; and if a
 /// set grows, a home that is dead stays dead, and one that is shielded stays shielded.
 pub fn larger_sets_gain()
     ensures frozen { (q : Asked) (a b : List Bool) → length a ≡ 64 → length b ≡ 64 → IsFrozen q a → IsFrozen q b → IsFrozen q (union a b) }

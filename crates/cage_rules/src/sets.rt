@@ -32,7 +32,7 @@ pub(crate) fn outside(set: SquareSet) -> SquareSet
     SquareSet::from_bits(!set.bits())
 }
 
-/// The set, with this square where `more` says so.
+/// The set, with this square if `more` says so.
 pub(crate) fn with_if(set: SquareSet, s: Square, more: bool) -> SquareSet
     ensures { result ≡ cond more (slice_set set s true) set }
 {

@@ -31,7 +31,7 @@ pub(crate) struct Ways {
     black_pawns: SquareSet,
 }
 
-/// The homes of the castling's king and rook where its right is held, else none.
+/// The homes of the castling's king and rook if its right is held, else none.
 fn homes_of(held: CastleSet, castle: Castle) -> SquareSet
     ensures { result ≡ squares_that (λ s. holds held castle && ((king_home castle == s) || (rook_home castle == s))) }
 {

@@ -141,7 +141,7 @@ fn barred_by(capture: &[u8]) -> Option<Option<Move>> {
     }
 }
 
-/// The double step is barred where the capture fits, and nothing elsewhere.
+/// The double step is barred if the capture fits, and nothing elsewhere.
 #[test]
 fn bars_the_double_step(rt: HostRuntime) {
     let d7d5 = Move {
@@ -153,7 +153,7 @@ fn bars_the_double_step(rt: HostRuntime) {
     assert_eq!(rt; barred, [Some(Some(d7d5)), Some(None), Some(None)]);
 }
 
-/// What is found where White's king stands alone on e1: which of Black's castlings are held in the target of a claim that the long one is
+/// What is found if White's king stands alone on e1: which of Black's castlings are held in the target of a claim that the long one is
 /// lost, and whether the rule line of rights supports the target and the query.
 #[derive(Clone, Copy, PartialEq, Eq, Debug)]
 struct Held {
@@ -174,7 +174,7 @@ fn held_without_men() -> Option<Held> {
     })
 }
 
-/// A castling is held in the target also where the board has lost its king and its rook, and no game reaches it then.
+/// A castling is held in the target also if the board has lost its king and its rook, and no game reaches it then.
 #[test]
 fn holds_what_the_board_lacks(rt: HostRuntime) {
     let want = Held {

@@ -37,7 +37,7 @@ const KINGS: &str = "4k3/8/8/8/8/8/8/4K3 w - -";
 
 const NO_KNIGHT: &str = "rnbqkbnr/pppppppp/8/8/8/8/PPPPPPPP/R1BQKBNR w KQkq -";
 
-/// Odds and clock of a query, those of another, and whether the first covers the second: where the odds are the same, and a clock that
+/// Odds and clock of a query, those of another, and whether the first covers the second: if the odds are the same, and a clock that
 /// the first demands too.
 const COVERINGS: [(u64, Option<u16>, u64, Option<u16>, bool); 8] = [
     (0, None, 0, None, true),
@@ -240,7 +240,7 @@ struct Found {
     closed: bool,
 }
 
-/// What is found where the games begin at these odds.
+/// What is found if the games begin at these odds.
 fn found_of_a_pawn(bits: u64) -> Option<Found> {
     let query = asked("4k3/8/8/8/8/8/P7/4K3 w - -", bits, None)?;
     let frozen = RuleLine::Frozen(SquareSet::from_bits(1 << 8));
@@ -268,7 +268,7 @@ fn supports_at_odds(rt: HostRuntime) {
     assert_eq!(rt; found_of_a_pawn(0), Some(neither));
 }
 
-/// How many retractions a query has; None where there are more than 199.
+/// How many retractions a query has; None if there are more than 199.
 pub(crate) fn count(query: &Query) -> Option<u8> {
     let mut list = Unmoves::new(query);
     for counted in 0..200 {
@@ -302,7 +302,7 @@ fn lists_what_the_clock_allows(rt: HostRuntime) {
     }
 }
 
-/// The odds and the clock of the predecessor of the kings at odds of the knight; None where the retraction isn't listed.
+/// The odds and the clock of the predecessor of the kings at odds of the knight; None if the retraction isn't listed.
 fn demands_before(clock: u16, text: &str) -> Option<(u64, Option<u16>)> {
     let u = read_unmove(text.as_bytes())?;
     let query = asked(KINGS, 2, Some(clock))?;
@@ -350,7 +350,7 @@ struct Before {
     array: bool,
 }
 
-/// What is found before White's short castling at odds of its rook; None where it isn't listed.
+/// What is found before White's short castling at odds of its rook; None if it isn't listed.
 fn before_castling() -> Option<Before> {
     let castled = read_unmove(b"e1g1")?;
     let query = asked("4k3/8/8/8/8/8/5PPP/5RK1 b - -", 1 << 7, None)?;

@@ -85,7 +85,7 @@ fn replays_at_odds(rt: HostRuntime) {
     assert_eq!(rt; faults(rt.alloc(), castled), Some([last, None, last]));
 }
 
-/// Whether the men of a side may all have begun at these odds, where eight white pawns are left and none stands on a2.
+/// Whether the men of a side may all have begun at these odds, if eight white pawns are left and none stands on a2.
 fn is_accounted(side: Colour, bits: u64) -> Option<bool> {
     let board = read_four_fields(b"4k3/8/8/8/8/1P6/1PPPPPPP/4K3 w - -")?.board;
     Some(account_ok(&board, side, odds(bits)?))

@@ -176,7 +176,7 @@ struct Written {
     first: bool,
 }
 
-/// What is written into this room, by two bytes at most at a time, where the write of this number fails.
+/// What is written into this room, by two bytes at most at a time, if the write of this number fails.
 fn written_into(alloc: Global, room: usize, failing: u32) -> Option<Written> {
     let fails = Vec::from_slice(alloc, &[failing]).ok()?;
     let mut sink = MemSink::new(alloc, room, fails, 2).ok()?;

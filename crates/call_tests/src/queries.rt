@@ -145,7 +145,7 @@ fn sixth_of_all() -> Option<(Unmove, u8)> {
     Some((list.next()?, count(&query)?))
 }
 
-/// Before the capture the move that it answers, the man on d5 and the side to move; None where it isn't listed.
+/// Before the capture the move that it answers, the man on d5 and the side to move; None if it isn't listed.
 fn before_the_capture() -> Option<(Option<Move>, Option<Man>, Colour)> {
     let query = read_four_fields(AFTER_A_CAPTURE)?;
     let capture = capture_en_passant();

@@ -24,7 +24,7 @@ const NO_LINES: [&str; 8] = [
     "claim both K k",
 ];
 
-/// The line of the claim that a line is read as; nothing where it is none.
+/// The line of the claim that a line is read as; nothing if it is none.
 fn line_again(line: &str) -> ArrayVec<u8, 160> {
     let mut out = ArrayVec::new();
     if let Some(claim) = read_line_claim(line.as_bytes()) {

@@ -63,7 +63,7 @@ fn are_gates(gates: &[Gate]) -> bool
 }
 
 impl Prices {
-    /// The prices with these numbers; None exactly where a number is above 96, more than sixteen gates are given, or they don't stand
+    /// The prices with these numbers; None if and only if a number is above 96, more than sixteen gates are given, or they don't stand
     /// on squares of the board in ascending order, each with a toll from 1 to 96.
     pub fn new(white: &[u8; 16], black: &[u8; 16], gates: &[Gate]) -> Option<Prices>
         ensures { SomeIff result (IsTrue (are_prices (priced white.now black.now gates.now))) (priced white.now black.now gates.now) }

@@ -36,7 +36,7 @@ pub fn target(c: Castle) -> (Square, Square)
     (Square::known(king), Square::known(rook))
 }
 
-/// The castling whose king goes from here to there; None exactly where no castling's king does (article 3.8.2).
+/// The castling whose king goes from here to there; None if and only if no castling's king does (article 3.8.2).
 pub fn castling_from(from: Square, to: Square) -> Option<Castle>
     ensures { result ≡ castling_from from to }
 {

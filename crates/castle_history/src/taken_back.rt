@@ -14,7 +14,7 @@ fn of_side(side: Colour, castling: Option<Castle>) -> Option<Castle>
     }
 }
 
-/// The castling that the retraction takes back on this board; None exactly where the man on its target isn't a king, or the
+/// The castling that the retraction takes back on this board; None if and only if the man on its target isn't a king, or the
 /// retracted move isn't that king's of two squares along its rank from its own home, e1 for White and e8 for Black
 /// (article 3.8.2).
 pub fn castle_of(u: &Unmove, board: &Board) -> Option<Castle>

@@ -22,7 +22,7 @@ fn gather(gathered: &mut ArrayVec<u8, 256>, part: &[u8])
     let _ = gathered.try_extend_from_slice(part);
 }
 
-/// Takes a part of the line that is gathered, and the line where it ends.
+/// Takes a part of the line that is gathered, and the line if it ends.
 fn take_part(
     walk: &mut Walk,
     gathered: &mut ArrayVec<u8, 256>,
@@ -56,7 +56,7 @@ fn take_part(
     *number += 1;
 }
 
-/// The answer where no byte follows those that were gathered.
+/// The answer if no byte follows those that were gathered.
 fn end(walk: &Walk, gathered: &[u8], number: u32) -> Result<Accepted, Fault>
     requires { NoEnd gathered.now }
     ensures { Rest walk.now number (cut gathered.now) (answer_as result) }
@@ -149,9 +149,9 @@ impl Checker {
         }
     }
 
-    /// The answer to the bytes that were fed. `Ok` comes exactly where they are the text of a certificate that proves its claim,
-    /// with that claim and its query. `BadText` comes exactly where they are no certificate's text. `Unlisted` and `Unsupported`
-    /// come exactly otherwise, with the first fault that the walk of the certificate in preorder meets.
+    /// The answer to the bytes that were fed. `Ok` comes if and only if they are the text of a certificate that proves its claim,
+    /// with that claim and its query. `BadText` comes if and only if they are no certificate's text. `Unlisted` and `Unsupported`
+    /// come in all other cases, with the first fault that the walk of the certificate in preorder meets.
     pub fn finish(&self) -> Result<Accepted, Fault>
         ensures answer { (bytes : List ℕ) → StandsFor self.now bytes → Answers (cut bytes) (answer_as result) }
         ensures rest { Remains self.now [] (answer_as result) }

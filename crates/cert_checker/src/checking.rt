@@ -15,7 +15,7 @@ use query_base::target;
 use std::alloc::Global;
 
 /// The certificate whose text these bytes are, at most 67,108,864 of them, if it proves its claim. `BadText` comes exactly if they are no
-/// certificate's text. `Unlisted` and `Unsupported` come exactly otherwise, with the first fault that the walk of the certificate in
+/// certificate's text. `Unlisted` and `Unsupported` come in all other cases, with the first fault that the walk of the certificate in
 /// preorder meets. `Memory` may take the place of each of these.
 pub fn read_proof(alloc: Global, bytes: &[u8]) -> Result<Cert, Refused>
     requires { length bytes.now ≤ MOST_BYTES }
@@ -40,9 +40,9 @@ pub fn read_proof(alloc: Global, bytes: &[u8]) -> Result<Cert, Refused>
     }
 }
 
-/// Checks the certificate whose text these bytes are, at most 67,108,864 of them. `Ok` comes exactly where they are the text of a
-/// certificate that proves its claim, with that claim and its query. `BadText` comes exactly where they are no certificate's text.
-/// `Unlisted` and `Unsupported` come exactly otherwise, with the first fault that the walk of the certificate in preorder meets.
+/// Checks the certificate whose text these bytes are, at most 67,108,864 of them. `Ok` comes if and only if they are the text of a
+/// certificate that proves its claim, with that claim and its query. `BadText` comes if and only if they are no certificate's text.
+/// `Unlisted` and `Unsupported` come in all other cases, with the first fault that the walk of the certificate in preorder meets.
 /// Want of memory is a free answer: `Memory` may take the place of each of these.
 pub fn check_bytes(alloc: Global, bytes: &[u8]) -> Result<Accepted, Refused>
     requires { length bytes.now ≤ MOST_BYTES }

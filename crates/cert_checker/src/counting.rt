@@ -22,7 +22,7 @@ pub(crate) fn count_frames(frames: &[Frame], counts: &mut ArrayVec<u32, 256>)
     }
 }
 
-/// Takes off one child of the innermost node, and puts on what is due below this child, where it has children.
+/// Takes off one child of the innermost node, and puts on what is due below this child, if it has children.
 fn put_counts(counts: &mut ArrayVec<u32, 256>, body: &BodyLine)
     requires room { array_vec_len counts.old < 256 }
     requires open { SomeDue (reverse counts.old.items) }
@@ -52,7 +52,7 @@ pub(crate) fn settle_counts(counts: &mut ArrayVec<u32, 256>)
     }
 }
 
-/// What a line comes to where only what is due is counted.
+/// What a line comes to if only what is due is counted.
 #[derive(Clone, Copy, PartialEq, Eq, Debug)]
 pub enum Counted {
     /// It isn't due.
@@ -78,7 +78,7 @@ fn count_sketch(sketching: &mut Sketching, head: &SketchHead) -> Counted
     }
 }
 
-/// Takes the line of a node below the root where the walk has met a fault. It is one where it says what a child at its depth says; then
+/// Takes the line of a node below the root if the walk has met a fault. It is one if it says what a child at its depth says; then
 /// that child is due no more.
 #[inline(never)]
 pub(crate) fn count_line(

@@ -268,8 +268,8 @@ pub(crate) fn go_below(
     NodeStep::Nodes(fault)
 }
 
-/// The fault of a child with this label and body, where this is the first unmove that no child had; and the child's query, which
-/// where there is a fault may be another.
+/// The fault of a child with this label and body, if this is the first unmove that no child had; and the child's query, which
+/// if there is a fault may be another.
 fn look_at(
     first: Option<Unmove>,
     label: &Unmove,
@@ -323,7 +323,7 @@ fn walk_kid(
     go_below(frames, sketching, body, &before, found, line)
 }
 
-/// Takes the line of a node below the root, where the walk has met no fault.
+/// Takes the line of a node below the root, if the walk has met no fault.
 pub(crate) fn take_line(
     frames: &mut ArrayVec<Frame, 256>,
     sketching: &mut Sketching,

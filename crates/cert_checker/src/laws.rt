@@ -16,7 +16,7 @@ ghost use Rattle.cert_checker.specs.Frames.{Walking};
 ghost use Rattle.cert_checker.specs.Remains.{Checking, Remains, StandsFor};
 ghost use Rattle.cert_checker.specs.Stages.{BadTextFirst, Rest, heading, nodes};
 
-/// The law that the walk of a certificate that has a text meets no fault exactly where the certificate proves its claim.
+/// The law that the walk of a certificate that has a text meets no fault if and only if the certificate proves its claim.
 pub fn walk_proves()
     ensures { (lines : Lines) (cert : Certificate) → AreLinesOf lines cert → ((n : ℕ) × WalksTo cert (next_line n)) ↔ ProvesClaim cert }
 {}

@@ -51,7 +51,7 @@ impl LeftUnmoves {
         }
     }
 
-    /// The first unmove that is left, which then is left no more; None exactly where none is left.
+    /// The first unmove that is left, which then is left no more; None if and only if none is left.
     pub(crate) fn next(&mut self) -> Option<Unmove>
         ensures left { MatchOption result ((self.old.left ≡ []) × (self.new.left ≡ [])) (λ u. self.old.left ≡ u ∷ self.new.left) }
         ensures query { self.new.query ≡ self.old.query }

@@ -5,7 +5,7 @@ ghost use Rattle.cert_checker.specs.Staging.{IsPart, NoEnd};
 use memchr::memchr;
 use std::simd::prelude::*;
 
-/// The place of the lowest bit of the mask that is set, or 16 where none is.
+/// The place of the lowest bit of the mask that is set, or 16 if none is.
 #[inline(always)]
 fn lowest(mask: u64) -> usize
     ensures { result ≡ if mask == 0 then 16 else trailing_zeros w64 mask }

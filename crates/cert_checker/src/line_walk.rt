@@ -69,7 +69,7 @@ impl Walk {
         self.step = stop(&self.step, number);
     }
 
-    /// The answer where no line follows.
+    /// The answer if no line follows.
     pub(crate) fn answer(&self, number: u32) -> Result<Accepted, Fault>
         ensures { answer_as result ≡ answer_at self.now number }
     {
@@ -81,7 +81,7 @@ impl Walk {
         )
     }
 
-    /// The answer where one line follows that is none of a certificate.
+    /// The answer if one line follows that is none of a certificate.
     pub(crate) fn answer_halted(&self, number: u32) -> Result<Accepted, Fault>
         ensures answer { answer_as result ≡ answer_at (halted_at self.now number) number }
         ensures low { IsLow self.now }

@@ -32,7 +32,7 @@ pub enum Refused {
     /// text must go on.
     BadText { line: u32 },
     /// This unmove of a node's query is the label of none of its children. The line is that of the child whose label comes after
-    /// it, or the node's own where no child's does.
+    /// it, or the node's own if no child's does.
     Unlisted { line: u32, unmove: Unmove },
     /// The node on this line doesn't prove its query, or it is a line of a sketch that doesn't.
     Unsupported { line: u32, why: Why },
@@ -47,7 +47,7 @@ pub enum Fault {
     /// text must go on.
     BadText { line: u32 },
     /// This unmove of a node's query is the label of none of its children. The line is that of the child whose label comes after
-    /// it, or the node's own where no child's does.
+    /// it, or the node's own if no child's does.
     Unlisted { line: u32, unmove: Unmove },
     /// The node on this line doesn't prove its query, or it is a line of a sketch that doesn't.
     Unsupported { line: u32, why: Why },
@@ -60,7 +60,7 @@ pub enum StreamRefused {
     /// text must go on.
     BadText { line: u32 },
     /// This unmove of a node's query is the label of none of its children. The line is that of the child whose label comes after
-    /// it, or the node's own where no child's does.
+    /// it, or the node's own if no child's does.
     Unlisted { line: u32, unmove: Unmove },
     /// The node on this line doesn't prove its query, or it is a line of a sketch that doesn't.
     Unsupported { line: u32, why: Why },

@@ -73,7 +73,7 @@ impl Sketching {
         }
     }
 
-    /// Begins to read the sketch with this first line. False comes exactly where its units are too many.
+    /// Begins to read the sketch with this first line. False comes if and only if its units are too many.
     pub(crate) fn count_from(&mut self, head: &SketchHead) -> bool
         ensures start { MatchBool result (start self.old.units head.now ≡ Some self.new.reading) (start self.old.units head.now ≡ None) }
         ensures units { self.new.units ≡ self.old.units }
@@ -87,7 +87,8 @@ impl Sketching {
         }
     }
 
-    /// Begins to read the sketch with this first line, and to walk over it, at this query. False comes exactly where its units are too many.
+    /// Begins to read the sketch with this first line, and to walk over it, at this query. False comes if and only if its units are too
+    /// many.
     // It is long, and most lines begin no sketch.
     #[inline(never)]
     pub(crate) fn begin(&mut self, head: &SketchHead, query: &Query) -> bool
@@ -106,7 +107,7 @@ impl Sketching {
         true
     }
 
-    /// Begins the walk over the nodes, if none has come. False comes exactly where sketches may not be asked about the board.
+    /// Begins the walk over the nodes, if none has come. False comes if and only if sketches may not be asked about the board.
     fn begin_nodes(&mut self) -> bool
         requires { self.old.setting ≡ setting_of self.old.sketched.query self.old.sketched.exact self.old.sketched.prices }
         ensures begun { OnTrue result (HasBegun self.old self.new) }
@@ -152,7 +153,7 @@ impl Sketching {
         }
     }
 
-    /// Takes a line of the sketch, with its end. None comes where it goes bad; else the first fault of the walk, if this line has it.
+    /// Takes a line of the sketch, with its end. None comes if it goes bad; else the first fault of the walk, if this line has it.
     #[inline(never)]
     pub(crate) fn take(&mut self, number: u32, line: &[u8]) -> Option<Option<FirstFault>>
         requires { IsReading self.old }
@@ -174,7 +175,7 @@ impl Sketching {
         }
     }
 
-    /// Takes a line of the sketch, with its end, where the walk has met a fault, and answers whether it is one that is due.
+    /// Takes a line of the sketch, with its end, if the walk has met a fault, and answers whether it is one that is due.
     #[inline(never)]
     pub(crate) fn count(&mut self, line: &[u8]) -> bool
         requires { self.old.reading.due.prices ≤ 64 }

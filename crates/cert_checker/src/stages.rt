@@ -26,13 +26,13 @@ use query_base::{Claim, Query, target};
 pub enum Step {
     /// A line of the head, or the root's.
     Heading(Head),
-    /// That of a node below the root, or none, where the walk has met no fault.
+    /// That of a node below the root, or none, if the walk has met no fault.
     Walking(Claim, Query),
-    /// A line of a sketch, where the walk has met no fault.
+    /// A line of a sketch, if the walk has met no fault.
     Sketching(Claim, Query),
-    /// That of a node below the root, or none, where the walk has met this fault. From there on only what is due is counted.
+    /// That of a node below the root, or none, if the walk has met this fault. From there on only what is due is counted.
     Counting(Claim, Query, FirstFault),
-    /// A line of a sketch, where the walk has met this fault.
+    /// A line of a sketch, if the walk has met this fault.
     Skipping(Claim, Query, FirstFault),
     /// The text went bad at this line.
     Bad(u32),
@@ -154,7 +154,7 @@ fn take_head(
     }
 }
 
-/// The step after the line of a node below the root, where the walk has met no fault before.
+/// The step after the line of a node below the root, if the walk has met no fault before.
 fn take_node(
     claim: &Claim,
     query: &Query,
@@ -174,7 +174,7 @@ fn take_node(
     step_after(*claim, *query, node, frames, counts, number)
 }
 
-/// The step after a line of a sketch, where the walk has met this fault.
+/// The step after a line of a sketch, if the walk has met this fault.
 fn step_skipping(
     claim: Claim,
     query: Query,
@@ -196,7 +196,7 @@ fn step_skipping(
     Step::Counting(claim, query, found)
 }
 
-/// The step after a line of a sketch, where the walk has met no fault before.
+/// The step after a line of a sketch, if the walk has met no fault before.
 #[inline(never)]
 fn take_sketch(
     claim: &Claim,
@@ -234,7 +234,7 @@ fn take_sketch(
     )
 }
 
-/// The step after a line of a sketch, where the walk has met this fault before.
+/// The step after a line of a sketch, if the walk has met this fault before.
 #[inline(never)]
 fn skip_line(
     claim: &Claim,
@@ -257,7 +257,7 @@ fn skip_line(
     step_skipping(*claim, *query, found, sketching, counts)
 }
 
-/// Takes a line, with its end, where more than children is to be read.
+/// Takes a line, with its end, if more than children is to be read.
 // It stays out of `take`, where a line that is only counted would pay for its variables.
 #[inline(never)]
 fn take_read(
@@ -359,7 +359,7 @@ fn fault_of(found: FirstFault) -> Fault
     }
 }
 
-/// The answer where no line follows.
+/// The answer if no line follows.
 pub(crate) fn answer(
     step: &Step,
     frames: &[Frame],

@@ -21,18 +21,18 @@ fn streamed(answer: Result<Accepted, Fault>) -> Result<Accepted, StreamRefused>
 }
 
 /// Checks the certificate whose text the source gives, of at most 67,108,864 bytes. They are read to their end, to the first byte
-/// past so many, or to a failure, whatever was seen before. `Ok` comes exactly where they are the text of a certificate that proves
-/// its claim, with that claim and its query; `BadText` exactly where they are no certificate's text; `Unlisted` and `Unsupported`
-/// exactly otherwise, with the first fault that the walk of the certificate in preorder meets. `TooLong` comes exactly where one
-/// byte more was read, and `ReadFault` only where a read failed. This takes no memory.
+/// past so many, or to a failure, whatever was seen before. `Ok` comes if and only if they are the text of a certificate that proves
+/// its claim, with that claim and its query; `BadText` if and only if they are no certificate's text; `Unlisted` and `Unsupported`
+/// in all other cases, with the first fault that the walk of the certificate in preorder meets. `TooLong` comes if and only if one
+/// byte more was read, and `ReadFault` only if a read failed. This takes no memory.
 pub fn check_stream<S: Source>(src: &mut S) -> Result<Accepted, StreamRefused>
-    // The answer is that of the grammar and the walk to all bytes that were left, where they were read to their end.
+    // The answer is that of the grammar and the walk to all bytes that were left, if they were read to their end.
     ensures answer { IfSome (streamed result) (AnswersAll MOST_BYTES (S.left src.old) (S.left src.new)) }
 
     // No game, of any length, contradicts a claim that is accepted.
     ensures holds { IfOk result (λ a. Holds a.claim a.query) }
 
-    // Too long an input is answered only where one byte more than the limit was read, and a failure only where the count of
+    // Too long an input is answered only if one byte more than the limit was read, and a failure only if the count of
     // faults rose.
     ensures too_long { result ≡ Err StreamRefused.TooLong → ReadSome (S.left src.old) (S.left src.new) (λ n. n ≡ MOST_BYTES + 1) }
     ensures failed { result ≡ Err StreamRefused.ReadFault → ReadSome (S.left src.old) (S.left src.new) (λ n. n ≤ MOST_BYTES) }

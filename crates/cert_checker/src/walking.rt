@@ -15,7 +15,7 @@ use query_base::{Query, is_array, is_covered};
 use std::cmp::Ordering;
 use unmove_gen::{Unmoves, pred};
 
-/// The first unmove that no child before has, where it is the label of the child on this line; else the child's fault.
+/// The first unmove that no child before has, if it is the label of the child on this line; else the child's fault.
 fn check_label(label: &Unmove, first: Option<Unmove>, line: u32) -> Result<Unmove, Refused>
     ensures ok { IfOk result (λ u. (first ≡ Some u) × (unmove_order label.now u ≡ Equal)) }
     ensures fault { IfErr result (λ f. IsFault f (IsLabelFault first label.now line)) }

@@ -42,7 +42,7 @@ query_of text = cond (starts_with nat_eq text (codes "fen ")) (fen_of_four (drop
 abbrev pub clock_demand : List ℕ → Option (Option ℕ)
 clock_demand text = option_map (λ n. Some n) (clock_line text)
 
--- the format of a text with these lines for the demands that FEN has no word for: the second only where there are any
+-- the format of a text with these lines for the demands that FEN has no word for: the second only if there are any
 abbrev pub format_for : Lines → Format
 format_for [] = One
 format_for (line ∷ lines) = Two

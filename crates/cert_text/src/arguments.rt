@@ -72,7 +72,7 @@ fn read_columns<const W: usize>(text: &[u8]) -> Option<[i8; W]>
 }
 
 /// Reads potentials, those of rows and those of columns: at most so many numbers, a `/`, and so many numbers, from -64 to 64, with a
-/// space between two. A number has no leading zero, and one below 0 has a `-`. None comes exactly where the text is none of these.
+/// space between two. A number has no leading zero, and one below 0 has a `-`. None comes if and only if the text is none of these.
 pub fn read_duals<const W: usize>(text: &[u8]) -> Option<(ArrayVec<i8, W>, [i8; W])>
     requires some { 1 ≤ W }
     requires few { W < 256 }

@@ -96,7 +96,7 @@ fn text_of(alloc: Global, cert: &Cert) -> Result<Vec<u8>, AllocError>
     Ok(out)
 }
 
-/// Writes the one text of the certificate, for which there is one, as `fits_format` tells: in format 1 where its query is at no
+/// Writes the one text of the certificate, for which there is one, as `fits_format` tells: in format 1 if its query is at no
 /// odds and demands no clock, and else in format 2. `read_cert` reads it as this certificate: it stands for no other, and goes bad
 /// at no line. Want of memory is a free answer: `Err` may take the place of the text.
 pub fn write_cert(alloc: Global, cert: &Cert) -> Result<Vec<u8>, Memory>

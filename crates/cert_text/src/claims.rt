@@ -64,7 +64,7 @@ fn read_capture(text: &[u8]) -> Option<Claim>
 }
 
 /// Reads the line of a claim, without its end: `claim illegal`; `claim last` and a move; `claim lost` and `K`, `Q`, `k` or `q`; `claim
-/// ep` and a move without promotion. None comes exactly where the text is none of these.
+/// ep` and a move without promotion. None comes if and only if the text is none of these.
 #[tactic(auto, unfolding(crate::specs::ClaimLines::claim_of))]
 pub fn read_claim(line: &[u8]) -> Option<Claim>
     ensures { result ≡ claim_of line.now }

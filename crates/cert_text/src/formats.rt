@@ -110,7 +110,7 @@ fn all_fit(kids: &Kids, depth: u8) -> bool
     true
 }
 
-/// How many of so many units are left behind those of the sketches in the node and below it. None comes exactly where they have more.
+/// How many of so many units are left behind those of the sketches in the node and below it. None comes if and only if they have more.
 #[cycle(units)]
 fn units_left(node: &Node, left: u32) -> Option<u32>
     ensures { result ≡ left_of left (units_in (tree_of node.now)) }

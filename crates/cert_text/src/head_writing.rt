@@ -18,7 +18,7 @@ fn is_undemanding(query: &Query) -> bool
     query.odds.is_none() && query.clock.is_none()
 }
 
-/// Puts the line of the format after the others: the first format where neither odds nor a clock are demanded.
+/// Puts the line of the format after the others: the first format if neither odds nor a clock are demanded.
 fn push_format(query: &Query, out: &mut ArrayVec<u8, 512>)
     requires { length out.old.items + 8 ≤ 512 }
     ensures line { out.new.items ≡ out.old.items ++ ended (format_text (format_for (demand_lines query.now))) }

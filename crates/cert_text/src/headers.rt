@@ -10,7 +10,7 @@ use crate::lines::{first_line, without_end};
 use crate::node_lines::{BodyLine, read_root};
 use query_base::{Claim, Query};
 
-/// Reads the line of the root, with its end. None comes exactly where the line is no root's.
+/// Reads the line of the root, with its end. None comes if and only if the line is no root's.
 #[tactic(auto, unfolding(crate::specs::Lines::said))]
 pub fn read_root_line(line: &[u8]) -> Option<BodyLine>
     ensures { result ≡ said root_body line.now }

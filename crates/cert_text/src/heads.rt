@@ -54,7 +54,7 @@ fn read_format(text: &[u8]) -> Option<Format>
     }
 }
 
-/// Reads a line of odds, with its end. None comes exactly where the line is none.
+/// Reads a line of odds, with its end. None comes if and only if the line is none.
 #[tactic(auto, unfolding(crate::specs::Lines::said))]
 pub(crate) fn read_odds_line(line: &[u8]) -> Option<Odds>
     ensures { result ≡ said odds_line line.now }
@@ -87,7 +87,7 @@ fn read_query(text: &[u8]) -> Option<Query>
     }
 }
 
-/// Reads a line of a FEN, with its end: `fen`, a space and a FEN of four fields. None comes exactly where the line is none.
+/// Reads a line of a FEN, with its end: `fen`, a space and a FEN of four fields. None comes if and only if the line is none.
 #[tactic(auto, unfolding(crate::specs::Lines::said))]
 pub(crate) fn read_fen_line(line: &[u8]) -> Option<Query>
     ensures { result ≡ said query_of line.now }
@@ -139,7 +139,7 @@ fn read_clock_or_fen(claim: Claim, odds: Odds, line: &[u8]) -> Option<Head>
 
 /// Reads the line of a head that comes next, with its end: `retro 1` or `retro 2`; the claim's, as `read_claim` reads it; in format
 /// 2 that of the odds, as `read_odds` reads it, or of the clock, as `read_clock` reads it, or both in this order; `fen`, a space and
-/// a FEN of four fields. What comes next after it is given, and None exactly where the line isn't one that is due, or the head is
+/// a FEN of four fields. What comes next after it is given, and None if and only if the line isn't one that is due, or the head is
 /// read.
 #[tactic(auto, unfolding(crate::specs::Lines::said))]
 pub fn read_head_line(due: &Head, line: &[u8]) -> Option<Head>
@@ -170,7 +170,7 @@ fn clock_lines(clock: Option<u16>) -> u32
     if clock.is_none() { 0 } else { 1 }
 }
 
-/// The number of the root's line in a certificate about this query, counted from 1: 4, and one more at odds, and one more where a
+/// The number of the root's line in a certificate about this query, counted from 1: 4, and one more at odds, and one more if a
 /// clock is demanded.
 pub fn root_line_of(query: &Query) -> u32
     ensures { result ≡ root_at query.now }

@@ -22,7 +22,7 @@ pub fn one_text_of_a_claim()
     ensures promotion { (text : List ℕ) (claim : AnyClaim) → claim_of text ≡ Some claim → IsTrue (promotes_well claim) }
 {}
 
-/// Lines lead from the first of a head to the root exactly where they are the lines of a head, with the claim and the query that
+/// Lines lead from the first of a head to the root if and only if they are the lines of a head, with the claim and the query that
 /// they say; and the root's line is the next. This does nothing when it runs.
 pub fn heads_lead_to_the_root()
     ensures head { (lines : Lines) (claim : AnyClaim) (q : Asked) → Leads FormatDue lines (RootDue claim q) ↔ AreHeadLines lines claim q }

@@ -9,7 +9,7 @@ pub(crate) fn is_text(text: &[u8], other: &[u8]) -> bool
     text == other
 }
 
-/// The first line of the bytes, with its end, and what follows it; nothing where there are no bytes.
+/// The first line of the bytes, with its end, and what follows it; nothing if there are no bytes.
 pub fn first_line(bytes: &[u8]) -> Option<(&[u8], &[u8])>
     ensures { MatchOption result (cut bytes.now ≡ []) (λ parts. cut bytes.now ≡ parts.0.now ∷ cut parts.1.now) }
 {

@@ -134,7 +134,7 @@ fn expand_line(depth: u8, number: u32) -> Option<BodyLine>
     }
 }
 
-// It is long, and most lines begin no sketch. What it gives is small: a body would be copied once more, also where this isn't called.
+// It is long, and most lines begin no sketch. What it gives is small: a body would be copied once more, also if this isn't called.
 #[inline(never)]
 fn read_head(text: &[u8]) -> Option<SketchHead>
     ensures { result ≡ head_line text.now }
@@ -208,7 +208,8 @@ pub(crate) fn read_kid(depth: u8, text: &[u8]) -> Option<(Unmove, BodyLine)>
 /// `read_sketch_head` reads it. Numbers are decimal,
 /// with no leading zero other than `0` itself; those of `caps` are from -64 to 64, with a `-` in front of those below 0, those of `balance` from 0 to 96,
 /// and behind a square from 1; a set is its number
-/// of sixteen hexadecimal digits, with letters in lower case. One space parts two words. None comes exactly where the text is none of these.
+/// of sixteen hexadecimal digits, with letters in lower case. One space stands between two words. None comes if and only if the text is
+/// none of these.
 pub fn read_line(line: &[u8], depth: u8) -> Option<NodeLine>
     ensures line { result ≡ node_line depth line.now }
     ensures label { IfSome result (λ n. is_none n.label ≡ (depth == 0)) }

@@ -87,7 +87,7 @@ impl Kids {
         self.items.len()
     }
 
-    /// The child at this place, counted from 0. None exactly where the place isn't below `len`.
+    /// The child at this place, counted from 0. None if and only if the place isn't below `len`.
     pub fn get(&self, i: usize) -> Option<&Kid>
         ensures kid { MatchOption result (kid_at self.now i ≡ None) (λ kid. kid_at self.now i ≡ Some (kid.now.label, tree_of kid.now.node)) }
         ensures none { IsNone result ↔ (count self.now ≤ i) }

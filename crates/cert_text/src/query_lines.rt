@@ -75,7 +75,7 @@ fn push_fen(query: &Query, out: &mut ArrayVec<u8, 512>)
 
 /// Puts the lines of the query after what stands in `out`, each with its end: that of the odds, if there are any; that of the clock,
 /// if one is demanded; and `fen`, a space and the FEN. They are read as these odds, as this clock, and as the query at no odds that
-/// demands no clock. They have at most 119 bytes, for which there is room, and at most 108 where no clock is demanded. No move is
+/// demands no clock. They have at most 119 bytes, for which there is room, and at most 108 if no clock is demanded. No move is
 /// barred in the query, for which FEN has no word. It takes no memory.
 pub fn write_query_lines(query: &Query, out: &mut ArrayVec<u8, 512>)
     requires room { length out.old.items + 119 ≤ 512 }

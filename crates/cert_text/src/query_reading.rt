@@ -49,7 +49,7 @@ fn take_clock(bytes: &[u8]) -> (Option<Clock>, &[u8])
 }
 
 /// The query of the first line, `fen`, a space and a FEN of four fields, at these odds and with this clock, if there is one. None
-/// comes exactly where the first line is no such.
+/// comes if and only if the first line is no such.
 pub fn take_fen(odds: Odds, clock: Option<Clock>, bytes: &[u8]) -> Option<FirstQuery<'_>>
     ensures { MatchOption result (fen_first odds clock (cut bytes.now) ≡ None) (λ first. fen_first odds clock (cut bytes.now) ≡ Some (first.query, cut first.rest.now)) }
 {
@@ -65,7 +65,7 @@ pub fn take_fen(odds: Odds, clock: Option<Clock>, bytes: &[u8]) -> Option<FirstQ
     }
 }
 
-/// The query of the lines of the odds and of the clock, each if there is one, and of the FEN. None comes exactly where these lines
+/// The query of the lines of the odds and of the clock, each if there is one, and of the FEN. None comes if and only if these lines
 /// don't come first.
 pub fn take_query(bytes: &[u8]) -> Option<FirstQuery<'_>>
     ensures { MatchOption result (query_first (cut bytes.now) ≡ None) (λ first. query_first (cut bytes.now) ≡ Some (first.query, cut first.rest.now)) }

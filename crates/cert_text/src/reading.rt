@@ -21,7 +21,7 @@ use sketch_text::SketchHead;
 use std::alloc::Global;
 
 /// Reads the line of a node below the root, with its end: the unmove that leads to it, and its body. The depth of the root is 0.
-/// None comes exactly where the line is no child's at this depth.
+/// None comes if and only if the line is no child's at this depth.
 // A caller that only counts children so copies no label and no body.
 #[tactic(auto, unfolding(crate::specs::Lines::said))]
 #[inline(always)]
@@ -195,7 +195,7 @@ fn read_kids(
 
 /// Reads a certificate, of at most 67,108,864 bytes. Each line ends with one `\n`, and nothing follows the last node's:
 ///
-/// 1. The line of the format: `retro 2` where odds are named or a clock is demanded, and else `retro 1`.
+/// 1. The line of the format: `retro 2` if odds are named or a clock is demanded, and else `retro 1`.
 /// 2. The line of the claim, as `read_claim` reads it.
 /// 3. In format 2 alone the line of the odds, as `read_odds` reads it, if they are named, and then that of the clock, as `read_clock`
 ///    reads it, if one is demanded: one of the two, or both.
@@ -205,7 +205,7 @@ fn read_kids(
 ///    another node comes nothing of its own. All sketches together have at most 262,144 units. The labels may be any unmoves in any
 ///    order, and `back` may lead to any ancestor.
 ///
-/// `Ok` comes exactly where the bytes are so, with the certificate that they say. `BadText` comes exactly otherwise: the lines
+/// `Ok` comes if and only if the bytes are so, with the certificate that they say. `BadText` comes in all other cases: the lines
 /// before `line` begin a certificate's text, and with it they begin none, or the bytes end too early. A last piece with no line
 /// end counts as a line, and no certificate begins with it. Want of memory is a free answer: `Memory` may take the place of both.
 pub fn read_cert(alloc: Global, bytes: &[u8]) -> Result<Cert, CertFault>

@@ -7,8 +7,8 @@ ghost use Rattle.cert_text.specs.Lines.{said};
 use crate::lines::without_end;
 use sketch_body::{SketchDue, SketchItem};
 
-/// Reads the next line of a sketch, with its end, as `SketchDue::read` reads it without. None comes exactly where the line isn't one that is
-/// due, or the units become too many. Nothing changes then.
+/// Reads the next line of a sketch, with its end, as `SketchDue::read` reads it without. None comes if and only if the line isn't one that
+/// is due, or the units become too many. Nothing changes then.
 #[tactic(auto, unfolding(crate::specs::Lines::said))]
 #[inline(never)]
 pub fn read_sketch_line(due: &mut SketchDue, line: &[u8]) -> Option<SketchItem>

@@ -43,7 +43,7 @@ fn unsupported(line: u32, why: Why) -> Option<Refused> {
     Some(Refused::Unsupported { line, why })
 }
 
-/// Texts, each with its refusal, or none where it proves its claim. No last move lets knights on c7 and g7 give check at once. After
+/// Texts, each with its refusal, or none if it proves its claim. No last move lets knights on c7 and g7 give check at once. After
 /// Black's double step White can't have moved before it: king and rook are unmoved, and the pawn stands at home.
 pub(crate) fn rows() -> [(&'static [u8], Option<Refused>); 9] {
     let king = Unmove {

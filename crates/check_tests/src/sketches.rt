@@ -34,7 +34,7 @@ fn joined(alloc: Global, head: &str, parts: &[&str]) -> Result<Vec<u8>, AllocErr
     Ok(text)
 }
 
-/// Whether the text of this head and these parts is answered so, or is accepted where no refusal is given, whole and in pieces.
+/// Whether the text of this head and these parts is answered so, or is accepted if no refusal is given, whole and in pieces.
 fn is_so(
     alloc: Global,
     head: &str,

@@ -63,7 +63,7 @@ fn is_alike(alloc: Global, text: &[u8], piece: usize) -> Result<bool, AllocError
     }
 }
 
-/// Whether a text is refused so, or is accepted where no refusal is given: whole, and in reads of one byte and of seven.
+/// Whether a text is refused so, or is accepted if no refusal is given: whole, and in reads of one byte and of seven.
 pub(crate) fn is_answered(
     alloc: Global,
     text: &[u8],

@@ -22,7 +22,7 @@ pub record IsDecided (q : Asked) (claim : Claim) (most nodes : ℕ) (games : Lis
   pub texts : IfSome d.stuck (All (λ u. IsTrue (has_text u)))
   pub countered : d.finding ≡ Countered → IsCounteredIn games claim q
 
--- the same, and the claim is countered exactly where one of the games contradicts it
+-- the same, and the claim is countered if and only if one of the games contradicts it
 pub record IsAgreed (q : Asked) (claim : Claim) (most nodes : ℕ) (games : List (List Move)) (d : Decided) : Type 0 where
   pub decided : IsDecided q claim most nodes games d
   pub agrees : AgreesWith games claim q d.finding

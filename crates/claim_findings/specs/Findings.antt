@@ -50,7 +50,7 @@ abbrev pub IsUnprovedBelow : Asked → Claim → ℕ → ℕ → Type 0
 IsUnprovedBelow q claim nodes depth =
     (k n : ℕ) → k < depth → IsRefutable (target q claim) k [] → IsCost (target q claim) k [] n → nodes < n
 
--- The claim is proved at this depth, which is at most the greatest, and the least at which the search proves it: 0 where its target
+-- The claim is proved at this depth, which is at most the greatest, and the least at which the search proves it: 0 if its target
 -- has a plain reason.
 pub record IsProof (q : Asked) (claim : Claim) (most nodes depth : ℕ) : Type 0 where
   pub proved : IsProvedAt q claim most depth

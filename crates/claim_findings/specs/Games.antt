@@ -14,7 +14,7 @@ use Rattle.claim_findings.specs.declared.findings.Finding.TheVariants.{Countered
 abbrev pub IsCounteredIn : List (List Move) → Claim → Asked → Type 0
 IsCounteredIn games claim q = (g : List Move) × Contains games g × Contradicts g claim q
 
--- a claim is told as countered exactly where one of these games contradicts it
+-- a claim is told as countered if and only if one of these games contradicts it
 abbrev pub AgreesWith : List (List Move) → Claim → Asked → Finding → Type 0
 AgreesWith games claim q finding = (finding ≡ Countered) ↔ IsCounteredIn games claim q
 

@@ -22,7 +22,7 @@ pub struct Decided {
     pub stuck: Option<UnmoveList>,
 }
 
-/// What is found where nothing is told of an open line.
+/// What is found if nothing is told of an open line.
 fn plainly(finding: Finding) -> Decided
     ensures finding { result.finding ≡ finding }
     ensures stuck { result.stuck ≡ None }
@@ -90,7 +90,7 @@ fn look(
     }
 }
 
-/// What is found of a claim where the searches for a proof came to this and didn't prove it: a game against it is looked for.
+/// What is found of a claim if the searches for a proof came to this and didn't prove it: a game against it is looked for.
 pub fn counter(
     searchers: &mut Searchers,
     games: &mut Games,
@@ -159,7 +159,7 @@ pub fn decide(
     decide_further(searchers, games, subject, claim, decided)
 }
 
-/// What is found of the claim by these games too: it is countered where one of them contradicts it.
+/// What is found of the claim by these games too: it is countered if one of them contradicts it.
 pub fn agreed(games: &Games, subject: &Subject, claim: &Claim, decided: Decided) -> Decided
     ensures agrees { (most nodes : ℕ) →
         IsDecided subject.now.query claim.now most nodes games.now.found.items decided →

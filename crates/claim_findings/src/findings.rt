@@ -23,7 +23,7 @@ impl Finding {
         matches!(self, Finding::Proved(_))
     }
 
-    /// What is found of two claims together: the greater depth where both are proved, else the first that isn't.
+    /// What is found of two claims together: the greater depth if both are proved, else the first that isn't.
     pub fn joined(self, other: Finding) -> Finding
         ensures { result ≡ joined self other }
     {

@@ -57,7 +57,7 @@ fn least_depth(
     Ok(least)
 }
 
-/// What is found of the claim, by searches within these limits. The search at the greatest depth comes first: where it leaves the claim
+/// What is found of the claim, by searches within these limits. The search at the greatest depth comes first: if it leaves the claim
 /// open, no lower depth proves it.
 pub fn seek(
     searchers: &mut Searchers,

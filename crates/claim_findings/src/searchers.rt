@@ -81,7 +81,7 @@ impl Searchers {
         }
     }
 
-    /// Searches for a refutation of the query by rule lines; and where these leave it open, or cost too much, by the balance of captures
+    /// Searches for a refutation of the query by rule lines; and if these leave it open, or cost too much, by the balance of captures
     /// too, as far back but with a tenth of the nodes, and if it stays open still, by sketches. Where flat prices support the query, and any
     /// may be visited, or one node of a sketch refutes it without exact files, prices and marks, it is refuted.
     pub(crate) fn refute(&mut self, query: &Query, limits: Limits) -> Result<Outcome, Memory>

@@ -19,8 +19,8 @@ use Rattle.retro_search.specs.declared.answers.Found.TheVariants as found
 -- What each answer says of the claim about the query. A certificate proves the claim, so that no game contradicts it, goes back no further
 -- than the depth, and has a text where the claim has one, which a check takes. A game contradicts the claim, and has at most as many moves
 -- as the nodes, however low the depth is. A line of fewer unmoves than the nodes is open at the depth, and ends elsewhere than at the
--- array; with at most 250,000 nodes, flat prices support no query on it. The nodes are spent only where the whole search of the target is
--- larger; and where rule lines refute it, it costs more. Where rule lines refute the target at a cost within the nodes, or flat prices
+-- array; with at most 250,000 nodes, flat prices support no query on it. The nodes are spent only if the whole search of the target is
+-- larger; and if rule lines refute it, it costs more. Where rule lines refute the target at a cost within the nodes, or flat prices
 -- support it, the answer is a certificate.
 pub record IsSettlement (depth nodes : ℕ) (claim : Claim) (q : Asked) (answer : Found) : Type 0 where
   pub proved : IfProved answer (λ cert. IsProofOf depth (cert_of cert) claim q)

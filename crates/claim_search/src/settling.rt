@@ -264,10 +264,10 @@ fn search_small(
 ///
 /// - `Proved` comes wherever rule lines refute the target at some depth up to that of the limits at a cost of at most their nodes, flat
 ///   prices support it, or one node of a sketch refutes it without exact files, prices and marks, and often elsewhere. The certificate is
-///   of this claim and this query, proves it, goes back no further than the depth, and has at most 500,000 nodes. It has a text where the
+///   of this claim and this query, proves it, goes back no further than the depth, and has at most 500,000 nodes. It has a text if the
 ///   claim has one, and no text of more than 64 MiB. No game of any length contradicts the claim.
 /// - `Countered` comes with a game that contradicts the claim. It has at most as many moves as the nodes, however low the depth is. It comes
-///   wherever `solve` within the same limits must come to a game: where the target's first open line ends at the array, and its cost is at
+///   wherever `solve` within the same limits must come to a game: if the target's first open line ends at the array, and its cost is at
 ///   most the nodes.
 /// - `Undecided` and `Spent` come as from a search for a certificate alone, with the line that stays open, or with how many queries were
 ///   visited. They say nothing about games otherwise.

@@ -11,7 +11,7 @@ abbrev pub right_text : Right → List ℕ
 right_text (Castling x) = castle_letter x ∷ []
 right_text (EnPassant m) = move_text m
 
--- Castling is deemed permitted unless the right is proved to be lost, and a capture en passant only where it is proved to be legal.
+-- Castling is deemed permitted unless the right is proved to be lost, and a capture en passant only if it is proved to be legal.
 abbrev pub proved_words : Right → List ℕ
 proved_words (Castling x) = codes " not permitted"
 proved_words (EnPassant m) = codes " permitted"

@@ -56,7 +56,7 @@ fn open_words(right: &Right) -> &'static [u8]
 }
 
 /// Writes the line of a right, with its end: its letter or its move, and what the conventions say of it. A castling is not permitted
-/// where its loss is proved (`refuted`), else undisproved to the depth; a capture en passant is permitted where it is proved to be
+/// if its loss is proved (`refuted`), else undisproved to the depth; a capture en passant is permitted if it is proved to be
 /// legal, else unproved to the depth. `out` is empty before, the depth is from 0 to 64, and a capture en passant promotes nothing.
 pub fn verdict_line(right: &Right, refuted: bool, depth: u8, out: &mut ArrayVec<u8, 64>)
     requires empty { out.old.items ≡ [] }

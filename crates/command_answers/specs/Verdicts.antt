@@ -22,7 +22,7 @@ Each P [] [] = Unit {0}
 Each P (right ∷ rights) (settled ∷ others) = P right settled × Each P rights others
 Each P _ _ = ⊥
 
--- The target of the right's claim is refutable at the depth, exactly where this is true. Where it is, no game contradicts the claim, and
+-- The target of the right's claim is refutable at the depth, if and only if this is true. Where it is, no game contradicts the claim, and
 -- its proof is afforded by the nodes.
 pub record IsSettled (q : Asked) (depth nodes : ℕ) (right : Right) (settled : Bool) : Type 0 where
   pub exactly : IsTrue settled ↔ IsRefutable (target q (claim_of right)) depth []

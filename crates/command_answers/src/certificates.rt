@@ -21,7 +21,7 @@ use cert_text::{Body, Cert, Kids, Node, NodeLine, body_line, write_head, write_l
 use query_base::{Claim, Query};
 use retro_ports::{Failed, Sink, write_all};
 
-/// The lines of the head: the format, the claim, the odds and the clock where these are demanded, and the FEN.
+/// The lines of the head: the format, the claim, the odds and the clock if these are demanded, and the FEN.
 fn head_text(claim: &Claim, query: &Query) -> ArrayVec<u8, 512>
     requires promotion { IsTrue (promotes_well claim.now) }
     requires plain { query.now.barred ≡ None }

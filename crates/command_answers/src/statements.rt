@@ -40,7 +40,7 @@ fn read_behind(rest: &[u8]) -> Result<Position, InputFault>
 }
 
 /// The claim of the input's first line, and the query of the lines behind it, of which there are no more than the query's. `BadLine`
-/// comes where the first line is no claim, and `BadLine`, counted from the claim on, and `BadFen` as from `read_lone_question` of what
+/// comes if the first line is no claim, and `BadLine`, counted from the claim on, and `BadFen` as from `read_lone_question` of what
 /// follows it.
 pub fn read_statement(input: &[u8]) -> Result<Statement, InputFault>
     requires { length input.now ≤ most_bytes }

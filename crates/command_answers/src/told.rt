@@ -67,7 +67,7 @@ fn put_clock(line: &mut ArrayVec<u8, 512>, clock: Option<u16>)
     put(line, text.as_slice());
 }
 
-/// Adds the FEN, and the odds and the clock, where there are any.
+/// Adds the FEN, and the odds and the clock, if there are any.
 fn put_position(line: &mut ArrayVec<u8, 512>, query: &Query)
     requires room { array_vec_len line.old ≤ 200 }
     requires plain { query.now.barred ≡ None }

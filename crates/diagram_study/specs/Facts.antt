@@ -76,7 +76,7 @@ IsTrueOf q (if_held castle x) = IsLineTrue (with_held q castle) x
 IsTrueOf q (at_least n) = (g : List Move) → Reaches g q → n ≤ length g
 IsTrueOf q (other finding) = IsSo finding (Holds Illegal (other_side q)) (IsContradicted Illegal (other_side q))
 
--- These games are what the facts go by: a claim is countered exactly where one of them contradicts it, and one of them ends with each of
+-- These games are what the facts go by: a claim is countered if and only if one of them contradicts it, and one of them ends with each of
 -- the unmoves that are called possible. So no fact gainsays another: where an unmove is called possible, that the query is illegal is
 -- countered.
 abbrev pub GoesBy : List (List Move) → Asked → Fact → Type 0

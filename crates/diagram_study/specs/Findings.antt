@@ -35,7 +35,7 @@ pub record IsLength (q : Asked) (said : LengthText) : Type 0 where
   pub side : longer_side (side_length White q) (side_length Black q) ≡ Some said.side
   pub games : (g : List Move) → Reaches g q → said.at_least ≤ length g
 
--- how many half-moves games have at least, or nothing where both sides have more than sixteen men
+-- how many half-moves games have at least, or nothing if both sides have more than sixteen men
 abbrev pub HasLength : Asked → Option ℕ → Type 0
 HasLength q None = (16 < length (men_squares White q.board)) × (16 < length (men_squares Black q.board))
 HasLength q (Some n) = (said : LengthText) × IsLength q said × (n ≡ said.at_least)

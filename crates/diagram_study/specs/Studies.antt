@@ -11,7 +11,7 @@ use Rattle.diagram_study.specs.Texts.{findings_text, plain_line}
 use Rattle.diagram_study.specs.declared.findings.Findings.{Findings}
 
 -- What is told of a position: the text of what was found of it, by which this is the finding of the claim that it is illegal. One list of
--- games decides all of it: each claim is countered exactly where one of them contradicts it, and the last moves that are possible are
+-- games decides all of it: each claim is countered if and only if one of them contradicts it, and the last moves that are possible are
 -- exactly those that end one. So where one is possible, or a right is countered, that the position is illegal is countered too.
 pub record TellsPosition (q : Asked) (most nodes : ℕ) (finding : Finding) (text : List ℕ) : Type 0 where
   pub by : List (List Move)
@@ -38,7 +38,7 @@ abbrev pub TellsAgain : Asked → ℕ → ℕ → Finding → List ℕ → Type 
 TellsAgain q most nodes finding text =
     (IsTrue (is_proved finding && makes_demands q) → TellsPlain q most nodes text) × ((IsTrue (is_proved finding && makes_demands q) → ⊥) → text ≡ [])
 
--- The text tells what was found of the position; and where it makes demands and is proved to be illegal, what was found without them.
+-- The text tells what was found of the position; and if it makes demands and is proved to be illegal, what was found without them.
 pub record IsStudy (q : Asked) (most nodes : ℕ) (text : List ℕ) : Type 0 where
   pub finding : Finding
   pub own : List ℕ

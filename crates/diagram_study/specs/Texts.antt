@@ -51,7 +51,7 @@ pair_lines found = flat_map (λ f. decided_steps f.finding f.stuck (NotBoth f.fi
 abbrev pub move_line : MoveFound → List ℕ
 move_line f = cond (is_proved f.finding) (found_line f.finding (Last f.mv)) []
 
--- that line, or nothing where the unmoves left have no move in common
+-- that line, or nothing if the unmoves left have no move in common
 abbrev pub last_text : Option MoveFound → List ℕ
 last_text None = []
 last_text (Some f) = move_line f
@@ -60,7 +60,7 @@ last_text (Some f) = move_line f
 abbrev pub moves_line : StepsFound → List ℕ
 moves_line f = cond (is_proved f.finding) (steps_line f.finding f.claim) []
 
--- that line, or nothing where fewer than two are forced
+-- that line, or nothing if fewer than two are forced
 abbrev pub steps_text : Option StepsFound → List ℕ
 steps_text None = []
 steps_text (Some f) = moves_line f
@@ -77,7 +77,7 @@ left_line left all = ended (codes "left " ++ decimal (length left) ++ codes " of
 abbrev pub possible_line : List Unmove → ℕ → List ℕ
 possible_line ends left = ended (codes "possible " ++ decimal (length ends) ++ codes " of " ++ decimal left ++ unmove_words ends)
 
--- that line, or nothing where ends weren't looked for
+-- that line, or nothing if ends weren't looked for
 abbrev pub ends_text : Option (List Unmove) → ℕ → List ℕ
 ends_text None left = []
 ends_text (Some ends) left = possible_line ends left
@@ -98,7 +98,7 @@ held_text held = flat_map (λ h. if_lines h.castle h.lines.items) held
 abbrev pub length_line : ℕ → List ℕ
 length_line n = ended (codes "atleast " ++ decimal n)
 
--- that line, or nothing where no length is known
+-- that line, or nothing if no length is known
 abbrev pub length_text : Option ℕ → List ℕ
 length_text None = []
 length_text (Some n) = length_line n

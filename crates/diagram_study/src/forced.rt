@@ -22,14 +22,14 @@ pub struct StepsFound {
 /// The most steps of a line.
 const MOST_STEPS: usize = 16;
 
-/// The unmove of these, where it is one.
+/// The unmove of these, if it is one.
 fn only_unmove(left: &UnmoveList) -> Option<Unmove>
     ensures { MatchOption result (length left.now ≡ 1 → ⊥) (λ u. left.now ≡ u ∷ []) }
 {
     if left.len() == 1 { left.get(0) } else { None }
 }
 
-/// The unmove that alone is left of the query, where its move is proved to have been the last.
+/// The unmove that alone is left of the query, if its move is proved to have been the last.
 fn forced_unmove(
     searchers: &mut Searchers,
     subject: &Subject,
@@ -98,7 +98,7 @@ fn find_steps(
     Ok(StepsFound { claim, finding })
 }
 
-/// What is found of the last moves that follow one from another, where there are two or more.
+/// What is found of the last moves that follow one from another, if there are two or more.
 pub(crate) fn find_forced(
     searchers: &mut Searchers,
     subject: &Subject,

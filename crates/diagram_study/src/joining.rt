@@ -51,8 +51,8 @@ fn joined_height(subject: &Subject, but: &Option<Move>, seen: &Counted) -> Optio
     }
 }
 
-/// What is found of the claim that the move was the last, or without one that the position is illegal, where the search alone came to
-/// this: where it came to no proof, one may be joined of those that refute what is before the unmoves.
+/// What is found of the claim that the move was the last, or without one that the position is illegal, if the search alone came to
+/// this: if it came to no proof, one may be joined of those that refute what is before the unmoves.
 pub(crate) fn joined_up(
     subject: &Subject,
     but: Option<Move>,

@@ -17,7 +17,7 @@ use line_claims::LineClaim;
 use query_base::{Claim, Query};
 use std::alloc::{AllocError, Global};
 
-/// Two castlings, and what is found of the claim that they aren't both kept; where that stays open, the retractions that are told of an
+/// Two castlings, and what is found of the claim that they aren't both kept; if that stays open, the retractions that are told of an
 /// open line.
 #[derive(Drop)]
 pub struct PairFound {

@@ -129,7 +129,7 @@ fn find_move(
     Ok(MoveFound { mv: *m, finding })
 }
 
-/// What is found of the last move, where all retractions that are left have one move.
+/// What is found of the last move, if all retractions that are left have one move.
 pub(crate) fn find_last(
     searchers: &mut Searchers,
     subject: &Subject,

@@ -15,7 +15,7 @@ use codex_verdict::{Right, claim_of, rights};
 use query_base::{Claim, Query};
 use std::alloc::{AllocError, Global};
 
-/// A right, and what is found of the claim that decides it; where that stays open, the retractions that are told of an open line.
+/// A right, and what is found of the claim that decides it; if that stays open, the retractions that are told of an open line.
 #[derive(Drop)]
 pub struct RightFound {
     pub right: Right,
@@ -143,7 +143,7 @@ fn with_right(f: &RightFound, set: CastleSet) -> CastleSet
     }
 }
 
-/// Adds the line of a right, where it is that of a castling.
+/// Adds the line of a right, if it is that of a castling.
 fn push_castling(text: &mut Vec<u8>, f: &RightFound) -> Result<(), AllocError>
     requires { HasStuckText f.now }
     ensures { OnOk result (text.new.items ≡ text.old.items
@@ -155,7 +155,7 @@ fn push_castling(text: &mut Vec<u8>, f: &RightFound) -> Result<(), AllocError>
     }
 }
 
-/// Adds the line of a right, where it is that of a capture en passant.
+/// Adds the line of a right, if it is that of a capture en passant.
 fn push_capture(text: &mut Vec<u8>, f: &RightFound) -> Result<(), AllocError>
     requires promotion { IsTrue (promotes_well (claim_of f.now.right)) }
     requires texts { HasStuckText f.now }

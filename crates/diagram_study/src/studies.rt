@@ -124,7 +124,7 @@ fn tell_plain(
     }
 }
 
-/// Adds what is found of the position without its demands, where these make it illegal.
+/// Adds what is found of the position without its demands, if these make it illegal.
 fn tell_again(
     searchers: &mut Searchers,
     games: &mut Games,
@@ -143,20 +143,20 @@ fn tell_again(
 }
 
 /// The study of the position: its text has a line for each fact. For each claim `most` moves are taken back at most, 0 to 64, and each
-/// search visits at most `nodes` queries, 1 to 500,000: by rule lines, and, where these settle nothing, by the balance of captures and then
+/// search visits at most `nodes` queries, 1 to 500,000: by rule lines, and, if these settle nothing, by the balance of captures and then
 /// by sketches too. The query bars no move of its own.
 ///
-/// - `proved D` before a claim says that it holds of every game, and that D is the least depth at which the search proves it, 0 where
+/// - `proved D` before a claim says that it holds of every game, and that D is the least depth at which the search proves it, 0 if
 ///   flat prices support its target, or one node of a sketch refutes it without exact files, prices and marks; `open` that rule lines don't
 ///   refute its target at `most` nor at any lower depth; `spent` that the whole search is larger than the nodes.
 /// - First comes what was found of the claim `illegal`. Where the search alone leaves that open, but refutes what is before each retraction,
 ///   it is proved all the same, at one more than the greatest depth there; but not with no move taken back, nor of the array. So is the
-///   claim that a move was the last, where no other is left. Where `illegal` is proved, every claim about the position holds, so nothing more is
+///   claim that a move was the last, if no other is left. If `illegal` is proved, every claim about the position holds, so nothing more is
 ///   told of it but what was found of the same board with the other side to move. Where it makes demands, it is studied once more
 ///   without them, behind a line that says so.
 /// - Else come the castlings that it seems to give and doesn't demand; each two of them of which neither is proved to be lost; the
-///   captures en passant; the last move, where it is proved, and two to sixteen last moves, where they follow one from another; how
-///   many of the retractions are left whose predecessors the search doesn't refute, and which, where they are at most 24; the ledger; what it
+///   captures en passant; the last move, if it is proved, and two to sixteen last moves, if they follow one from another; how
+///   many of the retractions are left whose predecessors the search doesn't refute, and which, if they are at most 24; the ledger; what it
 ///   says only if a castling is held that is neither proved to be lost nor kept by a game, each line behind `if` and the castling's letter;
 ///   and how many half-moves each game has at least.
 pub fn study(alloc: Global, query: &Query, most: u8, nodes: u32) -> Result<Vec<u8>, AllocError>

@@ -17,7 +17,7 @@ use std::alloc::AllocError;
 /// The most unmoves that are written out.
 const MOST_WRITTEN: usize = 24;
 
-/// Adds the line of the last move, where it is proved.
+/// Adds the line of the last move, if it is proved.
 fn push_move(text: &mut Vec<u8>, found: &MoveFound) -> Result<(), AllocError>
     requires { IsTrue (can_promote found.now.mv.promo) }
     ensures { OnOk result (text.new.items ≡ text.old.items ++ move_line found.now) }
@@ -40,7 +40,7 @@ pub(crate) fn push_last(text: &mut Vec<u8>, last: &Option<MoveFound>) -> Result<
     }
 }
 
-/// Adds the line of the last moves, where they are proved.
+/// Adds the line of the last moves, if they are proved.
 fn push_moves(text: &mut Vec<u8>, found: &StepsFound) -> Result<(), AllocError>
     requires { HasLine found.now.claim }
     ensures { OnOk result (text.new.items ≡ text.old.items ++ moves_line found.now) }
@@ -63,7 +63,7 @@ pub(crate) fn push_forced(text: &mut Vec<u8>, steps: &Option<StepsFound>) -> Res
     }
 }
 
-/// Adds the unmoves where they are few.
+/// Adds the unmoves if they are few.
 fn push_few(text: &mut Vec<u8>, left: &UnmoveList) -> Result<(), AllocError>
     requires { All (λ u. IsTrue (has_text u)) left.now }
     ensures { OnOk result (text.new.items ≡ text.old.items ++ few_words left.now) }

@@ -9,7 +9,7 @@ use Rattle.line_claims.specs.declared.claims.LineClaim.{LineClaim}
 use Rattle.dossier_checker.specs.DossierAnswers.{DossierAnswer, AnswersPart, AnswersParts, no_part}
 
 -- The claim and its query; the parts that aren't read to their end, of which the first has this number; the bytes so far of the line
--- that counts that part's bytes; how many of these are to come, or 0 where their line comes; and the check of those that came.
+-- that counts that part's bytes; how many of these are to come, or 0 if their line comes; and the check of those that came.
 pub record Parting : Type 0 where
   pub claim : LineClaim
   pub query : Asked

@@ -15,7 +15,7 @@ pub fn one_dossier_answer()
     ensures { (bytes : List ℕ) (a b : DossierAnswer) → AnswersDossier bytes a → AnswersDossier bytes b → a ≡ b }
 {}
 
-/// The law that a claim is the answer to the bytes exactly where they are a dossier of it.
+/// The law that a claim is the answer to the bytes if and only if they are a dossier of it.
 pub fn accepted_are_dossiers()
     ensures { (bytes : List ℕ) (claim : LineClaim) (q : Asked) → AnswersDossier bytes (line_accepted claim q) ↔ IsDossier bytes claim q }
 {}

@@ -76,7 +76,7 @@ pub struct Parts {
     claim: LineClaim,
     /// The query that it is about.
     query: Query,
-    /// The part that comes next or is being read, or None where no part is due any more.
+    /// The part that comes next or is being read, or None if no part is due any more.
     first: Option<(Claim, Query)>,
     /// The parts due after it.
     others: Due,
@@ -84,7 +84,7 @@ pub struct Parts {
     number: u32,
     /// The bytes so far of the line that counts its bytes.
     line: ArrayVec<u8, 16>,
-    /// How many of its bytes are to come, or 0 where their line comes.
+    /// How many of its bytes are to come, or 0 if their line comes.
     left: u32,
     /// The check of those that came.
     checker: Checker,
@@ -212,7 +212,7 @@ impl Parts {
         Ok(())
     }
 
-    /// The answer where no byte follows: the claim, where no part is due any more.
+    /// The answer if no byte follows: the claim, if no part is due any more.
     pub(crate) fn finish(self) -> Result<AcceptedLine, DossierRefused>
         ensures { IsSomeAnd (dossier_answer result) (λ a. PartsRemain self [] a) }
     {

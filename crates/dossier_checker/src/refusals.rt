@@ -33,7 +33,7 @@ pub enum DossierRefused {
         line: u32,
     },
     /// In this part this unmove of a node's query is the label of none of its children. The line is that of the child whose label
-    /// comes after it, or the node's own where no child's does.
+    /// comes after it, or the node's own if no child's does.
     Unlisted {
         part: u32,
         line: u32,

@@ -103,7 +103,7 @@ pub(crate) fn feed(stage: &mut Stage, piece: &[u8])
     take(stage, piece);
 }
 
-/// The answer where no byte follows those for which the stage stands.
+/// The answer if no byte follows those for which the stage stands.
 pub(crate) fn finish(stage: Stage) -> Result<AcceptedLine, DossierRefused>
     ensures { (bytes : List ℕ) → StageStands stage bytes → IsSomeAnd (dossier_answer result) (AnswersDossier bytes) }
 {

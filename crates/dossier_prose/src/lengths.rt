@@ -31,7 +31,7 @@ fn home_of(side: Colour, j: u8) -> Square
     }
 }
 
-/// What the man on this place of a square needs from a home; 64 where nobody stands there.
+/// What the man on this place of a square needs from a home; 64 if nobody stands there.
 fn place_cost(odds: Odds, place: Option<Man>, s: Square, home: Square) -> u8
     ensures { result ≡ place_cost odds place s home }
 {

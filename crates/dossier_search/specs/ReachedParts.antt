@@ -14,7 +14,7 @@ use Rattle.retro_search.specs.Lone.{IsAfforded, IsDear}
 use Rattle.retro_search.specs.Plain.{HasPlainSketch}
 use Rattle.retro_search.specs.Refutable.{IsRefutable}
 
--- what a game reaches exactly where it contradicts the part
+-- what a game reaches if and only if it contradicts the part
 abbrev pub part_target : Claim × Asked → Asked
 part_target part = target part.1 part.0
 

@@ -88,7 +88,7 @@ fn solve_by_sketches(
 }
 
 /// Searches for a certificate of the part by all reasons within these limits, with sketches only if it stays open without. None comes only
-/// where flat prices don't support its target, and one node of a sketch doesn't refute it.
+/// if flat prices don't support its target, and one node of a sketch doesn't refute it.
 fn solve_by_all(
     alloc: Global,
     query: &Query,
@@ -112,8 +112,8 @@ fn solve_by_all(
     }
 }
 
-/// Searches for a certificate of the part, which claims this about the query, within the whole limits: by rule lines; where these leave
-/// it open, by all reasons; and where it is too dear for them, by all reasons without taking anything back.
+/// Searches for a certificate of the part, which claims this about the query, within the whole limits: by rule lines; if these leave
+/// it open, by all reasons; and if it is too dear for them, by all reasons without taking anything back.
 pub(crate) fn solve_part(
     alloc: Global,
     query: &Query,

@@ -50,7 +50,7 @@ fn read_ended_count(line: &[u8]) -> Option<u32>
 }
 
 /// Reads the line that says how many bytes the part below it has, with its end: `part`, a space and a number from 1 to 67108864,
-/// which is 64 Mi, with no leading zero. None comes exactly where the line is no such. It takes no memory.
+/// which is 64 Mi, with no leading zero. None comes if and only if the line is no such. It takes no memory.
 pub fn read_count_line(line: &[u8]) -> Option<u32>
     ensures { MatchOption result ((n : ℕ) → 1 ≤ n → n ≤ 67108864 → line.now ≡ count_line n → ⊥) (λ n. (line.now ≡ count_line n) × (1 ≤ n) × (n ≤ 67108864)) }
 {

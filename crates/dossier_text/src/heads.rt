@@ -53,8 +53,8 @@ fn read_below(bytes: &[u8]) -> Option<DossierHead<'_>>
 }
 
 /// Reads the head of a dossier, line by line: `retro line 1`; the claim's, as `read_line_claim` reads it; that of the odds, as
-/// `read_odds` reads it, where there are any; that of the clock, as `read_clock` reads it, where one is demanded; `fen`, a space and
-/// a FEN of four fields. What follows this line is left. None comes exactly where no front of the bytes is a head. It takes no
+/// `read_odds` reads it, if there are any; that of the clock, as `read_clock` reads it, if one is demanded; `fen`, a space and
+/// a FEN of four fields. What follows this line is left. None comes if and only if no front of the bytes is a head. It takes no
 /// memory.
 pub fn read_head(bytes: &[u8]) -> Option<DossierHead<'_>>
     ensures { MatchOption result (HasNoHead bytes.now) (λ h. BeginsWithHead bytes.now h.claim h.query h.rest.now) }

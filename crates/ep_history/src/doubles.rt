@@ -45,7 +45,7 @@ fn may_capture_en_passant(m: &Move, side: Colour) -> bool
 }
 
 /// The double step of the opponent that a capture en passant by `side` answers (article 3.7.3.1), as d7d5 for e5d6 by White. None
-/// exactly where the move isn't one square diagonally forward, from rank 5 to rank 6 for White, from rank 4 to rank 3 for Black,
+/// if and only if the move isn't one square diagonally forward, from rank 5 to rank 6 for White, from rank 4 to rank 3 for Black,
 /// without promotion.
 pub fn double_of(m: &Move, side: Colour) -> Option<Move>
     ensures { result ≡ double_of m.now side }

@@ -5,7 +5,7 @@ ghost use Rattle.ep_history.specs.Fits.{ep_fits, stand_after};
 use crate::doubles::double_of;
 use board_base::{Board, Colour, Kind, Move, Square, in_check, is_the};
 
-/// The men stand as after this double step, where the capture answers it.
+/// The men stand as after this double step, if the capture answers it.
 fn stand_after(board: &Board, side: Colour, m: &Move, double: &Move) -> bool
     ensures { result ≡ stand_after board.now side m.now double.now }
 {

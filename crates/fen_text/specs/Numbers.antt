@@ -4,7 +4,7 @@ use Rattle.std.specs.List.{list_all}
 use Rattle.board_base.specs.Texts.{is_digit}
 use Rattle.fen_text.specs.Fen.{value}
 
--- the first digit is 0 only where there is no other
+-- the first digit is 0 only if there is no other
 abbrev pub is_plain : List ℕ → Bool
 is_plain text = (length text == 1) || not (slice_index text 0 == 48)
 

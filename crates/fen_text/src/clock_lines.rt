@@ -17,7 +17,7 @@ fn clock_of(number: u32) -> Option<u16>
     }
 }
 
-/// Reads a clock line, without its end: `clock`, a space and a number from 0 to 9999 with no leading zero. None comes exactly where
+/// Reads a clock line, without its end: `clock`, a space and a number from 0 to 9999 with no leading zero. None comes if and only if
 /// the line is no such. It takes no memory.
 #[tactic(auto, unfolding(crate::specs::ClockLines::clock_line))]
 pub fn read_clock(line: &[u8]) -> Option<u16>

@@ -15,13 +15,13 @@ pub fn one_text_each()
     ensures short { (text : List ℕ) (q : AnyQuery) → fen_of_four text ≡ Some q → length text ≤ 81 }
 {}
 
-/// A line is read as odds exactly where men may be left out on their squares, there is such a square, and it is the line that is
+/// A line is read as odds if and only if men may be left out on their squares, there is such a square, and it is the line that is
 /// written of them. So there is one line for each odds but none. This does nothing when it runs.
 pub fn one_text_of_odds()
     ensures { (text : List ℕ) (odds : List Bool) → odds_line text ≡ Some odds ↔ (AreOdds odds × (odds ≢ no_odds) × (text ≡ odds_text odds)) }
 {}
 
-/// A line is read as a clock exactly where this is at most 9999, and it is the line that is written of it. So there is one line for
+/// A line is read as a clock if and only if this is at most 9999, and it is the line that is written of it. So there is one line for
 /// each clock. This does nothing when it runs.
 pub fn one_text_of_a_clock()
     ensures { (text : List ℕ) (n : ℕ) → clock_line text ≡ Some n ↔ ((n ≤ 9999) × (text ≡ clock_text n)) }

@@ -18,7 +18,7 @@ fn is_plain(text: &[u8]) -> bool
     text.len() == 1 || text[0] != b'0'
 }
 
-/// Reads a number of one to six decimal digits, the first of which is 0 only where there is no other. None comes exactly where the
+/// Reads a number of one to six decimal digits, the first of which is 0 only if there is no other. None comes if and only if the
 /// text is no such.
 pub fn read_number(text: &[u8]) -> Option<u32>
     ensures { result ≡ number text.now }

@@ -26,7 +26,7 @@ fn some_odds(set: SquareSet) -> Option<Odds>
 }
 
 /// Reads an odds line, without its end: `odds`, a space and a set of squares as `read_set` reads it, which is not the set of no
-/// square and which `Odds::new` takes. None comes exactly where the line is no such. It takes no memory.
+/// square and which `Odds::new` takes. None comes if and only if the line is no such. It takes no memory.
 #[tactic(auto, unfolding(crate::specs::OddsLines::odds_line))]
 pub fn read_odds(line: &[u8]) -> Option<Odds>
     ensures { result ≡ odds_line line.now }

@@ -166,14 +166,14 @@ fn read_from_turn(board: &Board, text: &[u8]) -> Result<(Query, Option<(u32, u32
 /// 2. The side to move, `w` or `b`.
 /// 3. `-`, or one or more of `K`, `Q`, `k` and `q` in this order, each at most once: the castlings whose right is demanded, `held`
 ///    of the query. Of the others nothing is demanded.
-/// 4. `-`, or the square that a double step of the side not to move has just crossed: a file letter, and `6` where White is to
-///    move or `3` where Black is. It demands that this double step was the last move, `only` of the query: `d7d5` for `d6`, `e2e4`
+/// 4. `-`, or the square that a double step of the side not to move has just crossed: a file letter, and `6` if White is to
+///    move or `3` if Black is. It demands that this double step was the last move, `only` of the query: `d7d5` for `d6`, `e2e4`
 ///    for `e3`. With `-` no last move is demanded.
 /// 5. One to nine decimal digits: the plies since the last capture or move of a pawn.
 /// 6. One to nine decimal digits: the number of the move, which rises after Black's.
 ///
-/// `Ok` comes exactly where the text is so: the query, in which no move is barred and no odds are named, and the two numbers, from
-/// 0 to 999,999,999, where they are given. `Err` comes exactly otherwise, and says how far the text can be read. The text is
+/// `Ok` comes if and only if the text is so: the query, in which no move is barred and no odds are named, and the two numbers, from
+/// 0 to 999,999,999, if they are given. `Err` comes in all other cases, and says how far the text can be read. The text is
 /// shorter than 2^32 bytes.
 pub fn read_fen(text: &[u8]) -> Result<(Query, Option<(u32, u32)>), FenFault>
     requires { length text.now < 2 ^ 32 }
@@ -216,7 +216,7 @@ fn without_numbers(query: Query, numbers: Option<(u32, u32)>) -> Option<Query>
     }
 }
 
-/// Reads the FEN of exactly four fields, as `read_fen` does. `Some` comes exactly where the text is one; no move is barred then,
+/// Reads the FEN of exactly four fields, as `read_fen` does. `Some` comes if and only if the text is one; no move is barred then,
 /// and no odds are named. The text may have any length.
 pub fn read_four_fields(text: &[u8]) -> Option<Query>
     ensures read { result ≡ fen_of_four text.now }

@@ -23,7 +23,7 @@ fn hex_value(byte: u8) -> u8
 }
 
 /// Reads a set of squares: sixteen hexadecimal digits, with letters in lower case, of the number whose bit s is 1 for each square s
-/// of the set. None comes exactly where the text is no such.
+/// of the set. None comes if and only if the text is no such.
 pub fn read_set(text: &[u8]) -> Option<SquareSet>
     ensures { result ≡ set_of text.now }
 {

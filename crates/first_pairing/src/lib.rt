@@ -1,4 +1,4 @@
-//! Which of the least assignments is named where several cost the same. It takes no memory.
+//! Which of the least assignments is named if several cost the same. It takes no memory.
 #![tactic(auto)]
 
 mod first;

@@ -46,7 +46,7 @@ fn barred(costs: &[[u16; 16]], left: usize, columns: &ArrayVec<u8, 16>) -> Array
     rows
 }
 
-/// What the first rows cost at least where the others have these columns.
+/// What the first rows cost at least if the others have these columns.
 pub(crate) fn rest_cost(costs: &[[u16; 16]], left: usize, columns: &ArrayVec<u8, 16>) -> u32
     requires table { IsTable costs.now 16 32767 }
     requires left { left ≤ length costs.now }

@@ -65,8 +65,8 @@ TellsText CarriageReturns input = HasReturns input
 TellsText ReturnsToExplain input = HasProofReturns input
 TellsText PositionToExplain input = Unit {0}
 
--- What the advice takes the run for. Of words and of lines it says what stands above. Of a FEN line advice comes only where the answer
--- names a field of it, of a refused text only where it refuses a word or a ply of a game, or the first line of a certificate.
+-- What the advice takes the run for. Of words and of lines it says what stands above. Of a FEN line advice comes only if the answer
+-- names a field of it, of a refused text only if it refuses a word or a ply of a game, or the first line of a certificate.
 abbrev pub Concerns : Advice → List (String Global) → List ℕ → List ℕ → Type 0
 Concerns (Words advice) words input answer = TellsWords advice words
 Concerns (Lines advice) words input answer = TellsLines advice input

@@ -65,7 +65,7 @@ pub(crate) fn advise_word(kind: InputKind, game: &[u8], number: u32) -> MoveAdvi
 }
 
 /// What is wrong with the ply of this number, counted from 1, of a game in algebraic notation, to which no legal move fits; None
-/// where nothing is to be said.
+/// if nothing is to be said.
 pub(crate) fn advise_ply(game: &[u8], number: u32) -> Option<MoveAdvice> {
     let mut words = game
         .split(|byte| is_blank(*byte))

@@ -162,7 +162,7 @@ fn advise_refused(words: &[String], input: &[u8], answer: &[u8]) -> Option<Advic
     }
 }
 
-/// The advice with the call of the command, where the input is empty.
+/// The advice with the call of the command, if the input is empty.
 fn with_call(words: &[String], advice: Advice) -> Hint
     ensures advice { result.advice ≡ advice }
     ensures called { IfSome result.call (λ call. Begin words.now call.name.now) }
@@ -189,7 +189,7 @@ pub fn advise(
     ensures fits { IfSome result
         (λ hint. GoesWith hint.advice words.now input.now status answer.now) }
 
-    // One comes at all bad words and all bad input, and is one on the FEN line exactly where the answer names a field of this.
+    // One comes at all bad words and all bad input, and is one on the FEN line if and only if the answer names a field of this.
     ensures bad_words { status ≡ BadWords → IsSome result }
     ensures bad_input { status ≡ BadInput → IsSome result }
     ensures fen { status ≡ BadInput → Says answer.now (codes "bad fen field ") →

@@ -63,7 +63,7 @@ impl Model for Ended {
 }
 
 impl Termination for Ended {
-    /// Says on standard error what was expected, or why no answer, or a part of one, was written, where that is so; the line may
+    /// Says on standard error what was expected, or why no answer, or a part of one, was written, if that is so; the line may
     /// fail to come. The process then ends with the number of the status.
     fn report<R: Eprint>(self, rt: &R) -> ExitCode
         ensures { exit_status result ≡ code_of self }
@@ -91,7 +91,7 @@ fn say_hint<R: Eprint>(rt: &R, hint: Hint) {
     };
 }
 
-/// Why no answer, or a part of one, was written, where something failed.
+/// Why no answer, or a part of one, was written, if something failed.
 fn failure(status: Status) -> Option<&'static str> {
     match status {
         Status::ReadFault => Some("reading the input failed"),
@@ -163,13 +163,13 @@ fn end_of<S: Source, K: Sink>(
     source: &mut Watched<S>,
     sink: &mut Overheard<K>,
 ) -> Ended
-    // Words that call no command are told exactly where they do, and nothing is read then.
+    // Words that call no command are told if and only if they do, and nothing is read then.
     ensures bad_words { (result ≡ BadWords) ↔ (CallSome words.now → ⊥) }
     ensures unread { (CallReader words.now → ⊥) →
         Keeps (S.left source.old.inner) (S.left source.new.inner)
         × (S.faults source.new.inner ≡ S.faults source.old.inner) }
 
-    // A fault is told exactly where one came.
+    // A fault is told if and only if one came.
     ensures read_fault { result ≡ ReadFault →
         CallReader words.now × Rose (S.faults source.old.inner) (S.faults source.new.inner) }
     ensures write_fault { result ≡ WriteFault →
@@ -177,7 +177,7 @@ fn end_of<S: Source, K: Sink>(
     ensures read_kept { result ≢ ReadFault → S.faults source.new.inner ≡ S.faults source.old.inner }
     ensures write_kept { result ≢ WriteFault → K.faults sink.new.inner ≡ K.faults sink.old.inner }
 
-    // Too long an input is told only where more was read than the limit, and want of memory only where no more was, and never of
+    // Too long an input is told only if more was read than the limit, and want of memory only if no more was, and never of
     // a command that takes none.
     ensures too_long { result ≡ TooLong →
         CallReader words.now
@@ -223,7 +223,7 @@ fn wordless(status: Status) -> Ended {
     Ended { status, hint }
 }
 
-/// The words of the command line but the first, which is the program's name: bad words where one isn't UTF-8, want of memory where
+/// The words of the command line but the first, which is the program's name: bad words if one isn't UTF-8, want of memory if
 /// they find none.
 fn words_of<R: Env + AllocGlobal>(rt: &R) -> Result<Vec<String>, Status> {
     let mut args = match env::args(rt) {
@@ -239,7 +239,7 @@ fn words_of<R: Env + AllocGlobal>(rt: &R) -> Result<Vec<String>, Status> {
 }
 
 /// Does what the words of the command line ask, as `run` does it, from standard input to standard output; or writes the usage or the
-/// version, where `--help` or `--version` is the only word. A word that isn't UTF-8 makes the words bad. Before the input is read, a line
+/// version, if `--help` or `--version` is the only word. A word that isn't UTF-8 makes the words bad. Before the input is read, a line
 /// on standard error says so if it comes from a terminal, and another says how far a long search goes if standard error is one. No clause
 /// can name what the system gives, so none says which status comes.
 pub fn serve<R, E>(rt: &R, err: &E) -> Ended

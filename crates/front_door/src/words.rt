@@ -56,7 +56,7 @@ fn is_input(word: &str) -> bool {
             .any(|byte| matches!(*byte, b'/' | b'.' | b' ' | b'<'))
 }
 
-/// The command whose name is nearest to the word, where one is near.
+/// The command whose name is nearest to the word, if one is near.
 fn nearest(alloc: Global, word: &str) -> Result<Option<Row>, AllocError> {
     if word.len() > MOST_NAME {
         return Ok(None);

@@ -15,7 +15,7 @@ struct Desk {
     words: &'static [&'static [u8]],
     input: &'static [u8],
     reads_fail: bool,
-    /// A write fails that doesn't begin so, and each where there is None.
+    /// A write fails that doesn't begin so, and each if there is None.
     begins: Option<&'static [u8]>,
 }
 
@@ -241,7 +241,7 @@ fn ends_with_the_number_of_the_status(rt: HostRuntime) {
     }
 }
 
-/// At the end one line is said, or nothing where none is wanted.
+/// At the end one line is said, or nothing if none is wanted.
 #[test]
 fn says_one_line_or_nothing(rt: HostRuntime) {
     for (desk, wanted) in [

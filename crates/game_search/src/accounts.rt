@@ -74,7 +74,7 @@ pub struct Books<'a> {
     pub origins: Origins,
 }
 
-/// How many moves a king is from home; None where there is no way.
+/// How many moves a king is from home; None if there is no way.
 fn king_moves(books: &mut Books, king: u64) -> Option<u32> {
     if king == bit(HOMES[0]) {
         return Some(0);
@@ -233,7 +233,7 @@ fn officers_of(books: &mut Books, force: &Force, closed: &mut Closed) -> Officer
     }
 }
 
-/// The account of a side; None where it has too many men, or one of them can't come home.
+/// The account of a side; None if it has too many men, or one of them can't come home.
 pub fn account_of(books: &mut Books, force: &Force) -> Option<Account> {
     let mut closed = NONE_CLOSED;
     let officers = officers_of(books, force, &mut closed);

@@ -17,7 +17,7 @@ fn attacked(men: &Force, all: u64) -> u64 {
         | steps(Kind::Rook, men.rooks | men.queens, empty)
 }
 
-/// How many moves bring the king home, past squares that are attacked, pawns, and his own men on the first rank and the last; None where
+/// How many moves bring the king home, past squares that are attacked, pawns, and his own men on the first rank and the last; None if
 /// there is no such way.
 fn moves_home(own: &Force, other: &Force) -> Option<u32> {
     let foes = other.turned();

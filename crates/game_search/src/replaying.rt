@@ -16,7 +16,7 @@ fn is_demanded(demanded: &Option<Move>, last: &Option<Move>) -> bool
     }
 }
 
-/// Plays the moves from the array at the query's odds: they are told if they are a game that reaches the query and, where a last move
+/// Plays the moves from the array at the query's odds: they are told if they are a game that reaches the query and, if a last move
 /// is demanded, ends with it.
 pub fn replay(
     alloc: Global,

@@ -72,7 +72,7 @@ impl Accounts {
         }
     }
 
-    /// What may come back, where the pawns capture so often.
+    /// What may come back, if the pawns capture so often.
     fn wants(&self, pawns: &PawnCount, planned: &Planned) -> BothWants {
         BothWants {
             white: wants_of(&self.white, pawns.other, planned),
@@ -207,7 +207,7 @@ impl Valuer {
         pawns
     }
 
-    /// What the plan of the pawns costs more than its captures must; None where there is no plan.
+    /// What the plan of the pawns costs more than its captures must; None if there is no plan.
     fn plan(
         &mut self,
         setting: &Setting,
@@ -234,7 +234,7 @@ impl Valuer {
         }
     }
 
-    /// What the query is worth; with a plan of its pawns, if it is told so. None where there is no hope.
+    /// What the query is worth; with a plan of its pawns, if it is told so. None if there is no hope.
     pub fn value(
         &mut self,
         setting: &Setting,

@@ -1,4 +1,4 @@
-//! A search of which any allocation may be refused. Its assertion holds with and without a refusal, so this test passes also where
+//! A search of which any allocation may be refused. Its assertion holds with and without a refusal, so this test passes also if
 //! `rt try --test --fail-alloc N` refuses the Nth allocation.
 
 use crate::finding::is_game_to;

@@ -22,9 +22,9 @@ fn is_blank(byte: u8) -> bool
     byte == b' ' || byte == b'\n' || byte == b'\r'
 }
 
-/// The moves of a game's text, of at most 67,108,864 bytes, in order. Its words are parted by
+/// The moves of a game's text, of at most 67,108,864 bytes, in order. Its words are separated by
 /// spaces, line feeds and carriage returns, any number of them, at both ends too. `BadText` comes
-/// exactly where some word is no move's text. Want of memory is a free answer: `Memory` may take
+/// if and only if some word is no move's text. Want of memory is a free answer: `Memory` may take
 /// the place of both.
 pub fn read_game(alloc: Global, bytes: &[u8]) -> Result<Vec<Move>, GameFault>
     requires { length bytes.now ≤ 67_108_864 }

@@ -15,7 +15,7 @@ pub struct IllegalAt {
 }
 
 /// The state after these moves, played from the initial array of article 2.3. `IllegalAt` comes
-/// exactly where one of them isn't legal after those before it, and names the first. There is
+/// if and only if one of them isn't legal after those before it, and names the first. There is
 /// room for fewer than 2^32 plies. Takes no memory.
 pub fn replay(moves: &[Move]) -> Result<State, IllegalAt>
     requires { length moves.now < 2 ^ 32 }
@@ -25,7 +25,7 @@ pub fn replay(moves: &[Move]) -> Result<State, IllegalAt>
 }
 
 /// The state after these moves, played at these odds: from the array without the men that are left
-/// out. `IllegalAt` comes exactly where one of them isn't legal after those before it, and names the
+/// out. `IllegalAt` comes if and only if one of them isn't legal after those before it, and names the
 /// first. There is room for fewer than 2^32 plies. Takes no memory.
 pub fn replay_from(odds: Odds, moves: &[Move]) -> Result<State, IllegalAt>
     requires { length moves.now < 2 ^ 32 }

@@ -91,7 +91,7 @@ pub fn steps(kind: Kind, from: u64, empty: u64) -> u64 {
 }
 
 /// From each square the moves of a man of this kind to his home round walls, on which a way may begin, never by way of a shunned
-/// square; `FAR` where there is no way.
+/// square; `FAR` if there is no way.
 pub fn flood(kind: Kind, home: u64, walls: u64, shunned: u64) -> [u8; 64] {
     let mut moves = [FAR; 64];
     let mut seen: u64 = 0;

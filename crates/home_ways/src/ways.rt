@@ -71,7 +71,7 @@ fn region_of(moves: &[u8; 64]) -> u64 {
     region
 }
 
-/// The way past those who can move, where there is one, else round those who can't.
+/// The way past those who can move, if there is one, else round those who can't.
 fn joined(hard: u8, soft: u8) -> u8 {
     if soft != FAR {
         soft

@@ -120,7 +120,7 @@ abbrev pub raised : Colour → Squares → PriceList → PriceList
 raised White squares p = priced (dearer squares p.white) p.black p.gates
 raised Black squares p = priced p.white (dearer squares p.black) p.gates
 
--- The prices by which a side's men are reckoned. Where captures are supposed to be few, the pawns who make them pay the dearer prices;
+-- The prices by which a side's men are counted. Where captures are supposed to be few, the pawns who make them pay the dearer prices;
 -- where they are supposed to be many, the men whom they take earn them.
 abbrev pub list_for : Supposition → PriceList → Colour → PriceList
 list_for (Began t homes) p c = p

@@ -1,4 +1,4 @@
--- What is reckoned once for all suppositions at the same prices.
+-- What is counted once for all suppositions at the same prices.
 use Rattle.std.specs.Prelude.{◌≡◌, ◌≤◌, ℕ, Bool, IfSome, IsTrue, List, length}
 use Rattle.board_base.specs.Board.{Places, array_of, men_squares}
 use Rattle.board_base.specs.declared.men.Colour.{Colour}

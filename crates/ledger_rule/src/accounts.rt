@@ -18,7 +18,7 @@ use capture_prices::Prices;
 use ledger_facts::Supposition;
 use query_base::Query;
 
-/// What is reckoned once for all suppositions on a query, at the same prices and beside the same set.
+/// What is computed once for all suppositions on a query, at the same prices and beside the same set.
 #[derive(Drop)]
 pub struct Account {
     pub set: SquareSet,
@@ -29,7 +29,7 @@ pub struct Account {
     pub most: u32,
 }
 
-/// What is reckoned once; None only if no supposition is refuted, since the set isn't frozen and as in the array, or a side has more men
+/// What is computed once; None only if no supposition is refuted, since the set isn't frozen and as in the array, or a side has more men
 /// than it began with.
 pub fn account_of(query: &Query, set: SquareSet, prices: &Prices) -> Option<Account>
     ensures kept { IfSome result (IsAccountOf query.now set prices.now) }

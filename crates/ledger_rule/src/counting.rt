@@ -19,7 +19,7 @@ use query_base::Query;
 /// What is charged for sixteen captures, 24 for each.
 const SIXTEEN: u64 = 384;
 
-/// What is reckoned once of a side.
+/// What is computed once for a side.
 fn side_in(account: &Account, side: Colour) -> &Side
     ensures { result.now ≡ side_in account.now side }
 {
@@ -43,7 +43,7 @@ fn cost_at(query: &Query, account: &Account, side: Colour, prices: &Prices) -> u
     }
 }
 
-/// What the men of both sides cost, those of this one with a side's captures on some squares dearer; None exactly where a price is
+/// What the men of both sides cost, those of this one with a side's captures on some squares dearer; None if and only if a price is
 /// above 96 then.
 fn cost_dearer(
     query: &Query,

@@ -49,7 +49,7 @@ fn dearer_takes(prices: &Prices, side: Colour, squares: Squares) -> [u8; 16]
     dearer(squares, prices.takes(side))
 }
 
-/// The prices with those of a side's captures on these squares dearer; None exactly where one is above 96 then.
+/// The prices with those of a side's captures on these squares dearer; None if and only if one is above 96 then.
 pub(crate) fn raised(side: Colour, squares: Squares, prices: &Prices) -> Option<Prices>
     ensures { SomeIff result (IsTrue (are_prices (raised side squares prices.now))) (raised side squares prices.now) }
 {
@@ -69,7 +69,7 @@ fn same(prices: &Prices) -> Option<Prices>
     Some(*prices)
 }
 
-/// The prices, dearer if this side is the one whose men pay or earn more; None exactly where one is above 96 then.
+/// The prices, dearer if this side is the one whose men pay or earn more; None if and only if one is above 96 then.
 fn dearer_if(here: bool, side: Colour, squares: Squares, prices: &Prices) -> Option<Prices>
     ensures { SomeIff result (IsTrue (are_prices (cond here (raised side squares prices.now) prices.now))) (cond here (raised side squares prices.now) prices.now) }
 {
@@ -80,7 +80,7 @@ fn dearer_if(here: bool, side: Colour, squares: Squares, prices: &Prices) -> Opt
     }
 }
 
-/// The prices by which a side's men are reckoned; None exactly where one is above 96.
+/// The prices by which a side's men are counted; None if and only if one is above 96.
 pub(crate) fn list_for(supposition: &Supposition, prices: &Prices, side: Colour) -> Option<Prices>
     ensures { SomeIff result (IsTrue (are_prices (list_for supposition.now prices.now side))) (list_for supposition.now prices.now side) }
 {

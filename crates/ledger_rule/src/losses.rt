@@ -156,7 +156,7 @@ fn lost_as(ground: &Ground, promoted: bool, struck: bool, first: Kind, n: u8) ->
     }
 }
 
-/// What it costs at least that the man who began on this number of the side is so gone; `NEVER` where nobody of the side did.
+/// What it costs at least that the man who began on this number of the side is so gone; `NEVER` if nobody of the side did.
 pub(crate) fn lost(ground: &Ground, promoted: bool, struck: bool, n: u8) -> u16
     requires { n < 16 }
     ensures small { result ≤ never }

@@ -6,7 +6,7 @@ ghost use Rattle.balance_rule.specs.Balance.{men_on};
 use arrayvec::ArrayVec;
 use board_base::{Board, Colour, Square, is_of};
 
-/// The squares of the side's men, in ascending order; None exactly where there are more than sixteen.
+/// The squares of the side's men, in ascending order; None if and only if there are more than sixteen.
 pub(crate) fn men_of(board: &Board, side: Colour) -> Option<ArrayVec<u8, 16>>
     ensures { SomeIff (option_map (λ men. men.items) result) (men_on side board.now ≤ 16) (men_squares side board.now) }
 {
@@ -22,7 +22,7 @@ pub(crate) fn men_of(board: &Board, side: Colour) -> Option<ArrayVec<u8, 16>>
     Some(men)
 }
 
-/// Which of the men stands on this square; None exactly where none does.
+/// Which of the men stands on this square; None if and only if none does.
 pub(crate) fn place_among(men: &[u8], t: Square) -> Option<usize>
     ensures { MatchOption result ((i : ℕ) → i < length men.now → slice_index men.now i ≢ t) (λ i. (i < length men.now) × (slice_index men.now i ≡ t)) }
 {
@@ -34,7 +34,7 @@ pub(crate) fn place_among(men: &[u8], t: Square) -> Option<usize>
     None
 }
 
-/// Which of the sixteen homes of a side this square is; None exactly where it is none of them.
+/// Which of the sixteen homes of a side this square is; None if and only if it is none of them.
 pub(crate) fn place_of_home(side: Colour, k: Square) -> Option<u8>
     ensures { MatchOption result ((j : ℕ) → j < 16 → home_of side j ≢ k) (λ j. (j < 16) × (home_of side j ≡ k)) }
 {

@@ -25,7 +25,7 @@ pub struct Table {
     pub rests: [[u32; 16]; 16],
 }
 
-/// What is reckoned once of a side for all suppositions at the same prices.
+/// What is computed once for a side for all suppositions at the same prices.
 #[derive(Drop)]
 pub struct Side {
     pub ground: Ground,
@@ -53,7 +53,7 @@ fn table_of(rows: ArrayVec<[u16; 16], 16>) -> Option<Table>
     }
 }
 
-/// What is reckoned once of a side; None exactly where it has more men than it began with.
+/// What is computed once for a side; None if and only if it has more men than it began with.
 pub(crate) fn side_of(query: &Query, set: SquareSet, prices: &Prices, side: Colour) -> Option<Side>
     ensures { MatchOption result (men_on side query.now.board ≤ men_on side (array_of query.now.odds) → ⊥) (IsSide query.now.odds query.now.board prices.now set side) }
 {

@@ -32,7 +32,7 @@ fn pawn_goes(ground: &Ground, straight: bool, f: u8, s: Square) -> u16
     }
 }
 
-/// The same, where the pawn may be of the set, and then stands where he began.
+/// The same, if the pawn may be of the set, and then stands where he began.
 fn pawn_comes(ground: &Ground, straight: bool, n: u8, s: Square) -> u16
     requires few { n < 16 }
     requires pawn { 8 ≤ n }
@@ -84,7 +84,7 @@ fn goes_as(
     }
 }
 
-/// The same; `NEVER` where nobody of the side began there.
+/// The same; `NEVER` if nobody of the side began there.
 fn goes(ground: &Ground, straight: bool, n: u8, place: Option<Man>, s: Square) -> u16
     requires { n < 16 }
     ensures small { result ≤ never }

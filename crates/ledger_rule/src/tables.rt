@@ -97,7 +97,7 @@ fn gone_row_if(ground: &Ground, supposition: &Supposition) -> [u16; 16]
     row
 }
 
-/// A row for each man of the side, in ascending order of their squares; None exactly where there are more than so many.
+/// A row for each man of the side, in ascending order of their squares; None if and only if there are more than so many.
 fn stand_rows(
     ground: &Ground,
     supposition: &Supposition,
@@ -136,7 +136,7 @@ fn fill_up(rows: &mut ArrayVec<[u16; 16], 16>, row: [u16; 16], begun: u8)
     }
 }
 
-/// A row for each man of the side, and one for each who is missing of so many; None exactly where it has more.
+/// A row for each man of the side, and one for each who is missing of so many; None if and only if it has more.
 pub(crate) fn cost_table(
     ground: &Ground,
     supposition: &Supposition,
@@ -164,7 +164,7 @@ pub(crate) fn least_cost(rows: &[[u16; 16]]) -> u32
 }
 
 /// The least that the men of the ground's side cost with homes of their own, if the supposition is true and the side began with so many men;
-/// None exactly where it has more.
+/// None if and only if it has more.
 pub(crate) fn cost_beside(
     ground: &Ground,
     supposition: &Supposition,
@@ -179,7 +179,7 @@ pub(crate) fn cost_beside(
     Some(least_cost(rows.as_slice()))
 }
 
-/// The least that the men of a side cost with homes of their own, if the supposition is true; None exactly where it has more men than it
+/// The least that the men of a side cost with homes of their own, if the supposition is true; None if and only if it has more men than it
 /// began with.
 pub(crate) fn side_cost(
     query: &Query,

@@ -35,7 +35,7 @@ shown_by text =
     cond (starts_with nat_eq text (codes "moves w ")) (of_side White (duals_of 16 (drop 8 text))) (
     cond (starts_with nat_eq text (codes "moves b ")) (of_side Black (duals_of 16 (drop 8 text))) None)
 
--- what stands between the first line and the FEN's: nothing where nobody is left out, else the line of the odds
+-- what stands between the first line and the FEN's: nothing if nobody is left out, else the line of the odds
 abbrev pub AreOddsLines : Lines → List Bool → Type 0
 AreOddsLines lines odds = IsSaid odds_line no_odds lines odds
 

@@ -16,7 +16,7 @@ abbrev pub moves_of : Colour → ℕ → ℕ
 moves_of White n = (n + 1) / 2
 moves_of Black n = n / 2
 
--- what the man of this side on this place of s, with this label, needed to come there; 0 where no man of the side stands
+-- what the man of this side on this place of s, with this label, needed to come there; 0 if no man of the side stands
 abbrev pub man_cost : List Bool → Colour → Option Man → Option ℕ → ℕ → ℕ
 man_cost o c None label s = 0
 man_cost o c (Some man) None s = 0
@@ -44,7 +44,7 @@ pub record IsSideBound (o : List Bool) (c : Colour) (board : Places) (u v : List
   pub sixteen : length u ≤ 16
   pub bounded : IsBounded 16 (move_costs o c board) u v
 
--- the number, or 0 where it is below 0
+-- the number, or 0 if it is below 0
 abbrev pub at_least_0 : ℤ → ℕ
 at_least_0 (pos n) = n
 at_least_0 (negsuc n) = 0

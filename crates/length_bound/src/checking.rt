@@ -106,7 +106,7 @@ pub fn read_shown_length(bytes: &[u8]) -> Result<LengthText, LengthRefused>
     }
 }
 
-/// The answer to bytes of which the first 512 are these, or to these where they are fewer. A text has fewer.
+/// The answer to bytes of which the first 512 are these, or to these if they are fewer. A text has fewer.
 fn answer_to(front: &[u8]) -> Result<(u16, Query), LengthRefused>
     ensures answer { IfSome (length_answer result) (λ a. (others : List ℕ) → (length front.now < 512 → others ≡ []) → AnswersLength (cut (front.now ++ others)) a) }
     ensures short { result ≢ Err LengthRefused.TooLong }
@@ -129,17 +129,17 @@ fn answer_to(front: &[u8]) -> Result<(u16, Query), LengthRefused>
 /// 5. `moves w` or `moves b`, the potentials of that side's men in ascending order of their squares, at most sixteen, then `/` and
 ///    those of the side's sixteen homes: numbers from -64 to 64. No number has a leading zero, and one space stands between two words.
 ///
-/// `Ok` comes exactly where they are so and `length_of` of these potentials is no less than the number, with the number and the query:
-/// no game with fewer half-moves reaches the query. `BadText` comes exactly where they are not so, and `Unsupported` exactly otherwise.
-/// `TooLong` comes exactly where one byte more was read, and `ReadFault` only where a read failed. It takes no memory.
+/// `Ok` comes if and only if they are so and `length_of` of these potentials is no less than the number, with the number and the query:
+/// no game with fewer half-moves reaches the query. `BadText` comes if and only if they are not so, and `Unsupported` in all other cases.
+/// `TooLong` comes if and only if one byte more was read, and `ReadFault` only if a read failed. It takes no memory.
 pub fn check_length<S: Source>(src: &mut S) -> Result<(u16, Query), LengthRefused>
-    // The answer is that of the grammar and the potentials to all bytes that were left, where they were read to their end.
+    // The answer is that of the grammar and the potentials to all bytes that were left, if they were read to their end.
     ensures answer { IfSome (length_answer result) (AnswersBytes MOST_BYTES (S.left src.old) (S.left src.new)) }
 
     // No game that reaches the query has fewer half-moves than is accepted.
     ensures least { IfOk result (λ p. (g : List Move) → Reaches g p.1 → p.0 ≤ length g) }
 
-    // Too long an input is answered only where one byte more than the limit was read, and a failure only where the count of
+    // Too long an input is answered only if one byte more than the limit was read, and a failure only if the count of
     // faults rose.
     ensures too_long { result ≡ Err LengthRefused.TooLong → ReadSome (S.left src.old) (S.left src.new) (λ n. n ≡ MOST_BYTES + 1) }
     ensures failed { result ≡ Err LengthRefused.ReadFault → ReadSome (S.left src.old) (S.left src.new) (λ n. n ≤ MOST_BYTES) }

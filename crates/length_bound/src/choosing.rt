@@ -10,7 +10,7 @@ use crate::texts::LengthText;
 use board_base::Colour;
 use query_base::Query;
 
-/// What the best potentials of this side show; None exactly where it has more than sixteen men.
+/// What the best potentials of this side show; None if and only if it has more than sixteen men.
 fn best_of(query: &Query, side: Colour) -> Option<LengthText>
     ensures { MatchOption result (side_length side query.now ≡ None) (IsBestOf side query.now) }
 {
@@ -28,7 +28,7 @@ fn best_of(query: &Query, side: Colour) -> Option<LengthText>
     }
 }
 
-/// The text with the greater length, and the first where they are equal.
+/// The text with the greater length, and the first if they are equal.
 fn longer_of(white: LengthText, black: LengthText) -> LengthText
     ensures { result ≡ cond (nat_lt white.at_least black.at_least) black white }
 {
@@ -53,8 +53,8 @@ fn longer(white: Option<LengthText>, black: Option<LengthText>) -> Option<Length
 }
 
 /// The greatest length of the query's games that `best` shows: of the sides of at most sixteen men the one whose potentials show the
-/// greater length, and White where they are equal, with that length, of at most 9999 half-moves, and the potentials. None exactly
-/// where both sides have more than sixteen men.
+/// greater length, and White if they are equal, with that length, of at most 9999 half-moves, and the potentials. None if and only if
+/// both sides have more than sixteen men.
 pub fn longest(query: &Query) -> Option<LengthText>
     ensures best { IfSome result (IsBest query.now) }
     ensures side { option_map (λ t. t.side) result ≡ longer_side (side_length White query.now) (side_length Black query.now) }

@@ -6,7 +6,7 @@ ghost use Rattle.length_bound.specs.MoveCosts.{cost_from, from_pawn, move_cost, 
 use crate::walks::steps;
 use board_base::{Colour, Kind, Man, Odds, Square, array_of, files_between};
 
-/// The moves of a pawn over so many files, from one rank to another, higher as it sees them, with ranks from 0; 64 where it can't
+/// The moves of a pawn over so many files, from one rank to another, higher as it sees them, with ranks from 0; 64 if it can't
 /// go there.
 fn pawn_moves(files: u8, low: u8, high: u8) -> u8
     requires files { files < 8 }
@@ -26,7 +26,7 @@ fn pawn_moves(files: u8, low: u8, high: u8) -> u8
     }
 }
 
-/// The moves of a pawn of this side from its home to a square; 64 where it can't go there.
+/// The moves of a pawn of this side from its home to a square; 64 if it can't go there.
 #[tactic(auto, unfolding(crate::specs::MoveCosts::pawn_way))]
 fn pawn_way(side: Colour, home: Square, s: Square) -> u8
     ensures value { result ≡ pawn_way side home s }
@@ -65,7 +65,7 @@ fn promoted_way(side: Colour, kind: Kind, home: Square, s: Square) -> u8
     least
 }
 
-/// The moves of a man on a square who began as a pawn on this home; 64 where he can't have begun there.
+/// The moves of a man on a square who began as a pawn on this home; 64 if he can't have begun there.
 fn from_pawn(man: Man, home: Square, s: Square) -> u8
     ensures value { result ≡ from_pawn man.kind man.colour home s }
     ensures small { result ≤ 64 }
@@ -80,7 +80,7 @@ fn from_pawn(man: Man, home: Square, s: Square) -> u8
     }
 }
 
-/// The moves of a man on a square who began on a home where this man stood; 64 where he can't have begun there.
+/// The moves of a man on a square who began on a home if this man stood; 64 if he can't have begun there.
 fn cost_from(first: Option<Man>, man: Man, s: Square, home: Square) -> u8
     ensures value { result ≡ cost_from first man s home }
     ensures small { result ≤ 64 }
@@ -104,7 +104,7 @@ fn cost_from(first: Option<Man>, man: Man, s: Square, home: Square) -> u8
 }
 
 /// The least number of moves, castling aside, in which this man alone comes to a square from the home on which he began, in a game
-/// at these odds; 64 where he can't have begun there, also because the man whose home it is was left out.
+/// at these odds; 64 if he can't have begun there, also because the man whose home it is was left out.
 #[tactic(auto, unfolding(crate::specs::MoveCosts::move_cost))]
 pub fn move_cost(odds: Odds, man: Man, s: Square, home: Square) -> u8
     ensures value { result ≡ move_cost odds man s home }

@@ -27,14 +27,14 @@ pub fn steps_add_one()
 {}
 
 /// The law that in every game from the array, whichever of its men are left out, the men of a side on the board, each by himself from
-/// the square on which he began, need no more moves in all than the side made and two more; and where a castling right of the side is
+/// the square on which he began, need no more moves in all than the side made and two more; and if a castling right of the side is
 /// not lost, no more than the side made (article 3.8: by a castling a king goes two steps and a rook one).
 pub fn men_need_moves()
     ensures most { (o : List Bool) (g : List Move) (c : AColour) → IsGame o g → side_cost o c (board_after o g) (labels_after o g) ≤ moves_of c (length g) + 2 }
     ensures uncastled { (o : List Bool) (g : List Move) (c : AColour) (x : Castle) → IsGame o g → side x ≡ c → IsTrue (unmoved o g x) → side_cost o c (board_after o g) (labels_after o g) ≤ moves_of c (length g) }
 {}
 
-/// The law of the length of games: where potentials are bounded by what the men of a side need from each of its homes, each game
+/// The law of the length of games: if potentials are bounded by what the men of a side need from each of its homes, each game
 /// that leads to the board from the array, whichever of its men are left out, has at least as many half-moves as the side's moves
 /// that they show ask for. The castlings that are held are those whose rights are not lost.
 pub fn games_are_long()

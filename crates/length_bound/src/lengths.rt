@@ -21,7 +21,7 @@ fn holds_some(side: Colour, held: CastleSet) -> bool
     }
 }
 
-/// The sum of potentials, or 0 where it is below 0.
+/// The sum of potentials, or 0 if it is below 0.
 fn at_least_0(sum: i32) -> u16
     requires { sum ≤ℤ pos 1024 }
     ensures value { result ≡ at_least_0 sum }
@@ -31,7 +31,7 @@ fn at_least_0(sum: i32) -> u16
 }
 
 /// The moves that potentials of this sum show a side to have made, with the castlings whose rights are held: two less than the sum
-/// where the side may have castled.
+/// if the side may have castled.
 fn moves_shown(side: Colour, held: CastleSet, sum: i32) -> u16
     requires { sum ≤ℤ pos 1024 }
     ensures value { result ≡ at_least_0 sum - cond (holds_some side held) 0 2 }
@@ -62,7 +62,7 @@ fn length_with(side: Colour, turn: Colour, moves: u16) -> u16
     }
 }
 
-/// The sum of the potentials, where the costs of the side's men at these odds bound them; None exactly where they don't.
+/// The sum of the potentials, if the costs of the side's men at these odds bound them; None if and only if they don't.
 fn sum_of(board: &Board, side: Colour, odds: Odds, p: &ManPotentials) -> Option<i32>
     ensures sum { SomeIff result (IsSideBound odds side board.now p.now.u p.now.v) (total p.now.u +ℤ total p.now.v) }
     ensures small { IfSome result (λ sum. sum ≤ℤ pos 1024) }
@@ -73,7 +73,7 @@ fn sum_of(board: &Board, side: Colour, odds: Odds, p: &ManPotentials) -> Option<
     }
 }
 
-/// The length that the potentials show; None exactly where the costs of the side's men don't bound them.
+/// The length that the potentials show; None if and only if the costs of the side's men don't bound them.
 fn length_shown(query: &Query, side: Colour, p: &ManPotentials) -> Option<u16>
     ensures value { SomeIff result (IsSideBound query.now.odds side query.now.board p.now.u p.now.v) (length_with side query.now.turn (moves_shown side query.now.held p.now.u p.now.v)) }
     ensures small { IfSome result (λ n. n ≤ 2049) }
@@ -85,7 +85,7 @@ fn length_shown(query: &Query, side: Colour, p: &ManPotentials) -> Option<u16>
 }
 
 /// How long each game that reaches the query is at least, in half-moves, as potentials of a side's men show it: no game with fewer
-/// reaches the query. None exactly where there isn't one number `u` for each of the side's men, or where what the men need from the
+/// reaches the query. None if and only if there isn't one number `u` for each of the side's men, or if what the men need from the
 /// side's homes doesn't bound the potentials. A length is at most 2049.
 pub fn length_of(query: &Query, side: Colour, p: &ManPotentials) -> Option<u16>
     ensures answer { SomeIff result (IsSideBound query.now.odds side query.now.board p.now.u p.now.v) (length_with side query.now.turn (moves_shown side query.now.held p.now.u p.now.v)) }
@@ -96,7 +96,7 @@ pub fn length_of(query: &Query, side: Colour, p: &ManPotentials) -> Option<u16>
 }
 
 /// Potentials for which `length_of` isn't None, with the greatest sum: the least cost of giving each man of the side a home of his own.
-/// None exactly where the side has more than sixteen men.
+/// None if and only if the side has more than sixteen men.
 pub fn best(query: &Query, side: Colour) -> Option<ManPotentials>
     ensures bounded { IfSome result (λ p. IsSideBound query.now.odds side query.now.board p.u p.v) }
     ensures greatest { IfSome result (λ p. (total p.u +ℤ total p.v) ≡ pos (least_cost 16 (move_costs query.now.odds side query.now.board))) }

@@ -33,7 +33,7 @@ impl Model for ManPotentials {
 impl ManPotentials {
     ghost use Rattle.board_base.specs.Potentials.{duals};
 
-    /// The potentials with these numbers; None exactly where more than sixteen `u` are given or a number is below -64 or above 64.
+    /// The potentials with these numbers; None if and only if more than sixteen `u` are given or a number is below -64 or above 64.
     pub fn new(u: &[i8], v: &[i8; 16]) -> Option<ManPotentials>
         ensures { SomeIff result (AreManPotentials (duals u.now v.now)) (duals u.now v.now) }
     {

@@ -20,7 +20,7 @@ fn home_of(side: Colour, j: u8) -> Square
     }
 }
 
-/// What the man on this place of a square costs from a home; 64 where nobody stands there.
+/// What the man on this place of a square costs from a home; 64 if nobody stands there.
 fn place_cost(odds: Odds, place: Option<Man>, s: Square, home: Square) -> u8
     ensures value { result ≡ place_cost odds place s home }
     ensures small { result ≤ 64 }
@@ -44,7 +44,7 @@ fn man_row(odds: Odds, side: Colour, place: Option<Man>, s: Square) -> [u8; 16]
 }
 
 /// The costs of this side's men in a game at these odds: a row for each man, in ascending order of the men's squares, with the cost
-/// from each home of the side, in ascending order. None exactly where it has more than sixteen men.
+/// from each home of the side, in ascending order. None if and only if it has more than sixteen men.
 pub fn costs(board: &Board, side: Colour, odds: Odds) -> Option<ArrayVec<[u8; 16], 16>>
     ensures items { SomeIff (option_map (λ costs. costs.items) result) (length (men_squares side board.now) ≤ 16) (move_costs odds side board.now) }
     ensures table { IfSome result (λ costs. IsTable costs.items 16 64) }

@@ -23,7 +23,7 @@ pub fn one_length_answer()
     ensures { (lines : Lines) (a b : LengthAnswer) → AnswersLength lines a → AnswersLength lines b → a ≡ b }
 {}
 
-/// The law that where a text's potentials show its number, no game that reaches its query has fewer half-moves; and that potentials
+/// The law that if a text's potentials show its number, no game that reaches its query has fewer half-moves; and that potentials
 /// with the greatest sum do show the number that they are best for. This does nothing when it runs.
 pub fn shown_lengths_hold()
     ensures least { (text : AText) → IsShown text → (g : List Move) → Reaches g text.query → text.at_least ≤ length g }

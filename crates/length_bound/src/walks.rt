@@ -36,7 +36,7 @@ fn knight_steps(corner: bool, more: u8, less: u8) -> u8
     }
 }
 
-/// The steps of a man from one square to another on an empty board, by how far apart they are; 64 where he can't come there.
+/// The steps of a man from one square to another on an empty board, by how far apart they are; 64 if he can't come there.
 #[tactic(auto, unfolding(board_base::specs::Attacks::king_distance))]
 fn direct_steps(kind: Kind, from: Square, to: Square) -> u8
     ensures { result ≡ direct_steps kind from to }
@@ -83,7 +83,7 @@ fn direct_steps(kind: Kind, from: Square, to: Square) -> u8
     }
 }
 
-/// The least number of steps in which a man who is no pawn comes from one square to another on an empty board; 64 where he can't.
+/// The least number of steps in which a man who is no pawn comes from one square to another on an empty board; 64 if he can't.
 pub fn steps(kind: Kind, from: Square, to: Square) -> u8
     requires { same_kind APawn kind ≡ false }
     ensures value { result ≡ steps kind from to }

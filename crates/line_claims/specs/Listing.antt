@@ -1,4 +1,4 @@
--- Where the parts due are defined: each step is in the list of retractions of what the steps before it leave.
+-- When the parts due are defined: each step is in the list of retractions of what the steps before it leave.
 use Rattle.std.specs.Prelude.{ℕ, ◌≡◌, ◌+◌, List, ◌∷◌, ◌++◌, length}
 use Rattle.std.specs.List.{Contains}
 use Rattle.board_base.specs.declared.unmoves.Unmove.{Unmove}

@@ -7,12 +7,12 @@ ghost use Rattle.line_claims.specs.Holding.{HoldsLine};
 ghost use Rattle.line_claims.specs.Lines.{HasLine, line_claim_of, line_claim_text};
 ghost use Rattle.line_claims.specs.declared.claims.LineClaim.{LineClaim};
 
-/// The law that a claim of several steps holds where each part due does. This does nothing when it runs.
+/// The law that a claim of several steps holds if each part due does. This does nothing when it runs.
 pub fn parts_make_lines_hold()
     ensures { (claim : LineClaim) (q : Asked) → All (λ part. Holds part.0 part.1) (parts_due claim q) → HoldsLine claim q }
 {}
 
-/// The law that no part due is about a query that bars a move, where the claim's own query bars none. This does nothing when it
+/// The law that no part due is about a query that bars a move, if the claim's own query bars none. This does nothing when it
 /// runs.
 pub fn parts_bar_no_move()
     ensures { (claim : LineClaim) (q : Asked) → q.barred ≡ None → All (λ part. part.1.barred ≡ None) (parts_due claim q) }

@@ -52,7 +52,7 @@ impl Siblings {
         }
     }
 
-    /// The first part that is left, which then is left no more; None exactly where none is left.
+    /// The first part that is left, which then is left no more; None if and only if none is left.
     fn next(&mut self) -> Option<(Claim, Query)>
         ensures { MatchOption result ((self.old ≡ []) × (self.new ≡ [])) (λ part. self.old ≡ part ∷ self.new) }
     {
@@ -113,7 +113,7 @@ impl Begun {
         }
     }
 
-    /// The first part that is left, which then is left no more; None exactly where none is left.
+    /// The first part that is left, which then is left no more; None if and only if none is left.
     fn next(&mut self) -> Option<(Claim, Query)>
         ensures { MatchOption result ((self.old ≡ []) × (self.new ≡ [])) (λ part. self.old ≡ part ∷ self.new) }
     {
@@ -164,7 +164,7 @@ impl Due {
     /// step in turn, from the first on, they are: that its move was the last of each game that reaches what the steps before it
     /// leave; then, for each other unmove of the same move there, ascending as they are listed, that no game reaches what that one
     /// leaves. Each step is listed, as `unlisted_step` tests. There are at most seven parts to a step.
-    /// Only where the query bars a move do parts bar one (`parts_bar_no_move`): those about the query itself.
+    /// Only if the query bars a move do parts bar one (`parts_bar_no_move`): those about the query itself.
     pub fn new(query: &Query, claim: &LineClaim) -> Due
         requires { HasParts claim.now query.now }
         ensures parts { result ≡ parts_due claim.now query.now }
@@ -198,7 +198,7 @@ impl Due {
         }
     }
 
-    /// The first part that is due, which then is due no more; None exactly where none is.
+    /// The first part that is due, which then is due no more; None if and only if none is.
     pub fn next(&mut self) -> Option<(Claim, Query)>
         ensures { MatchOption result ((self.old ≡ []) × (self.new ≡ [])) (λ part. self.old ≡ part ∷ self.new) }
     {

@@ -93,7 +93,7 @@ fn read_line(text: &[u8]) -> Option<LineClaim>
 
 /// Reads the line of a claim of several steps, without its end: `claim notboth` and two different letters of `K`, `Q`, `k` and `q`,
 /// in this order; or `claim line` and one to sixteen texts of unmoves, as `read_unmove` reads them, the last move's first. One
-/// space stands between two words. None comes exactly where the line is none of these. What is read may be written again.
+/// space stands between two words. None comes if and only if the line is none of these. What is read may be written again.
 #[tactic(auto, unfolding(crate::specs::Lines::line_claim_of))]
 pub fn read_line_claim(line: &[u8]) -> Option<LineClaim>
     ensures read { result ≡ line_claim_of line.now }

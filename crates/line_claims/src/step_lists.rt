@@ -22,7 +22,7 @@ impl Model for StepList {
 }
 
 impl StepList {
-    /// The list of these unmoves, in their order; None exactly where there is none, or there are more than sixteen.
+    /// The list of these unmoves, in their order; None if and only if there is none, or there are more than sixteen.
     pub fn new(items: &[Unmove]) -> Option<StepList>
         ensures { SomeIff result ((1 ≤ length items.now) × (length items.now ≤ 16)) items.now }
     {

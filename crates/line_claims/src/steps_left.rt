@@ -42,7 +42,7 @@ impl StepsLeft {
         }
     }
 
-    /// The first step that is left, which then is left no more; None exactly where none is left.
+    /// The first step that is left, which then is left no more; None if and only if none is left.
     pub(crate) fn next(&mut self) -> Option<Unmove>
         ensures { MatchOption result ((self.old ≡ []) × (self.new ≡ [])) (λ u. self.old ≡ u ∷ self.new) }
     {

@@ -23,8 +23,8 @@ fn first_unlisted(query: &Query, steps: &[Unmove]) -> Option<u8>
     None
 }
 
-/// The first step of the claim that isn't among the unmoves of what the steps before it leave, counted from 1. None comes exactly
-/// where each step is, and so where the parts due are defined; they are for every claim of two castlings.
+/// The first step of the claim that isn't among the unmoves of what the steps before it leave, counted from 1. None comes if and only if
+/// each step is, and so the parts due are defined; they are for every claim of two castlings.
 pub fn unlisted_step(query: &Query, claim: &LineClaim) -> Option<u8>
     ensures { MatchOption result (HasParts claim.now query.now) (λ number. LacksStep claim.now query.now number) }
 {

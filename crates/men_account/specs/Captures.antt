@@ -19,7 +19,7 @@ use Rattle.men_account.specs.Labels.{Labels, label_at, first_labels, relabelled,
 abbrev pub taken_on : Places → Move → ℕ
 taken_on board m = cond (goes_en_passant board m) (en_passant_victim m) m.to
 
--- the label of the man whom a pawn of this side takes by the move; none where it isn't such a pawn's, or takes nobody
+-- the label of the man whom a pawn of this side takes by the move; none if it isn't such a pawn's, or takes nobody
 abbrev pub taken_by_pawn : Colour → Places → Labels → Move → List ℕ
 taken_by_pawn c board labels m = cond (is_the c Pawn (at board m.from)) (option_to_list (label_at labels (taken_on board m))) []
 

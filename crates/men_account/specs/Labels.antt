@@ -12,7 +12,7 @@ use Rattle.board_base.specs.declared.moves.Move.{Move}
 abbrev pub Labels : Type 0
 Labels = List (Option ℕ)
 
--- the label on a square; none where it has none, or is off the board
+-- the label on a square; none if it has none, or is off the board
 abbrev pub label_at : Labels → ℕ → Option ℕ
 label_at labels s = slice_index_or labels s None
 
@@ -37,7 +37,7 @@ labels_from board labels (m ∷ g) = labels_from (play board m) (relabelled boar
 abbrev pub labels_after : List Bool → List Move → Labels
 labels_after o g = labels_from (array_of o) (first_labels o) g
 
--- a square has a label exactly where a man stands
+-- a square has a label if and only if a man stands
 abbrev pub LabelsEachMan : Places → Labels → Type 0
 LabelsEachMan board labels = (s : ℕ) → is_none (label_at labels s) ≡ is_empty (at board s)
 

@@ -19,7 +19,7 @@ pub fn promotions_fit_homes()
     ensures { (o : List Bool) (g : List Move) (c : AColour) (alive : ℕ → Bool) → IsGame o g → HasOfficersFrom (array_of o) c alive (labels_after o g) → excess_of (counts_of c (board_after o g)) (allowance_of c alive (array_of o)) ≤ men c Pawn is_any (array_of o) }
 {}
 
-/// The law of promotions where men stay in regions, in every game from the array without any of its men. Where each man who began on
+/// The law of promotions where men stay in regions, in every game from the array without any of its men. If each man who began on
 /// the home of an officer of a side stands in the home's region, the pawns of the side and its officers above those who began on homes
 /// whose regions aren't deserted are no more than its pawns in the beginning.
 pub fn promotions_fit_regions()
@@ -40,7 +40,7 @@ pub fn potentials_bound_captures()
     ensures missing { (o : List Bool) (g : List Move) (c : AColour) (dead : ℕ → Bool) (u v : List ℤ) → IsGame o g → IsBounded 8 (pawn_costs o c (board_after o g)) u v → AreGoneOtherwise (array_of o) (opponent c) dead (labels_after o g) (captured_by_pawns o g c) → ((total u +ℤ total v) +ℤ pos (men_of (opponent c) is_any (board_after o g) + men_of (opponent c) dead (array_of o))) ≤ℤ pos (men_of (opponent c) is_any (array_of o)) }
 {}
 
-/// The law of dual potentials where men stay in regions, in every game from the array without any of its men. Where the men who
+/// The law of dual potentials where men stay in regions, in every game from the array without any of its men. If the men who
 /// began on the homes of officers of the other side stay in the homes' regions, and no pawn of the side goes aside into those that
 /// pass a test, potentials that bound the costs sum to no more than the other side had in the beginning, less its men on the board,
 /// less the homes whose regions are deserted and pass the test.

@@ -16,8 +16,8 @@ pub fn accounts_hold()
 {}
 
 /// The laws of labelled men, in every game from the array without any of its men. Each man carries the square on which he began
-/// as his label, also after a promotion. The labels go where a move takes the men. A square has a label exactly where a man
-/// stands; no two squares have the same label; the man who began on the label has the colour of the man who carries it; where he had
+/// as his label, also after a promotion. The labels go where a move takes the men. A square has a label if and only if a man
+/// stands; no two squares have the same label; the man who began on the label has the colour of the man who carries it; if he had
 /// another kind, he was a pawn and has become an officer (article 3.7); and who began as no pawn is who he was.
 pub fn men_keep_labels()
     ensures moved { (o : List Bool) (g : List Move) (m : Move) → labels_after o (g ++ m ∷ []) ≡ relabelled (board_after o g) (labels_after o g) m }

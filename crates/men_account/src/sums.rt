@@ -64,7 +64,7 @@ pub fn counts(board: &Board, side: Colour) -> Counts
     total
 }
 
-/// What a count is above its allowance, and 0 where it isn't above.
+/// What a count is above its allowance, and 0 if it isn't above.
 fn surplus(count: u8, allowed: u8) -> u16
     ensures value { result ≡ count - allowed }
     ensures small { result < 256 }

@@ -19,7 +19,7 @@ is_label (Some l) h = l == h
 abbrev pub squares_trodden : Move → List ℕ
 squares_trodden m = cond (ranks_apart m.from m.to == 2) (on_the_way m.from m.to 1 ∷ m.to ∷ []) (m.to ∷ [])
 
--- those over which the man with label h goes by the move as a pawn; none where he doesn't make it, or isn't a pawn any more
+-- those over which the man with label h goes by the move as a pawn; none if he doesn't make it, or isn't a pawn any more
 abbrev pub way_by : ℕ → Places → Labels → Move → List ℕ
 way_by h board labels m = cond (is_a Pawn (at board m.from) && is_label (label_at labels m.from) h) (squares_trodden m) []
 
@@ -44,7 +44,7 @@ strike None victim s = []
 strike (Some k) None s = []
 strike (Some k) (Some l) s = record { by = k; of = l; on = s } ∷ []
 
--- the capture that a pawn of this side makes by the move; none where it isn't such a pawn's, or takes nobody
+-- the capture that a pawn of this side makes by the move; none if it isn't such a pawn's, or takes nobody
 abbrev pub strike_by : Colour → Places → Labels → Move → List Strike
 strike_by c board labels m = cond (is_the c Pawn (at board m.from)) (strike (label_at labels m.from) (label_at labels (taken_on board m)) m.to) []
 

@@ -40,7 +40,7 @@ brings_in R c h way k s =
 unfoldable pub pawn_comes : PriceList → List Bool → Room → Colour → Limit → ℕ → Kind → ℕ → ℕ
 pawn_comes p set R c limit h k s = least (map (way_cost p c h) (filter (λ way. may_come_by limit h k way && brings_in R c h way k s) (ways_from c set h)))
 
--- that the man of h, who is no pawn, has come so to s costs nothing where he may: he is what he was, and has room, where he isn't the king
+-- that the man of h, who is no pawn, has come so to s costs nothing if he may: he is what he was, and has room, where he isn't the king
 abbrev pub piece_comes : Room → Colour → Limit → Kind → ℕ → Kind → ℕ → ℕ
 piece_comes R c limit first h k s = cond (allows limit true && same_kind first k && (same_kind first King || R (man c first) h s)) 96 never
 

@@ -26,7 +26,7 @@ pub fn accounts_hold()
 {}
 
 /// The law of frozen figures, at each moment of each game from the array without any of its men. A set of squares of fixed figures, each on
-/// a home of a right that is held, or shut in by the set as far as his mark lets him come, is one where men stay (`stay`); and where the
+/// a home of a right that is held, or shut in by the set as far as his mark lets him come, is one where men stay (`stay`); and if the
 /// men of squares of fixed figures stay, the array had them there (`begun`).
 pub fn frozen_figures_stay()
     ensures stay { (o : List Bool) (g : List Move) (S : Sketch) (held : Rights) (set : List Bool) → FitsGame o g held S → IsFrozenIn held S set → Walled o g set }
@@ -47,7 +47,7 @@ pub fn refuted_sketches_fit_no_game()
     ensures queries { (o : List Bool) (q : Asked) → Refuted o q.held (sketch_of q.board) → (g : List Move) → LeadsTo o g q → ⊥ }
 {}
 
-/// The law that an officer's room where no zones are known is his region.
+/// The law that an officer's room if no zones are known is his region.
 pub fn rooms_are_regions()
     ensures { (set : List Bool) (m : Option AMan) (h s : ℕ) → h < 64 → room_past set [] m h s ≡ is_in (region_from set m h) s }
 {}

@@ -57,7 +57,7 @@ figure_of s (Some m) = record { colour = m.colour; kinds = m.kind ∷ []; square
 unfoldable pub sketch_of : Places → Sketch
 sketch_of board = flat_map (λ s. figure_of s (at board s)) (range_with_len 0 64)
 
--- the second figure has the first one's colour, and all kinds and squares that he has; he is marked only where the first is
+-- the second figure has the first one's colour, and all kinds and squares that he has; he is marked only if the first is
 pub record IsWider (f g : Figure) : Type 0 where
   pub colour : f.colour ≡ g.colour
   pub kinds : (k : Kind) → IsTrue (may_be f k) → IsTrue (may_be g k)

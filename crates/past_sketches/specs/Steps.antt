@@ -33,7 +33,7 @@ pub record Step : Type 0 where
 abbrev pub arrives : Figure → ℕ → Bool
 arrives f t = cond (rank t == last_rank f.colour) (list_any is_officer f.kinds) (may_be f Pawn)
 
--- Article 3.7: he goes to another file only where he takes a man, no king, and no pawn on rank 1 or 8; else he goes straight to be promoted
+-- Article 3.7: he goes to another file only if he takes a man, no king, and no pawn on rank 1 or 8; else he goes straight to be promoted
 abbrev pub takes : Colour → ℕ → ℕ → Option Kind → Bool
 takes c s t None = (file s == file t) && (rank t == last_rank c)
 takes c s t (Some k) = (files_apart s t == 1) && not (same_kind King k) && not (same_kind Pawn k && is_end t)

@@ -31,7 +31,7 @@ pub fn sketches_fit()
 {}
 
 /// The laws of sketches that don't fit: none that clashes fits a moment of a game (`clash`), nor one that has more figures of a colour
-/// than the array has men (`crowd`); and none fits the moment before the first move where not all figures find homes (`array`).
+/// than the array has men (`crowd`); and none fits the moment before the first move if not all figures find homes (`array`).
 pub fn sketches_misfit()
     ensures clash { (o : List Bool) (p : List Move) (T : Sketch) → IsGame o p → IsTrue (is_clash T) → Fits o p T → ⊥ }
     ensures crowd { (o : List Bool) (p : List Move) (T : Sketch) (c : AColour) → IsGame o p → IsTrue (is_crowded o T c) → Fits o p T → ⊥ }
@@ -40,7 +40,7 @@ pub fn sketches_misfit()
 
 /// The laws of closed sketches, which go back move by move, in every game from the array without any of its men. Where one fits after a
 /// move, it fits before it too, if the move is neither a capture by a pawn nor a promotion, nor a pawn's on an exact file (`quiet`), or if
-/// no figure's man made it. Else the move is a step of the sketch, and the sketch that it is taken back to fits before it; where it is a
+/// no figure's man made it. Else the move is a step of the sketch, and the sketch that it is taken back to fits before it; if it is a
 /// capture en passant, before the double step, which is taken back too (`steps`). That sketch, trimmed however often, doesn't have the
 /// side that made the step give check, since this side is to move there (`calm`).
 pub fn closed_sketches_go_back()

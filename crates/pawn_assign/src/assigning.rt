@@ -23,7 +23,7 @@ pub fn least(c: &Costs) -> Least
     }
 }
 
-/// The sum of the potentials, where they bound the costs of these pawns; None exactly where they don't. No way in which the pawns
+/// The sum of the potentials, if they bound the costs of these pawns; None if and only if they don't. No way in which the pawns
 /// can have begun costs less than that sum.
 pub fn bound(c: &Costs, p: &Potentials) -> Option<i32>
     ensures bound { SomeIff result (IsBounded 8 c.now p.now.u p.now.v) (total p.now.u +ℤ total p.now.v) }

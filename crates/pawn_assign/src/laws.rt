@@ -20,7 +20,7 @@ pub fn rows_are_of_the_pawns()
 {}
 
 /// The law of weak duality for the pawns of a side: wherever they began, each on a file of its own, their costs are no less than the sum of
-/// potentials that bound them. Where each can have come from its file, the costs are the files that they have gone aside; and where the
+/// potentials that bound them. If each can have come from its file, the costs are the files that they have gone aside; and if the
 /// costs are below 64 in all, each can have come from its file.
 pub fn no_way_costs_less()
     ensures costs { (o : List Bool) (c : AColour) (board : Places) (u v : List ℤ) (files : List ℕ) → IsBounded 8 (pawn_costs o c board) u v → IsInjection 8 (length (pawn_squares c board)) files → (total u +ℤ total v) ≤ℤ pos (assignment_cost (pawn_costs o c board) files) }
@@ -29,8 +29,8 @@ pub fn no_way_costs_less()
     ensures files { (o : List Bool) (c : AColour) (board : Places) (u v : List ℤ) (files : List ℕ) → IsBounded 8 (pawn_costs o c board) u v → IsInjection 8 (length (pawn_squares c board)) files → HaveCome o c (pawn_squares c board) files → (total u +ℤ total v) ≤ℤ pos (files_aside (pawn_squares c board) files) }
 {}
 
-/// The law of strong duality for the pawns of a side: where they are at most eight, potentials that bound their costs, with a sum above
-/// a number, exist exactly where their least cost is above that number.
+/// The law of strong duality for the pawns of a side: if they are at most eight, potentials that bound their costs, with a sum above
+/// a number, exist if and only if their least cost is above that number.
 pub fn least_cost_decides()
     ensures { (o : List Bool) (c : AColour) (board : Places) (n : ℤ) → length (pawn_squares c board) ≤ 8 → ((d : Duals) × ArePotentials d × IsBounded 8 (pawn_costs o c board) d.u d.v × (n <ℤ (total d.u +ℤ total d.v))) ↔ (n <ℤ pos (least_cost 8 (pawn_costs o c board))) }
 {}

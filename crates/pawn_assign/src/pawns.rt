@@ -65,7 +65,7 @@ fn pawn_row(odds: Odds, side: Colour, s: Square) -> [u8; 8]
     row
 }
 
-/// The costs of this side's pawns in a game at these odds; None exactly where it has more than eight. From a file whose pawn of the
+/// The costs of this side's pawns in a game at these odds; None if and only if it has more than eight. From a file whose pawn of the
 /// side is left out each costs 64.
 pub fn costs(board: &Board, side: Colour, odds: Odds) -> Option<Costs>
     ensures { SomeIff result (length (pawn_squares side board.now) ≤ 8) (pawn_costs odds side board.now) }

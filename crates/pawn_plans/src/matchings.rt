@@ -86,7 +86,7 @@ fn prices_of(square: usize, files: u8, leaves: bool) -> [u8; 8] {
     prices
 }
 
-/// What each home file costs a man who was promoted: nothing where no pawn of the other side stands on it.
+/// What each home file costs a man who was promoted: nothing if no pawn of the other side stands on it.
 fn promotion_prices(files: u8, blocked: u8) -> [u8; 8] {
     let free = !blocked;
     let beside = free | free << 1 | free >> 1;

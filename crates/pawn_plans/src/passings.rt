@@ -72,7 +72,7 @@ fn captures_of(camp: &Camp, leaving: u64, foe: &Camp) -> Option<Fewest> {
     }
 }
 
-/// What these captures cost, where each one beyond the officers who are lacking is short of them.
+/// What these captures cost, if each one beyond the officers who are lacking is short of them.
 fn price(camps: &Camps, own: u8, other: u8, capture: u32, short: u32) -> u32 {
     let shortage = own
         .saturating_sub(camps.other.officers_lost())
@@ -82,8 +82,8 @@ fn price(camps: &Camps, own: u8, other: u8, capture: u32, short: u32) -> u32 {
         .saturating_add(u32::from(shortage).saturating_mul(short))
 }
 
-/// The cheapest captures that bring the pawns of both sides home, each at this price, and at this one more where it has to take a
-/// pawn. None where there aren't enough men.
+/// The cheapest captures that bring the pawns of both sides home, each at this price, and at this one more if it has to take a
+/// pawn. None if there aren't enough men.
 pub fn passing(camps: &Camps, capture: u32, short: u32) -> Option<PawnCount> {
     let crossed = count_crossed(camps).min(MOST_CROSSED as u32);
     let steps = count_steps(camps.own.pawns)

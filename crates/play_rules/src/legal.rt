@@ -20,7 +20,7 @@ fn is_officer(kind: Kind) -> bool
     kind == Kind::Queen || kind == Kind::Rook || kind == Kind::Bishop || kind == Kind::Knight
 }
 
-/// Whether the move promotes exactly where its man is a pawn of this side that reaches its last rank, and to an officer (article 3.7).
+/// Whether the move promotes if and only if its man is a pawn of this side that reaches its last rank, and to an officer (article 3.7).
 #[tactic(auto, unfolding(board_base::specs::Legal::promotion_fits))]
 pub fn promotion_fits(board: &Board, colour: Colour, m: &Move) -> bool
     ensures { result ≡ promotion_fits board.now colour m.now }

@@ -77,7 +77,7 @@ fn sample_game(alloc: Global, plies: u32, tally: &mut Tally) -> Result<(), Memor
 /// until there is none. To draw, a number becomes 6364136223846793005 times itself plus 1442695040888963407, modulo 2^64; it starts
 /// from `start`, and is kept from game to game. Its value without its lowest 33 bits, modulo the number of moves, is the place drawn.
 /// After each move the query of the position is taken: its board and turn, no odds, all rights that the game still has, and the last
-/// move where it was a pawn's double step. Want of memory is a free answer: `Err` may take the place of the counts.
+/// move if it was a pawn's double step. Want of memory is a free answer: `Err` may take the place of the counts.
 pub fn sample(alloc: Global, start: u64, games: u32, plies: u32) -> Result<Summary, Memory>
     requires games { (1 ≤ games) × (games ≤ 1000) }
     requires plies { (1 ≤ plies) × (plies ≤ 200) }

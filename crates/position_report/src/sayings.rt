@@ -73,7 +73,7 @@ fn add_pair(pair: &PairFound, verdicts: &mut Vec<Verdict>) -> Result<(), AllocEr
     ensures { IfOk result (λ _. verdicts.new.items ≡ verdicts.old.items ++ pair_verdicts pair.now) }
 {
     if pair.finding.is_proved() {
-        // The prover takes a push of verdicts only where the type of their claims is in use.
+        // The prover takes a push of verdicts only if the type of their claims is in use.
         let _claim = Claim::Illegal;
         verdicts.push(Verdict::NotBoth(pair.first, pair.second))?;
     }

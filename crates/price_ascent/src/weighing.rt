@@ -77,7 +77,7 @@ impl SideSeen {
         }
     }
 
-    /// Adds a tally that isn't there. The first has the whole weight and the next have none; where there is no more room the lightest
+    /// Adds a tally that isn't there. The first has the whole weight and the next have none; if there is no more room the lightest
     /// makes way, and leaves its weight.
     fn add(&mut self, tally: &Tally) {
         if self.tallies.iter().any(|x| x.tally == *tally) {
@@ -187,7 +187,7 @@ struct Shift {
     gain: i32,
 }
 
-/// From the tally that owes the most of those that have weight to that which owes the least; None where that gains nothing.
+/// From the tally that owes the most of those that have weight to that which owes the least; None if that gains nothing.
 fn best_shift(seen: &[Weighed], dues: &[i32; 16]) -> Option<Shift>
     ensures { IfSome result (λ shift. (shift.from < 16) × (shift.to < 16)) }
 {
@@ -239,7 +239,7 @@ fn amount(gain: i32, squares: i32, weight: i32) -> i32 {
     }
 }
 
-/// Shifts weight between two tallies of a side; false where none goes over.
+/// Shifts weight between two tallies of a side; false if none goes over.
 fn shift_weight(
     seen: &mut ArrayVec<Weighed, 16>,
     columns: &mut ArrayVec<Column, 96>,

@@ -88,7 +88,7 @@ fn move_all(prices: &mut [u8], slopes: &[i32], step: i32) {
     }
 }
 
-/// How far to move, where the men fall short of the bound by so much and the slopes have this sum of squares.
+/// How far to move, if the men fall short of the bound by so much and the slopes have this sum of squares.
 fn step_for(shortfall: u32, squares: i32) -> i32 {
     if squares <= 0 {
         return 1;
@@ -124,7 +124,7 @@ fn drop_least(prices: &mut [u8]) {
     }
 }
 
-/// What the true homes of all men cost at most at prices, where they do so without gates.
+/// What the true homes of all men cost at most at prices, if they do so without gates.
 pub(crate) fn most_at(base: u32, prices: &[u8; 96]) -> u32 {
     let mut most = base;
     for toll in &prices[32..] {
@@ -144,7 +144,7 @@ fn sixteen_from(prices: &[u8; 96], start: usize) -> [u8; 16]
     all
 }
 
-/// The prices on these places; None where there are too many gates, or a price is too great.
+/// The prices on these places; None if there are too many gates, or a price is too great.
 pub(crate) fn prices_at(prices: &[u8; 96]) -> Option<Prices> {
     let mut gates = [Gate { square: 0, toll: 0 }; 16];
     let mut count = 0;
@@ -175,7 +175,7 @@ impl Ascent {
         Ascent { prices }
     }
 
-    /// These prices; None where there are too many gates.
+    /// These prices; None if there are too many gates.
     fn prices(&self) -> Option<Prices> {
         prices_at(&self.prices)
     }
@@ -192,7 +192,7 @@ impl Ascent {
     }
 }
 
-/// Tries flat prices: with homes at the least cost at others, where these show already that they don't support the query.
+/// Tries flat prices: with homes at the least cost at others, if these show already that they don't support the query.
 fn try_flat(
     kept: &FlatGround,
     query: &Query,
@@ -242,7 +242,7 @@ fn ascend(men: &Men, first: &Outcome, base: u32) -> Option<Prices> {
     None
 }
 
-/// Tries the flat prices for men on these squares, and seeks others at which the men cost more than their true homes can, where none of
+/// Tries the flat prices for men on these squares, and seeks others at which the men cost more than their true homes can, if none of
 /// these do.
 pub(crate) fn seek(
     query: &Query,

@@ -2,7 +2,7 @@ ghost use Rattle.std.specs.Prelude.{◌<◌, IfSome};
 
 use crate::lands::Classes;
 
-/// One of these classes of whose numbers none is greater, and of such one with the greatest need; None where that number is 0.
+/// One of these classes of whose numbers none is greater, and of such one with the greatest need; None if that number is 0.
 pub(crate) fn neediest_class(takes: &[u8; 16], needs: &[i32; 16], within: &Classes) -> Option<usize>
     ensures { IfSome result (λ class. class < 16) }
 {

@@ -15,7 +15,7 @@ pub(crate) struct SideMen {
     pub(crate) begun: usize,
 }
 
-/// The number of a man's home who stands on the set; None where it is no home of the side.
+/// The number of a man's home who stands on the set; None if it is no home of the side.
 fn own_home(side: Colour, square: u8) -> Option<u8> {
     let number = number_of(side, Square::new(square)?);
     if number < 16 { Some(number) } else { None }

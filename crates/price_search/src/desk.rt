@@ -64,7 +64,7 @@ impl PriceDesk {
         }
     }
 
-    /// Keeps what is known at flat prices of the query with this set, and gives its place; past the last where memory is wanting.
+    /// Keeps what is known at flat prices of the query with this set, and gives its place; past the last if out of memory.
     fn add_grounds(&mut self, query: &Query, set: SquareSet) -> usize {
         if self.kept.len() >= MOST_SETS {
             self.kept.clear();
@@ -74,7 +74,7 @@ impl PriceDesk {
         place.unwrap_or(self.kept.len())
     }
 
-    /// The place of what is known at flat prices of the query with this set. It is kept from now on; where memory is wanting, the place
+    /// The place of what is known at flat prices of the query with this set. It is kept from now on; if out of memory, the place
     /// is past the last.
     fn place_of(&mut self, query: &Query, set: SquareSet) -> usize {
         match self.kept.iter().position(|it| it.fits(set, query.odds)) {
@@ -103,7 +103,7 @@ impl PlacedMen {
 }
 
 impl Sought {
-    /// The same, with plain prices in place of others if such are found, where these are the men, the set and what the true homes cost
+    /// The same, with plain prices in place of others if such are found, if these are the men, the set and what the true homes cost
     /// at most without gates.
     fn plainly(self, men: &Men, set: SquareSet, base: u32) -> Sought {
         let mut sought = self;
@@ -116,7 +116,7 @@ impl Sought {
     }
 }
 
-/// The men of one side, by their traces; None where there are more than it began with.
+/// The men of one side, by their traces; None if there are more than it began with.
 fn side_men(kept: &FlatSide, land: &Land, board: &Board, squares: &[u8]) -> Option<SideMen> {
     let begun = kept.begun as usize;
     if squares.len() > begun {
@@ -129,7 +129,7 @@ fn side_men(kept: &FlatSide, land: &Land, board: &Board, squares: &[u8]) -> Opti
     })
 }
 
-/// The men of both sides on these squares; None where there are more of one than it began with.
+/// The men of both sides on these squares; None if there are more of one than it began with.
 fn sides_of(kept: &FlatGrounds, board: &Board, standing: &StandingMen) -> Option<Sides> {
     let both = &kept.both;
     let lands = &kept.lands;
@@ -152,7 +152,7 @@ impl Sides {
 }
 
 /// What was found for the key of the position, whose men stand on these squares, or is found now, with the homes in ascending order of
-/// the squares; None where a side has more men than it began with.
+/// the squares; None if a side has more men than it began with.
 fn sought(
     kept: &FlatGrounds,
     tried: &mut Tried,
@@ -208,7 +208,7 @@ fn if_balanced(query: &Query, set: SquareSet, prices: Prices) -> Option<Prices>
 }
 
 /// These flat prices, if they support the query with this set: with 1 for a capture if so they support it too, as they should. They need
-/// not be tried where homes show that they don't.
+/// not be tried if homes show that they don't.
 fn flat_if_balanced(
     kept: &FlatGround,
     query: &Query,
@@ -313,8 +313,8 @@ fn find_prices(query: &Query, set: SquareSet, desk: &mut PriceDesk) -> Option<Pr
     }
 }
 
-/// A set and prices that support the query, if they are found. They are where flat prices support it; elsewhere none need be, even
-/// where there are some. Flat ones have 24 for a capture only if those with 1 don't support it. The set is the greatest one that is as in
+/// A set and prices that support the query, if they are found. They are if flat prices support it; otherwise none need be, even
+/// if there are some. Flat ones have 24 for a capture only if those with 1 don't support it. The set is the greatest one that is as in
 /// the array. What was found or sought in vain is kept on the desk for other positions where the men cost the same.
 pub fn find_balance(query: &Query, desk: &mut PriceDesk) -> Option<(SquareSet, Prices)>
     ensures supports { IfSome result (λ found. BalanceSupports query.now found.0 found.1) }

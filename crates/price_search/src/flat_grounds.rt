@@ -172,7 +172,7 @@ fn cell(kept: &FlatSide, board: &Board, men: &[u8], i: usize, home: u8) -> u16
 }
 
 /// What the men of a side cost with these homes, one for each man on the board, who stand on these squares, and then one for each who
-/// is gone; None where these are no homes of theirs.
+/// is gone; None if these are no homes of theirs.
 fn cost_with(kept: &FlatSide, board: &Board, men: &[u8], homes: &[u8; 16]) -> Option<u32>
     requires { men.now ≡ men_squares kept.now.side.side board.now }
     ensures { IfSome result (λ cost. (men_on kept.now.side.side board.now ≤ men_on kept.now.side.side (array_of kept.now.odds)) × (side_cost kept.now.odds board.now (flat_prices kept.now.payers) kept.now.side.frozen kept.now.side.side ≤ cost)) }

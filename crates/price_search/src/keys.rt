@@ -104,7 +104,7 @@ fn rank_of(trace: Trace) -> u32 {
     }
 }
 
-/// Moves the last of the first numbers down to its place, where the others are in order, with what stands beside each.
+/// Moves the last of the first numbers down to its place, if the others are in order, with what stands beside each.
 fn sink(ranks: &mut [u32; 16], places: &mut [u8; 16], last: usize)
     requires { last < 16 }
 {

@@ -76,7 +76,7 @@ fn side_outcome(land: &Land, men: &SideMen, prices: &[u8; 96]) -> SideOutcome {
     }
 }
 
-/// What the men of both sides cost and did at these prices, where so much is owed on the places of captures.
+/// What the men of both sides cost and did at these prices, if so much is owed on the places of captures.
 pub(crate) fn outcome_of(men: &Men, prices: &[u8; 96], owed: &[i32; 32]) -> Outcome {
     let white = side_outcome(&men.lands.white, &men.white, prices);
     let black = side_outcome(&men.lands.black, &men.black, prices);

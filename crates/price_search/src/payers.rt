@@ -3,7 +3,7 @@ ghost use Rattle.price_search.specs.FlatPrices.{flat_prices, once_prices};
 
 use capture_prices::Prices;
 
-/// Whose captures by pawns have a price, where each of them has the same and there are no gates.
+/// Whose captures by pawns have a price, if each of them has the same and there are no gates.
 #[derive(Clone, Copy, PartialEq, Eq)]
 pub enum Payers {
     Both,

@@ -25,7 +25,7 @@ struct Change {
     step: u8,
     count: u8,
     price: u8,
-    /// The file of a gate, as a bit; none where captures have the price.
+    /// The file of a gate, as a bit; none if captures have the price.
     gated: u8,
 }
 
@@ -233,7 +233,7 @@ impl PlainSearch {
         }
     }
 
-    /// The slopes of the cheapest account that was seen, where these prices don't do by it.
+    /// The slopes of the cheapest account that was seen, if these prices don't do by it.
     fn seen(&self, prices: &[u8; 96]) -> Option<[i32; 96]> {
         let white = cheapest(self.white_tallies.as_slice(), prices)?;
         let black = cheapest(self.black_tallies.as_slice(), prices)?;
@@ -254,7 +254,7 @@ impl PlainSearch {
         Ok(outcome_of(&self.men, prices, &[0; 32]))
     }
 
-    /// The slopes of an account at which these prices don't do; None where they do.
+    /// The slopes of an account at which these prices don't do; None if they do.
     fn account_against(&mut self, prices: &[u8; 96]) -> Result<Option<[i32; 96]>, Spent> {
         if let Some(all) = self.seen(prices) {
             return Ok(Some(all));
@@ -308,7 +308,7 @@ impl PlainSearch {
         Ok(None)
     }
 
-    /// The changes of captures that aren't paid for where these pay.
+    /// The changes of captures that aren't paid for if these pay.
     fn unpaid(&self, payers: Payers) -> Banned {
         let mut banned = Banned { each: [false; 160] };
         for (is_banned, change) in banned.each.iter_mut().zip(self.changes.as_slice()) {

@@ -14,7 +14,7 @@ pub(crate) struct StandingMen {
     pub(crate) black: ArrayVec<u8, 16>,
 }
 
-/// The squares of the side's men, in ascending order; None exactly where there are more than sixteen.
+/// The squares of the side's men, in ascending order; None if and only if there are more than sixteen.
 fn squares_of_men(board: &Board, side: Colour) -> Option<ArrayVec<u8, 16>>
     ensures { SomeIff (option_map (λ men. men.items) result) (men_on side board.now ≤ 16) (men_squares side board.now) }
 {
@@ -30,7 +30,7 @@ fn squares_of_men(board: &Board, side: Colour) -> Option<ArrayVec<u8, 16>>
     Some(men)
 }
 
-/// The squares of the men of each side; None where a side has more than sixteen.
+/// The squares of the men of each side; None if a side has more than sixteen.
 pub(crate) fn standing_men(board: &Board) -> Option<StandingMen>
     ensures { IfSome result (AreStanding board.now) }
 {

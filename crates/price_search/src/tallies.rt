@@ -141,7 +141,7 @@ fn best_promotion(ways: &Ways, own: usize, files: u8) -> usize
     best
 }
 
-/// The first file on which a way costs as much as it costs that the pawn is gone, where these are earned.
+/// The first file on which a way costs as much as it costs that the pawn is gone, if these are earned.
 fn lost_among(ways: &Rank, earned: &Rank, gone: u16) -> Option<usize>
     ensures { IfSome result (λ file. file < 8) }
 {
@@ -224,7 +224,7 @@ impl Deeds {
         }
     }
 
-    /// All that the men of this side did, with the classes on which they were taken, where the enemy has these prices and so much is
+    /// All that the men of this side did, with the classes on which they were taken, if the enemy has these prices and so much is
     /// needed on each class. Each earns the most that he can, pawns come first, and of equal classes that is taken where the need is
     /// greatest.
     pub(crate) fn with_fallen(&self, enemy: Colour, takes: &[u8; 16], needs: &[i32; 16]) -> Tally {
@@ -241,7 +241,7 @@ impl Deeds {
         tally
     }
 
-    /// What is needed on the classes where this side's pawns captured, and so much is owed on all places of captures.
+    /// What is needed on the classes if this side's pawns captured, and so much is owed on all places of captures.
     pub(crate) fn needs(&self, side: Colour, owed: &[i32; 32]) -> [i32; 16] {
         let mut all = [0; 16];
         for class in 0..16 {

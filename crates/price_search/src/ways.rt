@@ -167,7 +167,7 @@ impl Ways {
         }
     }
 
-    /// The least fees of all ways of the pawn of a file to a rank: nothing where he needs no capture.
+    /// The least fees of all ways of the pawn of a file to a rank: nothing if he needs no capture.
     pub(crate) fn fees(&self, file: usize, rank: usize) -> Rank
         requires file { file < 8 }
         requires rank { rank < 8 }

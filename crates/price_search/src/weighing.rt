@@ -42,7 +42,7 @@ struct Scale {
 }
 
 /// Tallies that were seen, those of each side apart, with weights. The cost at any prices is at most what each tally of White with each
-/// of Black comes to. So where these by their weights owe too little on all places together, low prices don't support the query.
+/// of Black comes to. So if these by their weights owe too little on all places together, low prices don't support the query.
 #[derive(Drop)]
 pub(crate) struct Weighing {
     white: SideSeen,
@@ -50,7 +50,7 @@ pub(crate) struct Weighing {
     scale: Scale,
     /// What is owed on the other places together, of those where anything is.
     fixed: i32,
-    /// What is owed on the places of captures, where the tallies of each side say the same.
+    /// What is owed on the places of captures, if the tallies of each side say the same.
     needs: [i32; 32],
 }
 
@@ -150,7 +150,7 @@ impl SideSeen {
         weighted(&self.times[place], &self.weights, self.count)
     }
 
-    /// Adds a tally that isn't there. The first has the whole weight and the next have none; where there is no more room the lightest
+    /// Adds a tally that isn't there. The first has the whole weight and the next have none; if there is no more room the lightest
     /// makes way, and leaves its weight.
     fn add(&mut self, tally: &Tally) {
         if self.has(tally) {
@@ -298,7 +298,7 @@ struct Shift {
     gain: i32,
 }
 
-/// From the tally that owes the most of those that have weight to that which owes the least; None where that gains nothing.
+/// From the tally that owes the most of those that have weight to that which owes the least; None if that gains nothing.
 fn best_shift(weights: &[i32; 16], count: usize, dues: &[i32; 16]) -> Option<Shift>
     ensures { IfSome result (λ shift. (shift.from < 16) × (shift.to < 16)) }
 {
@@ -335,7 +335,7 @@ fn amount(gain: i32, squares: i32, weight: i32) -> i32 {
     }
 }
 
-/// Shifts weight between two tallies of a side; false where none goes over.
+/// Shifts weight between two tallies of a side; false if none goes over.
 fn shift_weight(seen: &mut SideSeen, scale: &mut Scale, side: Colour) -> bool {
     let Some(shift) = best_shift(&seen.weights, seen.count, &scale.dues(side, seen.count)) else {
         return false;

@@ -53,7 +53,7 @@ fn give_all(served: &mut [Served], givers: &[Giver]) {
     }
 }
 
-/// Which lines the children are given, in their order; none where they have one line or none among them.
+/// Which lines the children are given, in their order; none if they have one line or none among them.
 pub(crate) fn given(
     alloc: Global,
     query: &Query,

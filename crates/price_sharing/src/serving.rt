@@ -67,7 +67,7 @@ pub(crate) fn givers_among(alloc: Global, kids: &Kids) -> Result<Vec<Giver>, Mem
     Ok(givers)
 }
 
-/// Whether the giver's line supports the query of the child with this line of its own. Each try is counted; where none is left, it isn't
+/// Whether the giver's line supports the query of the child with this line of its own. Each try is counted; if none is left, it isn't
 /// tried.
 fn serves(giver: &Giver, own: &Reason, child: &Query, tries: &mut u32) -> bool {
     if giver.line == *own {

@@ -149,7 +149,7 @@ fn read_gates_behind(text: Option<&[u8]>) -> Option<ArrayVec<Gate, 16>>
 
 /// Reads prices and gates: sixteen numbers, `/`, sixteen numbers, `/`, and at most sixteen squares in ascending order, each with a number. One
 /// space parts two words. The numbers are decimal, with no leading zero other than `0` itself, from 0 to 96, and behind a square from 1. None
-/// comes exactly where the text is no such.
+/// comes if and only if the text is no such.
 pub fn read_prices(text: &[u8]) -> Option<Prices>
     ensures { result ≡ prices_of text.now }
 {

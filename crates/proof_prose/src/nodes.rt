@@ -67,7 +67,7 @@ fn push_unmove(unmove: Option<Unmove>, out: &mut UnmoveList) -> Result<(), Alloc
     }
 }
 
-/// The query of the ancestor so many steps above, of which the parent comes last; or this one, where there is none.
+/// The query of the ancestor so many steps above, of which the parent comes last; or this one, if there is none.
 fn earlier(query: &Query, ancestors: &[Query], steps: u8) -> Query
     ensures { result ≡ earlier query.now (reverse ancestors.now) steps }
 {

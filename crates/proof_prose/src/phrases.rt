@@ -40,7 +40,7 @@ fn moves_sentence(count: usize, first: bool) -> Sentence
     }
 }
 
-/// Whether there are retractions; where there are none, what is told of each man is so.
+/// Whether there are retractions; if there are none, what is told of each man is so.
 fn push_moves(
     alloc: Global,
     query: &Query,

@@ -127,7 +127,7 @@ fn push_priced(
     Ok(())
 }
 
-/// The same where all men have homes: by what is counted, or else by prices.
+/// The same if all men have homes: by what is counted, or else by prices.
 fn push_by_prices(
     alloc: Global,
     query: &Query,

@@ -37,7 +37,7 @@ fn set_of(reason: &Reason) -> Option<SquareSet>
     }
 }
 
-/// The rule line with this set, where it has one.
+/// The rule line with this set, if it has one.
 fn line_with(rule: &RuleLine, set: SquareSet) -> RuleLine
     ensures { result ≡ line_with rule.now set }
 {
@@ -53,7 +53,7 @@ fn line_with(rule: &RuleLine, set: SquareSet) -> RuleLine
     }
 }
 
-/// The reason with this set, where it has one.
+/// The reason with this set, if it has one.
 fn with_set(reason: &Reason, set: SquareSet) -> Reason
     ensures { result ≡ with_set reason.now set }
 {
@@ -91,7 +91,7 @@ fn kept_query(query: &Query, set: SquareSet) -> Query
     bare
 }
 
-/// The greatest frozen set within a set: the greatest one where only the men on its squares stand.
+/// The greatest frozen set within a set: the greatest one if only the men on its squares stand.
 fn part(query: &Query, set: SquareSet) -> SquareSet
     ensures { IsGreatestWithin query.now set result }
 {
@@ -101,7 +101,7 @@ fn part(query: &Query, set: SquareSet) -> SquareSet
     part
 }
 
-/// What is left of the set where this square is to be taken out: the set, where the reason doesn't stand without it.
+/// What is left of the set if this square is to be taken out: the set, if the reason doesn't stand without it.
 fn without_square(query: &Query, reason: &Reason, set: SquareSet, s: Square) -> SquareSet
     requires { ReasonSupports query.now (with_set reason.now set) }
     ensures supports { ReasonSupports query.now (with_set reason.now result) }
@@ -118,7 +118,7 @@ fn without_square(query: &Query, reason: &Reason, set: SquareSet, s: Square) -> 
     }
 }
 
-/// What is left of the set where the squares are to be taken out one after another.
+/// What is left of the set if the squares are to be taken out one after another.
 fn lessened_set(query: &Query, reason: &Reason, set: SquareSet) -> SquareSet
     requires { ReasonSupports query.now (with_set reason.now set) }
     ensures supports { ReasonSupports query.now (with_set reason.now result) }

@@ -20,7 +20,7 @@ fn is_astray(query: &Query, castle: Castle) -> bool
     query.held.has(castle) && (lacks_home(query.odds, castle) || !are_at_home(&query.board, castle))
 }
 
-/// The first such right, where there is one.
+/// The first such right, if there is one.
 pub(crate) fn astray_right(query: &Query) -> Option<Castle>
     requires { HasRightsHomes query.now → ⊥ }
     ensures some { IsSome result }

@@ -25,7 +25,7 @@ pub enum Sentence {
     OnPawns(PawnFact),
     /// What is said of a balance of captures.
     OnBalance(BalanceFact),
-    /// The position stood so many half-moves later too, where this query asks no more.
+    /// The position stood so many half-moves later too, if this query asks no more.
     Back(u8, Query),
     /// The side that moved last has no move that can have been the last; whether the query is the first that is told.
     Still(bool),

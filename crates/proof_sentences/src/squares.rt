@@ -14,7 +14,7 @@ fn is_pawn_on_end(board: &Board, s: Square) -> bool
     (s.rank() == 0 || s.rank() == 7) && is_a(Kind::Pawn, board.at(s))
 }
 
-/// The first square of rank 1 or 8 on which a pawn stands, where there is one.
+/// The first square of rank 1 or 8 on which a pawn stands, if there is one.
 pub(crate) fn pawn_on_end(board: &Board) -> Option<Square>
     requires { HasNoPawnOnEnds board.now → ⊥ }
     ensures some { IsSome result }
@@ -29,7 +29,7 @@ pub(crate) fn pawn_on_end(board: &Board) -> Option<Square>
     None
 }
 
-/// The first square of a king of the side who stands in check, where one does.
+/// The first square of a king of the side who stands in check, if one does.
 pub(crate) fn king_in_check(board: &Board, side: Colour) -> Option<Square>
     requires { IsTrue (in_check board.now side) }
     ensures some { IsSome result }

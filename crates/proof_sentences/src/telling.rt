@@ -88,7 +88,7 @@ fn push_counted(n: usize, one: &[u8], several: &[u8], out: &mut Vec<u8>) -> Resu
     Ok(())
 }
 
-/// What a side does now, or did before the move that leads to the query, where this isn't the first that is told.
+/// What a side does now, or did before the move that leads to the query, if this isn't the first that is told.
 fn push_at_time(
     first: bool,
     side: Colour,

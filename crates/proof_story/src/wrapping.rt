@@ -78,7 +78,7 @@ fn is_ended(line: &[u8]) -> bool
     line.len() > 0 && line[line.len() - 1] == b'\n'
 }
 
-/// A line end, where there is none yet.
+/// A line end, if there is none yet.
 fn push_end(line: &[u8], out: &mut Vec<u8>) -> Result<(), AllocError>
     ensures { IfOk result (λ _. out.new.items ≡ out.old.items ++ end_of line.now) }
 {

@@ -38,7 +38,7 @@ initial Rook = codes "R"
 initial Queen = codes "Q"
 initial King = codes "K"
 
--- the same for the man of a place; none where nobody stands there
+-- the same for the man of a place; none if nobody stands there
 abbrev pub place_initial : Option Man → List ℕ
 place_initial None = []
 place_initial (Some m) = initial m.kind

@@ -63,7 +63,7 @@ pub fn initial(kind: Kind) -> &'static [u8]
     }
 }
 
-/// The same for the man of a place; none where nobody stands there.
+/// The same for the man of a place; none if nobody stands there.
 pub fn place_initial(place: Option<Man>) -> &'static [u8]
     ensures { result.now ≡ place_initial place }
 {
@@ -86,7 +86,7 @@ fn capital_letter(kind: Kind) -> u8
     }
 }
 
-/// The letter of a place in the diagram: a capital one for a man of White's, and a full stop where nobody stands.
+/// The letter of a place in the diagram: a capital one for a man of White's, and a full stop if nobody stands.
 pub fn place_letter(place: Option<Man>) -> u8
     ensures { result ≡ place_letter place }
 {
@@ -126,7 +126,7 @@ pub fn push_number(n: usize, out: &mut Vec<u8>) -> Result<(), AllocError>
     Ok(())
 }
 
-/// A man as in `a black knight`; `nobody` where there is none.
+/// A man as in `a black knight`; `nobody` if there is none.
 pub fn push_man(place: Option<Man>, out: &mut Vec<u8>) -> Result<(), AllocError>
     ensures { IfOk result (λ _. out.new.items ≡ out.old.items ++ man_words place) }
 {
@@ -141,7 +141,7 @@ pub fn push_man(place: Option<Man>, out: &mut Vec<u8>) -> Result<(), AllocError>
     Ok(())
 }
 
-/// A square after a space, where it is to be written.
+/// A square after a space, if it is to be written.
 pub fn push_square_if(given: bool, s: Square, out: &mut Vec<u8>) -> Result<(), AllocError>
     ensures { IfOk result (λ _. out.new.items ≡ out.old.items ++ given_square given s) }
 {

@@ -15,7 +15,7 @@ pub fn is_covered(ancestors: &[Query], steps: u8, query: &Query) -> bool
     covers(&ancestors[ancestors.len() - steps], query)
 }
 
-/// How many steps above the nearest ancestor stands that covers the query; None where none does. The parent comes last.
+/// How many steps above the nearest ancestor stands that covers the query; None if none does. The parent comes last.
 pub fn steps_back(query: &Query, ancestors: &[Query]) -> Option<u8>
     requires { length ancestors.now < 256 }
     ensures { MatchOption result (IsCovered query.now (reverse ancestors.now) → ⊥) (λ k. GoesBack query.now (reverse ancestors.now) k) }

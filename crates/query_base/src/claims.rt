@@ -1,6 +1,6 @@
 use board_base::{Castle, Move};
 
-/// What is said of each game that reaches a query. A claim holds where no list of moves, however long, contradicts it; so each
+/// What is said of each game that reaches a query. A claim holds if no list of moves, however long, contradicts it; so each
 /// claim holds of a query that no game reaches.
 #[derive(Clone, Copy, PartialEq, Eq, Debug)]
 pub enum Claim {

@@ -2,14 +2,14 @@ use board_base::{Board, CastleSet, Colour, Move, Odds};
 use std::marker::Model;
 
 /// A board, the side to move, and what is demanded of the games that lead there. They begin from the array (article 2.3) at the odds
-/// that are named. `only`, where it is given, is a double step of the side not to move, and `clock` is at most 9,999: every value of this type keeps that.
+/// that are named. `only`, if it is given, is a double step of the side not to move, and `clock` is at most 9,999: every value of this type keeps that.
 #[derive(Clone, Copy, PartialEq, Eq, Hash, Debug)]
 pub struct Query {
     /// The men on the 64 squares. Nothing is asked of them: any number of kings and pawns may stand anywhere.
     pub board: Board,
     /// The side to move.
     pub turn: Colour,
-    /// The squares whose men the array lacks from which the games begin; none where they begin from the whole array.
+    /// The squares whose men the array lacks from which the games begin; none if they begin from the whole array.
     pub odds: Odds,
     /// The castlings whose right must still be held: neither their king nor their rook has moved (article 3.8.2.1), and the rook
     /// hasn't been captured or left out. Of the other castlings nothing is demanded.

@@ -9,9 +9,9 @@ use crate::queries::Query;
 use board_base::{Move, is_move};
 use ep_history::{double_of, ep_fits};
 
-/// The query that a game reaches exactly where it contradicts the claim about `query`: the query itself where it is claimed to be
+/// The query that a game reaches if and only if it contradicts the claim about `query`: the query itself if it is claimed to be
 /// illegal; with the claimed last move barred; with the castling that is claimed to be lost added to those held; with the double step
-/// barred that the claimed capture en passant answers, or the query itself where that capture doesn't fit its board. The query bars
+/// barred that the claimed capture en passant answers, or the query itself if that capture doesn't fit its board. The query bars
 /// no move of its own.
 pub fn target(query: &Query, claim: &Claim) -> Query
     requires { query.now.barred ≡ None }

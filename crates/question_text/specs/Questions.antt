@@ -17,7 +17,7 @@ use Rattle.question_text.specs.declared.faults.InputFault.TheVariants.{BadLine, 
 abbrev pub names_odds : List ℕ → Bool
 names_odds input = starts_with nat_eq (first_line input) (codes "odds ")
 
--- the odds that it names; no odds where it doesn't begin so, and nothing where it is no odds line all the same
+-- the odds that it names; no odds where it doesn't begin so, and nothing if it is no odds line all the same
 abbrev pub odds_named : List ℕ → Option (List Bool)
 odds_named input = cond (names_odds input) (odds_line (first_line input)) (Some no_odds)
 

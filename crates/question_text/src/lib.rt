@@ -1,4 +1,4 @@
-//! The lines with which an input asks for a position: its odds and its half-move clock, where these are named, and a FEN.
+//! The lines with which an input asks for a position: its odds and its half-move clock, if these are named, and a FEN.
 #![tactic(auto)]
 
 mod faults;

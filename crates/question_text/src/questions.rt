@@ -41,7 +41,7 @@ fn begins_as_clock(line: &[u8]) -> bool
     line.starts_with(b"clock ")
 }
 
-/// The odds that the input's first line names, how many lines that takes, and what follows; None where the line that begins with
+/// The odds that the input's first line names, how many lines that takes, and what follows; None if the line that begins with
 /// `odds ` is no odds line.
 pub(crate) fn take_odds(input: &[u8]) -> Option<(Odds, u32, &[u8])>
     ensures odds { MatchOption result (odds_named input.now ≡ None) (λ front. odds_named input.now ≡ Some front.0) }
@@ -59,7 +59,7 @@ pub(crate) fn take_odds(input: &[u8]) -> Option<(Odds, u32, &[u8])>
     }
 }
 
-/// The clock that the first of these lines demands, or that none is; how many lines that takes, and what follows. None where the line
+/// The clock that the first of these lines demands, or that none is; how many lines that takes, and what follows. None if the line
 /// that begins with `clock ` is no clock line.
 fn take_clock(input: &[u8]) -> Option<(Option<u16>, u32, &[u8])>
     ensures clock { MatchOption result (clock_named input.now ≡ None) (λ front. clock_named input.now ≡ Some front.0) }
@@ -124,9 +124,9 @@ pub(crate) fn read_position(
 }
 
 /// The query of the input's first lines, and what follows them. The first line may name odds, as `odds` and sixteen hexadecimal digits,
-/// and the next a half-move clock, as `clock` and a number from 0 to 9999; then comes a FEN of four or six fields. `BadLine` comes where
-/// a line that begins with `odds ` or `clock ` in its place is no such line, where there is none to be read as a FEN, and, with the
-/// number of the clock line, where the FEN has another half-move clock; `BadFen` where that line isn't FEN.
+/// and the next a half-move clock, as `clock` and a number from 0 to 9999; then comes a FEN of four or six fields. `BadLine` comes if
+/// a line that begins with `odds ` or `clock ` in its place is no such line, if there is none to be read as a FEN, and, with the
+/// number of the clock line, if the FEN has another half-move clock; `BadFen` if that line isn't FEN.
 pub fn read_question(input: &[u8]) -> Result<Question<'_>, InputFault>
     requires { length input.now ≤ 67_108_864 }
     ensures asked { IfOk result (λ question. Asks input.now question.query) }
@@ -146,7 +146,7 @@ pub fn read_question(input: &[u8]) -> Result<Question<'_>, InputFault>
     read_position(odds, clock, odds_lines + lines, rest)
 }
 
-/// The query of an input that has its lines and no more. `BadLine` and `BadFen` come as from `read_question`, and `BadLine` where
+/// The query of an input that has its lines and no more. `BadLine` and `BadFen` come as from `read_question`, and `BadLine` if
 /// another line follows.
 pub fn read_lone_question(input: &[u8]) -> Result<Position, InputFault>
     requires { length input.now ≤ 67_108_864 }

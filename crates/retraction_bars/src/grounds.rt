@@ -45,7 +45,7 @@ fn first_of(query: &Query, ways: &[Unmove], scope: &Scope, low: u8, high: u8) ->
     None
 }
 
-/// The number of the first bar that bars all ways of the scope; None where there is no such way, or no such bar.
+/// The number of the first bar that bars all ways of the scope; None if there is no such way, or no such bar.
 #[tactic(auto, unfolding(crate::specs::Grounds::first_bar))]
 pub fn first_bar(query: &Query, ways: &[Unmove], scope: &Scope) -> Option<u8>
     ensures { result ≡ first_bar query.now ways.now scope.now }

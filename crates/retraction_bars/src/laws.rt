@@ -27,7 +27,7 @@ pub fn listed_are_ways()
     ensures { (q : Asked) (u : Unmove) → length q.board ≡ 64 → Contains (unmoves q) u → IsTrue (is_way q u) }
 {}
 
-/// The law that nothing is left untold where a query has no retraction: each way is among those of which some clause tells that is told by
+/// The law that nothing is left untold if a query has no retraction: each way is among those of which some clause tells that is told by
 /// itself, or a sentence on the rest is written, and it is true of the way.
 pub fn ways_are_told()
     ensures { (q : Asked) (u : Unmove) → unmoves q ≡ [] → Contains candidates u → IsTrue (is_way q u) → IsTold q u }

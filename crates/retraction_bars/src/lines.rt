@@ -202,7 +202,7 @@ fn push_all(alloc: Global, query: &Query, out: &mut Vec<u8>) -> Result<(), Alloc
     Ok(())
 }
 
-/// Why nobody can have moved last, in sentences, each after a space: that two men give check at once, where no move gives both checks;
+/// Why nobody can have moved last, in sentences, each after a space: that two men give check at once, if no move gives both checks;
 /// else, bar by bar, the men all of whose ways it bars, and the men of whom it bars some ways; and last, for all ways that aren't told
 /// so, that each square to come from is occupied, or a man who gives check gave it already. Only want of memory stops it.
 #[tactic(auto, unfolding(crate::specs::Lines::bars_text))]

@@ -23,7 +23,7 @@ pub enum Manner {
 pub struct Scope {
     /// Which of them.
     pub manner: Manner,
-    /// The origin; without meaning where all are meant.
+    /// The origin; without meaning if all are meant.
     pub from: Square,
     /// Whether the man was promoted by the move.
     pub promoted: bool,
@@ -71,7 +71,7 @@ pub fn low_of(manner: Manner) -> u8
     }
 }
 
-/// The number after that of the last bar that is tried: what bars all that isn't listed is tried only where ways are told apart.
+/// The number after that of the last bar that is tried: what bars all that isn't listed is tried only if ways are told apart.
 pub fn high_of(manner: Manner) -> u8
     ensures { result ≡ high_of manner }
 {

@@ -22,8 +22,8 @@ pub enum Unread {
 }
 
 /// Reads once into the front of the buffer, which isn't empty, and answers how many bytes: none only at the end. There is room for
-/// `room` bytes, and the read asks for one more where the buffer holds it. `TooLong` comes exactly where that one was read too, and
-/// `Failed` exactly where the read failed; the bytes still to come are then those before.
+/// `room` bytes, and the read asks for one more if the buffer holds it. `TooLong` comes if and only if that one was read too, and
+/// `Failed` if and only if the read failed; the bytes still to come are then those before.
 pub fn read_piece<S: Source>(src: &mut S, buffer: &mut [u8], room: usize) -> Result<usize, Unread>
     requires { 0 < length buffer.old }
     ensures bound { ReadsAtMost result buffer.new }

@@ -87,7 +87,7 @@ abbrev pub IsShort : Certificate → Type 0
 IsShort cert = (bytes : List ℕ) → IsTextOf bytes cert → length bytes ≤ 67108864
 
 -- What each answer about a claim says with so many nodes. A certificate proves the claim, so that no game contradicts it, and has a text
--- where the claim has one; an open line or a game has fewer moves than the nodes; and where the search was spent, it visited all of them.
+-- where the claim has one; an open line or a game has fewer moves than the nodes; and if the search was spent, it visited all of them.
 pub record IsAnswer (depth nodes : ℕ) (claim : Claim) (q : Asked) (answer : Found) : Type 0 where
   pub proved : IfProved answer (λ cert. IsProofOf depth (cert_of cert) claim q)
   pub holds : IfProved answer (λ cert. Holds claim q)

@@ -37,7 +37,7 @@ pub record ComesTo (came : Result Refutation Unrefuted) (q : Asked) (depth nodes
 abbrev pub WhereLone : Asked → ℕ → (List Asked → Type 0) → Type 0
 WhereLone q depth P = (ps : List Asked) (n : ℕ) → AreExpanded ps q depth → IsLoneSearch q depth n → P ps
 
--- where the search of the query is lone, it refutes it exactly where the nodes are as many as the memo cost
+-- where the search of the query is lone, it refutes it if and only if the nodes are as many as the memo cost
 pub record IsPaidSearch (came : Result Refutation Unrefuted) (q : Asked) (depth nodes : ℕ) : Type 0 where
   pub afforded : IfOk came (λ found. WhereLone q depth (λ ps. unmoves_in_all ps < nodes))
   pub paid : IfErr came (λ why. WhereLone q depth (λ ps. IfSpent why (nodes ≤ unmoves_in_all ps)))

@@ -10,7 +10,7 @@ abbrev mutual
   height (expand kids) = suc (height_of_all kids)
   height (sketch b) = 0
 
-  -- the height of the highest of these trees; 0 where there is none
+  -- the height of the highest of these trees; 0 if there is none
   pub height_of_all : Forest → ℕ
   height_of_all none = 0
   height_of_all (more label tree rest) = max (height tree) (height_of_all rest)

@@ -41,7 +41,7 @@ fn reversed(alloc: Global, unmoves: &[Unmove]) -> Result<UnmoveList, Memory>
     Ok(line)
 }
 
-/// The answer where this line stays open: a game where it ends at the array.
+/// The answer if this line stays open: a game if it ends at the array.
 fn open_answer(alloc: Global, line: &OpenLine) -> Result<Found, Memory>
     ensures { IfOk result (TellsOpenLine line.now) }
 {
@@ -68,7 +68,7 @@ fn are_known(query: &Query, claim: &Claim)
     }
 }
 
-/// What is answered of the claim, where the search of its target with so many nodes came to this.
+/// What is answered of the claim, if the search of its target with so many nodes came to this.
 fn told(
     alloc: Global,
     query: &Query,

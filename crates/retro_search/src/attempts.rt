@@ -35,7 +35,7 @@ fn attempt(
     search(alloc, query, limits.depth, &mut ancestors, run)
 }
 
-/// The same with no refutation kept, by these reasons; or by rule lines alone, where the tree grows too large even so.
+/// The same with no refutation kept, by these reasons; or by rule lines alone, if the tree grows too large even so.
 fn refute_bare(
     alloc: Global,
     query: &Query,
@@ -56,7 +56,7 @@ fn refute_bare(
     }
 }
 
-/// Refutes the query within these limits, with each part of the tree written down where it is needed; where the tree grows too large,
+/// Refutes the query within these limits, with each part of the tree written down where it is needed; if the tree grows too large,
 /// without a memo, since then it has no more nodes than were visited.
 pub(crate) fn refute(
     alloc: Global,

@@ -1,4 +1,6 @@
 //! A bounded search for refutations: a claim is proved by a certificate, or the first line of unmoves that stays open is given.
+//! What a search by rule lines finds is fixed, down to the queries that it visits. Which prices and sketches are sought besides flat prices
+//! and sketches of one node (`reasoning`, `quests`), and which lines siblings share (`shared_lines`), may be changed freely.
 //!
 //! Articles are those of the FIDE Laws of Chess, in force from 1 January 2023.
 #![tactic(auto)]

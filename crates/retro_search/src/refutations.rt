@@ -20,7 +20,7 @@ pub struct Refutation {
     pub lean: u8,
     /// How many unmoves it goes back at most, the last of them included that has no unmove before it.
     pub height: u8,
-    /// How many lines it fills: one for each node, two where prices are listed, and two more for each unit of a sketch.
+    /// How many lines it fills: one for each node, two if prices are listed, and two more for each unit of a sketch.
     pub lines: u32,
 }
 
@@ -51,7 +51,7 @@ impl Children {
         }
     }
 
-    /// Puts a child after the others, where the tree then fills at most 500,000 lines.
+    /// Puts a child after the others, if the tree then fills at most 500,000 lines.
     pub(crate) fn add(&mut self, label: Unmove, kid: Refutation) -> Result<(), Unrefuted>
         requires few { self.old.lines < MOST_NODES }
         requires kid { kid.lines ≤ MOST_NODES }

@@ -12,7 +12,7 @@ use std::alloc::Global;
 pub enum Reasons {
     /// The eight rule lines alone.
     RuleLines,
-    /// The rule lines, and a set and prices that support the query by the balance of captures, where some are found; and a sketch, if sketches
+    /// The rule lines, and a set and prices that support the query by the balance of captures, if some are found; and a sketch, if sketches
     /// are sought.
     All,
 }

@@ -131,7 +131,7 @@ impl Searcher {
         outcome_of(alloc, query, limits, &mut self.run)
     }
 
-    /// The same by all reasons, and where neither rule lines nor prices refute a query, a sketch is sought within these limits, until so many
+    /// The same by all reasons, and if neither rule lines nor prices refute a query, a sketch is sought within these limits, until so many
     /// searches for one have found nothing. `Refuted` comes also wherever one node of a sketch refutes the query, without exact files,
     /// prices and marks.
     pub fn refute_with_sketches(
@@ -160,13 +160,13 @@ impl Searcher {
     }
 
     /// Searches for a certificate of the claim about the query within these limits, as `solve` does: takes moves back from the claim's
-    /// target. By all reasons it looks, where no rule line supports a query, for a set and prices that support it by the balance of
+    /// target. By all reasons it looks, if no rule line supports a query, for a set and prices that support it by the balance of
     /// captures. What earlier questions kept serves this one, and no clause depends on it. The query bars no move of its own.
     ///
     /// - `Proved` comes wherever rule lines refute the target at some depth up to that of the limits at a cost of at most their nodes, by
     ///   all reasons also where flat prices support it, and often elsewhere; by rule lines alone, if and only if they refute it at the depth
     ///   and `Spent` doesn't come. The certificate is of this claim and this query, proves it, goes back no further than the depth, and has
-    ///   at most 500,000 nodes. It has a text where the claim has one, and no text of more than 64 MiB. No game of any length contradicts
+    ///   at most 500,000 nodes. It has a text if the claim has one, and no text of more than 64 MiB. No game of any length contradicts
     ///   the claim.
     /// - `Undecided` comes with a line of listed unmoves on which no rule line supports a query, and none is covered by one before it. It
     ///   has as many unmoves as the depth, and doesn't end at the array. By all reasons and with at most 250,000 nodes, flat prices
@@ -195,7 +195,7 @@ impl Searcher {
         answer(alloc, query, claim, limits, &mut self.run)
     }
 
-    /// The same by all reasons, and where neither rule lines nor prices refute a query, a sketch is sought within these limits, until so many
+    /// The same by all reasons, and if neither rule lines nor prices refute a query, a sketch is sought within these limits, until so many
     /// searches for one have found nothing. `Proved` comes also wherever one node of a sketch refutes the target, without exact files,
     /// prices and marks.
     pub fn settle_with_sketches(

@@ -17,11 +17,11 @@ use std::alloc::Global;
 /// Searches for a certificate of the claim about the query: takes moves back from the claim's target, at most `depth` of them, 0 to
 /// 64, and visits at most `nodes` queries, 1 to 500,000. The query bars no move of its own.
 ///
-/// A query is refutable where a rule line supports it or one of the queries that led to it asks no more than it does; or where moves may
+/// A query is refutable if a rule line supports it or one of the queries that led to it asks no more than it does; or if moves may
 /// still be taken back, it isn't the array from which games begin, and each of its predecessors is refutable with one move less.
 ///
 /// - `Proved` comes if and only if the target is refutable at the depth and `Spent` doesn't come. The certificate is of this claim and
-///   this query, proves it by rule lines, goes back at most `depth` moves, has at most 500,000 nodes, and has a text where the claim has one. No
+///   this query, proves it by rule lines, goes back at most `depth` moves, has at most 500,000 nodes, and has a text if the claim has one. No
 ///   game of any length contradicts the claim; of `Illegal` this says that the position is illegal (article 3.10.3).
 /// - `Undecided` comes only if the target isn't refutable, with its first open line. That has as many unmoves as the depth, and
 ///   doesn't end at the array.
@@ -29,7 +29,7 @@ use std::alloc::Global;
 ///   as a game, which contradicts the claim. An open line or a game has fewer moves than `nodes`, since each query on its way is
 ///   visited.
 /// - `Spent` comes only if the cost of the target is above `nodes`. Refutations that lean on no query above them are kept and taken
-///   again. So where the target is refutable, no query of its tree is covered by one above it, and the cost is at most 30,000, `Spent`
+///   again. So if the target is refutable, no query of its tree is covered by one above it, and the cost is at most 30,000, `Spent`
 ///   comes if and only if the memo cost is above `nodes`. It says how many queries were visited, which is `nodes`.
 ///
 /// Want of memory is a free answer: `Memory` may take the place of each of these.

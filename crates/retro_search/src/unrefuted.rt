@@ -24,7 +24,7 @@ pub enum Unrefuted {
     Memory,
 }
 
-/// What stops the search of a query where this stops that of its predecessor by the unmove: the open line is longer by it. Memory may
+/// What stops the search of a query if this stops that of its predecessor by the unmove: the open line is longer by it. Memory may
 /// be wanting.
 pub(crate) fn lengthened(stop: Unrefuted, u: Unmove) -> Unrefuted
     ensures { IsLengthened stop u result }

@@ -146,7 +146,7 @@ WritesExplanation input old new = (text : List ℕ) × AnswersExplain input Done
 abbrev pub WritesRefusal : List ℕ → Option (List ℕ) → Option (List ℕ) → Type 0
 WritesRefusal input old new = (IsProof input → ⊥) × ((line : List ℕ) × AnswersExplain input Refused line × Appends old new line)
 
--- Where the source tells its bytes, they are no more than the limit, and its count of faults and the sink's didn't rise: this
+-- If the source tells its bytes, they are no more than the limit, and its count of faults and the sink's didn't rise: this
 -- holds of the bytes then. `sample` reads nothing: whatever the source does, it holds of no bytes.
 abbrev pub Unhindered : Command → ℕ → Option (List ℕ) → ℕ → ℕ → ℕ → ℕ → (List ℕ → Type 0) → Type 0
 Unhindered (Sample start games plies) limit left source_old source_new sink_old sink_new holds = (Rose sink_old sink_new → ⊥) → holds []

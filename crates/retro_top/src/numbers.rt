@@ -54,7 +54,7 @@ fn is_decimal(word: &str, number: u64) -> bool
     word == buffer.format(number)
 }
 
-/// The number that the word is in decimal, without sign and without a leading zero, where it is in the range from `least` to `most`.
+/// The number that the word is in decimal, without sign and without a leading zero, if it is in the range from `least` to `most`.
 /// None comes if and only if the word is no such number.
 fn read_number(word: &String, least: u64, most: u64) -> Option<u64>
     ensures { MatchOption result ((n : ℕ) → IsNumber (string_bytes word.now) least most n →

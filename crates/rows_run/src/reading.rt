@@ -2,7 +2,7 @@
 //!
 //! `$` begins a row with a command, or with several of which each is handed the answer to the one before, `|` between two. Where several such
 //! lines stand one below the other, each is run. `^` begins a row with the input of the row before. `<` is a line of the input and `>` one of
-//! the answer, `~` stands for any bytes of the answer, and `%` says how often a text stands in it: so often, or at least once where that is
+//! the answer, `~` stands for any bytes of the answer, and `%` says how often a text stands in it: so often, or at least once if that is
 //! `+`. `=` ends the row with the status. `@` says how the rows behind it are run. `#` says that a line is for the reader, as an empty one is.
 
 use std::alloc::{AllocError, Global};
@@ -127,7 +127,7 @@ impl Row {
         }
     }
 
-    /// Takes commands, which begin a row where the last is ended.
+    /// Takes commands, which begin a row if the last is ended.
     fn begin(&mut self, commands: &str) -> Result<(), AllocError> {
         if self.ended {
             self.ended = false;
@@ -143,7 +143,7 @@ impl Row {
         Ok(())
     }
 
-    /// Takes commands, which begin a row with an input of its own where the last is ended.
+    /// Takes commands, which begin a row with an input of its own if the last is ended.
     fn begin_anew(&mut self, commands: &str) -> Result<(), AllocError> {
         if self.ended {
             self.input.clear();

@@ -19,7 +19,7 @@ const WITH_KING: u64 = AT_HOME | 1 << 51;
 const TWO_BISHOPS: &str = "1KRqb3/p2krpp1/2ppp3/PB6/BrPPP3/1p1P4/2p1P3/Q7 b - -";
 
 /// Whether the set and these prices support the query of that problem, at these odds: white pawns pay so much on light squares of the g file,
-/// so much elsewhere, and black pawns nothing. None where these can't be read.
+/// so much elsewhere, and black pawns nothing. None if these can't be read.
 fn is_balanced(odds: u64, set: u64, on_g8: u8, elsewhere: u8) -> Option<bool> {
     let mut query = read_four_fields(TWO_BISHOPS.as_bytes())?;
     query.odds = Odds::new(SquareSet::from_bits(odds))?;
@@ -73,7 +73,7 @@ const WHITE_TOOK: &str = "rnbqkbnr/pppppppp/8/8/8/1P6/1PPPPPPP/R1BQKBNR w - -";
 /// The same of Black.
 const BLACK_TOOK: &str = "r1bqkbnr/1ppppppp/1p6/8/8/8/PPPPPPPP/RNBQKBNR b - -";
 
-/// Whether equal prices support the position with the greatest set that is as in the array, and whether some prices are found. None where
+/// Whether equal prices support the position with the greatest set that is as in the array, and whether some prices are found. None if
 /// it can't be read.
 fn is_found(alloc: Global, position: &str) -> Option<(bool, bool)> {
     let query = read_four_fields(position.as_bytes())?;
@@ -101,7 +101,7 @@ fn finds_prices(rt: HostRuntime) {
 /// After T. R. Dawson, 1939. Two pawns of the e file stand in each other's way.
 const IN_THE_WAY: &str = "BB4N1/p5p1/pp2p1P1/2Ppbbp1/1P2k1nR/2P2pP1/1PrR1K2/2N5 w - -";
 
-/// The prices that are found for the position. None where it can't be read, or none are found.
+/// The prices that are found for the position. None if it can't be read, or none are found.
 fn found_prices(alloc: Global, position: &str) -> Option<Prices> {
     let query = read_four_fields(position.as_bytes())?;
     let mut desk = PriceDesk::new(alloc);

@@ -5,7 +5,7 @@ use fen_text::read_four_fields;
 use query_base::RuleLine;
 use static_rules::supports;
 
-/// Whether the rule line supports the query of a FEN, of games at odds of these squares. None where these can't be read.
+/// Whether the rule line supports the query of a FEN, of games at odds of these squares. None if these can't be read.
 fn supports_at(text: &str, odds: u64, rule: &RuleLine) -> Option<bool> {
     let mut query = read_four_fields(text.as_bytes())?;
     query.odds = Odds::new(SquareSet::from_bits(odds))?;
@@ -105,7 +105,7 @@ fn tells_captures_at_odds(rt: HostRuntime) {
 }
 
 /// Text, odds, set, and whether the rule on White's promoted men supports it, which it doesn't at no odds. A bishop stands on
-/// c1 or f1; at odds of that bishop he isn't the one of the array, and where another pawn was left out, seven are as many as there were.
+/// c1 or f1; at odds of that bishop he isn't the one of the array, and if another pawn was left out, seven are as many as there were.
 #[test]
 fn tells_promoted_men_at_odds(rt: HostRuntime) {
     let array = "rnbqkbnr/pppppppp/8/8/8/8/PPPPPPPP/RNBQKBNR w KQkq -";

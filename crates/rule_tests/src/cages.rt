@@ -24,7 +24,7 @@ fn square(cell: Option<&str>) -> Option<Square> {
     }
 }
 
-/// Whether a cell is the first of two words; None where it is neither.
+/// Whether a cell is the first of two words; None if it is neither.
 fn is_first(cell: Option<&str>, words: (&str, &str)) -> Option<bool> {
     let word = cell?;
     if word == words.0 {
@@ -66,7 +66,7 @@ const FROZEN_SETS: &str = "\
 0000000000000001|4k3/8/8/8/8/8/8/4K3 w - -|free|other|an empty square
 000000000000ffff|4k3/8/8/8/8/8/PPPPPPPP/RNBQKBNR w - -|free|array|White's array without rights";
 
-/// What is answered otherwise than the row says: whether the set is frozen, and whether it is as in the array. None where it can't be read.
+/// What is answered otherwise than the row says: whether the set is frozen, and whether it is as in the array. None if it can't be read.
 fn frozen_otherwise(row: &str) -> Option<Option<(bool, bool)>> {
     let mut cells = row.split('|');
     let set = set(cells.next())?;
@@ -105,7 +105,7 @@ rnbqkbnr/pppppppp/8/8/8/8/PPPPPPPP/RNBQKBNR w KQkq -|bdff00000000ffbd|bdff000000
 2kr4/ppp5/8/8/8/8/8/4K3 w - -|0007000000000000|0007000000000000|a king castled long
 4k3/8/8/8/3P4/2P5/1P6/4K3 w - -|0000000000000200|0000000000000200|pawns b2, c3 and d4";
 
-/// The sets that are found, where they are others than the row says. None where it can't be read.
+/// The sets that are found, if they are others than the row says. None if it can't be read.
 fn greatest_otherwise(row: &str) -> Option<Option<(u64, u64)>> {
     let mut cells = row.split('|');
     let query = query(cells.next())?;
@@ -127,7 +127,7 @@ fn finds_greatest(rt: HostRuntime) {
     }
 }
 
-/// The region of a home; None where no knight, bishop, rook or queen begins there.
+/// The region of a home; None if no knight, bishop, rook or queen begins there.
 fn region_of(frozen: SquareSet, home: Square) -> Option<u64> {
     if is_officer_home(home) {
         Some(region(frozen, home).bits())
@@ -155,7 +155,7 @@ const REGIONS: &str = "\
 000000000000ff00|b1|ffffffffffff00ff|b1 over the pawns
 0000000000000003|a1|fffffffffffffffd|the home in the set";
 
-/// The region that is found, where it is another than the row says. None where it can't be read, or no officer begins on its square.
+/// The region that is found, if it is another than the row says. None if it can't be read, or no officer begins on its square.
 fn region_otherwise(row: &str) -> Option<Option<u64>> {
     let mut cells = row.split('|');
     let frozen = set(cells.next())?;
@@ -176,7 +176,7 @@ fn finds_regions(rt: HostRuntime) {
     }
 }
 
-/// Whether a region is asked for from this square, of a set without squares. None where it can't be read.
+/// Whether a region is asked for from this square, of a set without squares. None if it can't be read.
 fn has_region(name: &str) -> Option<bool> {
     let home = square(Some(name))?;
     Some(region_of(SquareSet::from_bits(0), home).is_some())
@@ -189,7 +189,7 @@ fn begins_regions_where_officers_begin(rt: HostRuntime) {
     }
 }
 
-/// Whether a home is dead, and whether it is shielded; None where no knight, bishop, rook or queen begins there.
+/// Whether a home is dead, and whether it is shielded; None if no knight, bishop, rook or queen begins there.
 fn fate(query: &Query, frozen: SquareSet, home: Square) -> Option<(bool, bool)> {
     if is_officer_home(home) {
         let dead = is_dead(&query.board, frozen, home);
@@ -230,7 +230,7 @@ const HOMES: &str = "\
 2b1k3/2ppp3/8/8/8/8/8/4K3 w - -|141c000000000000|d8|dead|shielded|queen d8 gone
 2b1k3/2p1p3/8/8/8/8/8/q3K3 w - -|1414000000000000|d8|alive|open|queen d8 promoted elsewhere";
 
-/// What is answered otherwise than the row says: whether the home is dead, and whether it is shielded. None where it can't be read.
+/// What is answered otherwise than the row says: whether the home is dead, and whether it is shielded. None if it can't be read.
 fn fate_otherwise(row: &str) -> Option<Option<(bool, bool)>> {
     let mut cells = row.split('|');
     let query = query(cells.next())?;

@@ -6,7 +6,7 @@ use length_bound::{ManPotentials, best, length_of, move_cost, steps};
 
 const NOTHING: [i8; 16] = [0; 16];
 
-/// How long every game is at least, in half-moves, by the best potentials of a side; None where it has more than sixteen men.
+/// How long every game is at least, in half-moves, by the best potentials of a side; None if it has more than sixteen men.
 fn greatest_length(text: &str, side: Colour) -> Option<u16> {
     let query = read_four_fields(text.as_bytes())?;
     let p = best(&query, side)?;
@@ -94,7 +94,7 @@ fn limits_potentials(rt: HostRuntime) {
     }
 }
 
-/// The length that White's potentials show of a position with the pawn of e2 and both kings. None where there are no such potentials.
+/// The length that White's potentials show of a position with the pawn of e2 and both kings. None if there are no such potentials.
 fn shown_length(u: &[i8], first: i8) -> Option<Option<u16>> {
     let query = read_four_fields(b"4k3/8/8/8/8/8/4P3/4K3 w - -")?;
     let p = ManPotentials::new(u, &of_ends(first, 0))?;
@@ -115,7 +115,7 @@ fn refuses_potentials(rt: HostRuntime) {
     }
 }
 
-/// Whether a side has best potentials; None where the text can't be read.
+/// Whether a side has best potentials; None if the text can't be read.
 fn has_best(text: &[u8], side: Colour) -> Option<bool> {
     let query = read_four_fields(text)?;
     Some(best(&query, side).is_some())
@@ -141,7 +141,7 @@ fn attacks_over(kind: Kind, files: u8, ranks: u8) -> bool {
     }
 }
 
-/// The steps from this square to each, breadth first: who was reached after so many steps goes one further; 64 where none is reached.
+/// The steps from this square to each, breadth first: who was reached after so many steps goes one further; 64 if none is reached.
 fn breadth_first(kind: Kind, from: usize) -> [u8; 64] {
     let mut steps = [64; 64];
     if from < 64 {
@@ -161,7 +161,7 @@ fn breadth_first(kind: Kind, from: usize) -> [u8; 64] {
     steps
 }
 
-/// The steps from this square to each on an empty board. None where there is no such square, and for pawns.
+/// The steps from this square to each on an empty board. None if there is no such square, and for pawns.
 fn steps_from(kind: Kind, from: usize) -> Option<[u8; 64]> {
     if from >= 64 || kind == Kind::Pawn {
         return None;

@@ -13,7 +13,7 @@ fn board(text: &str) -> Option<Board> {
     Some(read_four_fields(text.as_bytes())?.board)
 }
 
-/// What the pawns of a side cost; None where the text can't be read, and where there are more than eight.
+/// What the pawns of a side cost; None if the text can't be read, and if there are more than eight.
 fn costs_in(text: &str, side: Colour, odds: Odds) -> Option<Costs> {
     costs(&board(text)?, side, odds)
 }
@@ -68,7 +68,7 @@ fn numbers(cell: &str) -> Option<[u8; 8]> {
     Some(all)
 }
 
-/// What the pawn of a row costs, where it is otherwise than the row says. None where it can't be read.
+/// What the pawn of a row costs, if it is otherwise than the row says. None if it can't be read.
 fn costs_otherwise(row: &str, side: Colour) -> Option<Option<[u8; 8]>> {
     let (text, cell) = row.split_once('|')?;
     let found = costs_of_one(text, side, Odds::none())?;
@@ -118,8 +118,8 @@ fn costs_of_eighth(odds: Odds) -> Option<[u8; 2]> {
     }
 }
 
-/// What the last of eight pawns costs from the first two files where White began without the pawn of a2, and where it began with all; and
-/// what Black's pawn of b3 costs where White began without that pawn.
+/// What the last of eight pawns costs from the first two files if White began without the pawn of a2, and if it began with all; and
+/// what Black's pawn of b3 costs if White began without that pawn.
 fn costs_without_a2() -> Option<([u8; 2], [u8; 2], [u8; 8])> {
     let no_a2 = Odds::new(SquareSet::from_bits(1 << 8))?;
     let black = costs_of_one("8/8/8/8/8/1p6/8/8 w - -", Colour::Black, no_a2)?;
@@ -138,13 +138,13 @@ fn leaves_pawns_out(rt: HostRuntime) {
     assert_eq!(rt; costs_without_a2(), Some(wanted));
 }
 
-/// The sum of these potentials, where they bound what the doubled pawns cost; None where these or the pawns can't be read.
+/// The sum of these potentials, if they bound what the doubled pawns cost; None if these or the pawns can't be read.
 fn bound_of_doubled(u: &[i8], v: &[i8; 8]) -> Option<Option<i32>> {
     let table = costs_in(DOUBLED, Colour::White, Odds::none())?;
     Some(bound(&table, &Potentials::new(u, v)?))
 }
 
-/// Potentials of these pawns with their sum, where they bound the costs, whether or not they reach the least; and some that don't:
+/// Potentials of these pawns with their sum, if they bound the costs, whether or not they reach the least; and some that don't:
 /// a pair above its cost, one pawn's missing, a file's above 0, and those of pawns and files exchanged.
 #[test]
 fn bounds_captures(rt: HostRuntime) {
@@ -206,7 +206,7 @@ fn asks_nothing_without_pawns(rt: HostRuntime) {
     assert_eq!(rt; costs_of_none(), Some((0, 0, [Some(0), None])));
 }
 
-/// What White's pawns on a board cost at least, and what Black's do; None where the text can't be read, or a side has more than eight.
+/// What White's pawns on a board cost at least, and what Black's do; None if the text can't be read, or a side has more than eight.
 fn least_costs(text: &str) -> Option<(u16, u16)> {
     let white = costs_in(text, Colour::White, Odds::none())?;
     let black = costs_in(text, Colour::Black, Odds::none())?;

@@ -77,7 +77,7 @@ fn stops_at_each_fault(rt: HostRuntime) -> Result<(), Fail> {
     Ok(())
 }
 
-/// The same where a proof is told, with the text of a run without faults.
+/// The same if a proof is told, with the text of a run without faults.
 #[test]
 fn stops_telling_at_each_fault(rt: HostRuntime) -> Result<(), Fail> {
     let words: &[&str] = &["explain"];

@@ -76,7 +76,7 @@ fn knights_chain(alloc: Global, body: &str) -> Result<String, AllocError> {
     Ok(text)
 }
 
-/// The first fault is met at the greatest depth, or one level above it, where the second retraction of a knight is left out.
+/// The first fault is met at the greatest depth, or one level above it, if the second retraction of a knight is left out.
 #[test]
 fn walks_to_the_greatest_depth(rt: HostRuntime) -> Result<(), Fail> {
     for (body, said) in [

@@ -15,7 +15,7 @@ CanBecome (Some Pawn) = ⊥
 CanBecome (Some King) = ⊥
 CanBecome promo = Unit {0}
 
--- a pawn's text tells its file exactly where it captures, and never its rank
+-- a pawn's text tells its file if and only if it captures, and never its rank
 pub record IsPawnForm (d : Going) : Type 0 where
   pub rank : d.rank ≡ None
   pub takes : d.takes ≡ is_some d.file

@@ -82,11 +82,11 @@ fn read_words(alloc: Global, bytes: &[u8]) -> Result<Vec<San>, SanGameFault>
     Ok(said)
 }
 
-/// The moves of a game's text in algebraic notation, of at most 67,108,864 bytes, played from this state on. Its words are parted by
+/// The moves of a game's text in algebraic notation, of at most 67,108,864 bytes, played from this state on. Its words are separated by
 /// spaces, line feeds and carriage returns, any number of them, at both ends too. A word is a move's number, one or more digits with
 /// one dot or three, then a move's text or nothing; or a move's text alone; and the last word may be a result, `1-0`, `0-1`,
-/// `1/2-1/2` or `*`. Each text names the only legal move that fits it in the state after those before it. `BadText` comes exactly
-/// where some word is none of these, and names the first; else `NoMove` or `Many` exactly where no legal move or several fit a text,
+/// `1/2-1/2` or `*`. Each text names the only legal move that fits it in the state after those before it. `BadText` comes if and only if
+/// some word is none of these, and names the first; else `NoMove` or `Many` if and only if no legal move or several fit a text,
 /// and names the first such ply. Want of memory is a free answer: `Memory` may take the place of all.
 pub fn read_san_game(alloc: Global, start: State, bytes: &[u8]) -> Result<Vec<Move>, SanGameFault>
     requires { length bytes.now ≤ 67_108_864 }
@@ -98,7 +98,7 @@ pub fn read_san_game(alloc: Global, start: State, bytes: &[u8]) -> Result<Vec<Mo
     played(alloc, start, &said)
 }
 
-/// From the array on a text tells one list of moves at most, and none where it has a fault. So `read_san_game` reads what
+/// From the array on a text tells one list of moves at most, and none if it has a fault. So `read_san_game` reads what
 /// `write_san_game` wrote of some moves as these moves, whatever want of memory allows.
 
 pub fn one_game_each()

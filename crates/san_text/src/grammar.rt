@@ -10,15 +10,15 @@ use board_base::{Kind, Square, read_square};
 pub struct Going {
     /// The kind of the man that goes.
     pub kind: Kind,
-    /// The origin's file, from 0 for a to 7 for h, where the text gives it.
+    /// The origin's file, from 0 for a to 7 for h, if the text gives it.
     pub file: Option<u8>,
-    /// The origin's rank, from 0 to 7, where the text gives it.
+    /// The origin's rank, from 0 to 7, if the text gives it.
     pub rank: Option<u8>,
     /// The move captures.
     pub takes: bool,
     /// The target.
     pub to: Square,
-    /// What the pawn becomes, where the text gives it.
+    /// What the pawn becomes, if the text gives it.
     pub promo: Option<Kind>,
 }
 
@@ -248,7 +248,7 @@ fn read_castling(text: &[u8]) -> Option<San>
     }
 }
 
-/// What a text of algebraic notation says of a move; None exactly where the text isn't of the grammar.
+/// What a text of algebraic notation says of a move; None if and only if the text isn't of the grammar.
 #[tactic(auto, unfolding(crate::specs::Grammar::san_of))]
 pub fn read_grammar(text: &[u8]) -> Option<San>
     ensures { result ≡ san_of text.now }

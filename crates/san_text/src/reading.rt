@@ -42,11 +42,11 @@ pub fn only(state: &State, said: &San) -> Result<Move, SanFault>
     }
 }
 
-/// The only legal move that a text of algebraic notation fits in this state. `BadText` comes exactly where the text is none of these:
+/// The only legal move that a text of algebraic notation fits in this state. `BadText` comes if and only if the text is none of these:
 /// `O-O` and `O-O-O`; one of `N`, `B`, `R`, `Q` and `K`, then a file, a rank and `x`, each or none, then the target; a pawn's target,
 /// before which its file and `x` may stand, and after which `=` and one of `N`, `B`, `R` and `Q` may; each of them with one `+` or
-/// `#` at its end, which isn't tested, or without. `NoMove` comes exactly where it is one of these and fits no legal move, and `Many`
-/// exactly where it fits two or more. Takes no memory.
+/// `#` at its end, which isn't tested, or without. `NoMove` comes if and only if it is one of these and fits no legal move, and `Many`
+/// if and only if it fits two or more. Takes no memory.
 pub fn read_san(state: &State, text: &[u8]) -> Result<Move, SanFault>
     ensures { MatchResult result (λ m. IsOnly (fits_text text.now state.now) m) (λ e. IsFaultOf e text.now state.now) }
 {

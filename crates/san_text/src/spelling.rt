@@ -62,8 +62,8 @@ fn push_ply(text: &mut Vec<u8>, state: &State, m: &Move, count: u64) -> Result<(
 }
 
 /// The one text of a game that is played from this state on, which `read_san_game` reads as these moves: the spellings of the moves
-/// as `write_san` gives them, parted by single spaces, and before White's k-th move `k.` and a space. Of no moves it is the empty
-/// text. `Illegal` comes exactly where a move isn't legal after those before it, and names the first. There is room for fewer than
+/// as `write_san` gives them, separated by single spaces, and before White's k-th move `k.` and a space. Of no moves it is the empty
+/// text. `Illegal` comes if and only if a move isn't legal after those before it, and names the first. There is room for fewer than
 /// 2^32 moves. Want of memory is a free answer: `Memory` may take the place of both.
 pub fn write_san_game(alloc: Global, start: State, moves: &[Move]) -> Result<Vec<u8>, SpellFault>
     requires { length moves.now < 2 ^ 32 }

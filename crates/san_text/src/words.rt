@@ -63,7 +63,7 @@ fn after_dots(text: &[u8]) -> Option<&[u8]>
     }
 }
 
-/// What follows a move's number, and else the word; None where a word begins with a digit and has no number.
+/// What follows a move's number, and else the word; None if a word begins with a digit and has no number.
 fn rest_of(word: &[u8]) -> Option<&[u8]>
     ensures { MatchOption result (rest_of word.now ≡ None) (λ rest. rest_of word.now ≡ Some rest.now) }
 {
@@ -92,7 +92,7 @@ fn read_rest(rest: &[u8]) -> Option<Word>
 }
 
 /// What a word of a game tells: a move's number, one or more digits with one dot or three, then a move's text or nothing; or a
-/// move's text alone. None exactly where the word is neither.
+/// move's text alone. None if and only if the word is neither.
 pub fn read_word(word: &[u8]) -> Option<Word>
     ensures { result ≡ word_of word.now }
 {

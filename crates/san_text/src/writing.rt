@@ -130,7 +130,7 @@ fn push_said(said: &San, out: &mut ArrayVec<u8, 16>)
 }
 
 /// Writes the one spelling of a legal move, which `read_san` reads as this move: what is told of its man, its origin and its target,
-/// as little of the origin as leaves no rival, and `+` or `#` where it gives check or mate. `out` is empty before. Takes no memory.
+/// as little of the origin as leaves no rival, and `+` or `#` if it gives check or mate. `out` is empty before. Takes no memory.
 #[tactic(auto, unfolding(crate::specs::Spelling::spelling))]
 pub fn write_san(state: &State, m: &Move, out: &mut ArrayVec<u8, 16>)
     requires legal { IsTrue (legal_at state.now m.now) }

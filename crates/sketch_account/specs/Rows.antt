@@ -1,5 +1,5 @@
 -- Inner: no public clause cites this file.
--- What is told of a figure before his row of costs is reckoned.
+-- What is told of a figure before his row of costs is counted.
 use Rattle.std.specs.Prelude.{ℕ, ◌≡◌, ◌<◌, Bool, true, false, List}
 use Rattle.board_base.specs.Board.{is_in}
 use Rattle.board_base.specs.declared.men.Colour.{Colour}

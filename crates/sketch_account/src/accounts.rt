@@ -86,8 +86,8 @@ impl Scales {
         is_same(self.wall, wall) && self.zones.is_same(zones)
     }
 
-    /// What the figures of a side and its men who are gone cost at least with homes of their own, 96 for each man included; None exactly
-    /// where it has more figures than the array has men. A mark is counted as what it says, and against the figure with this number, as
+    /// What the figures of a side and its men who are gone cost at least with homes of their own, 96 for each man included; None if and only if
+    /// it has more figures than the array has men. A mark is counted as what it says, and against the figure with this number, as
     /// what isn't so.
     pub fn side_cost(&self, sketch: &Sketch, against: Option<usize>, side: Colour) -> Option<u32>
         ensures small { IfSome result (λ cost. cost ≤ 80_000) }
@@ -99,7 +99,7 @@ impl Scales {
         }
     }
 
-    /// Whether the figures cost more than their true homes can; never where a side has more figures than the array has men.
+    /// Whether the figures cost more than their true homes can; never if a side has more figures than the array has men.
     pub fn weigh(&self, sketch: &Sketch, against: Option<usize>) -> bool
         ensures above { IsTrue result ↔ IsAbove self.now (counted_as against sketch.now) }
         ensures known { IsTrue (are_prices self.now.prices) }

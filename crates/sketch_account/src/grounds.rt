@@ -19,7 +19,7 @@ use sketch_grounds::{Zones, room_from};
 /// What is known of a side before its figures are looked at. Files are counted as the side sees the board.
 #[derive(Clone, Copy)]
 pub(crate) struct Ground {
-    /// What is known where no zone bars a way.
+    /// What is known if no zone bars a way.
     pub(crate) base: balance_rule::Ground,
     /// The rooms of its knights, bishops, rooks and queen from their homes.
     pub(crate) rooms: [SquareSet; 8],

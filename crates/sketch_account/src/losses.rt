@@ -79,7 +79,7 @@ fn lost_as(ground: &Ground, first: Kind, n: u8) -> u16
     }
 }
 
-/// What it costs at least that the man who began on this number of the side is gone; `NEVER` where nobody of the side did.
+/// What it costs at least that the man who began on this number of the side is gone; `NEVER` if nobody of the side did.
 fn lost(ground: &Ground, n: u8) -> u16
     requires { n < 16 }
     ensures small { result ≤ never }

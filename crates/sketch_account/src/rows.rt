@@ -67,7 +67,7 @@ fn has_kind(figure: &Figure) -> bool
     pawn | ((knight | bishop) | (rook | (queen | king)))
 }
 
-/// What it costs that the figure's man began on a home in the wall: nothing where the figure may stand there.
+/// What it costs that the figure's man began on a home in the wall: nothing if the figure may stand there.
 fn home_cost(figure: &Figure, home: Square) -> u16
     ensures small { result ≤ never }
     ensures value { (p : PriceList) (wall : List Bool) (R : Room) (c : AColour) (l : Limit) (first : AKind) (h : ℕ) → h ≡ home → is_in wall h ≡ true → IsLeastOver figure.now (comes_as p wall R c l first h) result }
@@ -139,7 +139,7 @@ fn cost_as(ground: &Ground, x: &Comer, first: Kind, n: u8) -> u16
     }
 }
 
-/// What it costs at least that the man who began on this number of the side came as the figure; `NEVER` where nobody of the side did.
+/// What it costs at least that the man who began on this number of the side came as the figure; `NEVER` if nobody of the side did.
 fn comes(ground: &Ground, x: &Comer, n: u8) -> u16
     requires { n < 16 }
     ensures small { result ≤ never }

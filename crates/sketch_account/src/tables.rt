@@ -21,7 +21,7 @@ use balance_rule::begun_with;
 use board_base::Odds;
 use figures::{Figure, Sketch};
 
-/// How the man of the figure with this number may have come, by his mark; but against it where that number is given.
+/// How the man of the figure with this number may have come, by his mark; but against it if that number is given.
 fn manner_of(figure: &Figure, i: usize, against: Option<usize>) -> Manner
     ensures { IsManner (limit_by against i figure.now) result }
 {
@@ -51,7 +51,7 @@ fn by_mark(figure: &Figure) -> Manner
     }
 }
 
-/// A row for each figure of the side; None exactly where there are more than so many.
+/// A row for each figure of the side; None if and only if there are more than so many.
 fn figure_rows(
     ground: &Ground,
     sketch: &Sketch,
@@ -103,7 +103,7 @@ fn least_cost(rows: &[[u16; 16]]) -> u32
     solve_large(rows).cost
 }
 
-/// A row for each figure of the side, and one for each who is missing of so many; None exactly where there are more.
+/// A row for each figure of the side, and one for each who is missing of so many; None if and only if there are more.
 fn figure_table(
     ground: &Ground,
     sketch: &Sketch,
@@ -123,7 +123,7 @@ fn figure_table(
     Some(rows)
 }
 
-/// The least that the figures of a side and its men who are gone cost with homes of their own; None exactly where there are more figures
+/// The least that the figures of a side and its men who are gone cost with homes of their own; None if and only if there are more figures
 /// than men.
 pub(crate) fn ground_cost(
     odds: Odds,

@@ -132,7 +132,7 @@ impl SketchBody {
         }
     }
 
-    /// What the first line says, where there are at most 64 lines of prices.
+    /// What the first line says, if there are at most 64 lines of prices.
     pub fn head(&self) -> SketchHead
         requires { length self.now.prices ≤ 64 }
         ensures { result ≡ head_of self.now }
@@ -161,7 +161,7 @@ impl SketchBody {
         SketchDue::behind_prices(prices.len() as u8).takes_all(self.lines.as_slice())
     }
 
-    /// How many of so many units are left behind those of this sketch. None comes exactly where it has more.
+    /// How many of so many units are left behind those of this sketch. None comes if and only if it has more.
     pub fn units_left(&self, left: u32) -> Option<u32>
         ensures { result ≡ left_of left (units_of self.now) }
     {

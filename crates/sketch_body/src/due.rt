@@ -36,7 +36,7 @@ impl Model for SketchDue {
 }
 
 impl SketchDue {
-    /// What is due below the first line of a sketch, if the sketches before it have so many units. None comes exactly where its lines of
+    /// What is due below the first line of a sketch, if the sketches before it have so many units. None comes if and only if its lines of
     /// prices and its first node make them more than 262,144.
     pub fn start(head: &SketchHead, units: u32) -> Option<SketchDue>
         ensures { result ≡ start units head.now }
@@ -142,7 +142,7 @@ impl SketchDue {
     /// Reads the next line, without its end: one of prices, as `read_prices` reads it, for each that the first line named; then that of the
     /// first node, as `read_sketch_node` reads it, the lines of its marks, as `read_marks` reads them, and after them all that is below it,
     /// each node in the same way. The first node, and no other, is labelled `now`, and a node below 64 others has none below it. What the
-    /// line says is given, and None exactly where it isn't one that is due, or the units become more than 262,144. Nothing changes then.
+    /// line says is given, and None if and only if it isn't one that is due, or the units become more than 262,144. Nothing changes then.
     pub fn read(&mut self, text: &[u8]) -> Option<SketchItem>
         ensures read { option_map (λ i. (item_of i, self.new)) result ≡ step self.old text.now }
         ensures kept { MatchOption result (self.new ≡ self.old) (λ i. Unit {0}) }

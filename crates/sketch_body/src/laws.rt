@@ -4,7 +4,7 @@ ghost use Rattle.sketch_body.specs.Bodies.{AreTextsOf, Body, Item, head_of};
 ghost use Rattle.sketch_body.specs.Due.{Reading, is_over, step};
 ghost use Rattle.sketch_body.specs.Ends.{EndsAs, IsEnding, ReadsTo};
 
-/// What is read behind the first line of a sketch is at its end exactly where the texts are those of the lines below the first of a sketch
+/// What is read behind the first line of a sketch is at its end if and only if the texts are those of the lines below the first of a sketch
 /// that begins so, and its units, with those of the sketches before, are at most 262,144. This does nothing when it runs.
 pub fn bodies_are_read()
     ensures { (units : ℕ) (h : Head) (texts : List (List ℕ)) (items : List Item) (last : Reading) → (ReadsTo units h texts items last × (is_over last.due ≡ true)) ↔ ((b : Body) × EndsAs units h texts items last b) }

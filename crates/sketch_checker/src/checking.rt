@@ -50,7 +50,7 @@ fn finish(start: SketchWalk, lines: &[SketchLine]) -> Result<bool, SketchFault>
 }
 
 /// Walks over the lines of a proof that no game comes to this sketch. `Ok(true)` comes if and only if they are one, and then no game, of any
-/// length, leads at these odds to a query of this sketch that holds these rights. `Ok(false)` comes where lines are missing behind them, and
+/// length, leads at these odds to a query of this sketch that holds these rights. `Ok(false)` comes if lines are missing behind them, and
 /// else the fault of the first line that is refused. None comes if and only if a place is 127 or more, a side has more figures than men in
 /// the array, or some clash.
 pub fn walk_lines(

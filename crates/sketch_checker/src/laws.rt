@@ -18,7 +18,7 @@ pub fn one_sketch_walk()
     ensures { (x : Node) (g : Setting) (d : Due) (n : ℕ) (a b : Walked) → Walks x g d n a → Walks x g d n b → a ≡ b }
 {}
 
-/// The law that it meets no fault if and only if the tree holds, where each figure has a square.
+/// The law that it meets no fault if and only if the tree holds, if each figure has a square.
 pub fn sketch_walk_proves()
     ensures { (x : Node) (g : Setting) (d : Due) (n : ℕ) → list_any is_nowhere d.sketch ≡ false → ((m : ℕ) × Walks x g d n (next_line m)) ↔ Holds x g d.label d.sketch }
 {}

@@ -44,7 +44,7 @@ pub(crate) fn steps_to(kind: Kind, s: Square) -> SquareSet
     piece_steps(kind, none().with(s))
 }
 
-/// The squares from which a pawn of this colour may have come: where he is marked, straight on.
+/// The squares from which a pawn of this colour may have come: if he is marked, straight on.
 fn pawn_entries(marked: bool, colour: Colour, s: Square) -> SquareSet
     ensures { result ≡ squares_that (pawn_enters marked colour s) }
 {

@@ -18,7 +18,7 @@ use figures::{Figure, Sketch, either, is_same, is_whole};
 /// The squares of ranks 1 and 8, on which no pawn stands.
 const ENDS: u64 = 0xff00_0000_0000_00ff;
 
-/// The squares behind those of the set, from which the figure's pawn may have come; straight on where he is marked.
+/// The squares behind those of the set, from which the figure's pawn may have come; straight on if he is marked.
 fn sources(figure: &Figure, from: SquareSet) -> SquareSet
     ensures { result ≡ squares_that (is_from figure.now from) }
 {

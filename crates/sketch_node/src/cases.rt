@@ -54,7 +54,7 @@ pub fn known_at(sketch: &Sketch, i: usize, kind: Kind) -> Sketch
 }
 
 /// The case of a man of whom it isn't known whether he is a knight, a rook or a queen: the sketch with this kind alone for the first such
-/// figure that is fixed on `s`. None comes exactly where there is none.
+/// figure that is fixed on `s`. None comes if and only if there is none.
 pub fn case_of(sketch: &Sketch, s: Square, kind: Kind) -> Option<Sketch>
     ensures { MatchOption result ((i : ℕ) → IsUnknownOn sketch.now s i → ⊥) (λ other. (i : ℕ) × IsFirstUnknown sketch.now s i × (other ≡ known_at i kind sketch.now)) }
 {

@@ -75,7 +75,7 @@ fn with_marks(sketch: &Sketch, numbers: &[u8]) -> Sketch
 }
 
 /// The sketch with marks for the figures with these numbers, counted from 1, if at these prices the account forces each of these marks in
-/// the sketch as it is. None comes exactly where a number is no figure's, or its figure is a king, is marked already or isn't forced. What
+/// the sketch as it is. None comes if and only if a number is no figure's, or its figure is a king, is marked already or isn't forced. What
 /// refutes the marked sketch refutes the sketch.
 pub fn marked(
     sketch: &Sketch,

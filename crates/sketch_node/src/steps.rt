@@ -18,7 +18,7 @@ fn are_whole(sketch: &Sketch)
 }
 
 /// The least closed sketch above a sketch, before whose steps others stand, if these rights are held and pawns have no quiet ways on these
-/// files. None comes exactly where it may be the array at these odds, and nothing need have been before.
+/// files. None comes if and only if it may be the array at these odds, and nothing need have been before.
 pub fn before_steps(
     sketch: &Sketch,
     held: CastleSet,

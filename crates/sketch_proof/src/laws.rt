@@ -10,7 +10,7 @@ ghost use Rattle.sketch_text.specs.Trees.{Line};
 ghost use Rattle.sketch_proof.specs.Proofs.{Proves, Setting};
 
 /// The law of proofs of sketches: if some lines, with prices that are prices, prove that no game comes to a query's sketch, a tree refutes
-/// it (`tree`). So no game of any length leads to the query at these odds, where the rights are those that it holds (`queries`).
+/// it (`tree`). So no game of any length leads to the query at these odds, if the rights are those that it holds (`queries`).
 pub fn sketch_proofs_hold()
     ensures tree { (g : Setting) (q : Asked) (lines : List Line) → ((p : PriceList) → Contains g.prices p → IsTrue (are_prices p)) → Proves g (sketch_of q.board) lines → HasTree g.odds g.held g.exact (sketch_of q.board) }
     ensures queries { (g : Setting) (q : Asked) (lines : List Line) → ((p : PriceList) → Contains g.prices p → IsTrue (are_prices p)) → g.held ≡ q.held → Proves g (sketch_of q.board) lines → (m : List Move) → LeadsTo g.odds m q → ⊥ }

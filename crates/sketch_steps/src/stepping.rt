@@ -157,7 +157,7 @@ fn place_is_free(sketch: &Sketch, step: &Step) -> bool
     has_next(sketch, step.place) & free
 }
 
-/// Whether the figure may stand on `to`, and a pawn on `from`, where nobody is fixed.
+/// Whether the figure may stand on `to`, and a pawn on `from`, if nobody is fixed.
 fn ends_are_free(sketch: &Sketch, figure: &Figure, from: Square, to: Square) -> bool
     ensures { result ≡ ends_are_free sketch.now figure.now from to }
 {

@@ -1595,7 +1595,7 @@ const ALFIERE: Proof = Proof {
     end: End::Done,
 };
 
-/// Lines that are changed: each is refused where it is no longer so.
+/// Lines that are changed: each is refused if it is no longer so.
 #[test]
 fn changed_proofs_are_refused(rt: HostRuntime) {
     let misplaced = SketchFault::Misplaced;

@@ -34,7 +34,7 @@ impl Model for SketchHead {
 }
 
 impl SketchHead {
-    /// The line of a sketch with so many lines of prices. None comes exactly where there are more than eight files.
+    /// The line of a sketch with so many lines of prices. None comes if and only if there are more than eight files.
     pub fn new(prices: u8, files: &[u8]) -> Option<SketchHead>
         ensures { MatchOption result (8 < length files.now) (λ h. (h.prices ≡ prices) × (h.files ≡ files.now)) }
     {
@@ -141,7 +141,7 @@ fn read_behind_sketch(text: &[u8]) -> Option<SketchHead>
 }
 
 /// Reads the line that begins a sketch, without its end: `sketch`, a number from 0 to 64 of lines of prices, and, if some files are exact,
-/// `files` and their letters, ascending. One space parts two words. None comes exactly where the text is no such.
+/// `files` and their letters, ascending. One space stands between two words. None comes if and only if the text is no such.
 #[tactic(auto, unfolding(crate::specs::Heads::head_line))]
 pub fn read_sketch_head(text: &[u8]) -> Option<SketchHead>
     ensures { MatchOption result (head_line text.now ≡ None) (λ h. head_line text.now ≡ Some h) }

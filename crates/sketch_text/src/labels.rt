@@ -164,8 +164,8 @@ fn read_step(text: &[u8]) -> Option<StepLabel>
 }
 
 /// Reads the label of a node but for `case`: `now`, or a step. That is the origin, `-`, `x` or `=`, and the target; behind a capture the
-/// victim, `p`, `b`, `nrq` or `ep`, and from 1 to 5 how many other pawns of the file are above, or of `b` and `nrq` a `=` where the pawn
-/// was promoted. None comes exactly where the text is none of these.
+/// victim, `p`, `b`, `nrq` or `ep`, and from 1 to 5 how many other pawns of the file are above, or of `b` and `nrq` a `=` if the pawn
+/// was promoted. None comes if and only if the text is none of these.
 #[tactic(auto, unfolding(crate::specs::Labels::label_of))]
 pub fn read_label(text: &[u8]) -> Option<Label>
     ensures { result ≡ label_of text.now }

@@ -4,8 +4,8 @@ ghost use Rattle.sketch_text.specs.Marks.{Marks as AnyMarks, is_mark, mark_line,
 ghost use Rattle.sketch_text.specs.Nodes.{is_node, node_of, node_text};
 ghost use Rattle.sketch_text.specs.declared.nodes.SketchNode.{SketchNode as AnyNode};
 
-/// Each line has one text, where a sketch has at most 64 lines of prices: a text is read as the line that begins a sketch (`head`), as that
-/// of a node (`node`), or as one of marks (`marks`), exactly where it is the one that is written of it, and what it says is in range. This
+/// Each line has one text, if a sketch has at most 64 lines of prices: a text is read as the line that begins a sketch (`head`), as that
+/// of a node (`node`), or as one of marks (`marks`), if and only if it is the one that is written of it, and what it says is in range. This
 /// does nothing when it runs.
 pub fn one_text_each()
     ensures head { (text : List ℕ) (h : Head) → head_line text ≡ Some h ↔ (IsTrue (is_head h) × (text ≡ head_text h)) }

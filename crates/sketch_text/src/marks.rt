@@ -24,7 +24,7 @@ impl Model for MarkLine {
 }
 
 impl MarkLine {
-    /// A line of marks by this line of prices. None comes exactly where there are more than 32 figures.
+    /// A line of marks by this line of prices. None comes if and only if there are more than 32 figures.
     pub fn new(by: u8, figures: &[u8]) -> Option<MarkLine>
         ensures { MatchOption result (32 < length figures.now) (λ m. (m.by ≡ by) × (m.figures ≡ figures.now)) }
     {
@@ -95,7 +95,8 @@ fn read_behind_mark(prices: u8, text: &[u8]) -> Option<MarkLine>
 }
 
 /// Reads a line of marks of a sketch that has so many lines of prices, without its end: `mark`, the number of a line of prices, and the
-/// numbers of figures, at least one, from 1 to 32, ascending. One space parts two words. None comes exactly where the text is no such.
+/// numbers of figures, at least one, from 1 to 32, ascending. One space stands between two words. None comes if and only if the text is no
+/// such.
 #[tactic(auto, unfolding(crate::specs::Marks::mark_line))]
 pub fn read_marks(prices: u8, text: &[u8]) -> Option<MarkLine>
     ensures { MatchOption result (mark_line prices text.now ≡ None) (λ m. mark_line prices text.now ≡ Some m) }

@@ -133,8 +133,8 @@ fn read_labelled(prices: u8, text: &[u8]) -> Option<SketchNode>
 
 /// Reads the line of a node of a sketch that has so many lines of prices, without its end: the label, as `read_label` reads it, or `case`
 /// and `n`, `r` or `q`; `marks` and a number from 1 to 8, if lines of marks follow; and then `void`, `closed` and the number of a line of
-/// prices, `steps` and a number from 0 to 1,024, or `split` and a square. One space parts two words. None comes exactly where the text is
-/// none of these.
+/// prices, `steps` and a number from 0 to 1,024, or `split` and a square. One space stands between two words. None comes if and only if the
+/// text is none of these.
 #[tactic(auto, unfolding(crate::specs::Nodes::node_of))]
 pub fn read_sketch_node(prices: u8, text: &[u8]) -> Option<SketchNode>
     ensures { result ≡ node_of prices text.now }

@@ -14,7 +14,7 @@ fn within(least: u32, most: u32, number: u32) -> Option<u32>
     }
 }
 
-/// Reads a number from the least to the most, in decimal digits, the first of which is 0 only where there is no other.
+/// Reads a number from the least to the most, in decimal digits, the first of which is 0 only if there is no other.
 #[tactic(auto, unfolding(crate::specs::Nodes::number_within))]
 pub(crate) fn read_within(least: u32, most: u32, text: &[u8]) -> Option<u32>
     ensures value { result ≡ number_within least most text.now }

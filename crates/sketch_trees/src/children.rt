@@ -74,7 +74,7 @@ fn child_by(step: &Listed, sketch: Sketch) -> Child {
     }
 }
 
-/// The least closed sketch above a sketch. None comes exactly where it may be the array.
+/// The least closed sketch above a sketch. None comes if and only if it may be the array.
 pub fn closed_above(sketch: &Sketch, setting: &Setting) -> Option<Sketch>
     ensures { MatchOption result ((T : ASketch) × IsLeastAbove setting.now.held setting.now.exact sketch.now T × IsTrue (may_be_array setting.now.odds T)) (λ T. IsLeastAbove setting.now.held setting.now.exact sketch.now T × (may_be_array setting.now.odds T ≡ false)) }
 {

@@ -89,7 +89,7 @@ fn caps_line(query: &Query, side: Colour, settled: SquareSet) -> Option<RuleLine
     }
 }
 
-/// A rule line on a set that is frozen and as in the array at the query's odds that supports the query, where the greatest of these sets
+/// A rule line on a set that is frozen and as in the array at the query's odds that supports the query, if the greatest of these sets
 /// is known.
 fn settled_line(query: &Query, settled: SquareSet) -> Option<RuleLine>
     requires { IsGreatestSettled query.now.odds query.now settled }
@@ -130,9 +130,9 @@ fn any_line(query: &Query) -> Option<RuleLine>
     }
 }
 
-/// A rule line that supports the query, which therefore no game of any length reaches; None exactly where no rule line does, with any
+/// A rule line that supports the query, which therefore no game of any length reaches; None if and only if no rule line does, with any
 /// side, set of squares and potentials. `Kings`, `Ranks`, `Check`, `Rights` and `Count` are tried first, in this order, then `Frozen`,
-/// then `Promo` and then `Caps` of White and of Black. Which rule line is given where several support is free.
+/// then `Promo` and then `Caps` of White and of Black. Which rule line is given if several support is free.
 pub fn close(query: &Query) -> Option<RuleLine>
     ensures closed { MatchOption result (IsClosed query.now → ⊥) (λ rule. Supports query.now rule) }
     ensures unreached { IfSome result (λ rule. (g : List Move) → Reaches g query.now → ⊥) }

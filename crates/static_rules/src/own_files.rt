@@ -3,7 +3,7 @@ ghost use Rattle.assignment.specs.Assignments.{IsInjection, assignment_cost};
 
 use pawn_assign::{Costs, least};
 
-/// The file that costs the pawn of this row the least of those that aren't taken; None where each costs 64.
+/// The file that costs the pawn of this row the least of those that aren't taken; None if each costs 64.
 fn nearest_free(costs: &Costs, row: u8, taken: &[bool; 8]) -> Option<u8>
     requires { row < length costs.now }
     ensures { IfSome result (λ file. (file < 8) × (slice_index_or taken.now file false ≡ false)) }
@@ -20,7 +20,7 @@ fn nearest_free(costs: &Costs, row: u8, taken: &[bool; 8]) -> Option<u8>
     best
 }
 
-/// What the pawns cost if one after another is given the nearest file that is free; None where some pawn finds none.
+/// What the pawns cost if one after another is given the nearest file that is free; None if some pawn finds none.
 fn greedy_cost(costs: &Costs) -> Option<u16>
     ensures { IfSome result (λ cost. (files : List ℕ) × IsInjection 8 (length costs.now) files × (cost ≡ assignment_cost costs.now files)) }
 {

@@ -70,7 +70,7 @@ fn are_few(men: &Counts, pawns: u8) -> bool
     excess(men, &pawns_alone(pawns)) <= pawns as u16
 }
 
-/// True only where the side's pawns, and its officers of each kind above those who stand where they began, are at most the pawns with
+/// True only if the side's pawns, and its officers of each kind above those who stand where they began, are at most the pawns with
 /// which it began. Homes on which they stand are never dead, so no more of them have been promoted, whatever the set.
 pub(crate) fn has_few(query: &Query, side: Colour) -> bool
     ensures { IsTrue result → (set : List Bool) → HasTooMany query.now.odds query.now set side → ⊥ }
@@ -130,7 +130,7 @@ fn with_home(
     }
 }
 
-/// How many officers of the side on the first board don't stand on their homes, where no enemy pawn can have captured them.
+/// How many officers of the side on the first board don't stand on their homes, if no enemy pawn can have captured them.
 fn may_be_spent_of(first: &Board, board: &Board, set: SquareSet, side: Colour) -> u8
     ensures number { result ≡ men_of side (may_be_spent first.now board.now set) first.now }
     ensures few { result ≤ 64 }
@@ -142,7 +142,7 @@ fn may_be_spent_of(first: &Board, board: &Board, set: SquareSet, side: Colour) -
     n
 }
 
-/// True only where the side's pawns, which have these costs, need no more captures than there are enemy men gone whom pawns may have
+/// True only if the side's pawns, which have these costs, need no more captures than there are enemy men gone whom pawns may have
 /// captured.
 pub(crate) fn needs_few(query: &Query, side: Colour, set: SquareSet, costs: &Costs) -> bool
     requires { costs.now ≡ pawn_costs query.now.odds side query.now.board }

@@ -19,7 +19,7 @@ const HIGH: &str = "96 96 96 96 96 96 96 96 96 96 96 96 96 96 96 96";
 const GATES: &str =
     "a1 96 b1 96 c1 96 d1 96 e1 96 f1 96 g1 96 h1 96 a2 96 b2 96 c2 96 d2 96 e2 96 f2 96 g2 96 h2 96";
 
-/// The prices of a line's two sides, and what follows them, where the line is good.
+/// The prices of a line's two sides, and what follows them, if the line is good.
 const GOOD: [(&str, &str, &str); 9] = [
     (FREE, FREE, ""),
     (HIGH, FREE, ""),

@@ -20,8 +20,8 @@ fn checked(
     Ok(check_length(&mut source))
 }
 
-/// The side that shows the greatest length of the query's games, and this length, where its text is read so, and is unsupported with one
-/// half-move more; None where they aren't, or the query has no such text.
+/// The side that shows the greatest length of the query's games, and this length, if its text is read so, and is unsupported with one
+/// half-move more; None if they aren't, or the query has no such text.
 fn read_back(alloc: Global, query: &Query) -> Result<Option<(Colour, u16)>, AllocError> {
     if query.barred.is_some() || query.clock.is_some() {
         return Ok(None);

@@ -168,7 +168,7 @@ fn names_what_is_wrong_with_a_text(rt: HostRuntime) {
     assert_eq!(rt; first_misnamed(), None);
 }
 
-/// How the moves of these words are spelled, played from a state, and why they aren't. Neither is given where there is no state, or the
+/// How the moves of these words are spelled, played from a state, and why they aren't. Neither is given if there is no state, or the
 /// words can't be read.
 fn spelled_game(
     alloc: Global,
@@ -190,7 +190,7 @@ fn spelled_game(
     }
 }
 
-/// No moves make an empty text; Black's move has no number where he begins; and the first move that isn't legal is named.
+/// No moves make an empty text; Black's move has no number if he begins; and the first move that isn't legal is named.
 #[test]
 fn spells_from_any_state(rt: HostRuntime) {
     let (text, fault) = spelled_game(rt.alloc(), Some(State::start()), b"");

@@ -119,7 +119,7 @@ fn writes_trees_as_they_were_read(rt: HostRuntime) {
     assert_eq!(rt; first_changed_claim(rt.alloc()), Ok(None));
 }
 
-/// The text that is written of a line, or None where there is none.
+/// The text that is written of a line, or None if there is none.
 pub(crate) type Written = Option<ArrayVec<u8, 256>>;
 
 /// The text that is written of the line that was read of these bytes at this depth.

@@ -102,10 +102,10 @@ fn write_children(
 /// The text of the tree of the query's retractions to this depth, of at most so many lines.
 ///
 /// A line for each node, in preorder, with two spaces for each level before it: `root`, or the node's unmove; a space; and the first
-/// that is so of these: `closed`, where some rule line supports the node's query; `back k`, where an ancestor covers it, with the
-/// least such k; `array`, where the game of no moves reaches it; `end`, where the node stands at the last depth; `expand n`, where n
-/// is the number of its unmoves, whose nodes follow in their order. Each query has exactly one such text: it comes only where it has at
-/// most so many lines, and `Spent` only where it has more.
+/// that is so of these: `closed`, if some rule line supports the node's query; `back k`, if an ancestor covers it, with the
+/// least such k; `array`, if the game of no moves reaches it; `end`, if the node stands at the last depth; `expand n`, if n
+/// is the number of its unmoves, whose nodes follow in their order. Each query has exactly one such text: it comes only if it has at
+/// most so many lines, and `Spent` only if it has more.
 pub fn tree_text(alloc: Global, query: &Query, depth: u8, nodes: u32) -> Result<Vec<u8>, TreeFault>
     requires barred { query.now.barred ≡ None }
     requires depth { depth ≤ 64 }

@@ -95,7 +95,7 @@ abbrev pub has_left : Option Move → Places → Bool
 has_left None board = true
 has_left (Some d) board = is_empty (at board d.from)
 
--- Article 3.7: it is marked en passant exactly where its move is such a capture, and then it took a pawn whose home is empty
+-- Article 3.7: it is marked en passant if and only if its move is such a capture, and then it took a pawn whose home is empty
 abbrev pub is_marked : Places → Colour → Unmove → Bool
 is_marked board c u =
     beq u.ep (pawn_captures_en_passant board c (answered u c) u.mv) && cond u.ep (took_pawn u && has_left (answered u c) board) true

@@ -46,7 +46,7 @@ left_by q steps = fold predecessor q steps
 abbrev pub is_en_passant_after : List Bool → List Move → Move → Bool
 is_en_passant_after o g m = pawn_captures_en_passant (board_after o g) (turn_after g) (last_move g) m
 
--- the move with the kind that it captures after this game at the odds o, marked en passant exactly where it is such a capture
+-- the move with the kind that it captures after this game at the odds o, marked en passant if and only if it is such a capture
 abbrev pub unmove_after : List Bool → List Move → Move → Unmove
 unmove_after o g m = record {
   mv = m;

@@ -84,7 +84,7 @@ fn is_left_alone(before: &Board, query: &Query, king: Square) -> bool
     !before.attacked(king, query.turn.other())
 }
 
-/// The man on the target goes so where the target was empty.
+/// The man on the target goes so if the target was empty.
 fn steps(query: &Query, them: Man, m: &Move) -> bool
     requires ends { HasNoPawnOnEnds query.now.board }
     requires plain { IsPlain query.now.board (mover query.now) m.now }
@@ -94,7 +94,7 @@ fn steps(query: &Query, them: Man, m: &Move) -> bool
     goes_to_empty(&query.board, them, m.from, m.to)
 }
 
-/// The man on the target goes so where a man stood there.
+/// The man on the target goes so if a man stood there.
 fn strikes(query: &Query, them: Man, m: &Move) -> bool
     requires ends { HasNoPawnOnEnds query.now.board }
     requires plain { IsPlain query.now.board (mover query.now) m.now }
@@ -104,7 +104,7 @@ fn strikes(query: &Query, them: Man, m: &Move) -> bool
     man_attacks(&query.board, them, m.from, m.to)
 }
 
-/// He goes so where the target was empty, and comes from no end as a pawn.
+/// He goes so if the target was empty, and comes from no end as a pawn.
 fn comes_quietly(query: &Query, them: Man, m: &Move) -> bool
     requires ends { HasNoPawnOnEnds query.now.board }
     requires plain { IsPlain query.now.board (mover query.now) m.now }
@@ -114,7 +114,7 @@ fn comes_quietly(query: &Query, them: Man, m: &Move) -> bool
     steps(query, them, m) && !starts_on_end(&query.board, m)
 }
 
-/// He goes so where a man stood on the target, and comes from no end as a pawn. An officer or a king does as to an empty target.
+/// He goes so if a man stood on the target, and comes from no end as a pawn. An officer or a king does as to an empty target.
 fn comes_taking(query: &Query, them: Man, m: &Move, quiet: bool) -> bool
     requires ends { HasNoPawnOnEnds query.now.board }
     requires plain { IsPlain query.now.board (mover query.now) m.now }
@@ -227,7 +227,7 @@ fn fits_pawn(goes: bool, facts: &QueryFacts, s: Square) -> bool
     goes && (has_room(facts, Kind::Pawn, s) && !is_end(s))
 }
 
-/// Of each candidate of a move whether it fits, where only the capture en passant may be.
+/// Of each candidate of a move whether it fits, if only the capture en passant may be.
 fn only_en_passant(query: &Query, m: &Move) -> [bool; 7]
     ensures { result ≡ false ∷ false ∷ false ∷ false ∷ false ∷ false ∷ is_retraction query.now (taking_en_passant m.now) ∷ [] }
 {
@@ -303,7 +303,7 @@ fn fitting(query: &Query, facts: &Option<QueryFacts>, m: &Move, alone: bool) -> 
     }
 }
 
-/// Of those that fit, a quiet move where this is allowed, and captures where these are.
+/// Of those that fit, a quiet move if this is allowed, and captures if these are.
 fn kept(fitting: [bool; 7], quiet: bool, takes: bool) -> [bool; 7]
     ensures { result ≡ kept_of fitting quiet takes }
 {

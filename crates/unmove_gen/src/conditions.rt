@@ -63,7 +63,7 @@ fn allows(clock: Option<u16>, reset: bool) -> bool
     }
 }
 
-/// The clock that is demanded, if one is, is 0 exactly where the move sets it to 0.
+/// The clock that is demanded, if one is, is 0 if and only if the move sets it to 0.
 pub fn obeys_clock(query: &Query, u: &Unmove) -> bool
     ensures { result ≡ obeys_clock query.now u.now }
 {

@@ -41,7 +41,7 @@ fn sole_king(board: &Board, colour: Colour) -> Option<Square>
     found
 }
 
-/// What the retractions share, where each side has one king, no pawn stands on rank 1 or 8, the side that moved isn't in check, and
+/// What the retractions share, if each side has one king, no pawn stands on rank 1 or 8, the side that moved isn't in check, and
 /// it has no more men than it may at the query's odds.
 pub fn facts_of(query: &Query) -> Option<QueryFacts>
     ensures { IfSome result (λ f. AreFacts query.now f) }

@@ -12,7 +12,7 @@ ghost use Rattle.unmove_gen.specs.Listed.{unmoves};
 ghost use Rattle.unmove_gen.specs.Predecessor.{predecessor, unmove_after};
 
 /// The law that the last move of each game that reaches a query is in the query's list, with the kind that it captured, and marked
-/// en passant exactly where it was; and that the moves before it reach its predecessor.
+/// en passant if and only if it was; and that the moves before it reach its predecessor.
 pub fn last_moves_are_listed()
     ensures listed { (g : List Move) (m : Move) (q : Asked) → Reaches (g ++ m ∷ []) q → Contains (unmoves q) (unmove_after q.odds g m) }
     ensures reached { (g : List Move) (m : Move) (q : Asked) → Reaches (g ++ m ∷ []) q → Reaches g (predecessor q (unmove_after q.odds g m)) }

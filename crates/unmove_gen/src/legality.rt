@@ -30,7 +30,7 @@ fn captures_en_passant(board: &Board, colour: Colour, u: &Unmove, double: &Move)
         && board.at(double.from).is_none()
 }
 
-/// The unmove is marked en passant exactly where its move is such a capture.
+/// The unmove is marked en passant if and only if its move is such a capture.
 fn is_marked(board: &Board, colour: Colour, u: &Unmove) -> bool
     ensures { result ≡ is_marked board.now colour u.now }
 {

@@ -57,7 +57,7 @@ impl QueryUnmoves {
         self.query
     }
 
-    /// The first unmove that is left, which then is left no more; None exactly where none is left.
+    /// The first unmove that is left, which then is left no more; None if and only if none is left.
     pub fn next(&mut self) -> Option<Unmove>
         ensures left { MatchOption result ((self.old.left ≡ []) × (self.new.left ≡ [])) (λ u. self.old.left ≡ u ∷ self.new.left) }
         ensures query { self.new.query ≡ self.old.query }
@@ -75,13 +75,13 @@ impl QueryUnmoves {
 }
 
 /// The unmoves of a query that are left to be given, seen as their list. An unmove is a move that the side not to move may have made
-/// last in a game that reaches the query, with the kind of the man that it captured; it captured en passant only where it is so
-/// marked. Its origin is empty, and a man of that side stands on its target. On the board before it, the move is legal where every
+/// last in a game that reaches the query, with the kind of the man that it captured; it captured en passant only if it is so
+/// marked. Its origin is empty, and a man of that side stands on its target. On the board before it, the move is legal if every
 /// castling is allowed, it leads to the query's board, and that board passes tests that the board of every game passes: one king
 /// each, no pawn on rank 1 or 8, no king attacked out of turn, and for each side no more pawns and men that must have been promoted
 /// than it begins with pawns, seen from what it begins with at the query's odds. The move touches no home of a right that is held,
-/// and is what `only`, `barred` and the clock ask of the last move: by `only` a pawn stands on its target, and where a clock is
-/// demanded, the move captures or is a pawn's exactly where the clock is 0.
+/// and is what `only`, `barred` and the clock ask of the last move: by `only` a pawn stands on its target, and if a clock is
+/// demanded, the move captures or is a pawn's if and only if the clock is 0.
 ///
 /// They ascend in the order of `cmp_unmove`: by target, then origin, then promotion, then captured man, en passant after all others.
 /// There are at most 143,360.
@@ -109,7 +109,7 @@ impl Unmoves {
         }
     }
 
-    /// The first unmove that is left, which then is left no more; None exactly where none is left.
+    /// The first unmove that is left, which then is left no more; None if and only if none is left.
     pub fn next(&mut self) -> Option<Unmove>
         ensures { MatchOption result ((self.old ≡ []) × (self.new ≡ [])) (λ u. self.old ≡ u ∷ self.new) }
     {

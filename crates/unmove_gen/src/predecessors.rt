@@ -29,7 +29,7 @@ pub fn is_unmove(query: &Query, u: &Unmove) -> bool
     is_listed(query, u)
 }
 
-/// The clock before the last move, where it is known.
+/// The clock before the last move, if it is known.
 fn clock_before(clock: Option<u16>) -> Option<u16>
     requires { IsShortClock clock }
     ensures clock { result ≡ clock_before clock }

@@ -22,7 +22,7 @@ fn at_target(to: u8) -> Cursor
 }
 
 /// This candidate if this is its origin; else the candidate with its target that comes first from this origin, or with the next target
-/// where there is none such.
+/// if there is none such.
 fn at_origin(here: Cursor, from: u8) -> Cursor
     requires inside { here.to < 64 }
     requires later { here.from ≤ from }

@@ -51,7 +51,7 @@ fn next_listed(listed: &[bool; 7], start: u8) -> u8
     place
 }
 
-/// The first candidate from this one on of the same move that is listed, with what is listed of the move; None where none is.
+/// The first candidate from this one on of the same move that is listed, with what is listed of the move; None if none is.
 fn stop_on(
     query: &Query,
     facts: &Option<QueryFacts>,

@@ -11,7 +11,7 @@ ghost use Rattle.verdict_prose.specs.declared.verdicts.Verdict.TheVariants.{Show
 
 /// The law of the sentences: they don't gainsay one another. A claim that is shown isn't countered, nor is what is shown
 /// without demands; the moves with which games end are among
-/// those of which one was the last, and are the last of those that were the last ones; and where none remains, no move was made.
+/// those of which one was the last, and are the last of those that were the last ones; and if none remains, no move was made.
 pub fn sentences_agree()
     ensures shown { (q : Asked) (claim : AClaim) → IsSo q (Shown claim) → IsSo q (Countered claim) → ⊥ }
     ensures plain { (q : Asked) → IsSo q PlainShown → IsSo q PlainCountered → ⊥ }
