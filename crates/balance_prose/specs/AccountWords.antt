@@ -1,4 +1,4 @@
--- What the men count at best, and who makes up for it, in words.
+-- What the men count at least, and who makes up for it, in words.
 use Rattle.std.specs.Prelude.{ℕ, ◌+◌, ◌-◌, ◌/◌, ◌==◌, nat_le, Bool, cond, ◌&&◌, List, [], ◌∷◌, ◌++◌, codes, drop, length, slice_index, Option}
 use Rattle.std.specs.List.{flat_map, range_with_len}
 use Rattle.std.specs.Fmt.{decimal}
@@ -110,14 +110,14 @@ either_words men idle n gates =
 abbrev pub end_words : ℕ → List ℕ → ℕ → List Gate → List ℕ
 end_words men idle n gates = either_words men idle n gates ++ codes "."
 
--- what the men count at best: exactly, with their ways; or a number that is at most that, and more than is made up for
+-- what the men count at least: exactly, with their ways; or a number that is at most that, and more than is made up for
 abbrev pub counted_words : Numbers → Asked → PriceList → List Bool → List ℕ → List ℕ → List ℕ
 counted_words Exact q p set white black =
-    codes "At best these are " ++ decimal (all_counted q p set white black) ++ codes ":" ++ ways_words q p set white black
+    codes "That makes at least " ++ decimal (all_counted q p set white black) ++ codes ":" ++ ways_words q p set white black
 counted_words Enough q p set white black =
-    codes "At best these are " ++ decimal (all_made_up q p set white black + all_gates p + 1) ++ codes " or more"
+    codes "That makes at least " ++ decimal (all_made_up q p set white black + all_gates p + 1)
 
--- what the men count at best, with how many men each side lacks, and who makes up for how much
+-- what the men count at least, with how many men each side lacks, and who makes up for how much
 abbrev pub best_words : Numbers → Bool → Asked → PriceList → List Bool → List ℕ → List ℕ → List ℕ
 best_words numbers first q p set white black =
     counted_words numbers q p set white black ++ (codes ". But " ++ cond first [] (codes "before this move ")) ++ lack_words first q p ++ end_words (all_missing q p) (all_idle q p set white black) (all_made_up q p set white black) p.gates

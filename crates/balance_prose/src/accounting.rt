@@ -1,4 +1,4 @@
-//! What the men count at best, and who makes up for it, in words.
+//! What the men count at least, and who makes up for it, in words.
 
 ghost use Rattle.std.specs.Prelude.{◌≡◌, ◌+◌, ◌++◌, ◌<◌, ◌==◌, [], IfOk, codes, cond, drop};
 ghost use Rattle.std.specs.List.{All, flat_map};
@@ -248,11 +248,11 @@ fn push_end(
     Ok(())
 }
 
-/// What the men count at best with these homes.
+/// What the men count at least with these homes.
 fn push_best(n: u32, ways: &[u8], out: &mut Vec<u8>) -> Result<(), AllocError>
-    ensures { IfOk result (λ _. out.new.items ≡ out.old.items ++ (codes "At best these are " ++ decimal n ++ codes ":" ++ drop 1 ways.now)) }
+    ensures { IfOk result (λ _. out.new.items ≡ out.old.items ++ (codes "That makes at least " ++ decimal n ++ codes ":" ++ drop 1 ways.now)) }
 {
-    say(b"At best these are ", out)?;
+    say(b"That makes at least ", out)?;
     push_number(n as usize, out)?;
     say(b":", out)?;
     say(rest_of(ways), out)?;
@@ -286,7 +286,7 @@ fn enough_of(tally: Tally, gates: u32) -> u32
     tally.made_up + gates + 1
 }
 
-/// A number of captures that is at most what the men count at best, and more than is made up for.
+/// A number of captures that is at most what the men count, and more than is made up for.
 fn push_enough(
     query: &Query,
     prices: &Prices,
@@ -299,13 +299,12 @@ fn push_enough(
     ensures { IfOk result (λ _. out.new.items ≡ out.old.items ++ counted_words Enough query.now prices.now set white.now black.now) }
 {
     let tally = tally_of(query, prices, set, white, black);
-    say(b"At best these are ", out)?;
+    say(b"That makes at least ", out)?;
     push_number(enough_of(tally, all_gates(prices)) as usize, out)?;
-    say(b" or more", out)?;
     Ok(())
 }
 
-/// What the men count at best.
+/// What the men count at least.
 fn push_counted(
     alloc: Global,
     numbers: Numbers,
@@ -334,7 +333,7 @@ fn push_but(first: bool, out: &mut Vec<u8>) -> Result<(), AllocError>
     Ok(())
 }
 
-/// What the men count at best, with how many men each side lacks, and who makes up for how much.
+/// What the men count at least, with how many men each side lacks, and who makes up for how much.
 pub fn push_account(
     alloc: Global,
     numbers: Numbers,

@@ -74,19 +74,20 @@ TellsRule numbers first q (rule.Promo c set) old new =
 abbrev pub CountsFor : Asked → List Bool → PriceList → Type 0
 CountsFor q set p = IsTrue (is_plain p) × BalanceSupports q set p
 
--- a balance is told by who never moved, what is counted, and what the men count at best, with the first of the cheapest homes of each side
+-- a balance is told by who never moved, what is counted, and what the men count at least, with the first of the cheapest homes of each side
 abbrev pub TellsCounted : Numbers → Bool → Asked → List Bool → PriceList → List ℕ → List ℕ → Type 0
 TellsCounted numbers first q set p old new =
     (white : ArrayVec ℕ) × (black : ArrayVec ℕ) × IsFirstPairing 16 (table_of q p set White) white.items × IsFirstPairing 16 (table_of q p set Black) black.items × Adds q (Settled set ∷ OnBalance (Counted set p) ∷ OnBalance (Best set p white black first numbers) ∷ []) old new
 
 -- or by who never moved, what captures cost, and what the men of both sides cost
-abbrev pub TellsPriced : Asked → List Bool → PriceList → List ℕ → List ℕ → Type 0
-TellsPriced q set p old new = (white : ℕ) × (black : ℕ) × Adds q (Settled set ∷ OnBalance (Priced set p) ∷ OnBalance (Balanced set p white black) ∷ []) old new
+abbrev pub TellsPriced : Numbers → Asked → List Bool → PriceList → List ℕ → List ℕ → Type 0
+TellsPriced numbers q set p old new =
+    (white : ℕ) × (black : ℕ) × Adds q (Settled set ∷ OnBalance (Priced set p) ∷ OnBalance (Balanced set p white black numbers) ∷ []) old new
 
 -- by what is counted, if captures are counted at the prices when they are lowered
 abbrev pub TellsBalance : Numbers → Bool → Asked → List Bool → PriceList → List ℕ → List ℕ → Type 0
 TellsBalance numbers first q set p old new =
-    (CountsFor q set (lowered p) × TellsCounted numbers first q set (lowered p) old new) ⊎ ((CountsFor q set (lowered p) → ⊥) × TellsPriced q set p old new)
+    (CountsFor q set (lowered p) × TellsCounted numbers first q set (lowered p) old new) ⊎ ((CountsFor q set (lowered p) → ⊥) × TellsPriced numbers q set p old new)
 
 -- the side whose men can't all have begun on homes of their own, if there is one; White comes first
 abbrev pub homeless_side : Asked → List Bool → Option Colour

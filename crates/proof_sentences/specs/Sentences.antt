@@ -18,6 +18,8 @@ use Rattle.balance_prose.specs.Accounts.{CountTooMany, HasNoMore}
 use Rattle.balance_prose.specs.Counted.{OneTreads, is_plain}
 use Rattle.balance_prose.specs.CountWords.{count_words as counting_words}
 use Rattle.balance_prose.specs.Pricing.{around, priced_words}
+use Rattle.balance_prose.specs.declared.numbers.Numbers.{Numbers}
+use Rattle.balance_prose.specs.declared.numbers.Numbers.TheVariants.{Exact, Enough}
 use Rattle.balance_rule.specs.Balance.{men_on, most_cost, side_cost}
 use Rattle.balance_rule.specs.Costs.{never}
 use Rattle.capture_prices.specs.Prices.{PriceList, all_gates, priced}
@@ -94,7 +96,7 @@ PawnsSay (Lacks c set missing first) q =
 -- up for. The men of a side can't all have begun on homes of their own.
 abbrev pub BalanceSays : BalanceFact → Asked → Type 0
 BalanceSays (Priced set p) q = NeverMoved q set
-BalanceSays (Balanced set p white black) q =
+BalanceSays (Balanced set p white black numbers) q =
     NeverMoved q set × (white ≡ side_cost q.odds q.board p set White) × (black ≡ side_cost q.odds q.board p set Black) × (most_cost q.odds p < white + black) × HasNoMore q White × HasNoMore q Black
 BalanceSays (Counted set p) q = NeverMoved q set × IsTrue (is_plain p) × ((s : ℕ) → OneTreads q.odds s)
 BalanceSays (Best set p white black first numbers) q = NeverMoved q set × CountTooMany q p set white.items black.items
@@ -246,15 +248,17 @@ abbrev pub most_words : ℕ → List ℕ
 most_words gates =
     cond (gates == 0) (codes ". But what is paid is what is earned.") (codes ". But what is paid for captures is what is earned, and for squares at most " ++ decimal gates ++ codes " is paid.")
 
--- what the men of both sides cost, who have homes
-abbrev pub account_words : List Bool → ℕ → ℕ → ℕ → List ℕ
-account_words odds gates white black =
+-- what the men of both sides cost, who have homes: those of each side; or a number that is enough for both
+abbrev pub account_words : Numbers → List Bool → ℕ → ℕ → ℕ → List ℕ
+account_words Exact odds gates white black =
     net_words White white (men_on White (array_of odds)) ++ codes ", and " ++ net_words Black black (men_on Black (array_of odds)) ++ most_words gates
+account_words Enough odds gates white black =
+    codes "All men together pay at least " ++ decimal (gates + 1) ++ codes " more than they earn" ++ most_words gates
 
 -- that the position stands later in the game too
 abbrev pub back_words : ℕ → List ℕ
 back_words k =
-    codes "This is the position of " ++ counted k (codes " half-move") (codes " half-moves") ++ codes " later again, with no fewer demands; a shortest game doesn't repeat it."
+    codes "The same position stands " ++ counted k (codes " half-move") (codes " half-moves") ++ codes " later, with no more demands; a shortest game doesn't come to it twice."
 
 -- that a side can't have moved last
 abbrev pub still_words : Colour → Bool → List ℕ
@@ -280,14 +284,14 @@ pawn_fact_words (Lacks c set missing first) q = lacks_words first q c set missin
 -- the words of what is said of a balance
 unfoldable pub balance_fact_words : BalanceFact → Asked → List ℕ
 balance_fact_words (Priced set p) q = priced_words p
-balance_fact_words (Balanced set p white black) q = account_words q.odds (all_gates p) white black
+balance_fact_words (Balanced set p white black numbers) q = account_words numbers q.odds (all_gates p) white black
 balance_fact_words (Counted set p) q = counting_words p
 balance_fact_words (Best set p white black first numbers) q = best_words numbers first q p set white.items black.items
 balance_fact_words (Homeless c set) q = homeless_words c
 
 -- the words of a sentence; after each but the last of a reason comes a space
 unfoldable pub words_of : Sentence → Asked → List ℕ
-words_of Kings q = codes "Not each side has exactly one king."
+words_of Kings q = codes "A side has no king, or more than one."
 words_of (Ranks s) q = end_words s
 words_of (Check c s) q = check_words c s
 words_of (Rights x) q = rights_words q.odds x

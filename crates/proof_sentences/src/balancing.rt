@@ -69,7 +69,7 @@ fn counts_for(query: &Query, set: SquareSet, prices: &Prices) -> bool
     is_plain(prices) && balances(query, set, prices)
 }
 
-/// Who never moved, what is counted, and what the men count at best.
+/// Who never moved, what is counted, and what the men count at least.
 fn push_counted(
     alloc: Global,
     query: &Query,
@@ -105,12 +105,13 @@ fn push_counted(
 fn push_priced(
     alloc: Global,
     query: &Query,
+    numbers: Numbers,
     set: SquareSet,
     prices: &Prices,
     out: &mut Vec<u8>,
 ) -> Result<(), AllocError>
     requires { BalanceSupports query.now set prices.now }
-    ensures { IfOk result (λ _. TellsPriced query.now set prices.now out.old.items out.new.items) }
+    ensures { IfOk result (λ _. TellsPriced numbers query.now set prices.now out.old.items out.new.items) }
 {
     let white = side_cost(query, set, prices, Colour::White).unwrap();
     let black = side_cost(query, set, prices, Colour::Black).unwrap();
@@ -120,6 +121,7 @@ fn push_priced(
         prices: *prices,
         white,
         black,
+        numbers,
     });
     push_sentence(alloc, query, &Sentence::Settled(set), out)?;
     push_sentence(alloc, query, &priced, out)?;
@@ -145,7 +147,7 @@ fn push_by_prices(
         push_counted(alloc, query, numbers, first, set, &plain, out)?;
         return Ok(());
     }
-    push_priced(alloc, query, set, prices, out)?;
+    push_priced(alloc, query, numbers, set, prices, out)?;
     Ok(())
 }
 

@@ -99,6 +99,7 @@ pub enum BalanceFact {
         white: u32,
         /// What Black's men cost.
         black: u32,
+        numbers: Numbers,
     },
     /// The captures that count at these prices, and why each gate counts once at most.
     Counted(SquareSet, Prices),

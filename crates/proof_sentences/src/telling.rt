@@ -6,6 +6,7 @@ ghost use Rattle.std.specs.Fmt.{decimal};
 ghost use Rattle.board_base.specs.Board.{is_in, opponent};
 ghost use Rattle.assignment.specs.Assignments.{IsInjection};
 ghost use Rattle.pawn_assign.specs.PawnCosts.{pawn_costs, pawn_home, pawn_squares};
+ghost use Rattle.balance_prose.specs.declared.numbers.Numbers.TheVariants.{Exact};
 ghost use Rattle.capture_prices.specs.Prices.{all_gates};
 ghost use Rattle.proof_sentences.specs.Sentences.{BalanceSays, PawnsSay, Says, account_words, at_time, back_words, balance_fact_words, barred_words, by_right, caged_words, captures_words, check_words, count_words, counted, difference_words, end_words, gone_words, homeless_words, is_gone, is_kept, is_safe, lacks_words, least_words, many_shut, missing_words, most_words, moved_words, net_words, one_shut, pawn_fact_words, pawn_words, rights_words, settled_words, shut_words, some_words, still_words, stood_words, unmoved_men, way_words, ways_words, words_of};
 ghost use Rattle.prose_words.specs.Words.{side_word, squares_words};
@@ -15,7 +16,7 @@ use crate::phrases::{push_either, push_unmoved, set_squares};
 use crate::rights::is_held_home;
 use crate::sentences::{BalanceFact, PawnFact, Sentence};
 use balance_prose::{
-    all_gates, push_account as push_best, push_around, push_counts, push_priced, rest_of,
+    Numbers, all_gates, push_account as push_best, push_around, push_counts, push_priced, rest_of,
 };
 use balance_rule::begun_with;
 use board_base::{Castle, Colour, Odds, Square, SquareSet, array_of, is_of};
@@ -578,15 +579,15 @@ fn push_most(gates: u32, out: &mut Vec<u8>) -> Result<(), AllocError>
     }
 }
 
-/// What the men of both sides cost, who have homes.
-fn push_account(
+/// What the men of each side cost, who have homes.
+fn push_each(
     odds: Odds,
     gates: u32,
     white: u32,
     black: u32,
     out: &mut Vec<u8>,
 ) -> Result<(), AllocError>
-    ensures { IfOk result (λ _. out.new.items ≡ out.old.items ++ account_words odds gates white black) }
+    ensures { IfOk result (λ _. out.new.items ≡ out.old.items ++ account_words Exact odds gates white black) }
 {
     push_net(Colour::White, white, begun_with(Colour::White, odds), out)?;
     say(b", and ", out)?;
@@ -595,28 +596,57 @@ fn push_account(
     Ok(())
 }
 
+/// That the men of both sides cost too much together, with so much paid for squares at most.
+fn push_together(gates: u32, out: &mut Vec<u8>) -> Result<(), AllocError>
+    ensures { IfOk result (λ _. out.new.items ≡ out.old.items ++ (codes "All men together pay at least " ++ decimal (gates + 1) ++ codes " more than they earn" ++ most_words gates)) }
+{
+    say(b"All men together pay at least ", out)?;
+    push_number(gates as usize + 1, out)?;
+    say(b" more than they earn", out)?;
+    push_most(gates, out)?;
+    Ok(())
+}
+
+/// What the men of both sides cost, who have homes: those of each side, or a number that is enough for both.
+fn push_account(
+    numbers: Numbers,
+    odds: Odds,
+    gates: u32,
+    white: u32,
+    black: u32,
+    out: &mut Vec<u8>,
+) -> Result<(), AllocError>
+    ensures { IfOk result (λ _. out.new.items ≡ out.old.items ++ account_words numbers odds gates white black) }
+{
+    match numbers {
+        Numbers::Exact => push_each(odds, gates, white, black, out),
+        Numbers::Enough => push_together(gates, out),
+    }
+}
+
 /// The same with all gates of the prices.
 fn push_accounts(
     query: &Query,
+    numbers: Numbers,
     prices: &Prices,
     white: u32,
     black: u32,
     out: &mut Vec<u8>,
 ) -> Result<(), AllocError>
-    ensures { IfOk result (λ _. out.new.items ≡ out.old.items ++ account_words query.now.odds (all_gates prices.now) white black) }
+    ensures { IfOk result (λ _. out.new.items ≡ out.old.items ++ account_words numbers query.now.odds (all_gates prices.now) white black) }
 {
     let gates = all_gates(prices);
-    push_account(query.odds, gates, white, black, out)
+    push_account(numbers, query.odds, gates, white, black, out)
 }
 
 /// That the position stands so many half-moves later again.
 fn push_back(steps: u8, out: &mut Vec<u8>) -> Result<(), AllocError>
     ensures { IfOk result (λ _. out.new.items ≡ out.old.items ++ back_words steps) }
 {
-    say(b"This is the position of ", out)?;
+    say(b"The same position stands ", out)?;
     push_counted(steps as usize, b" half-move", b" half-moves", out)?;
     say(
-        b" later again, with no fewer demands; a shortest game doesn't repeat it.",
+        b" later, with no more demands; a shortest game doesn't come to it twice.",
         out,
     )?;
     Ok(())
@@ -734,7 +764,8 @@ fn push_balance_fact(
             prices,
             white,
             black,
-        } => push_accounts(query, prices, *white, *black, out),
+            numbers,
+        } => push_accounts(query, *numbers, prices, *white, *black, out),
         BalanceFact::Counted(_, prices) => push_counts(alloc, prices, out),
         BalanceFact::Best {
             set,
@@ -770,7 +801,7 @@ pub(crate) fn push_sentence(
     ensures { IfOk result (λ _. out.new.items ≡ out.old.items ++ words_of sentence.now query.now) }
 {
     match sentence {
-        Sentence::Kings => say(b"Not each side has exactly one king.", out),
+        Sentence::Kings => say(b"A side has no king, or more than one.", out),
         Sentence::Ranks(s) => push_end(*s, out),
         Sentence::Check(side, s) => push_check(*side, *s, out),
         Sentence::Rights(castle) => push_astray(query.odds, *castle, out),

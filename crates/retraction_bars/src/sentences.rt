@@ -59,8 +59,9 @@ fn push_held(query: &Query, castle: Castle, out: &mut Vec<u8>) -> Result<(), All
     ensures { IfOk result (λ _. out.new.items ≡ out.old.items ++ bar_words query.now (Bar.Held castle)) }
 {
     let (king, rook) = home(castle);
+    say_phrase(Phrase::TheKing, out)?;
     push_square(king, out)?;
-    say_phrase(Phrase::And, out)?;
+    say_phrase(Phrase::AndTheRook, out)?;
     push_square(rook, out)?;
     say_phrase(Phrase::NeverMoved, out)?;
     Ok(())

@@ -87,7 +87,7 @@ without_words first exact = cond first (codes " Without a " ++ deed_words exact)
 -- why not all men can have come from home without a step, that there was a last one, and whether there are any
 abbrev pub stepped_words : Bool → List Bool → List ℕ → ℕ → List ℕ
 stepped_words first exact why count =
-    without_words first exact ++ why ++ cond (count == 0) (codes ". But no such move can have been last.") (codes ". So there was a last one.")
+    without_words first exact ++ why ++ cond (count == 0) (codes ". But no such move can have been last.") (codes ". So there was such a move. Consider the last one.")
 
 -- of whom it isn't known what he was
 abbrev pub unknown_words : ℕ → List ℕ

@@ -46,7 +46,7 @@ taken_words taken.Officer = codes " with promotion (a knight, rook or queen fell
 -- that other pawns of the file that the pawn left stood above it
 abbrev pub above_words : ℕ → List ℕ
 above_words n =
-    cond (n == 0) [] (cond (n == 1) (codes " with a pawn above it") (codes " with " ++ decimal n ++ codes " pawns above it"))
+    cond (n == 0) [] (cond (n == 1) (codes " with another pawn above it on its file") (codes " with " ++ decimal n ++ codes " other pawns above it on its file"))
 
 -- what stands behind the squares of a step
 abbrev pub way_words : Way → List ℕ

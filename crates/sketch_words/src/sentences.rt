@@ -258,7 +258,7 @@ pub fn push_stepped(
     push_either(
         count == 0,
         b". But no such move can have been last.",
-        b". So there was a last one.",
+        b". So there was such a move. Consider the last one.",
         out,
     )?;
     Ok(())

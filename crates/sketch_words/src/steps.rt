@@ -58,11 +58,11 @@ fn lead_word(label: &Label) -> &'static [u8]
 }
 
 fn push_pawns_above(above: u8, out: &mut Vec<u8>) -> Result<(), AllocError>
-    ensures { IfOk result (λ _. out.new.items ≡ out.old.items ++ (codes " with " ++ decimal above ++ codes " pawns above it")) }
+    ensures { IfOk result (λ _. out.new.items ≡ out.old.items ++ (codes " with " ++ decimal above ++ codes " other pawns above it on its file")) }
 {
     say(b" with ", out)?;
     push_number(usize::from(above), out)?;
-    say(b" pawns above it", out)?;
+    say(b" other pawns above it on its file", out)?;
     Ok(())
 }
 
@@ -74,7 +74,7 @@ fn push_above(above: u8, out: &mut Vec<u8>) -> Result<(), AllocError>
         return Ok(());
     }
     if above == 1 {
-        return say(b" with a pawn above it", out);
+        return say(b" with another pawn above it on its file", out);
     }
     push_pawns_above(above, out)
 }

@@ -13,5 +13,4 @@ pub returns : goal.returns
 returns c =
     let n = all_made_up c.args.query.now c.args.prices.now c.args.set c.args.white.now c.args.black.now + all_gates c.args.prices.now + 1 in
     let h0 = c.in_ok-say.ensures in
-    let h1 = thence c.args.out.now.items _ _ (codes "At best these are ") (decimal n) h0 (rw (c.enough_of.ensures, c.tally_of-tally.ensures.made_up, c.all_gates.ensures) at c.in_ok-push_number.ensures) in
-    thence c.args.out.now.items _ _ (codes "At best these are " ++ decimal n) (codes " or more") h1 c.in_ok-say-2.ensures
+    thence c.args.out.now.items _ _ (codes "That makes at least ") (decimal n) h0 (rw (c.enough_of.ensures, c.tally_of-tally.ensures.made_up, c.all_gates.ensures) at c.in_ok-push_number.ensures)

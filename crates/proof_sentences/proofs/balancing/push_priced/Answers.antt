@@ -26,6 +26,6 @@ returns c =
     let above : most_cost c.args.query.now.odds c.args.prices.now < c.unwrap-white.result + c.unwrap-black.result = rw (white, black) c.requires.above in (
       c.unwrap-white.result,
       c.unwrap-black.result,
-      adds-three c.args.query.now (Settled c.args.set) (OnBalance (Priced c.args.set c.args.prices.now)) (OnBalance (Balanced c.args.set c.args.prices.now c.unwrap-white.result c.unwrap-black.result)) c.args.out.now.items _ _ _ never never
+      adds-three c.args.query.now (Settled c.args.set) (OnBalance (Priced c.args.set c.args.prices.now)) (OnBalance (Balanced c.args.set c.args.prices.now c.unwrap-white.result c.unwrap-black.result c.args.numbers)) c.args.out.now.items _ _ _ never never
           (never, white, black, above, c.requires.white, c.requires.black) c.in_ok-push_sentence.ensures c.in_ok-push_sentence-2.ensures c.in_ok-push_sentence-3.ensures,
     )

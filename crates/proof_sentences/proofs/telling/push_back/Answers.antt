@@ -7,6 +7,6 @@ use Rattle.proof_sentences.proofs.telling.push_back.Goals as goal
 pub returns : goal.returns
 returns c =
     let h0 = c.in_ok-say.ensures in
-    let h1 = thence c.args.out.now.items _ _ (codes "This is the position of ") (counted c.args.steps (codes " half-move") (codes " half-moves")) h0 (c.in_ok-push_counted.ensures) in
-    let h2 = thence c.args.out.now.items _ _ ((codes "This is the position of ") ++ (counted c.args.steps (codes " half-move") (codes " half-moves"))) (codes " later again, with no fewer demands; a shortest game doesn't repeat it.") h1 (c.in_ok-say-2.ensures) in
+    let h1 = thence c.args.out.now.items _ _ (codes "The same position stands ") (counted c.args.steps (codes " half-move") (codes " half-moves")) h0 (c.in_ok-push_counted.ensures) in
+    let h2 = thence c.args.out.now.items _ _ ((codes "The same position stands ") ++ (counted c.args.steps (codes " half-move") (codes " half-moves"))) (codes " later, with no more demands; a shortest game doesn't come to it twice.") h1 (c.in_ok-say-2.ensures) in
     h2

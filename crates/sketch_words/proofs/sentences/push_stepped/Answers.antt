@@ -7,5 +7,5 @@ use Rattle.sketch_words.proofs.sentences.push_stepped.Goals as goal
 pub returns : goal.returns
 returns c =
     let h1 = thence c.args.out.now.items _ _ (without_words c.args.first c.args.exact.now) c.args.why.now (c.in_ok-push_without.ensures) (c.in_ok-say.ensures) in
-    let h2 = thence c.args.out.now.items _ _ (without_words c.args.first c.args.exact.now ++ c.args.why.now) (cond (c.args.count == 0) (codes ". But no such move can have been last.") (codes ". So there was a last one.")) h1 (c.in_ok-push_either.ensures) in
+    let h2 = thence c.args.out.now.items _ _ (without_words c.args.first c.args.exact.now ++ c.args.why.now) (cond (c.args.count == 0) (codes ". But no such move can have been last.") (codes ". So there was such a move. Consider the last one.")) h1 (c.in_ok-push_either.ensures) in
     h2

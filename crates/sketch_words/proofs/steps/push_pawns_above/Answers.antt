@@ -8,5 +8,5 @@ pub returns : goal.returns
 returns c =
     let h0 = c.in_ok-say.ensures in
     let h1 = thence c.args.out.now.items _ _ (codes " with ") (decimal c.args.above) h0 (rw c.from.ensures at c.in_ok-push_number.ensures) in
-    let h2 = thence c.args.out.now.items _ _ ((codes " with ") ++ (decimal c.args.above)) (codes " pawns above it") h1 (c.in_ok-say-2.ensures) in
+    let h2 = thence c.args.out.now.items _ _ ((codes " with ") ++ (decimal c.args.above)) (codes " other pawns above it on its file") h1 (c.in_ok-say-2.ensures) in
     h2

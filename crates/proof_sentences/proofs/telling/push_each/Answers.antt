@@ -5,7 +5,7 @@ use Rattle.board_base.specs.Board.{array_of}
 use Rattle.board_base.specs.declared.men.Colour.TheVariants.{White, Black}
 use Rattle.balance_rule.specs.Balance.{men_on}
 use Rattle.proof_sentences.specs.Sentences.{most_words, net_words}
-use Rattle.proof_sentences.proofs.telling.push_account.Goals as goal
+use Rattle.proof_sentences.proofs.telling.push_each.Goals as goal
 
 pub returns : goal.returns
 returns c =
