@@ -45,13 +45,6 @@ some-counted squares all = omega (arith, length-filter (λ (x : Strike). has_cla
 pub some-captured : (o : List Bool) (g : List Move) (c : Colour) (squares : Squares) → captures o g c squares ≤ captures o g c All
 some-captured o g c squares = omega (arith, some-counted squares (strikes o g c), all-counted (strikes o g c))
 
--- one pawn made no more of them than all
-pub one-of-all : (o : List Bool) (g : List Move) (c : Colour) → IsGame o g → (h : ℕ) → is_of c (at (array_of o) h) ≡ true → length (captures_on h (way_of o g h)) ≤ captures o g c All
-one-of-all o g c game h home =
-    let his : Strike → Bool = λ x. x.by == h in
-    let told : length (captures_on h (way_of o g h)) ≡ length (struck_by h (strikes o g c)) = ap (λ (l : List ℕ). length l) (way-captures o g c h game home) in
-    omega (arith, told, length-map (filter his (strikes o g c)) (λ (x : Strike). x.on), length-filter his (strikes o g c), count_by-le-length his (strikes o g c), all-counted (strikes o g c))
-
 pub lacking-most : (q : Asked) (c : Colour) (squares : Squares) (n : ℕ) (g : List Move) → LeadsTo q.odds g q → are_lacking q c n ≡ true → captures q.odds g c squares ≤ n
 lacking-most q c squares n g leads lack =
     omega (arith, few-captured q c g leads, some-captured q.odds g c squares, leb-true (lacking q (opponent c)) n lack)

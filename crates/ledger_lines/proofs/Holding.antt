@@ -1,11 +1,14 @@
 -- What a ledger knows holds of every game.
-use Rattle.std.proofs.Common.{◌≡◌, ℕ, ◌+◌, ◌<◌, ◌≤◌, inl, inr, Bool, true, false, not, List, [], length, zero, suc, refl, ap, sym, subst, ◌∙◌, ◌⊎◌, append-nil, arith}
+use Rattle.std.proofs.Common.{◌≡◌, ℕ, ◌+◌, ◌<◌, ◌≤◌, ◌==◌, inl, inr, Bool, true, false, not, List, [], length, zero, suc, refl, ap, sym, subst, ◌∙◌, ◌⊎◌, append-nil, arith}
 use Rattle.std.specs.Prelude.{◌&&◌, ◌||◌, IsTrue, Option, None, Some, is_none, nat_le, nat_lt, slice_index_or}
 use Rattle.std.specs.Bool.{beq}
-use Rattle.std.proofs.lemmas.Bool.{and_from, and_parts, both_ways, cases_Bool, leb-true, ltb-false, ltb-true, or_cases}
+use Rattle.std.proofs.lemmas.Bool.{and_from, and_parts, both_ways, cases_Bool, eq-eqb, leb-true, ltb-false, ltb-true, or_cases}
 use Rattle.std.proofs.lemmas.List.{get_or-set_same}
-use Rattle.general_lemmas.proofs.Ranges.{any-found}
-use Rattle.board_base.specs.Board.{Places, array_of, at, is_a, is_empty, is_in, is_of, same_colour}
+use Rattle.std.specs.List.{filter, range_with_len}
+use Rattle.general_lemmas.proofs.Differing.{differ-filter, differ-range, has-filter, range-has}
+use Rattle.general_lemmas.proofs.Ranges.{all_in_range, any-found}
+use Rattle.board_base.proofs.KindsOfMen.{colour_is}
+use Rattle.board_base.specs.Board.{Places, array_of, at, is_a, is_empty, is_in, is_of, is_the, same_colour}
 use Rattle.board_base.specs.Game.{board_after}
 use Rattle.board_base.specs.SquareNumbers.{length-squares_of}
 use Rattle.board_base.specs.declared.men.Colour.{Colour}
@@ -41,13 +44,15 @@ use Rattle.ledger_search.specs.declared.counts.Range.{Range}
 use Rattle.ledger_search.specs.declared.ledgers.Ledger.{Ledger}
 use Rattle.ledger_search.specs.declared.questions.Question.TheVariants.{Home}
 use Rattle.ledger_lines.specs.Facts.{Says, began_as_pawns}
-use Rattle.ledger_lines.specs.Known.{AreMen, AreRuledOut, IsKnown, IsOnBoard, are_lacking, counts_of, has_few, is_class, is_fallen, is_few, is_few_on, is_most, is_piece_home, is_piece_home_of, least_of, most_aside, number_in, piece_homes}
+use Rattle.ledger_lines.specs.Known.{AreMen, AreRuledOut, IsKnown, IsOnBoard, are_lacking, counts_of, has_few, has_taken, have_few, is_class, is_fallen, is_far, is_few, is_few_on, is_left, is_most, is_nearer, is_other_pawn, is_piece_home, is_piece_home_of, least_of, least_taken, most_aside, number_in, piece_homes, taken_by_others}
 use Rattle.ledger_lines.specs.Losses.{losses_of}
 use Rattle.ledger_lines.specs.Slants.{is_slant, slant}
-use Rattle.ledger_lines.proofs.FewTaken.{lacking-most, one-of-all, some-captured}
+use Rattle.ledger_lines.proofs.Counted.{count-within}
+use Rattle.ledger_lines.proofs.FewTaken.{lacking-most, some-captured}
 use Rattle.ledger_lines.proofs.FilesCrossed.{captured-once, files-crossed}
 use Rattle.ledger_lines.proofs.MostAside.{most-captured}
 use Rattle.ledger_lines.proofs.Promotions.{pawns-among}
+use Rattle.ledger_lines.proofs.Shares.{IsShare, home_on, label-there, shares-add}
 use Rattle.ledger_lines.proofs.Slanting.{slant-captured}
 use Rattle.ledger_lines.specs.declared.facts.Fact.{Fact}
 use Rattle.ledger_lines.specs.declared.facts.Fact.TheVariants.{Began, Original, Promoted, Captured, Took, TookAtMost, Slanted, Straight, Fell, FellToPawn, EscapedPawns, Became, NeverBecame, AtLeast, AtMost, Lacks, Among}
@@ -76,6 +81,19 @@ not-not true true h = refl
 not-not true false h = absurd (both_ways true h refl)
 not-not false true h = absurd (both_ways true h refl)
 not-not false false h = refl
+
+not-so : (b : Bool) → not b ≡ true → b ≡ false
+not-so true h = absurd (both_ways false refl h)
+not-so false h = refl
+
+second-fails : (a b : Bool) → a ≡ true → not (a && b) ≡ true → b ≡ false
+second-fails true b first h = not-so b h
+second-fails false b first h = absurd (both_ways false refl first)
+
+-- a home that is left is so many files away
+far-away : (q : Asked) (l : Ledger) (s n h : ℕ) → is_far q l s n ≡ true → h < 64 → is_left q l s h ≡ true → n ≤ files_apart h s
+unfolding is_far
+far-away q l s n h far low left = ltb-false (files_apart h s) n (second-fails (is_left q l s h) (nat_lt (files_apart h s) n) left (all_in_range (λ k. not (is_nearer q l s n k)) 0 64 h far (omega arith) (omega arith)))
 
 module _ (q : Asked) (l : Ledger) (set : List Bool) (frozen : IsFrozen q set) (is : IsLedger q l) (g : List Move) (leads : LeadsTo q.odds g q) where
   -- whoever stands on a square began on a home of his side that isn't ruled out
@@ -108,7 +126,7 @@ module _ (q : Asked) (l : Ledger) (set : List Bool) (frozen : IsFrozen q set) (i
   piece-home men s h inside there here label piece =
       let may = not-barred s h inside here label in (
         may.0,
-        any-found (λ t. is_in men t && is_piece_home q l t h) 0 64 s (omega arith) (omega arith) (and_from _ _ there (and_from _ _ (and_from _ _ may.1 (ap not piece)) (ap not may.2))),
+        any-found (λ t. is_in men t && is_piece_home q l t h) 0 64 s (omega arith) (omega arith) (and_from _ _ there (and_from _ _ (and_from _ _ may.1 (ap not may.2)) (ap not piece))),
       )
 
   has-label : (s : ℕ) → is_man (at q.board s) ≡ true → is_none (label_at (labels_after q.odds g) s) ≡ false
@@ -149,14 +167,28 @@ module _ (q : Asked) (l : Ledger) (set : List Bool) (frozen : IsFrozen q set) (i
       let along = slant-captured it.0 set h (way_of q.odds g h) it.1 in
       subst (λ (t : ℕ). is_slant h t ≡ true → captures_on h (way_of q.odds g h) ≡ slant h t) it.2 along slants
 
-  took-holds : (s n : ℕ) → s < 64 → IsTrue (is_a Pawn (at q.board s)) → (AreRuledOut q l s (λ h. nat_lt (files_apart h s) n) ⊎ (IsTrue (nat_le n 1) × IsTrue (is_in l.captured s))) → (h : ℕ) → label_at (labels_after q.odds g) s ≡ Some h → n ≤ length (captures_on h (way_of q.odds g h))
-  took-holds s n low pawn (inl far) h label =
-      let near = not-ruled-out s h (λ k. nat_lt (files_apart k s) n) low far label in
-      omega (arith, ltb-false (files_apart h s) n near, (came s h pawn label).0)
-  took-holds s n low pawn (inr once) h label =
-      let it = is.captured s low once.1 in
-      let aside = has-captured q s it.1 it.0 g leads h label in
-      omega (arith, captured-once h (way_of q.odds g h) aside, leb-true n 1 once.0)
+  -- a home from which he came is left for him
+  came-left : (s h : ℕ) → s < 64 → is_a Pawn (at q.board s) ≡ true → label_at (labels_after q.odds g) s ≡ Some h → (h < 64) × (is_left q l s h ≡ true)
+  came-left s h inside pawn label =
+      let may = not-barred s h inside (pawn-man (at q.board s) pawn) label in
+      (may.0, and_from _ _ may.1 (ap not may.2))
+
+  took-holds : (s n : ℕ) → s < 64 → is_a Pawn (at q.board s) ≡ true → has_taken q l s n ≡ true → (h : ℕ) → label_at (labels_after q.odds g) s ≡ Some h → n ≤ length (captures_on h (way_of q.odds g h))
+  took-holds s n low pawn took h label = elim (or_cases (is_far q l s n) (nat_le n 1 && is_in l.captured s) took) [
+    | inl far ↦
+        let left = came-left s h low pawn label in
+        omega (arith, far-away q l s n h far left.0 left.1, (came s h pawn label).0)
+    | inr once ↦
+        let both = and_parts (nat_le n 1) (is_in l.captured s) once in
+        let it = is.captured s low both.1 in
+        let aside = has-captured q s it.1 it.0 g leads h label in
+        omega (arith, captured-once h (way_of q.odds g h) aside, leb-true n 1 both.0)
+  ]
+
+  least-took : (s h : ℕ) → s < 64 → is_a Pawn (at q.board s) ≡ true → label_at (labels_after q.odds g) s ≡ Some h → least_taken q l s ≤ length (captures_on h (way_of q.odds g h))
+  unfolding least_taken
+  least-took s h low pawn label =
+      count-within (λ n. has_taken q l s (n + 1)) (length (captures_on h (way_of q.odds g h))) 7 (λ n known. let it = took-holds s (n + 1) low pawn known h label in omega arith)
 
   least-holds : (c : Colour) (squares : Squares) (n m : ℕ) → IsLeast c squares q m → n ≤ m → n ≤ captures q.odds g c squares
   least-holds c squares zero m least low = omega arith
@@ -164,9 +196,9 @@ module _ (q : Asked) (l : Ledger) (set : List Bool) (frozen : IsFrozen q set) (i
       let more = more-than q c squares n (least.refuted n (omega arith)) g leads in
       omega arith
 
-  most-holds : (c : Colour) (squares : Squares) (n m : ℕ) → IsMost c squares q m → m ≤ n → n < 16 → captures q.odds g c squares ≤ n
+  most-holds : (c : Colour) (squares : Squares) (n m : ℕ) → IsMost c squares q m → m ≤ n → m < 16 → captures q.odds g c squares ≤ n
   most-holds c squares n m most low few =
-      let less = less-than q c squares (n + 1) (most.refuted (n + 1) (omega arith) (omega arith)) g leads in
+      let less = less-than q c squares (m + 1) (most.refuted (m + 1) (omega arith) (omega arith)) g leads in
       omega arith
 
   in-counts : (c : Colour) → AreCounts c q (counts_of l c)
@@ -180,7 +212,7 @@ module _ (q : Asked) (l : Ledger) (set : List Bool) (frozen : IsFrozen q set) (i
   least-known c (Class n) k = (in-counts c).least_on n (ltb-true n 16 k)
 
   few-known : (c : Colour) (squares : Squares) (range : Range) (n : ℕ) → IsMost c squares q range.most → is_few range n ≡ true → captures q.odds g c squares ≤ n
-  few-known c squares range n most few = let both = and_parts _ (nat_lt n 16) few in most-holds c squares n range.most most (leb-true range.most n both.0) (ltb-true n 16 both.1)
+  few-known c squares range n most few = let both = and_parts _ (nat_lt range.most 16) few in most-holds c squares n range.most most (leb-true range.most n both.0) (ltb-true range.most 16 both.1)
 
   all-few : (c : Colour) (squares : Squares) (n : ℕ) → is_few (counts_of l c).all n ≡ true → captures q.odds g c squares ≤ n
   all-few c squares n few = omega (arith, some-captured q.odds g c squares, few-known c All (counts_of l c).all n (in-counts c).all.most few)
@@ -197,24 +229,48 @@ module _ (q : Asked) (l : Ledger) (set : List Bool) (frozen : IsFrozen q set) (i
     | inr all ↦ all-few c squares n all
   ]
 
-  side-few : (c : Colour) (squares : Squares) (n : ℕ) → (is_most (counts_of l c) squares n || are_lacking q c n) ≡ true → captures q.odds g c squares ≤ n
+  side-few : (c : Colour) (squares : Squares) (n : ℕ) → have_few q l c squares n ≡ true → captures q.odds g c squares ≤ n
   side-few c squares n known = elim (or_cases (is_most (counts_of l c) squares n) (are_lacking q c n) known) [
     | inl most ↦ most-known c squares n most
     | inr lack ↦ lacking-most q c squares n g leads lack
   ]
 
-  -- a pawn made no more captures than his side's pawns
-  his-few : (m : Man) (h n : ℕ) → is_of m.colour (at (array_of q.odds) h) ≡ true → has_few q l (Some m) n ≡ true → length (captures_on h (way_of q.odds g h)) ≤ n
-  his-few m h n home few = omega (arith, one-of-all q.odds g m.colour leads.game h home, side-few m.colour All n few)
+  -- another pawn of his side has a home of its own, and captured as often as is known at least
+  other-share : (c : Colour) (s t : ℕ) → t < 64 → is_other_pawn q c s t ≡ true → IsShare q.odds g c (least_taken q l) s t
+  other-share c s t low pass =
+      let both = and_parts (is_the c Pawn (at q.board t)) (not (t == s)) pass in
+      let his = and_parts (is_of c (at q.board t)) (is_a Pawn (at q.board t)) both.0 in
+      let m = man-on (at q.board t) (pawn-man (at q.board t) his.1) in
+      let on : at (board_after q.odds g) t ≡ Some m.0 = ap (λ (b : Places). at b t) leads.board ∙ m.1 in
+      let side : c ≡ m.0.colour = colour_is c m.0.colour (sym (ap (is_of c) m.1) ∙ his.0) in
+      let label = label-there (label_at (labels_after q.odds g) t) (has-label t (pawn-man (at q.board t) his.1)) in
+      let home = labels-colours q.odds g leads.game t (home_on q.odds g t) m.0 label on in
+      record {
+        other = λ same. both_ways (t == s) (not-so (t == s) both.1) (eq-eqb t s same);
+        label = label;
+        began = subst (λ (d : Colour). is_of d (at (array_of q.odds) (home_on q.odds g t)) ≡ true) (sym side) home;
+        took = least-took t (home_on q.odds g t) low his.1 label;
+      }
 
-  few-taken : (s n : ℕ) → s < 64 → is_a Pawn (at q.board s) ≡ true → (AreRuledOut q l s (λ h. nat_lt n (most_aside h s)) ⊎ IsTrue (has_few q l (at q.board s) n)) → (h : ℕ) → label_at (labels_after q.odds g) s ≡ Some h → length (captures_on h (way_of q.odds g h)) ≤ n
+  -- a pawn and the others of his side made no more captures than all of them
+  with-others : (c : Colour) (s h : ℕ) → label_at (labels_after q.odds g) s ≡ Some h → is_of c (at (array_of q.odds) h) ≡ true → length (captures_on h (way_of q.odds g h)) + taken_by_others q l c s ≤ captures q.odds g c All
+  unfolding taken_by_others
+  with-others c s h label home =
+      shares-add q.odds g c (least_taken q l) (filter (is_other_pawn q c s) (range_with_len 0 64)) s h leads.game (differ-filter (is_other_pawn q c s) (range_with_len 0 64) (differ-range 0 64)) label home (λ t there.
+      let passed = has-filter (is_other_pawn q c s) (range_with_len 0 64) t there in
+      other-share c s t (range-has 0 64 t passed.1).1 passed.0)
+
+  his-few : (m : Man) (s h n : ℕ) → label_at (labels_after q.odds g) s ≡ Some h → is_of m.colour (at (array_of q.odds) h) ≡ true → has_few q l s (Some m) n ≡ true → length (captures_on h (way_of q.odds g h)) ≤ n
+  his-few m s h n label home few = omega (arith, with-others m.colour s h label home, side-few m.colour All (n + taken_by_others q l m.colour s) few)
+
+  few-taken : (s n : ℕ) → s < 64 → is_a Pawn (at q.board s) ≡ true → (AreRuledOut q l s (λ h. nat_lt n (most_aside h s)) ⊎ IsTrue (has_few q l s (at q.board s) n)) → (h : ℕ) → label_at (labels_after q.odds g) s ≡ Some h → length (captures_on h (way_of q.odds g h)) ≤ n
   few-taken s n low pawn (inl near) h label =
       let it = not-ruled-out s h (λ k. nat_lt n (most_aside k s)) low near label in
       omega (arith, ltb-false n (most_aside h s) it, (came s h pawn label).1)
   few-taken s n low pawn (inr few) h label =
       let m = man-on (at q.board s) (pawn-man (at q.board s) pawn) in
       let on : at (board_after q.odds g) s ≡ Some m.0 = ap (λ (b : Places). at b s) leads.board ∙ m.1 in
-      his-few m.0 h n (labels-colours q.odds g leads.game s h m.0 label on) (ap (λ (p : Option Man). has_few q l p n) (sym m.1) ∙ few)
+      his-few m.0 s h n label (labels-colours q.odds g leads.game s h m.0 label on) (ap (λ (p : Option Man). has_few q l s p n) (sym m.1) ∙ few)
 
   module _ (h : ℕ) (inside : h < 64) where
     up : is_in l.fates.stands_promoted h ≡ true → IsRuledOut (Stands h true) q

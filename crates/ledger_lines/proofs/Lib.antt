@@ -6,5 +6,6 @@ pub mod MostAside
 pub mod Promotions
 pub mod Slanting
 pub mod SameLosses
+pub mod Shares
 pub mod Holding
 pub mod LinesHolding

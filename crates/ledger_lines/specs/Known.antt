@@ -1,8 +1,8 @@
 -- Which facts a ledger knows.
-use Rattle.std.specs.Prelude.{ℕ, ◌≡◌, ◌+◌, ◌-◌, ◌%◌, ◌<◌, ◌≤◌, ◌&&◌, ◌||◌, ◌⊎◌, Bool, true, false, not, IsTrue, List, [], nat_le, nat_lt, Option, Some, None, slice_index, slice_index_or}
+use Rattle.std.specs.Prelude.{ℕ, ◌≡◌, ◌+◌, ◌-◌, ◌%◌, ◌==◌, ◌<◌, ◌≤◌, ◌&&◌, ◌||◌, ◌⊎◌, Bool, true, false, not, IsTrue, List, [], nat_le, nat_lt, Option, Some, None, slice_index, slice_index_or}
 use Rattle.std.specs.Bool.{beq}
-use Rattle.std.specs.List.{count_by, list_any, range_with_len}
-use Rattle.board_base.specs.Board.{Places, array_of, at, is_a, is_in, opponent}
+use Rattle.std.specs.List.{count_by, filter, list_all, list_any, range_with_len, sum_by}
+use Rattle.board_base.specs.Board.{Places, array_of, at, is_a, is_in, is_the, opponent}
 use Rattle.board_base.specs.Attacks.{files_apart, ranks_apart}
 use Rattle.board_base.specs.declared.men.Colour.{Colour}
 use Rattle.board_base.specs.declared.men.Colour.TheVariants.{White, Black}
@@ -26,6 +26,35 @@ use Rattle.ledger_lines.specs.declared.facts.Fact.TheVariants.{Began, Original, 
 -- a man stands on s, and each home of his side that passes the test is ruled out for him
 abbrev pub AreRuledOut : Asked → Ledger → ℕ → (ℕ → Bool) → Type 0
 AreRuledOut q l s test = IsTrue (is_man (at q.board s)) × ((h : ℕ) → h < 64 → IsTrue (is_asked (Home s) q.board (array_of q.odds) h) → test h ≡ true → IsTrue (is_in (slice_index_or l.homes s []) h))
+
+-- a home of his side is left for the man on s: it isn't ruled out for him
+abbrev pub is_left : Asked → Ledger → ℕ → ℕ → Bool
+is_left q l s h = is_asked (Home s) q.board (array_of q.odds) h && not (is_in (slice_index_or l.homes s []) h)
+
+-- such a home is fewer than so many files away
+abbrev pub is_nearer : Asked → Ledger → ℕ → ℕ → ℕ → Bool
+is_nearer q l s n h = is_left q l s h && nat_lt (files_apart h s) n
+
+-- none is
+unfoldable pub is_far : Asked → Ledger → ℕ → ℕ → Bool
+is_far q l s n = list_all (λ h. not (is_nearer q l s n h)) (range_with_len 0 64)
+
+-- Article 3.7: the pawn on s is known to have made at least so many captures, one for each file that he has gone to the side; or one, as it is
+-- ruled out that he made none
+abbrev pub has_taken : Asked → Ledger → ℕ → ℕ → Bool
+has_taken q l s n = is_far q l s n || (nat_le n 1 && is_in l.captured s)
+
+-- how many captures, up to 7, he is known to have made at least: as many as there are numbers from 1 to 7 of which that is known
+unfoldable pub least_taken : Asked → Ledger → ℕ → ℕ
+least_taken q l s = count_by (λ n. has_taken q l s (n + 1)) (range_with_len 0 7)
+
+-- another pawn of this side than the one on s stands on t
+abbrev pub is_other_pawn : Asked → Colour → ℕ → ℕ → Bool
+is_other_pawn q c s t = is_the c Pawn (at q.board t) && not (t == s)
+
+-- how many captures the other pawns of this side are known to have made at least, each for himself
+unfoldable pub taken_by_others : Asked → Ledger → Colour → ℕ → ℕ
+taken_by_others q l c s = sum_by (least_taken q l) (filter (is_other_pawn q c s) (range_with_len 0 64))
 
 -- Article 3.7: from h to s a pawn makes at most so many captures: one a rank, or one fewer if so many don't lead to the file of s
 abbrev pub most_aside : ℕ → ℕ → ℕ
@@ -63,9 +92,9 @@ least_of c Dark = c.dark.least
 least_of c Light = c.light.least
 least_of c (Class k) = slice_index c.least_on k
 
--- at most so many, fewer than 16, are known
+-- at most so many are known: 16 in a range says nothing
 abbrev pub is_few : Range → ℕ → Bool
-is_few r n = nat_le r.most n && nat_lt n 16
+is_few r n = nat_le r.most n && nat_lt r.most 16
 
 -- so it is on these squares; of a class no more is known than of all
 abbrev pub is_few_on : Counts → Squares → ℕ → Bool
@@ -86,18 +115,22 @@ lacking q c = men_of c is_any (array_of q.odds) - men_of c is_any q.board
 abbrev pub are_lacking : Asked → Colour → ℕ → Bool
 are_lacking q c n = nat_le (lacking q (opponent c)) n
 
--- the pawns of the man's side made at most so many captures
-abbrev pub has_few : Asked → Ledger → Option Man → ℕ → Bool
-has_few q l None n = false
-has_few q l (Some m) n = is_most (counts_of l m.colour) All n || are_lacking q m.colour n
+-- this side's pawns are known to have made at most so many captures on some squares
+abbrev pub have_few : Asked → Ledger → Colour → Squares → ℕ → Bool
+have_few q l c squares n = is_most (counts_of l c) squares n || are_lacking q c n
+
+-- those of the side of the man on s are known to have made at most so many in all, besides the captures of its other pawns
+abbrev pub has_few : Asked → Ledger → ℕ → Option Man → ℕ → Bool
+has_few q l s None n = false
+has_few q l s (Some m) n = have_few q l m.colour All (n + taken_by_others q l m.colour s)
 
 -- how many squares are in the set
 unfoldable pub number_in : List Bool → ℕ
 number_in set = count_by (is_in set) (range_with_len 0 64)
 
--- the man on s may have begun on h, and as no pawn: this home of his side isn't ruled out for him
+-- the man on s may have begun on h, and as no pawn: this home is left for him
 abbrev pub is_piece_home : Asked → Ledger → ℕ → ℕ → Bool
-is_piece_home q l s h = is_asked (Home s) q.board (array_of q.odds) h && not (is_a Pawn (at (array_of q.odds) h)) && not (is_in (slice_index_or l.homes s []) h)
+is_piece_home q l s h = is_left q l s h && not (is_a Pawn (at (array_of q.odds) h))
 
 -- so it is of some man on the set
 unfoldable pub is_piece_home_of : Asked → Ledger → List Bool → ℕ → Bool
@@ -117,8 +150,8 @@ IsKnown (Began s homes) q l = AreRuledOut q l s (λ h. not (is_in homes h))
 IsKnown (Original s) q l = AreRuledOut q l s (λ h. not (beq false (is_a Pawn (at (array_of q.odds) h))))
 IsKnown (Promoted s) q l = AreRuledOut q l s (λ h. not (beq true (is_a Pawn (at (array_of q.odds) h))))
 IsKnown (Captured s) q l = IsTrue (is_in l.captured s)
-IsKnown (Took s n) q l = IsTrue (is_a Pawn (at q.board s)) × (AreRuledOut q l s (λ h. nat_lt (files_apart h s) n) ⊎ (IsTrue (nat_le n 1) × IsTrue (is_in l.captured s)))
-IsKnown (TookAtMost s n) q l = IsTrue (is_a Pawn (at q.board s)) × (AreRuledOut q l s (λ h. nat_lt n (most_aside h s)) ⊎ IsTrue (has_few q l (at q.board s) n))
+IsKnown (Took s n) q l = IsTrue (is_a Pawn (at q.board s)) × IsTrue (has_taken q l s n)
+IsKnown (TookAtMost s n) q l = IsTrue (is_a Pawn (at q.board s)) × (AreRuledOut q l s (λ h. nat_lt n (most_aside h s)) ⊎ IsTrue (has_few q l s (at q.board s) n))
 IsKnown (Slanted s) q l = IsTrue (is_a Pawn (at q.board s))
 IsKnown (Straight s) q l = IsTrue (is_in l.straight s)
 IsKnown (Fell h) q l = IsTrue (is_fallen (array_of q.odds) l.fates h)
@@ -127,7 +160,7 @@ IsKnown (EscapedPawns h) q l = IsTrue (is_unstruck (array_of q.odds) l.fates h)
 IsKnown (Became h) q l = IsTrue (is_promoted (array_of q.odds) l.fates h)
 IsKnown (NeverBecame h) q l = IsTrue (is_unpromoted (array_of q.odds) l.fates h)
 IsKnown (AtLeast c squares n) q l = IsTrue (nat_le n (least_of (counts_of l c) squares))
-IsKnown (AtMost c squares n) q l = IsTrue (is_most (counts_of l c) squares n || are_lacking q c n)
+IsKnown (AtMost c squares n) q l = IsTrue (have_few q l c squares n)
 IsKnown (Lacks c losses) q l = losses ≡ losses_of c (array_of q.odds) q.board
 IsKnown (Among set n) q l = AreMen q set × (n + piece_homes q l set ≤ number_in set)
 

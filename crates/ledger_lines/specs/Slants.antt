@@ -4,6 +4,7 @@ use Rattle.std.specs.List.{flat_map, list_any, range_with_len}
 use Rattle.board_base.specs.Attacks.{files_apart, on_the_way, ranks_apart}
 use Rattle.board_base.specs.Board.{is_in}
 use Rattle.board_base.specs.Texts.{square_text}
+use Rattle.capture_prices.specs.Prices.{class_of}
 use Rattle.ledger_lines.specs.Known.{number_in}
 
 -- Article 3.7: from h to s a pawn goes to another file with each step, and it captures with each
@@ -33,3 +34,19 @@ has_slant homes s = list_any (is_slant_from homes s) (range_with_len 0 64)
 -- from its only one
 abbrev pub tells_way : List Bool → ℕ → Bool
 tells_way homes s = (number_in homes == 1) && has_slant homes s
+
+-- one of the steps from h to s ends on a square of this class
+unfoldable pub is_slant_on : ℕ → ℕ → ℕ → Bool
+is_slant_on class h s = list_any (λ k. class_of (on_the_way h s (k + 1)) == class) (range_with_len 0 (files_apart h s))
+
+-- so a pawn goes to s from this square of the set, over a square of the class
+abbrev pub is_slant_from_on : ℕ → List Bool → ℕ → ℕ → Bool
+is_slant_from_on class homes s h = is_slant_from homes s h && is_slant_on class h s
+
+-- from some square of the set
+unfoldable pub has_slant_on : ℕ → List Bool → ℕ → Bool
+has_slant_on class homes s = list_any (is_slant_from_on class homes s) (range_with_len 0 64)
+
+-- from its only one: his way tells a capture on the class
+abbrev pub tells_class : ℕ → List Bool → ℕ → Bool
+tells_class class homes s = (number_in homes == 1) && has_slant_on class homes s

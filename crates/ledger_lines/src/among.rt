@@ -3,7 +3,8 @@ ghost use Rattle.board_base.specs.Board.{is_in};
 ghost use Rattle.ledger_lines.specs.declared.facts.Fact.TheVariants.{Among};
 ghost use Rattle.ledger_lines.specs.Known.{AreMen, IsKnown, is_piece_home, is_piece_home_of, number_in, piece_homes};
 
-use crate::knowing::{is_asked, is_man};
+use crate::captors::is_left;
+use crate::knowing::is_man;
 use board_base::{Kind, Square, SquareSet, array_of, is_a};
 use ledger_search::Ledger;
 use query_base::Query;
@@ -15,7 +16,7 @@ fn either(first: bool, second: bool) -> bool
 }
 
 /// One more if `more` says so.
-fn one_more(so_far: u8, more: bool) -> u8
+pub(crate) fn one_more(so_far: u8, more: bool) -> u8
     requires { so_far < 64 }
     ensures { result ≡ so_far + cond more 1 0 }
 {
@@ -37,9 +38,7 @@ pub fn number_in(set: SquareSet) -> u8
 fn is_piece_home(query: &Query, ledger: &Ledger, s: Square, h: Square) -> bool
     ensures { result ≡ is_piece_home query.now ledger.now s h }
 {
-    let first = array_of(query.odds);
-    let ruled_out = ledger.homes[s.index() as usize];
-    is_asked(&query.board, &first, s, h) && !is_a(Kind::Pawn, first.at(h)) && !ruled_out.has(h)
+    is_left(query, ledger, s, h) && !is_a(Kind::Pawn, array_of(query.odds).at(h))
 }
 
 /// Whether a man of the set stands on the first square, and may have.

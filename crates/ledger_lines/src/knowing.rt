@@ -1,14 +1,14 @@
 ghost use Rattle.std.specs.Prelude.{◌≡◌, ◌||◌, ◌<◌, ◌≤◌, ◌↔◌, ℕ, IsTrue, cond, nat_lt, not, slice_set, true};
 ghost use Rattle.std.specs.Bool.{beq};
-ghost use Rattle.board_base.specs.Attacks.{files_apart};
 ghost use Rattle.board_base.specs.Board.{array_of, at, is_a, is_in};
 ghost use Rattle.board_base.specs.declared.men.Kind.TheVariants.{Pawn};
 ghost use Rattle.ledger_search.specs.Questions.{is_asked, is_man};
 ghost use Rattle.ledger_search.specs.declared.questions.Question.TheVariants.{Home};
-ghost use Rattle.ledger_lines.specs.declared.facts.Fact.TheVariants.{Took, TookAtMost};
-ghost use Rattle.ledger_lines.specs.Known.{AreRuledOut, IsKnown, IsOnBoard, are_lacking, counts_of, has_few, is_class, is_fallen, is_few, is_few_on, is_most, is_promoted, is_struck, is_unpromoted, is_unstruck, lacking, least_of, most_aside};
+ghost use Rattle.ledger_lines.specs.declared.facts.Fact.TheVariants.{TookAtMost};
+ghost use Rattle.ledger_lines.specs.Known.{AreRuledOut, IsKnown, IsOnBoard, are_lacking, counts_of, has_few, have_few, is_class, is_fallen, is_few, is_few_on, is_most, is_promoted, is_struck, is_unpromoted, is_unstruck, lacking, least_of, most_aside};
 
 use crate::among::is_among;
+use crate::captors::{has_taken, taken_by_others};
 use crate::facts::Fact;
 use crate::losses::are_losses;
 use board_base::{
@@ -81,33 +81,6 @@ fn has_begun_as(query: &Query, ledger: &Ledger, s: Square, pawn: bool) -> bool
 {
     let homes = first_squares(&array_of(query.odds), pawn);
     has_begun_among(query, ledger, s, homes)
-}
-
-/// Whether each home of his side that isn't ruled out for the man on a square is at least so many files away.
-fn has_come_far(query: &Query, ledger: &Ledger, s: Square, number: u8) -> bool
-    ensures { IsTrue result ↔ AreRuledOut query.now ledger.now s (λ h. nat_lt (files_apart h s) number) }
-{
-    let first = array_of(query.odds);
-    let ruled_out = ledger.homes[s.index() as usize];
-    for i in 0..64 {
-        let h = Square::known(i);
-        if is_asked(&query.board, &first, s, h)
-            && files_between(h, s) < number
-            && !ruled_out.has(h)
-        {
-            return false;
-        }
-    }
-    is_man(query.board.at(s))
-}
-
-/// Whether it is known of the pawn on a square that he made at least so many captures.
-fn has_taken(query: &Query, ledger: &Ledger, s: Square, number: u8) -> bool
-    requires { s < 64 }
-    ensures { IsTrue result ↔ IsKnown (Took s number) query.now ledger.now }
-{
-    is_a(Kind::Pawn, query.board.at(s))
-        && (has_come_far(query, ledger, s, number) || (number <= 1 && ledger.captured.has(s)))
 }
 
 /// How many captures a pawn makes at most between two squares: one a rank, or one fewer if so many don't lead to the file.
@@ -199,15 +172,15 @@ fn least_of(counts: &Counts, squares: Squares) -> u8
     }
 }
 
-/// Whether they made at most so many, fewer than 16.
-fn is_few(range: &Range, number: u8) -> bool
+/// Whether it is known that they made at most so many.
+fn is_few(range: &Range, number: u16) -> bool
     ensures { result ≡ is_few range.now number }
 {
-    range.most <= number && number < 16
+    range.most as u16 <= number && range.most < 16
 }
 
 /// Whether they did there; of a class no more is known than of all squares.
-fn is_few_on(counts: &Counts, squares: Squares, number: u8) -> bool
+fn is_few_on(counts: &Counts, squares: Squares, number: u16) -> bool
     ensures { result ≡ is_few_on counts.now squares number }
 {
     match squares {
@@ -219,7 +192,7 @@ fn is_few_on(counts: &Counts, squares: Squares, number: u8) -> bool
 }
 
 /// Whether they did there or in all.
-fn is_most(counts: &Counts, squares: Squares, number: u8) -> bool
+fn is_most(counts: &Counts, squares: Squares, number: u16) -> bool
     ensures { result ≡ is_most counts.now squares number }
 {
     is_few_on(counts, squares, number) || is_few(&counts.all, number)
@@ -234,31 +207,28 @@ pub fn lacking(query: &Query, side: Colour) -> u8
 }
 
 /// Whether the other side lacks at most so many men.
-fn are_lacking(query: &Query, side: Colour, number: u8) -> bool
+fn are_lacking(query: &Query, side: Colour, number: u16) -> bool
     ensures { result ≡ are_lacking query.now side number }
 {
-    lacking(query, side.other()) <= number
+    lacking(query, side.other()) as u16 <= number
 }
 
 /// Whether a side's pawns are known to have made at most so many captures on some squares.
-fn have_taken_few(
-    query: &Query,
-    ledger: &Ledger,
-    side: Colour,
-    squares: Squares,
-    number: u8,
-) -> bool
-    ensures { result ≡ (is_most (counts_of ledger.now side) squares number || are_lacking query.now side number) }
+fn have_few(query: &Query, ledger: &Ledger, side: Colour, squares: Squares, number: u16) -> bool
+    ensures { result ≡ have_few query.now ledger.now side squares number }
 {
     is_most(&counts_of(ledger, side), squares, number) || are_lacking(query, side, number)
 }
 
-/// Whether those of a man's side are.
-fn has_few(query: &Query, ledger: &Ledger, place: Option<Man>, number: u8) -> bool
-    ensures { result ≡ has_few query.now ledger.now place number }
+/// Whether those of the side of the man on a square are known to have made at most so many besides the captures of its other pawns.
+fn has_few(query: &Query, ledger: &Ledger, s: Square, place: Option<Man>, number: u8) -> bool
+    ensures { result ≡ has_few query.now ledger.now s place number }
 {
     match place {
-        Some(man) => have_taken_few(query, ledger, man.colour, Squares::All, number),
+        Some(man) => {
+            let number = number as u16 + taken_by_others(query, ledger, man.colour, s);
+            have_few(query, ledger, man.colour, Squares::All, number)
+        }
         None => false,
     }
 }
@@ -269,7 +239,7 @@ fn has_taken_few(query: &Query, ledger: &Ledger, s: Square, number: u8) -> bool
 {
     let place = query.board.at(s);
     is_a(Kind::Pawn, place)
-        && (has_come_near(query, ledger, s, number) || has_few(query, ledger, place, number))
+        && (has_come_near(query, ledger, s, number) || has_few(query, ledger, s, place, number))
 }
 
 /// Whether the ledger of the query knows the fact.
@@ -283,7 +253,9 @@ pub fn is_known(query: &Query, ledger: &Ledger, fact: &Fact) -> bool
         Fact::Original(s) => has_begun_as(query, ledger, s, false),
         Fact::Promoted(s) => has_begun_as(query, ledger, s, true),
         Fact::Captured(s) => ledger.captured.has(s),
-        Fact::Took(s, number) => has_taken(query, ledger, s, number),
+        Fact::Took(s, number) => {
+            is_a(Kind::Pawn, query.board.at(s)) && has_taken(query, ledger, s, number)
+        }
         Fact::TookAtMost(s, number) => has_taken_few(query, ledger, s, number),
         Fact::Slanted(s) => is_a(Kind::Pawn, query.board.at(s)),
         Fact::Straight(s) => ledger.straight.has(s),
@@ -296,7 +268,7 @@ pub fn is_known(query: &Query, ledger: &Ledger, fact: &Fact) -> bool
             number <= least_of(&counts_of(ledger, side), squares)
         }
         Fact::AtMost(side, squares, number) => {
-            have_taken_few(query, ledger, side, squares, number)
+            have_few(query, ledger, side, squares, number as u16)
         }
         Fact::Lacks(side, losses) => are_losses(&first, &query.board, side, &losses),
         Fact::Among(set, number) => is_among(query, ledger, set, number),

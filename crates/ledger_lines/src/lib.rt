@@ -5,6 +5,7 @@
 #![tactic(auto)]
 
 mod among;
+mod captors;
 mod facts;
 mod knowing;
 mod laws;
@@ -14,6 +15,7 @@ mod slants;
 mod writing;
 
 pub use among::{number_in, piece_homes};
+pub use captors::is_left;
 pub use facts::Fact;
 pub use knowing::{
     counts_of, is_fallen, is_known, is_promoted, is_struck, is_unpromoted, is_unstruck, lacking,
@@ -21,5 +23,5 @@ pub use knowing::{
 pub use laws::{known_facts_hold, known_lines_hold};
 pub use lines::{Line, Manner, Taker, Takings};
 pub use losses::{Losses, losses_of};
-pub use slants::{push_way, tells_way};
+pub use slants::{push_way, tells_class, tells_way};
 pub use writing::write_line;

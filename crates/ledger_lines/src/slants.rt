@@ -1,11 +1,13 @@
 //! Ways of pawns who go to another file with each step.
 
-ghost use Rattle.std.specs.Prelude.{◌≡◌, ◌||◌, ◌<◌, ◌≤◌, ◌+◌, ◌++◌, [], IfOk, IsTrue, cond};
+ghost use Rattle.std.specs.Prelude.{◌≡◌, ◌==◌, ◌||◌, ◌<◌, ◌≤◌, ◌+◌, ◌++◌, [], IfOk, IsTrue, cond};
 ghost use Rattle.board_base.specs.Attacks.{files_apart, on_the_way, toward};
 ghost use Rattle.board_base.specs.Texts.{square_text};
-ghost use Rattle.ledger_lines.specs.Slants.{has_slant, is_slant, is_slant_from, slant_words, tells_way, way_words};
+ghost use Rattle.capture_prices.specs.Prices.{class_of};
+ghost use Rattle.ledger_lines.specs.Slants.{has_slant, has_slant_on, is_slant, is_slant_from, is_slant_from_on, is_slant_on, slant_words, tells_class, tells_way, way_words};
 
 use crate::among::number_in;
+use balance_rule::class_of;
 use board_base::{Square, SquareSet, files_between, ranks_between};
 use prose_words::{push_square, say};
 use std::alloc::AllocError;
@@ -76,6 +78,56 @@ fn on_the_way(h: Square, s: Square, k: u8) -> Square
     let rank = step_toward(h.rank(), s.rank(), k);
     let file = step_toward(h.file(), s.file(), k);
     Square::known(8 * rank + file)
+}
+
+/// Whether the square `k + 1` steps on this way is of the class.
+fn is_step_on(class: u8, h: Square, s: Square, k: u8) -> bool
+    requires slant { IsTrue (is_slant h s) }
+    requires few { k < files_apart h s }
+    requires small { k < 8 }
+    ensures { result ≡ (class_of (on_the_way h s (k + 1)) == class) }
+{
+    class_of(on_the_way(h, s, k + 1)) == class
+}
+
+/// Whether one of them is.
+fn is_slant_on(class: u8, h: Square, s: Square) -> bool
+    requires { IsTrue (is_slant h s) }
+    ensures { result ≡ is_slant_on class h s }
+{
+    let mut found = false;
+    for k in 0..files_between(h, s) {
+        let here = is_step_on(class, h, s, k);
+        found = either(found, here);
+    }
+    found
+}
+
+/// Whether a pawn goes so to the second square from the first, which is one of the set, over a square of the class.
+fn is_slant_from_on(class: u8, homes: SquareSet, s: Square, h: Square) -> bool
+    ensures { result ≡ is_slant_from_on class homes s h }
+{
+    is_slant_from(homes, s, h) && is_slant_on(class, h, s)
+}
+
+/// Whether it goes so from some square of the set.
+fn has_slant_on(class: u8, homes: SquareSet, s: Square) -> bool
+    ensures { result ≡ has_slant_on class homes s }
+{
+    let mut found = false;
+    for i in 0..64 {
+        let here = is_slant_from_on(class, homes, s, Square::known(i));
+        found = either(found, here);
+    }
+    found
+}
+
+/// Whether the set has one square, and a pawn goes from there to another file with each step to the other square, over a square of this
+/// class: twice the file, from 0 for a, and one more if it is light.
+pub fn tells_class(class: u8, homes: SquareSet, s: Square) -> bool
+    ensures { result ≡ tells_class class homes s }
+{
+    number_in(homes) == 1 && has_slant_on(class, homes, s)
 }
 
 /// Adds one square of the way behind some letters.

@@ -31,7 +31,7 @@ pub struct Fates {
     pub struck_promoted: SquareSet,
 }
 
-/// What flat prices rule out of the games that lead to a position.
+/// What some prices rule out of the games that lead to a position: flat ones, and ones near them.
 #[derive(Clone, Copy, Debug)]
 pub struct Ledger {
     /// For each square, the homes of his side on which the man who stands there didn't begin.

@@ -1,9 +1,10 @@
 -- Each line that is told is known, and so it is true of every game.
 use Rattle.std.proofs.Common.{◌≡◌, ℕ, ◌<◌, ◌≤◌, inl, inr, Bool, true, false, cond, ◌&&◌, ◌||◌, not, List, [], zero, suc, refl, ap, sym, subst, ◌∙◌, arith}
-use Rattle.std.specs.Prelude.{IsTrue, Option, None, Some, nat_le, nat_lt, slice_index_or}
-use Rattle.std.specs.List.{All}
+use Rattle.std.specs.Prelude.{IsTrue, Option, None, Some, map, nat_le, nat_lt, slice_index, slice_index_or}
+use Rattle.std.specs.List.{All, range_with_len}
 use Rattle.std.proofs.lemmas.Bool.{and_from, and_parts, both_ways, cases_Bool, le-leb, ltb-true, or_left, or_right}
 use Rattle.std.proofs.lemmas.List.Elements.{All-append, All-cons, All-nil}
+use Rattle.std.proofs.lemmas.List.FromFn.{get_or-map-range_with_len}
 use Rattle.std.proofs.lemmas.Option.{cond_some}
 use Rattle.board_base.specs.Board.{array_of, at, is_a, is_in, is_like, is_the, opponent}
 use Rattle.board_base.specs.declared.men.Colour.{Colour}
@@ -14,12 +15,13 @@ use Rattle.board_base.specs.declared.men.Kind.TheVariants.{Pawn as APawn, Knight
 use Rattle.men_account.specs.Account.{is_dark, is_light}
 use Rattle.query_base.specs.Asked.{Asked}
 use Rattle.cage_rules.specs.Frozen.{IsFrozen}
+use Rattle.cage_rules.proofs.Filling.{is_in-that}
 use Rattle.ledger_search.specs.Ledgers.{IsLedgerOf}
 use Rattle.ledger_search.specs.Questions.{is_man}
 use Rattle.ledger_search.specs.declared.ledgers.Ledger.{Ledger}
 use Rattle.ledger_facts.specs.declared.suppositions.Squares.{Squares}
 use Rattle.ledger_facts.specs.declared.suppositions.Squares.TheVariants.{All as AllSquares, Dark, Class}
-use Rattle.ledger_lines.specs.Known.{IsKnown, counts_of as captures_of, is_fallen, is_few_on, is_promoted, is_struck, is_unpromoted, is_unstruck, lacking, least_of, number_in, piece_homes}
+use Rattle.ledger_lines.specs.Known.{IsKnown, counts_of as captures_of, is_fallen, is_few_on, is_left, is_promoted, is_struck, is_unpromoted, is_unstruck, lacking, least_of, number_in, piece_homes}
 use Rattle.ledger_lines.specs.Losses.{losses_of}
 use Rattle.ledger_lines.specs.declared.facts.Fact.TheVariants.{Began, AtLeast, AtMost}
 use Rattle.ledger_lines.specs.Lines.{IsLineKnown, IsLineOnBoard, OfDark, OfManner, OfTaker}
@@ -28,7 +30,7 @@ use Rattle.ledger_lines.specs.declared.lines.Line.TheVariants.{Captures as Captu
 use Rattle.ledger_lines.specs.declared.lines.Taker.TheVariants as taker
 use Rattle.ledger_lines.specs.declared.lines.Manner.TheVariants as manner
 use Rattle.ledger_lines.proofs.LinesHolding.{known-line-reached}
-use Rattle.ledger_told.specs.Due.{AreLeft, IsAmongLine, IsChosen, IsSquareLine, IsWhole, TellsPawn, is_moving, is_of_breed, is_somebody, is_pawn_news, is_news, most_dark, most_made, of_group, takings}
+use Rattle.ledger_told.specs.Due.{IsAmongLine, IsChosen, IsSquareLine, IsWhole, TellsPawn, homes_left, is_class_told, is_moving, is_of_breed, is_somebody, is_pawn_news, is_news, most_dark, most_made, of_group, takings, told_on}
 use Rattle.ledger_told.specs.Told.{IsLineTrue, TellsAll, TellsAmong, TellsFirst, TellsLines, TellsWhole, Then, one_line}
 use Rattle.ledger_told.specs.declared.topics.Breed.{Breed}
 use Rattle.ledger_told.specs.declared.topics.Breed.TheVariants.{Queens, Rooks, DarkBishops, LightBishops, Knights}
@@ -52,8 +54,8 @@ module _ (q : Asked) (l : Ledger) where
   abbrev Is : Line → Type 0
   Is x = IsLineOnBoard x × IsLineKnown x q l
 
-  within : (a b n : ℕ) → (nat_lt a b && nat_lt a 16) ≡ true → n ≡ a → (nat_le a n && nat_lt n 16) ≡ true
-  within a b n low e = let parts = and_parts (nat_lt a b) (nat_lt a 16) low in ap (λ (m : ℕ). nat_le a m && nat_lt m 16) e ∙ ap (λ (t : Bool). t && nat_lt a 16) (le-leb a a (omega arith)) ∙ parts.1
+  within : (a b n : ℕ) → (nat_lt a b && nat_lt a 16) ≡ true → n ≡ a → (nat_le a n && nat_lt a 16) ≡ true
+  within a b n low e = and_from _ _ (le-leb a n (omega (arith, e))) (and_parts (nat_lt a b) (nat_lt a 16) low).1
 
   -- a number that is known, or else one that is
   lesser-known : (c : Colour) (squares : Squares) (low : Bool) (a n : ℕ) → (low ≡ true → is_few_on (captures_of l c) squares a ≡ true) → IsKnown (AtMost c squares n) q l → IsKnown (AtMost c squares (cond low a n)) q l
@@ -81,8 +83,18 @@ module _ (q : Asked) (l : Ledger) where
     lesser-known c Dark (nat_lt (captures_of l c).dark.most (most_made q l c) && nat_lt (captures_of l c).dark.most 16) (captures_of l c).dark.most (most_made q l c) (λ low. within (captures_of l c).dark.most (most_made q l c) (captures_of l c).dark.most low refl) (made-known c Dark),
   )
 
+  -- as many on a class as are known, or none
+  fewer-known : (c : Colour) (k : ℕ) (told : Bool) → IsKnown (AtLeast c (Class k) (cond told 0 (slice_index (captures_of l c).least_on k))) q l
+  fewer-known c k true = le-leb 0 (slice_index (captures_of l c).least_on k) (omega arith)
+  fewer-known c k false = least-known c (Class k)
+
+  told-known : (c : Colour) (k : ℕ) → k < 16 → IsKnown (AtLeast c (Class k) (slice_index (map (told_on q l c) (range_with_len 0 16)) k)) q l
+  told-known c k low =
+      let e : slice_index (map (told_on q l c) (range_with_len 0 16)) k ≡ told_on q l c k = get_or-map-range_with_len (told_on q l c) 0 16 k k 0 low (omega arith) in
+      subst (λ (n : ℕ). IsKnown (AtLeast c (Class k) n) q l) (sym e) (fewer-known c k (is_class_told q l c k))
+
   captures-known : (c : Colour) → Is (CapturesLine c (takings q l c))
-  captures-known c = (tt, ((least-known c AllSquares, made-known c AllSquares), dark-known c (nat_lt 0 (captures_of l c).all.least && (nat_lt 0 (captures_of l c).dark.least || nat_lt (most_dark q l c) (most_made q l c))), λ k low. least-known c (Class k)))
+  captures-known c = (tt, ((least-known c AllSquares, made-known c AllSquares), dark-known c (nat_lt 0 (captures_of l c).all.least && (nat_lt 0 (captures_of l c).dark.least || nat_lt (most_dark q l c) (most_made q l c))), λ k low. told-known c k low))
 
   group-known : (group : Group) (set named : List Bool) → ((s : ℕ) → s < 64 → IsTrue (is_in named s) → IsChosen group q l set s) → Is (of_group group named)
   group-known Ahead set named each = (tt, λ s low there. (and_parts (is_in l.straight s) (not (is_like (at q.board s) (at (array_of q.odds) s))) (each s low there)).0)
@@ -124,22 +136,22 @@ module _ (q : Asked) (l : Ledger) where
   manner-known h true false false first second = tt
   manner-known h false unpromoted promoted first second = tt
 
-  -- the homes of a pawn that aren't left are ruled out
-  left-known : (s : ℕ) (homes : List Bool) → is_man (at q.board s) ≡ true → AreLeft q l s homes → IsKnown (Began s homes) q l
-  left-known s homes man left = (
+  -- the homes that aren't left for a man are ruled out
+  left-known : (s : ℕ) → is_man (at q.board s) ≡ true → IsKnown (Began s (homes_left q l s)) q l
+  left-known s man = (
     man,
     λ h low asked out. elim (cases_Bool (is_in (slice_index_or l.homes s []) h)) [
       | inl ruled_out ↦ ruled_out
       | inr still ↦
-          let there = (left h low).1 (and_from _ _ asked (ap not still)) in
-          absurd (both_ways _ (not-so (is_in homes h) out) there)
+          let there = is_in-that (is_left q l s) h low ∙ and_from _ _ asked (ap not still) in
+          absurd (both_ways _ (not-so (is_in (homes_left q l s) h) out) there)
     ],
   )
 
   pawn-known : (c : Colour) (s : ℕ) (x : Line) → s < 64 → IsTrue (is_moving q l c s) → TellsPawn q l s (Some x) → Is x
   pawn-known c s x low moving told =
-      let y = cond_some (is_pawn_news told.homes s told.number) _ x (sym told.line_is) in
-      subst Is y.1 (low, (left-known s told.homes (a-pawn (at q.board s) told.took.0) told.left, told.took, told.exact_is.0, told.took.0))
+      let y = cond_some (is_pawn_news (homes_left q l s) s told.number) _ x (sym told.line_is) in
+      subst Is y.1 (low, (left-known s (a-pawn (at q.board s) told.took.0), told.took, told.exact_is.0, told.took.0))
 
   square-known : (topic : Topic) (s : ℕ) (x : Line) → s < 64 → IsSquareLine topic q l s (Some x) → Is x
   square-known (Pawns c) s x low is = elim (cases_Bool (is_moving q l c s)) [
@@ -147,7 +159,7 @@ module _ (q : Asked) (l : Ledger) where
     | inr other ↦ cc (is.1 other)
   ]
   square-known (Men c) s x low is = subst Is (sym is.2) (low, is.3.1)
-  square-known (Officers c) s x low is = subst Is (sym is.3) (low, (is.1.1, left-known s is.0 is.1.1.0 is.2))
+  square-known (Officers c) s x low is = subst Is (sym is.1) (low, (is.0.1, left-known s is.0.1.0))
   square-known Falls s x low is =
       let y = cond_some (is_fallen (array_of q.odds) l.fates s && is_news q l s) _ x (sym is) in
       subst Is y.1 (low, ((and_parts (is_fallen (array_of q.odds) l.fates s) (is_news q l s) y.0).0, taker-known s (is_struck (array_of q.odds) l.fates s) (is_unstruck (array_of q.odds) l.fates s) refl refl, manner-known s (is_a APawn (at (array_of q.odds) s)) (is_unpromoted (array_of q.odds) l.fates s) (is_promoted (array_of q.odds) l.fates s) refl refl))

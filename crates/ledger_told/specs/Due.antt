@@ -1,18 +1,20 @@
 -- Which lines of a ledger are told: those that say more than the board and the lines before them do.
-use Rattle.std.specs.Prelude.{ℕ, ◌≡◌, ◌+◌, ◌-◌, ◌*◌, ◌<◌, ◌==◌, ◌&&◌, ◌||◌, ◌↔◌, Bool, false, cond, not, slice_index_or, IsTrue, List, [], nat_le, nat_lt, Option, Some, None}
+use Rattle.std.specs.Prelude.{ℕ, ◌≡◌, ◌+◌, ◌-◌, ◌*◌, ◌<◌, ◌==◌, ◌&&◌, ◌||◌, ◌↔◌, Bool, false, cond, not, slice_index, IsTrue, List, map, nat_le, nat_lt, Option, Some, None}
+use Rattle.std.specs.List.{list_any, range_with_len}
 use Rattle.board_base.specs.Board.{Places, array_of, at, file, is_a, is_in, is_like, is_of, is_the, opponent, rank}
 use Rattle.board_base.specs.declared.men.Colour.{Colour}
 use Rattle.board_base.specs.declared.men.Kind.TheVariants.{Pawn, Knight, Bishop, Rook, Queen, King}
 use Rattle.board_base.specs.declared.men.Man.{Man}
 use Rattle.men_account.specs.Account.{counts_of, is_dark, is_light}
 use Rattle.query_base.specs.Asked.{Asked}
-use Rattle.ledger_search.specs.Questions.{is_asked, only}
-use Rattle.ledger_search.specs.declared.questions.Question.TheVariants.{Home}
+use Rattle.cage_rules.specs.Sets.{squares_that}
+use Rattle.ledger_search.specs.Questions.{only}
 use Rattle.ledger_search.specs.declared.counts.Range.{Range}
 use Rattle.ledger_search.specs.declared.ledgers.Fates.{Fates}
 use Rattle.ledger_search.specs.declared.ledgers.Ledger.{Ledger}
-use Rattle.ledger_lines.specs.Known.{IsKnown, counts_of as captures_of, is_fallen, is_promoted, is_struck, is_unpromoted, is_unstruck, lacking, number_in, piece_homes}
+use Rattle.ledger_lines.specs.Known.{IsKnown, counts_of as captures_of, is_fallen, is_left, is_promoted, is_struck, is_unpromoted, is_unstruck, lacking, number_in, piece_homes}
 use Rattle.ledger_lines.specs.Losses.{losses_of}
+use Rattle.ledger_lines.specs.Slants.{tells_class}
 use Rattle.ledger_lines.specs.declared.losses.Losses.{Losses}
 use Rattle.ledger_lines.specs.declared.facts.Fact.TheVariants.{Took, TookAtMost, Began, Original as BeganOriginal, Promoted as BeganPawn}
 use Rattle.ledger_lines.specs.declared.lines.Line.{Line}
@@ -58,13 +60,33 @@ abbrev pub told_dark : Asked → Ledger → Colour → Option Range
 told_dark q l c =
     cond (nat_lt 0 (captures_of l c).all.least && (nat_lt 0 (captures_of l c).dark.least || nat_lt (most_dark q l c) (most_made q l c))) (Some (record { least = (captures_of l c).dark.least; most = most_dark q l c })) None
 
--- what is told of their captures: on a class, at least so many if they made some there
+-- the homes that are left for the man on s
+abbrev pub homes_left : Asked → Ledger → ℕ → List Bool
+homes_left q l s = squares_that (is_left q l s)
+
+-- on s stands a pawn of this side of whom it isn't known that he never left his file
+abbrev pub is_moving : Asked → Ledger → Colour → ℕ → Bool
+is_moving q l c s = is_the c Pawn (at q.board s) && not (is_in l.straight s)
+
+-- the line of that pawn tells his way, with a capture on this class
+abbrev pub tells_class_at : Asked → Ledger → Colour → ℕ → ℕ → Bool
+tells_class_at q l c class s = is_moving q l c s && tells_class class (homes_left q l s) s
+
+-- the line of some pawn of this side does
+unfoldable pub is_class_told : Asked → Ledger → Colour → ℕ → Bool
+is_class_told q l c class = list_any (tells_class_at q l c class) (range_with_len 0 64)
+
+-- how many captures on a class are told: at least so many as it is known, or none if the line of a pawn tells one
+abbrev pub told_on : Asked → Ledger → Colour → ℕ → ℕ
+told_on q l c class = cond (is_class_told q l c class) 0 (slice_index (captures_of l c).least_on class)
+
+-- what is told of their captures
 abbrev pub takings : Asked → Ledger → Colour → Takings
 takings q l c = record {
   all = record { least = (captures_of l c).all.least; most = most_made q l c };
   lacking = lacking q (opponent c);
   dark = told_dark q l c;
-  least_on = (captures_of l c).least_on;
+  least_on = map (told_on q l c) (range_with_len 0 16);
 }
 
 -- that is told if they made some, or fewer than the other side lacks
@@ -129,18 +151,6 @@ is_moved_man q c s h = (is_the c Rook (at q.board s) || is_the c Knight (at q.bo
 abbrev pub IsManLine : Asked → Ledger → Colour → ℕ → ℕ → Type 0
 IsManLine q l c s h = IsTrue (is_moved_man q c s h) × IsKnown (Began s (only h)) q l
 
--- a home of his side is left for the man on s
-abbrev pub is_left : Asked → Ledger → ℕ → ℕ → Bool
-is_left q l s h = is_asked (Home s) q.board (array_of q.odds) h && not (is_in (slice_index_or l.homes s []) h)
-
--- these are the homes that are left
-abbrev pub AreLeft : Asked → Ledger → ℕ → List Bool → Type 0
-AreLeft q l s homes = (h : ℕ) → h < 64 → IsTrue (is_in homes h) ↔ IsTrue (is_left q l s h)
-
--- on s stands a pawn of this side of whom it isn't known that he never left his file
-abbrev pub is_moving : Asked → Ledger → Colour → ℕ → Bool
-is_moving q l c s = is_the c Pawn (at q.board s) && not (is_in l.straight s)
-
 -- where he began says more than the board: on one home, and not where he stands; or on one of two or three, and he captured
 abbrev pub is_pawn_news : List Bool → ℕ → ℕ → Bool
 is_pawn_news homes s n = ((number_in homes == 1) && not (is_in homes s)) || (nat_lt 1 (number_in homes) && nat_lt (number_in homes) 4 && nat_lt 0 n)
@@ -148,14 +158,12 @@ is_pawn_news homes s n = ((number_in homes == 1) && not (is_in homes s)) || (nat
 -- the homes that are left for him, the greatest number, up to 7, of captures that he is known to have made at least, and whether he is known to
 -- have made no more
 pub record TellsPawn (q : Asked) (l : Ledger) (s : ℕ) (line : Option Line) : Type 0 where
-  pub homes : List Bool
-  pub left : AreLeft q l s homes
   pub number : ℕ
   pub took : IsKnown (Took s number) q l
   pub most : number < 7 → IsKnown (Took s (number + 1)) q l → ⊥
   pub exact : Bool
   pub exact_is : IsTrue exact ↔ IsKnown (TookAtMost s number) q l
-  pub line_is : line ≡ cond (is_pawn_news homes s number) (Some (PawnLine s homes number exact)) None
+  pub line_is : line ≡ cond (is_pawn_news (homes_left q l s) s number) (Some (PawnLine s (homes_left q l s) number exact)) None
 
 -- on s stands a man of this side, no pawn, who is known to have begun as one
 abbrev pub IsPromotedMan : Asked → Ledger → Colour → ℕ → Type 0
@@ -215,6 +223,6 @@ IsSquareLine (Pawns c) q l s line = (IsTrue (is_moving q l c s) → TellsPawn q 
 IsSquareLine (Men c) q l s None = (h : ℕ) → h < 64 → IsManLine q l c s h → ⊥
 IsSquareLine (Men c) q l s (Some x) = (h : ℕ) × (h < 64) × (x ≡ ManLine s h) × IsManLine q l c s h
 IsSquareLine (Officers c) q l s None = IsPromotedMan q l c s → ⊥
-IsSquareLine (Officers c) q l s (Some x) = (homes : List Bool) × IsPromotedMan q l c s × AreLeft q l s homes × (x ≡ PromotedLine s homes)
+IsSquareLine (Officers c) q l s (Some x) = IsPromotedMan q l c s × (x ≡ PromotedLine s (homes_left q l s))
 IsSquareLine Falls q l s line = line ≡ fall_line q l s
 IsSquareLine Promotions q l s line = line ≡ promotion_line q l s

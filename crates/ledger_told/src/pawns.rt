@@ -1,54 +1,23 @@
-ghost use Rattle.std.specs.Prelude.{◌≡◌, ◌+◌, ◌<◌, cond, slice_set, true, IsTrue, None, Some};
-ghost use Rattle.board_base.specs.Board.{array_of, at, is_a, is_in};
+ghost use Rattle.std.specs.Prelude.{◌≡◌, ◌+◌, ◌<◌, cond, IsTrue, None, Some};
+ghost use Rattle.board_base.specs.Board.{at, is_a};
 ghost use Rattle.board_base.specs.declared.men.Kind.TheVariants.{Pawn};
-ghost use Rattle.ledger_search.specs.Questions.{is_asked};
-ghost use Rattle.ledger_search.specs.declared.questions.Question.TheVariants.{Home};
 ghost use Rattle.ledger_lines.specs.Known.{IsKnown};
 ghost use Rattle.ledger_lines.specs.declared.facts.Fact.TheVariants.{Took};
 ghost use Rattle.ledger_lines.specs.declared.lines.Line.TheVariants.{Pawn as PawnLine};
-ghost use Rattle.ledger_told.specs.Due.{AreLeft, IsSquareLine, TellsPawn, is_left, is_moving, is_pawn_news};
+ghost use Rattle.ledger_told.specs.Due.{IsSquareLine, TellsPawn, homes_left, is_moving, is_pawn_news};
 
 use crate::topics::Topic;
-use board_base::{Colour, Kind, Square, SquareSet, array_of, is_of, is_the};
-use ledger_lines::{Fact, Line, is_known, number_in};
+use board_base::{Colour, Kind, Square, SquareSet, is_the};
+use figures::squares_that;
+use ledger_lines::{Fact, Line, is_known, is_left, number_in};
 use ledger_search::Ledger;
 use query_base::Query;
 
-/// Whether a man of the side of the man on the first square began on the second.
-fn is_home(query: &Query, s: Square, h: Square) -> bool
-    ensures { result ≡ is_asked (Home s) query.now.board (array_of query.now.odds) h }
-{
-    match query.board.at(s) {
-        Some(man) => is_of(man.colour, array_of(query.odds).at(h)),
-        None => false,
-    }
-}
-
-/// Whether this home is left for him.
-fn is_left(query: &Query, ledger: &Ledger, s: Square, h: Square) -> bool
-    ensures { result ≡ is_left query.now ledger.now s h }
-{
-    let ruled_out = ledger.homes[s.index() as usize];
-    is_home(query, s, h) && !ruled_out.has(h)
-}
-
-/// The set, with this square if `more` says so.
-fn with_if(set: SquareSet, s: Square, more: bool) -> SquareSet
-    ensures { result ≡ cond more (slice_set set s true) set }
-{
-    if more { set.with(s) } else { set }
-}
-
-/// The homes that are left for him.
+/// The homes that are left for the man on a square.
 pub(crate) fn homes_left(query: &Query, ledger: &Ledger, s: Square) -> SquareSet
-    ensures { AreLeft query.now ledger.now s result }
+    ensures { result ≡ homes_left query.now ledger.now s }
 {
-    let mut squares = SquareSet::from_bits(0);
-    for i in 0..64 {
-        let h = Square::known(i);
-        squares = with_if(squares, h, is_left(query, ledger, s, h));
-    }
-    squares
+    squares_that(|h| is_left(query, ledger, s, h))
 }
 
 /// How many captures, up to 7, the pawn on a square is known to have made at least.
@@ -65,8 +34,8 @@ fn most_taken(query: &Query, ledger: &Ledger, s: Square) -> u8
     7
 }
 
-/// Whether the pawn on a square isn't known to have kept to his file.
-fn is_moving(query: &Query, ledger: &Ledger, side: Colour, s: Square) -> bool
+/// Whether a pawn of this side stands on a square who isn't known to have kept to his file.
+pub(crate) fn is_moving(query: &Query, ledger: &Ledger, side: Colour, s: Square) -> bool
     ensures { result ≡ is_moving query.now ledger.now side s }
 {
     is_the(side, Kind::Pawn, query.board.at(s)) && !ledger.straight.has(s)

@@ -3,6 +3,7 @@ ghost use Rattle.board_base.specs.Board.{is_in, is_like};
 ghost use Rattle.ledger_told.specs.Due.{IsChosen, IsGroupLine, IsUnmovedLine, IsWhole, are_all_taken, captures_line, is_ahead, is_promotable, is_somebody, lacks_line, most_dark, most_made, of_group, takings, told_dark};
 
 use crate::breeds::among_line;
+use crate::classes::told_on_each;
 use crate::topics::{Group, Whole};
 use board_base::{Colour, Kind, Man, Square, SquareSet, array_of, is_a, is_the};
 use ledger_lines::{Fact, Line, Losses, Takings, counts_of, is_known, lacking, losses_of};
@@ -95,12 +96,11 @@ fn takings(query: &Query, ledger: &Ledger, side: Colour) -> Takings
     let counts = counts_of(ledger, side);
     let least = counts.all.least;
     let most = most_made(query, ledger, side);
-    let least_on = counts.least_on;
     Takings {
         all: Range { least, most },
         lacking: lacking(query, side.other()),
         dark: told_dark(query, ledger, side),
-        least_on,
+        least_on: told_on_each(query, ledger, side),
     }
 }
 
