@@ -1,6 +1,6 @@
 -- The words of the sentences of a ledger's paragraph.
-use Rattle.std.specs.Prelude.{ℕ, ◌+◌, ◌-◌, ◌==◌, ◌&&◌, ◌||◌, Bool, false, cond, codes, drop, not, length, List, [], ◌∷◌, ◌++◌, map, nat_le, nat_lt, Option, Some, None}
-use Rattle.std.specs.List.{flat_map, list_any, range_with_len}
+use Rattle.std.specs.Prelude.{ℕ, ◌+◌, ◌-◌, ◌/◌, ◌%◌, ◌==◌, ◌&&◌, ◌||◌, Bool, false, true, cond, codes, drop, not, length, List, [], ◌∷◌, ◌++◌, map, nat_le, nat_lt, Option, Some, None, slice_index}
+use Rattle.std.specs.List.{count_by, flat_map, list_any, range_with_len}
 use Rattle.board_base.specs.Board.{array_of, at, file, opponent}
 use Rattle.board_base.specs.Texts.{square_text}
 use Rattle.board_base.specs.declared.men.Colour.{Colour}
@@ -10,7 +10,7 @@ use Rattle.prose_words.specs.Words.{colour_word, kind_word, side_word}
 use Rattle.proof_story.specs.Rendering.{parted}
 use Rattle.proof_story.specs.Rows.{rows_of}
 use Rattle.ledger_lines.specs.Known.{lacking}
-use Rattle.ledger_lines.specs.Slants.{tells_way, way_words as slants_words}
+use Rattle.ledger_lines.specs.Slants.{tells_class, tells_way, way_words as slants_words}
 use Rattle.ledger_lines.specs.declared.lines.Line.{Line}
 use Rattle.ledger_lines.specs.declared.lines.Line.TheVariants as line
 use Rattle.ledger_lines.specs.declared.lines.Taker.{Taker}
@@ -222,22 +222,65 @@ way_words q single _ = []
 abbrev pub number_told : Takings → ℕ
 number_told x = cond (nat_le x.lacking x.all.least) x.lacking x.all.least
 
--- the pawns of these lines took fewer than so many
-abbrev pub are_fewer : ℕ → List Line → Bool
-are_fewer n [] = nat_lt 0 n
-are_fewer n (x ∷ xs) = are_fewer (n - taken_by x) xs
+-- how many captures are left of so many beside those by the pawns of these lines
+abbrev pub number_left : ℕ → List Line → ℕ
+number_left n [] = n
+number_left n (x ∷ xs) = number_left (n - taken_by x) xs
 
--- what stands before the ways if they are fewer captures than were spoken of, or all of these
-abbrev pub ways_sign : Bool → List ℕ
-ways_sign fewer = cond fewer (codes ", among them ") (codes ": ")
+-- the pawn of the line may have made more captures than it says
+abbrev pub is_open : Line → Bool
+is_open (line.Pawn s homes n exact) = not exact && not (tells_way homes s)
+is_open _ = false
 
--- the ways of several lines behind such a sign, if there are any
-abbrev pub ways_words : Asked → Bool → Bool → List Line → List ℕ
-ways_words q single fewer ways = cond (length ways == 0) [] (ways_sign fewer ++ parted (codes ", ") (map (way_words q single) ways))
+-- the line doesn't say on which squares its pawn captured
+abbrev pub is_unplaced : Line → Bool
+is_unplaced (line.Pawn s homes n exact) = not (tells_way homes s)
+is_unplaced _ = true
+
+-- the line says of its pawn that he captured on this class of squares
+abbrev pub is_on : ℕ → Line → Bool
+is_on class (line.Pawn s homes n exact) = tells_class class homes s
+is_on class _ = false
+
+-- some captures were made on the class, and by none of these pawns as far as it is said
+abbrev pub is_elsewhere : Takings → List Line → ℕ → Bool
+is_elsewhere x ways class = nat_lt 0 (slice_index x.least_on class) && not (list_any (is_on class) ways)
+
+-- how many such classes there are
+unfoldable pub number_elsewhere : Takings → List Line → ℕ
+number_elsewhere x ways = count_by (is_elsewhere x ways) (range_with_len 0 16)
+
+-- One capture is left, all squares of the others are said, and there is one class on which none of these were made but some were: that one.
+abbrev pub is_placed : ℕ → Takings → List Line → Bool
+is_placed left x ways = (left == 1) && not (list_any is_unplaced ways) && (number_elsewhere x ways == 1)
+
+-- on a square of a class, by its file and its shade; 97 is the letter a
+abbrev pub class_words : ℕ → List ℕ
+class_words class = cond (class % 2 == 0) (codes " on a dark square of the ") (codes " on a light square of the ") ++ (97 + class / 2) ∷ codes "-file"
+
+-- on such classes
+unfoldable pub classes_words : Takings → List Line → List ℕ
+classes_words x ways = flat_map (λ k. cond (is_elsewhere x ways k) (class_words k) []) (range_with_len 0 16)
+
+-- so many more captures, or one on its class
+abbrev pub left_words : ℕ → Takings → List Line → List ℕ
+left_words left x ways = codes ", and " ++ number_words left ++ cond (is_placed left x ways) (classes_words x ways) (codes " more")
+
+-- the same if some are left, and the pawns of these lines made none of them
+abbrev pub rest_words : ℕ → Takings → List Line → List ℕ
+rest_words left x ways = cond ((left == 0) || list_any is_open ways) [] (left_words left x ways)
+
+-- what stands before the ways: not all captures are theirs if some are left, and pawns of these lines may have made them
+abbrev pub ways_sign : ℕ → List Line → List ℕ
+ways_sign left ways = cond (nat_lt 0 left && list_any is_open ways) (codes "; among these captures: ") (codes ": ")
+
+-- the ways of several lines behind such a sign, if there are any, and the captures that are left
+abbrev pub ways_words : Asked → ℕ → Takings → List Line → List ℕ
+ways_words q left x ways = cond (length ways == 0) [] (ways_sign left ways ++ parted (codes ", ") (map (way_words q (x.lacking == 1)) ways) ++ rest_words left x ways)
 
 -- what a line of captures says, with the lines of the side's pawns
 abbrev pub side_took : Colour → Asked → Takings → List Line → List ℕ
-side_took side q x ways = taken_words side (are_more x.all.least ways) x ++ ways_words q (x.lacking == 1) (are_fewer (number_told x) ways) ways
+side_took side q x ways = taken_words side (are_more x.all.least ways) x ++ ways_words q (number_left (number_told x) ways) x ways
 
 -- what a line of captures says, with the lines of the pawns who made them
 abbrev pub took_words : Asked → Line → List Line → List ℕ

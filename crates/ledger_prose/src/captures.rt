@@ -1,10 +1,12 @@
 //! Sentences about the captures by a side's pawns.
 
 ghost use Rattle.std.specs.Prelude.{◌≡◌, ◌==◌, ◌++◌, [], IfOk, codes, cond, map};
+ghost use Rattle.std.specs.List.{list_any};
 ghost use Rattle.ledger_lines.specs.Slants.{tells_way, way_words as slants_words};
 ghost use Rattle.proof_story.specs.Rendering.{parted};
-ghost use Rattle.ledger_prose.specs.Words.{all_words, are_fewer, are_more, both_words, few_words, gone_words, it_words, least_words, limit_words, number_taken, number_told, of_them, part_words, share_words, side_took, taken_by, taken_words, took_words, way_words, ways_sign, ways_words};
+ghost use Rattle.ledger_prose.specs.Words.{all_words, are_more, both_words, few_words, gone_words, is_open, it_words, least_words, limit_words, number_left, number_taken, number_told, of_them, part_words, rest_words, share_words, side_took, taken_by, taken_words, took_words, way_words, ways_sign, ways_words};
 
+use crate::leftovers::push_left;
 use crate::names::{Joint, Style, push_names};
 use crate::numbers::push_count;
 use board_base::{Colour, Square, SquareSet};
@@ -251,38 +253,74 @@ fn number_told(x: &Takings) -> u8
     }
 }
 
-/// Whether the pawns of these lines took fewer than so many.
-fn are_fewer(n: u8, ways: &[Line]) -> bool
-    ensures { result ≡ are_fewer n ways.now }
+/// How many captures are left of so many beside those by the pawns of these lines.
+fn number_left(n: u8, ways: &[Line]) -> u8
+    ensures { result ≡ number_left n ways.now }
 {
     match ways {
-        [] => n > 0,
-        [way, others @ ..] => are_fewer(n.saturating_sub(taken_by(way)), others),
+        [] => n,
+        [way, others @ ..] => number_left(n.saturating_sub(taken_by(way)), others),
+    }
+}
+
+/// Whether the pawn of a line may have made more captures than it says.
+fn is_open(line: &Line) -> bool
+    ensures { result ≡ is_open line.now }
+{
+    match *line {
+        Line::Pawn(s, homes, _, exact) => !exact && !tells_way(homes, s),
+        _ => false,
+    }
+}
+
+/// Whether one of several may.
+fn are_open(ways: &[Line]) -> bool
+    ensures { result ≡ list_any is_open ways.now }
+{
+    match ways {
+        [] => false,
+        [way, others @ ..] => is_open(way) || are_open(others),
     }
 }
 
 /// What stands before the ways.
-fn ways_sign(fewer: bool) -> &'static [u8]
-    ensures { result.now ≡ ways_sign fewer }
+fn ways_sign(left: u8, ways: &[Line]) -> &'static [u8]
+    ensures { result.now ≡ ways_sign left ways.now }
 {
-    if fewer { b", among them " } else { b": " }
+    if left > 0 && are_open(ways) {
+        b"; among these captures: "
+    } else {
+        b": "
+    }
 }
 
-/// Adds the same behind what stands before them, if there are any.
+/// Adds the captures that are left, if some are, and the pawns of these lines made none of them.
+fn push_rest(left: u8, x: &Takings, ways: &[Line], out: &mut Vec<u8>) -> Result<(), AllocError>
+    ensures { IfOk result (λ _. out.new.items ≡ out.old.items ++ rest_words left x.now ways.now) }
+{
+    if left == 0 || are_open(ways) {
+        Ok(())
+    } else {
+        push_left(left, x, ways, out)
+    }
+}
+
+/// Adds the ways behind what stands before them, if there are any, and the captures that are left.
 fn push_ways(
     query: &Query,
-    single: bool,
-    fewer: bool,
+    left: u8,
+    x: &Takings,
     ways: &[Line],
     out: &mut Vec<u8>,
 ) -> Result<(), AllocError>
-    ensures { IfOk result (λ _. out.new.items ≡ out.old.items ++ ways_words query.now single fewer ways.now) }
+    ensures { IfOk result (λ _. out.new.items ≡ out.old.items ++ ways_words query.now left x.now ways.now) }
 {
     if ways.len() == 0 {
         return Ok(());
     }
-    say(ways_sign(fewer), out)?;
-    push_list(query, single, ways, out)
+    say(ways_sign(left, ways), out)?;
+    push_list(query, x.lacking == 1, ways, out)?;
+    push_rest(left, x, ways, out)
 }
 
 /// Adds what the numbers of a side's captures say, with the lines of its pawns.
@@ -296,9 +334,9 @@ fn push_side_took(
     ensures { IfOk result (λ _. out.new.items ≡ out.old.items ++ side_took side query.now x.now ways.now) }
 {
     let more = are_more(x.all.least, ways);
-    let fewer = are_fewer(number_told(x), ways);
+    let left = number_left(number_told(x), ways);
     push_taken(side, more, x, out)?;
-    push_ways(query, x.lacking == 1, fewer, ways, out)
+    push_ways(query, left, x, ways, out)
 }
 
 /// Adds what a line of captures says, with the lines of the side's pawns.

@@ -149,7 +149,7 @@ pub(crate) fn names_any(query: &Query, lines: &[Line], start: u8) -> bool
 }
 
 /// One more if `more` says so.
-fn one_more(so_far: u8, more: bool) -> u8
+pub(crate) fn one_more(so_far: u8, more: bool) -> u8
     requires { so_far < 64 }
     ensures { result ≡ so_far + cond more 1 0 }
 {

@@ -1,10 +1,12 @@
 //! The lines of a ledger in sentences, as one paragraph: whom each side lacks, how many of them pawns took and which pawns captured, who fell
 //! and how, who was promoted and who wasn't, who stands where he didn't begin, and who never moved. Each sentence rests on lines of the ledger.
+//! Its words may be changed with specs/Words: that what each sentence says is true of every game is proved of its lines (specs/Saying).
 #![tactic(auto)]
 
 mod captures;
 mod due;
 mod laws;
+mod leftovers;
 mod losses;
 mod men;
 mod names;

@@ -3,17 +3,25 @@
 use crate::ledgers::{query, squares};
 use board_base::{Colour, Square, read_square};
 use ledger_lines::{Line, Losses, Manner, Taker, Takings};
-use ledger_prose::tell_ledger_prose;
+use ledger_prose::{news_of_all, tell_ledger_prose};
 use ledger_search::Range;
 use std::alloc::{AllocError, Global};
 
 const DAWSON: &str = "1KRqb3/p2krpp1/3pp3/Pp6/BrPPP3/1p1P4/2p1P3/Q7 w - -";
 
 const DAWSON_TOLD: &str = "\
-White lacks a rook, the dark bishop, both knights and two pawns. Black's pawns took all six, among
-    them h7xg6xf5xe4xd3xc2. Black lacks the dark bishop and both knights. White's pawns took all
-    three, among them f2-e4 one. No capture is to spare. White's g-pawn was taken as a pawn. The
-    bishop on a4 is not a promoted pawn.
+White lacks a rook, the dark bishop, both knights and two pawns. Black's pawns took all six:
+    h7xg6xf5xe4xd3xc2, and one on a dark square of the b-file. Black lacks the dark bishop and both
+    knights. White's pawns took all three: f2-e4 one, and two more. No capture is to spare. White's
+    g-pawn was taken as a pawn. The bishop on a4 is not a promoted pawn.
+";
+
+/// A capture on a dark square of the b-file.
+const ON_B_DARK: [u8; 16] = [0, 0, 1, 0, 0, 0, 0, 0, 0, 0, 0, 0, 0, 0, 0, 0];
+
+/// Of a pawn who may have made more captures.
+const OPEN_TOLD: &str = "\
+Black's pawns took all six; among these captures: b7/c7-b3 at least one.
 ";
 
 /// Both castlings are held, so that nothing is said of the king's and the rooks' never having moved.
@@ -40,16 +48,20 @@ fn losses(queens: u8, rooks: u8, dark_bishops: u8, knights: u8, pawns: u8) -> Lo
     }
 }
 
-fn captures(side: Colour, least: u8, most: u8, lacking: u8) -> Line {
+fn captures_on(side: Colour, least: u8, most: u8, lacking: u8, least_on: [u8; 16]) -> Line {
     Line::Captures(
         side,
         Takings {
             all: Range { least, most },
             lacking,
             dark: None,
-            least_on: [0; 16],
+            least_on,
         },
     )
+}
+
+fn captures(side: Colour, least: u8, most: u8, lacking: u8) -> Line {
+    captures_on(side, least, most, lacking, [0; 16])
 }
 
 fn square(name: &str) -> Option<Square> {
@@ -69,11 +81,18 @@ fn dawson() -> Option<[Line; 9]> {
         Line::Lacks(Colour::White, losses(0, 1, 1, 2, 2)),
         Line::Lacks(Colour::Black, losses(0, 0, 1, 2, 0)),
         captures(Colour::White, 3, 3, 3),
-        captures(Colour::Black, 6, 6, 6),
+        captures_on(Colour::Black, 6, 6, 6, ON_B_DARK),
         pawn("e4", "f2", 1, true)?,
         pawn("c2", "h7", 5, true)?,
         Line::Original(squares(Some("a4"))?),
         Line::Fell(square("g2")?, Taker::Pawn, Manner::AsPawn),
+    ])
+}
+
+fn open_way() -> Option<[Line; 2]> {
+    Some([
+        captures(Colour::Black, 6, 6, 6),
+        pawn("b3", "b7 c7", 1, false)?,
     ])
 }
 
@@ -121,6 +140,16 @@ fn tells_a_problem(rt: HostRuntime) {
 }
 
 #[test]
+fn tells_of_pawns_who_may_have_captured_more(rt: HostRuntime) {
+    match open_way() {
+        None => assert!(rt; false),
+        Some(lines) => {
+            assert!(rt; is_told(rt.alloc(), DAWSON, &lines, OPEN_TOLD) == Ok(true));
+        }
+    }
+}
+
+#[test]
 fn tells_each_sentence(rt: HostRuntime) {
     match sample() {
         None => assert!(rt; false),
@@ -128,6 +157,30 @@ fn tells_each_sentence(rt: HostRuntime) {
             assert!(rt; is_told(rt.alloc(), SAMPLE, &lines, SAMPLE_TOLD) == Ok(true));
         }
     }
+}
+
+fn are_news(
+    alloc: Global,
+    known: &[Line],
+    lines: &[Line],
+    news: &[Line],
+) -> Result<bool, AllocError> {
+    let told = news_of_all(alloc, known, lines)?;
+    Ok(told.as_slice() == news)
+}
+
+/// Whether of told lines the news are left, if it is known of some men that they never moved.
+fn are_news_left(alloc: Global) -> Option<Result<bool, AllocError>> {
+    let original = Line::Original(squares(Some("a4"))?);
+    let known = [Line::Unmoved(squares(Some("e2 f7"))?)];
+    let lines = [Line::Unmoved(squares(Some("e2 a7 f7"))?), original];
+    let news = [Line::Unmoved(squares(Some("a7"))?), original];
+    Some(are_news(alloc, &known, &lines, &news))
+}
+
+#[test]
+fn leaves_out_men_of_whom_it_is_known(rt: HostRuntime) {
+    assert!(rt; are_news_left(rt.alloc()) == Some(Ok(true)));
 }
 
 #[test]
