@@ -1,5 +1,5 @@
 -- Texts and lists that are put together.
-use Rattle.std.proofs.Common.{◌≡◌, ℕ, ◌+◌, ◌-◌, ◌<◌, ◌≤◌, Bool, true, false, cond, List, [], ◌∷◌, ◌++◌, length, get_or, take, drop, sym, ap, subst, ◌∙◌, append_assoc, append-nil, arith, length-drop}
+use Rattle.std.proofs.Common.{◌≡◌, ℕ, ◌+◌, ◌-◌, ◌<◌, ◌≤◌, Bool, true, false, cond, List, [], ◌∷◌, ◌++◌, length, get_or, take, drop, sym, ap, subst, ◌∙◌, append-nil, arith, length-drop}
 use Rattle.std.specs.Prelude.{Option, None, Some}
 use Rattle.std.specs.List.{All, flat_map, list_any}
 use Rattle.std.proofs.lemmas.List.{flat_map_more, take_all}
@@ -45,26 +45,27 @@ from-nothing P o r none (own, told, e) = subst P (sym (e ∙ ap (λ (l : List �
 pub from-text : (P : List ℕ → Type 0) (o p r a : List ℕ) → o ≡ [] → p ≡ o ++ a → (own : List ℕ) × P own × (r ≡ p ++ own) → (own : List ℕ) × P own × (r ≡ a ++ own)
 from-text P o p r a none first (own, told, e) = (own, told, e ∙ ap (λ (l : List ℕ). l ++ own) (first ∙ ap (λ (l : List ℕ). l ++ a) none))
 
--- two parts, and six
-pub two-parts : (o p q a b : List ℕ) → p ≡ o ++ part_text a → q ≡ p ++ part_text b → q ≡ o ++ parts_text (a ∷ b ∷ [])
+-- a part more
+part-more : (o p r : List ℕ) (parts : List (List ℕ)) (part : List ℕ) → p ≡ o ++ parts_text parts → r ≡ p ++ part_text part → r ≡ o ++ parts_text (parts ++ part ∷ [])
 unfolding parts_text
-two-parts o p q a b e f =
-    f ∙ ap (λ (l : List ℕ). l ++ part_text b) e ∙ append_assoc o (part_text a) (part_text b) ∙ ap (λ (l : List ℕ). o ++ (part_text a ++ l)) (sym (append-nil (part_text b)))
+part-more o p r parts part so_far more =
+    more ∙ ap (λ (l : List ℕ). l ++ part_text part) so_far ∙ flat_map_more part_text o parts part
 
-six-apart : (o a b c d e f : List ℕ) → (((((o ++ a) ++ b) ++ c) ++ d) ++ e) ++ f ≡ o ++ (a ++ (b ++ (c ++ (d ++ (e ++ f)))))
-six-apart o a b c d e f = simp append_assoc
-
-pub six-parts : (o p1 p2 p3 p4 p5 p6 a b c d e f : List ℕ) → p1 ≡ o ++ part_text a → p2 ≡ p1 ++ part_text b → p3 ≡ p2 ++ part_text c → p4 ≡ p3 ++ part_text d → p5 ≡ p4 ++ part_text e → p6 ≡ p5 ++ part_text f → p6 ≡ o ++ parts_text (a ∷ b ∷ c ∷ d ∷ e ∷ f ∷ [])
+no-part : (o : List ℕ) → o ≡ o ++ parts_text []
 unfolding parts_text
-six-parts o p1 p2 p3 p4 p5 p6 a b c d e f e1 e2 e3 e4 e5 e6 =
-    let to2 : p2 ≡ (o ++ part_text a) ++ part_text b = e2 ∙ ap (λ (l : List ℕ). l ++ part_text b) e1 in
-    let to3 : p3 ≡ ((o ++ part_text a) ++ part_text b) ++ part_text c = e3 ∙ ap (λ (l : List ℕ). l ++ part_text c) to2 in
-    let to4 : p4 ≡ (((o ++ part_text a) ++ part_text b) ++ part_text c) ++ part_text d = e4 ∙ ap (λ (l : List ℕ). l ++ part_text d) to3 in
-    let to5 : p5 ≡ ((((o ++ part_text a) ++ part_text b) ++ part_text c) ++ part_text d) ++ part_text e = e5 ∙ ap (λ (l : List ℕ). l ++ part_text e) to4 in
-    e6
-    ∙ ap (λ (l : List ℕ). l ++ part_text f) to5
-    ∙ six-apart o (part_text a) (part_text b) (part_text c) (part_text d) (part_text e) (part_text f)
-    ∙ ap (λ (l : List ℕ). o ++ (part_text a ++ (part_text b ++ (part_text c ++ (part_text d ++ (part_text e ++ l)))))) (sym (append-nil (part_text f)))
+no-part o = sym (append-nil o)
+
+-- three parts, and seven
+pub three-parts : (o p1 p2 p3 a b c : List ℕ) → p1 ≡ o ++ part_text a → p2 ≡ p1 ++ part_text b → p3 ≡ p2 ++ part_text c → p3 ≡ o ++ parts_text (a ∷ b ∷ c ∷ [])
+three-parts o p1 p2 p3 a b c e1 e2 e3 =
+    part-more o p2 p3 (a ∷ b ∷ []) c (part-more o p1 p2 (a ∷ []) b (part-more o o p1 [] a (no-part o) e1) e2) e3
+
+pub seven-parts : (o p1 p2 p3 p4 p5 p6 p7 a b c d e f g : List ℕ) → p1 ≡ o ++ part_text a → p2 ≡ p1 ++ part_text b → p3 ≡ p2 ++ part_text c → p4 ≡ p3 ++ part_text d → p5 ≡ p4 ++ part_text e → p6 ≡ p5 ++ part_text f → p7 ≡ p6 ++ part_text g → p7 ≡ o ++ parts_text (a ∷ b ∷ c ∷ d ∷ e ∷ f ∷ g ∷ [])
+seven-parts o p1 p2 p3 p4 p5 p6 p7 a b c d e f g e1 e2 e3 e4 e5 e6 e7 =
+    let to4 : p4 ≡ o ++ parts_text (a ∷ b ∷ c ∷ d ∷ []) = part-more o p3 p4 (a ∷ b ∷ c ∷ []) d (three-parts o p1 p2 p3 a b c e1 e2 e3) e4 in
+    let to5 : p5 ≡ o ++ parts_text (a ∷ b ∷ c ∷ d ∷ e ∷ []) = part-more o p4 p5 (a ∷ b ∷ c ∷ d ∷ []) e to4 e5 in
+    let to6 : p6 ≡ o ++ parts_text (a ∷ b ∷ c ∷ d ∷ e ∷ f ∷ []) = part-more o p5 p6 (a ∷ b ∷ c ∷ d ∷ e ∷ []) f to5 e6 in
+    part-more o p6 p7 (a ∷ b ∷ c ∷ d ∷ e ∷ f ∷ []) g to6 e7
 
 -- no move is barred in what is shown of a query in which none is
 abbrev pub IsPlain : Shown → Type 0

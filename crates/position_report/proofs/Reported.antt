@@ -23,30 +23,32 @@ use Rattle.ledger_told.specs.Held.{with_held}
 use Rattle.diagram_study.specs.Held.{IsHeldFound}
 use Rattle.diagram_study.specs.declared.held.HeldFound.{HeldFound}
 use Rattle.position_report.specs.Held.{IsIfSo, held_prose, if_lines}
-use Rattle.position_report.specs.LastMoves.{TellsLast}
-use Rattle.position_report.specs.Lengths.{TellsGame, length_text}
+use Rattle.position_report.specs.LastMoves.{TellsLast, proved_steps}
+use Rattle.position_report.specs.Lengths.{TellsGame, TellsOther, is_other_told, length_text}
 use Rattle.position_report.specs.Open.{all_open}
 use Rattle.position_report.specs.Parts.{part_text, parts_text}
-use Rattle.position_report.specs.Proofs.{TellsProofs}
+use Rattle.position_report.specs.Proofs.{TellsProofs, line_help}
 use Rattle.position_report.specs.Reports.{IsPlainFound, IsReport, TellsFindings, TellsFound, TellsImpossible, verdicts_text}
 use Rattle.position_report.specs.Sayings.{impossible_of, shown_of}
 use Rattle.position_report.specs.Shown.{illegal_shown, shown_claims}
-use Rattle.position_report.proofs.Joining.{from-text, six-parts, two-parts}
+use Rattle.position_report.proofs.Joining.{from-text, seven-parts, three-parts}
 use Rattle.position_report.proofs.Saying.{impossible-so, length-so, shown-so}
 
 -- the parts of a position that is illegal
-pub impossible-told : (q : Asked) (depth nodes : ℕ) (against : Finding) (plain : Option Finding) (o p r said proofs : List ℕ) → Holds Illegal q → IsFound (other_side q) Illegal depth nodes against → IsPlainFound q depth nodes plain → said ≡ verdicts_text q (impossible_of against plain) → TellsProofs depth nodes 1 (illegal_shown q ∷ []) proofs → p ≡ o ++ part_text said → r ≡ p ++ part_text proofs → (own : List ℕ) × TellsImpossible q depth nodes against own × (r ≡ o ++ own)
-impossible-told q depth nodes against plain o p r said proofs holds found without says told first last = (
-  parts_text (said ∷ proofs ∷ []),
+pub impossible-told : (q : Asked) (depth nodes : ℕ) (by : List (List Move)) (against : Finding) (plain : Option Finding) (o p m r said proofs game : List ℕ) → Holds Illegal q → IsFound (other_side q) Illegal depth nodes against → IsPlainFound q depth nodes plain → said ≡ verdicts_text q (impossible_of against plain) → TellsProofs depth nodes 1 (illegal_shown q ∷ []) proofs → TellsOther q by (is_other_told against plain) game → p ≡ o ++ part_text said → m ≡ p ++ part_text proofs → r ≡ m ++ part_text game → (own : List ℕ) × TellsImpossible q depth nodes by against own × (r ≡ o ++ own)
+impossible-told q depth nodes by against plain o p m r said proofs game holds found without says told shows first second last = (
+  parts_text (said ∷ proofs ∷ game ∷ []),
   record {
     plain = plain;
     plain_found = without;
     so = impossible-so q depth nodes against plain holds found without;
     proofs = proofs;
     proofs_told = told;
-    text_is = ap (λ (l : List ℕ). parts_text (l ∷ proofs ∷ [])) says;
+    game = game;
+    game_told = shows;
+    text_is = ap (λ (l : List ℕ). parts_text (l ∷ proofs ∷ game ∷ [])) says;
   },
-  two-parts o p r said proofs first last,
+  three-parts o p m r said proofs game first second last,
 )
 
 -- the laws of a ledger's lines, and of its sentences
@@ -62,16 +64,17 @@ NewsHold =
     (q : Asked) (known lines : List Line) → All (IsLineTrue q) lines → All (IsLineTrue q) (map (news_of known) lines)
 
 -- the parts of a position that isn't proved to be illegal, each as it is told
-pub record AreParts (q : Asked) (depth nodes : ℕ) (by : List (List Move)) (f : Found) (said ledger held proofs unsettled ends : List ℕ) : Type 0 where
+pub record AreParts (q : Asked) (depth nodes : ℕ) (by : List (List Move)) (f : Found) (said ledger held proofs line unsettled ends : List ℕ) : Type 0 where
   pub said_told : (last : List ℕ) × TellsLast q f last × (said ≡ verdicts_text q (shown_of f) ++ last)
   pub ledger_told : ledger ≡ prose_text q (sentences_of q f.ledger.items)
   pub held_told : held ≡ held_prose q f.ledger.items f.held.items
   pub proofs_told : TellsProofs depth nodes 1 (shown_claims q f) proofs
+  pub line_told : line ≡ line_help depth nodes q (proved_steps f.steps)
   pub unsettled_told : unsettled ≡ all_open q f
-  pub ends_told : (game : List ℕ) × TellsGame q by game × (ends ≡ length_text q f.length ++ game)
+  pub ends_told : (game : List ℕ) × TellsGame q [] by game × (ends ≡ length_text q f.length ++ game)
 
-same-parts : (a b c d e f x y z w v : List ℕ) → a ≡ x → b ≡ y → c ≡ v → e ≡ z → f ≡ w → parts_text (a ∷ b ∷ c ∷ d ∷ e ∷ f ∷ []) ≡ parts_text (x ∷ y ∷ v ∷ d ∷ z ∷ w ∷ [])
-same-parts a b c d e f x y z w v ax by cv ez fw = cc
+same-parts : (a b c d e f g x y z u v w : List ℕ) → a ≡ x → b ≡ y → c ≡ z → e ≡ u → f ≡ v → g ≡ w → parts_text (a ∷ b ∷ c ∷ d ∷ e ∷ f ∷ g ∷ []) ≡ parts_text (x ∷ y ∷ z ∷ d ∷ u ∷ v ∷ w ∷ [])
+same-parts a b c d e f g x y z u v w ax by cz eu fv gw = cc
 
 -- what is said if a castling is held is so
 if-so : SentencesHold → NewsHold → (q : Asked) (known : List Line) (held : List HeldFound) → All (IsHeldFound q known) held → All (IsIfSo q known) held
@@ -80,8 +83,8 @@ if-so sentences news q known held found =
     let so : All (IsLineTrue (with_held q h.castle)) (if_lines known h) = news (with_held q h.castle) known h.lines.items is.true_ in
     record { true_ = so; says = sentences (with_held q h.castle) (if_lines known h) so }) held found
 
-pub parts-told : (q : Asked) (depth nodes : ℕ) (by : List (List Move)) (f : Found) (said ledger held proofs unsettled ends : List ℕ) → LinesHold → SentencesHold → NewsHold → AreFindings q depth nodes by f → AreParts q depth nodes by f said ledger held proofs unsettled ends → TellsFound q depth nodes by f (parts_text (said ∷ ledger ∷ held ∷ proofs ∷ unsettled ∷ ends ∷ []))
-parts-told q depth nodes by f said ledger held proofs unsettled ends lines sentences news found are =
+pub parts-told : (q : Asked) (depth nodes : ℕ) (by : List (List Move)) (f : Found) (said ledger held proofs line unsettled ends : List ℕ) → LinesHold → SentencesHold → NewsHold → AreFindings q depth nodes by f → AreParts q depth nodes by f said ledger held proofs line unsettled ends → TellsFound q depth nodes by f (parts_text (said ∷ ledger ∷ held ∷ proofs ∷ line ∷ unsettled ∷ ends ∷ []))
+parts-told q depth nodes by f said ledger held proofs line unsettled ends lines sentences news found are =
     let true_lines : All (IsLineTrue q) f.ledger.items = lines q f.ledger.items found.ledger in
     record {
       so = shown-so q depth nodes by f found;
@@ -95,14 +98,14 @@ parts-told q depth nodes by f said ledger held proofs unsettled ends lines sente
       long = length-so q f.length found.games;
       game = are.ends_told.0;
       game_told = are.ends_told.1;
-      text_is = same-parts said ledger held proofs unsettled ends _ _ _ _ _ are.said_told.2 are.ledger_told are.held_told are.unsettled_told are.ends_told.2;
+      text_is = same-parts said ledger held proofs line unsettled ends _ _ _ _ _ _ are.said_told.2 are.ledger_told are.held_told are.line_told are.unsettled_told are.ends_told.2;
     }
 
-pub found-told : (q : Asked) (depth nodes : ℕ) (by : List (List Move)) (f : Found) (said ledger held proofs unsettled ends o p1 p2 p3 p4 p5 p6 : List ℕ) → LinesHold → SentencesHold → NewsHold → AreFindings q depth nodes by f → AreParts q depth nodes by f said ledger held proofs unsettled ends → p1 ≡ o ++ part_text said → p2 ≡ p1 ++ part_text ledger → p3 ≡ p2 ++ part_text held → p4 ≡ p3 ++ part_text proofs → p5 ≡ p4 ++ part_text unsettled → p6 ≡ p5 ++ part_text ends → (own : List ℕ) × TellsFound q depth nodes by f own × (p6 ≡ o ++ own)
-found-told q depth nodes by f said ledger held proofs unsettled ends o p1 p2 p3 p4 p5 p6 lines sentences news found are e1 e2 e3 e4 e5 e6 = (
-  parts_text (said ∷ ledger ∷ held ∷ proofs ∷ unsettled ∷ ends ∷ []),
-  parts-told q depth nodes by f said ledger held proofs unsettled ends lines sentences news found are,
-  six-parts o p1 p2 p3 p4 p5 p6 said ledger held proofs unsettled ends e1 e2 e3 e4 e5 e6,
+pub found-told : (q : Asked) (depth nodes : ℕ) (by : List (List Move)) (f : Found) (said ledger held proofs line unsettled ends o p1 p2 p3 p4 p5 p6 p7 : List ℕ) → LinesHold → SentencesHold → NewsHold → AreFindings q depth nodes by f → AreParts q depth nodes by f said ledger held proofs line unsettled ends → p1 ≡ o ++ part_text said → p2 ≡ p1 ++ part_text ledger → p3 ≡ p2 ++ part_text held → p4 ≡ p3 ++ part_text proofs → p5 ≡ p4 ++ part_text line → p6 ≡ p5 ++ part_text unsettled → p7 ≡ p6 ++ part_text ends → (own : List ℕ) × TellsFound q depth nodes by f own × (p7 ≡ o ++ own)
+found-told q depth nodes by f said ledger held proofs line unsettled ends o p1 p2 p3 p4 p5 p6 p7 lines sentences news found are e1 e2 e3 e4 e5 e6 e7 = (
+  parts_text (said ∷ ledger ∷ held ∷ proofs ∷ line ∷ unsettled ∷ ends ∷ []),
+  parts-told q depth nodes by f said ledger held proofs line unsettled ends lines sentences news found are,
+  seven-parts o p1 p2 p3 p4 p5 p6 p7 said ledger held proofs line unsettled ends e1 e2 e3 e4 e5 e6 e7,
 )
 
 -- the whole report: the diagram, and what was found

@@ -26,7 +26,7 @@ use Rattle.diagram_study.specs.Pairs.{IsPairFound}
 use Rattle.diagram_study.specs.Rights.{IsRightFound}
 use Rattle.diagram_study.specs.declared.pairs.PairFound.{PairFound}
 use Rattle.diagram_study.specs.declared.rights.RightFound.{RightFound}
-use Rattle.position_report.specs.Open.{front_text, open_right, open_text}
+use Rattle.position_report.specs.Open.{front_text, if_open, open_as, open_right}
 use Rattle.position_report.proofs.Joining.{first-others, first-rest, others_of}
 
 -- the first of listed retractions, and those behind it
@@ -72,6 +72,6 @@ pairs-listed q most nodes by pairs each =
     All-weaker (IsPairFound q most nodes by) (λ (f : PairFound). IfSome f.stuck (AreListed (with_both q f.first f.second))) (λ f found. stuck-listed (with_both q f.first f.second) Illegal most nodes f.finding f.stuck found.stuck) pairs each
 
 -- a right that isn't settled, by its claim and its target
-pub right-open : (q at : Asked) (claim : Claim) (f : RightFound) → claim ≡ claim_of f.right → at ≡ target q claim → open_text q (Unsettled claim) at f.finding f.stuck ≡ open_right q f
+pub right-open : (q at : Asked) (claim : Claim) (f : RightFound) → claim ≡ claim_of f.right → at ≡ target q claim → if_open f.finding (open_as (Unsettled claim) at f.stuck) ≡ open_right q f
 right-open q at claim f is aims =
-    ap (λ (a : Asked). open_text q (Unsettled claim) a f.finding f.stuck) aims ∙ ap (λ (x : Claim). open_text q (Unsettled x) (target q x) f.finding f.stuck) is
+    ap (λ (a : Asked). if_open f.finding (open_as (Unsettled claim) a f.stuck)) aims ∙ ap (λ (x : Claim). if_open f.finding (open_as (Unsettled x) (target q x) f.stuck)) is

@@ -1,6 +1,7 @@
 -- Proofs of what a report shows.
-use Rattle.std.specs.Prelude.{ℕ, ◌≡◌, ◌+◌, ◌<◌, ◌≤◌, ◌⊎◌, Bool, true, false, cond, List, [], ◌∷◌, ◌++◌, codes, nat_lt, Option, Some, None}
+use Rattle.std.specs.Prelude.{ℕ, ◌≡◌, ◌+◌, ◌<◌, ◌≤◌, ◌⊎◌, Bool, true, false, cond, List, [], ◌∷◌, ◌++◌, codes, nat_lt, Option, Some, None, is_some}
 use Rattle.std.specs.Fmt.{decimal}
+use Rattle.board_base.specs.declared.unmoves.Unmove.{Unmove}
 use Rattle.query_base.specs.Asked.{Asked}
 use Rattle.query_base.specs.Targets.{target}
 use Rattle.fen_text.specs.ClockLines.{clock_text}
@@ -8,11 +9,18 @@ use Rattle.fen_text.specs.OddsLines.{is_no_odds, odds_text}
 use Rattle.fen_text.specs.Spelling.{spelling}
 use Rattle.cert_text.specs.Certificate.{Certificate}
 use Rattle.cert_text.specs.ClaimLines.{claim_text, promotes_well}
+use Rattle.line_claims.specs.Lines.{line_claim_text}
+use Rattle.line_claims.specs.declared.claims.LineClaim.{LineClaim}
+use Rattle.line_claims.specs.declared.claims.LineClaim.TheVariants.{Line}
 use Rattle.claim_search.specs.Answers.{IsProofOf}
 use Rattle.claim_search.specs.Plain.{HasPlainSketch}
 use Rattle.claim_search.specs.Unsettled.{WhereRefutable}
 use Rattle.price_search.specs.FlatPrices.{FlatPricesSupport}
 use Rattle.proof_prose.specs.Prose.{Explains, Retells}
+use Rattle.proof_story.specs.Rows.{rows_of}
+use Rattle.verdict_prose.specs.Sentences.{verdict_text}
+use Rattle.verdict_prose.specs.declared.verdicts.Verdict.TheVariants.{NotBoth}
+use Rattle.position_report.specs.declared.shown.Pair.{Pair}
 use Rattle.position_report.specs.declared.shown.Shown.{Shown}
 
 -- a text with a line end
@@ -45,22 +53,42 @@ input_text depth nodes s = words_text depth nodes ++ ended (claim_text s.claim) 
 abbrev pub check_text : ℕ → ℕ → Shown → List ℕ
 check_text depth nodes s = cond (promotes_well s.claim) (input_text depth nodes s) []
 
+-- the words of `dossier`
+unfoldable pub line_words : ℕ → ℕ → List ℕ
+line_words depth nodes =
+    codes "For a proof of the last moves, give `dossier " ++ decimal depth ++ codes " " ++ decimal nodes ++ codes "` these lines, and what it writes to `line` or `explain`:"
+
+-- the words, in rows, and the input by which `dossier` writes a proof of several last moves
+abbrev pub line_input : ℕ → ℕ → Asked → LineClaim → List ℕ
+line_input depth nodes q claim = rows_of (line_words depth nodes) ++ ended (line_claim_text claim) ++ position_lines q
+
+-- the same, if they are proved
+abbrev pub line_help : ℕ → ℕ → Asked → Option (List Unmove) → List ℕ
+line_help depth nodes q None = []
+line_help depth nodes q (Some steps) = line_input depth nodes q (Line steps)
+
 -- what stands before a proof: its number, and an empty line before each but the first
 abbrev pub title_text : ℕ → List ℕ
 title_text number = cond (nat_lt 1 number) (codes "\n") [] ++ codes "Proof " ++ decimal number ++ codes "\n"
+
+-- what a proof is for, if it shows that at least one of two castlings is lost
+abbrev pub aim_text : Asked → Option Pair → List ℕ
+aim_text q None = []
+aim_text q (Some p) =
+    verdict_text q (NotBoth p.first p.second) ++ codes "If both are held, no game leads to this diagram:\n"
 
 -- the text of a certificate, behind the diagram and what is given if that is drawn
 abbrev pub TellsCertificate : Bool → Certificate → List ℕ → Type 0
 TellsCertificate true cert text = Explains cert text
 TellsCertificate false cert text = Retells cert text
 
--- a proof with its number: the text of a certificate that proves the claim, and how to check it
+-- a proof with its number: what it is for, the text of a certificate that proves the claim, and how to check it
 pub record TellsProof (depth nodes number : ℕ) (s : Shown) (text : List ℕ) : Type 0 where
   pub cert : Certificate
   pub proof : IsProofOf depth cert s.claim s.query
   pub own : List ℕ
-  pub told : TellsCertificate s.drawn cert own
-  pub text_is : text ≡ title_text number ++ own ++ check_text depth nodes s
+  pub told : TellsCertificate (is_some s.pair) cert own
+  pub text_is : text ≡ title_text number ++ aim_text s.query s.pair ++ own ++ check_text depth nodes s
 
 -- A proof may be left out: rule lines refute the claim's target at no depth within the limits at a cost of at most the nodes, flat prices
 -- don't support it, and no node of a sketch refutes it without exact files, prices and marks.

@@ -22,11 +22,11 @@ use Rattle.verdict_prose.specs.Sentences.{verdict_text}
 use Rattle.verdict_prose.specs.declared.verdicts.Verdict.{Verdict}
 use Rattle.verdict_prose.specs.declared.verdicts.Verdict.TheVariants.{AtLeast}
 use Rattle.position_report.specs.Held.{IsIfSo, held_prose}
-use Rattle.position_report.specs.LastMoves.{TellsLast}
-use Rattle.position_report.specs.Lengths.{TellsGame, length_text}
+use Rattle.position_report.specs.LastMoves.{TellsLast, proved_steps}
+use Rattle.position_report.specs.Lengths.{TellsGame, TellsOther, is_other_told, length_text}
 use Rattle.position_report.specs.Open.{all_open}
 use Rattle.position_report.specs.Parts.{parts_text}
-use Rattle.position_report.specs.Proofs.{TellsProofs}
+use Rattle.position_report.specs.Proofs.{TellsProofs, line_help}
 use Rattle.position_report.specs.Sayings.{impossible_of, shown_of}
 use Rattle.position_report.specs.Shown.{illegal_shown, shown_claims}
 
@@ -36,7 +36,8 @@ verdicts_text q verdicts = flat_map (verdict_text q) verdicts
 
 -- What is told of a position that isn't proved to be illegal: what is proved and what games show, a sentence each, and each is so; the last
 -- moves; the paragraph of the ledger, whose lines are true of every game that reaches the position, and so is what its sentences say; those of
--- what it says only if a right is held; the proofs; what isn't settled; how long games are, and a game.
+-- what it says only if a right is held; the proofs; how a proof of several last moves is to be had; what isn't settled; how long games are,
+-- and a game.
 pub record TellsFound (q : Asked) (depth nodes : ℕ) (by : List (List Move)) (f : Found) (text : List ℕ) : Type 0 where
   pub so : All (IsSo q) (shown_of f)
   pub last : List ℕ
@@ -48,8 +49,8 @@ pub record TellsFound (q : Asked) (depth nodes : ℕ) (by : List (List Move)) (f
   pub proofs_told : TellsProofs depth nodes 1 (shown_claims q f) proofs
   pub long : IfSome f.length (λ n. IsSo q (AtLeast n))
   pub game : List ℕ
-  pub game_told : TellsGame q by game
-  pub text_is : text ≡ parts_text ((verdicts_text q (shown_of f) ++ last) ∷ prose_text q (sentences_of q f.ledger.items) ∷ held_prose q f.ledger.items f.held.items ∷ proofs ∷ all_open q f ∷ (length_text q f.length ++ game) ∷ [])
+  pub game_told : TellsGame q [] by game
+  pub text_is : text ≡ parts_text ((verdicts_text q (shown_of f) ++ last) ∷ prose_text q (sentences_of q f.ledger.items) ∷ held_prose q f.ledger.items f.held.items ∷ proofs ∷ line_help depth nodes q (proved_steps f.steps) ∷ all_open q f ∷ (length_text q f.length ++ game) ∷ [])
 
 -- what was found of the claim that the position is illegal without its demands, if it makes any
 abbrev pub IsPlainFound : Asked → ℕ → ℕ → Option Finding → Type 0
@@ -57,18 +58,20 @@ IsPlainFound q depth nodes None = makes_demands q ≡ false
 IsPlainFound q depth nodes (Some plain) = IsTrue (makes_demands q) × IsFound (without_demands q) Illegal depth nodes plain
 
 -- What is told of a position that is illegal: that it is, what was found with the other side to move, or without its demands if it makes any,
--- and the proof.
-pub record TellsImpossible (q : Asked) (depth nodes : ℕ) (against : Finding) (text : List ℕ) : Type 0 where
+-- the proof, and a game that leads there with the other side to move, if it is said that one does.
+pub record TellsImpossible (q : Asked) (depth nodes : ℕ) (by : List (List Move)) (against : Finding) (text : List ℕ) : Type 0 where
   pub plain : Option Finding
   pub plain_found : IsPlainFound q depth nodes plain
   pub so : All (IsSo q) (impossible_of against plain)
   pub proofs : List ℕ
   pub proofs_told : TellsProofs depth nodes 1 (illegal_shown q ∷ []) proofs
-  pub text_is : text ≡ parts_text (verdicts_text q (impossible_of against plain) ∷ proofs ∷ [])
+  pub game : List ℕ
+  pub game_told : TellsOther q by (is_other_told against plain) game
+  pub text_is : text ≡ parts_text (verdicts_text q (impossible_of against plain) ∷ proofs ∷ game ∷ [])
 
 -- what is told of what was found
 abbrev pub TellsFindings : Asked → ℕ → ℕ → List (List Move) → Findings → List ℕ → Type 0
-TellsFindings q depth nodes by (Impossible finding against) text = TellsImpossible q depth nodes against text
+TellsFindings q depth nodes by (Impossible finding against) text = TellsImpossible q depth nodes by against text
 TellsFindings q depth nodes by (Unproved f) text = TellsFound q depth nodes by f text
 
 -- The report of a position: the diagram with what is given, and what was found, as by a study within the same limits.

@@ -1,5 +1,5 @@
 -- The claims whose proofs a report tells.
-use Rattle.std.specs.Prelude.{Bool, true, false, ◌&&◌, cond, List, [], ◌∷◌, ◌++◌, Option, Some, None}
+use Rattle.std.specs.Prelude.{Bool, false, ◌&&◌, cond, List, [], ◌∷◌, ◌++◌, Option, Some, None}
 use Rattle.std.specs.List.{flat_map, list_any}
 use Rattle.query_base.specs.Asked.{Asked}
 use Rattle.query_base.specs.declared.claims.Claim.{Claim}
@@ -12,23 +12,25 @@ use Rattle.diagram_study.specs.declared.pairs.PairFound.{PairFound}
 use Rattle.diagram_study.specs.declared.retractions.MoveFound.{MoveFound}
 use Rattle.diagram_study.specs.declared.rights.RightFound.{RightFound}
 use Rattle.position_report.specs.Sayings.{is_asked}
+use Rattle.position_report.specs.declared.shown.Pair.{Pair}
 use Rattle.position_report.specs.declared.shown.Shown.{Shown}
 
--- a claim about a position, whose diagram is drawn with the proof, or isn't
-abbrev pub shown_as : Claim → Asked → Bool → Shown
-shown_as claim q drawn = record { claim = claim; query = q; drawn = drawn }
+-- a claim about a position, and the two castlings of which it shows that at least one is lost, if there are such
+abbrev pub shown_as : Claim → Asked → Option Pair → Shown
+shown_as claim q pair = record { claim = claim; query = q; pair = pair }
 
--- a claim about the report's own position, whose diagram isn't drawn again
+-- a claim about the report's own position, which says itself what it shows
 abbrev pub claim_shown : Claim → Asked → Shown
-claim_shown claim q = shown_as claim q false
+claim_shown claim q = shown_as claim q None
 
 -- that no game leads to the position
 abbrev pub illegal_shown : Asked → Shown
 illegal_shown q = claim_shown Illegal q
 
--- that no game leads to the position with two castlings demanded besides, which is another position
+-- that no game leads to the position with two castlings demanded besides, so that at least one of them is lost
 abbrev pub both_shown : Asked → PairFound → Shown
-both_shown q f = shown_as Illegal (with_both q f.first f.second) true
+both_shown q f =
+    shown_as Illegal (with_both q f.first f.second) (Some (record { first = f.first; second = f.second }))
 
 -- the claim of a right, if it is proved
 abbrev pub right_shown : Asked → RightFound → List Shown

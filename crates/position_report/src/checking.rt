@@ -21,7 +21,7 @@ use std::alloc::AllocError;
 
 /// Adds a text with a line end.
 #[tactic(auto, unfolding(crate::specs::Proofs::ended))]
-fn push_line(text: &[u8], out: &mut Vec<u8>) -> Result<(), AllocError>
+pub(crate) fn push_line(text: &[u8], out: &mut Vec<u8>) -> Result<(), AllocError>
     ensures { IfOk result (λ _. out.new.items ≡ out.old.items ++ ended text.now) }
 {
     say(text, out)?;
@@ -81,7 +81,7 @@ fn push_fen(query: &Query, out: &mut Vec<u8>) -> Result<(), AllocError>
 
 /// Adds the lines of a position, as commands read them.
 #[tactic(auto, unfolding(crate::specs::Proofs::position_lines))]
-fn push_position(query: &Query, out: &mut Vec<u8>) -> Result<(), AllocError>
+pub(crate) fn push_position(query: &Query, out: &mut Vec<u8>) -> Result<(), AllocError>
     requires { query.now.barred ≡ None }
     ensures { IfOk result (λ _. out.new.items ≡ out.old.items ++ position_lines query.now) }
 {

@@ -1,20 +1,22 @@
 //! Proofs of what is shown.
 
-ghost use Rattle.std.specs.Prelude.{List, ℕ, ◌≡◌, ◌+◌, ◌<◌, ◌≤◌, ◌^◌, ◌++◌, [], IfOk, MatchOption, None, codes, cond, length, nat_lt};
+ghost use Rattle.std.specs.Prelude.{List, ℕ, ◌≡◌, ◌+◌, ◌<◌, ◌^◌, ◌++◌, [], IfOk, MatchOption, None, codes, cond, length, nat_lt};
 ghost use Rattle.std.specs.List.{All};
 ghost use Rattle.cert_text.specs.SeenCert.{cert_of};
 ghost use Rattle.claim_search.specs.Answers.{IsProofOf, IsProved};
 ghost use Rattle.diagram_study.specs.Proving.{ProvesClaim};
 ghost use Rattle.claim_search.specs.Found.TheVariants as found;
-ghost use Rattle.position_report.specs.Proofs.{IsUntold, TellsCertificate, TellsProof, TellsProofs, title_text};
+ghost use Rattle.position_report.specs.Proofs.{IsUntold, TellsCertificate, TellsProof, TellsProofs, aim_text, title_text};
 
 use crate::checking::push_check;
-use crate::shown::Shown;
+use crate::shown::{Pair, Shown};
 use cert_text::Cert;
 use claim_search::{Found as Answer, Limits, settle};
 use proof_prose::{explain, retell};
 use prose_words::{push_number, say};
+use query_base::Query;
 use std::alloc::{AllocError, Global};
+use verdict_prose::{Verdict, tell_verdict};
 
 /// The certificate, if the answer is one.
 fn certificate_in(answer: Answer) -> Option<Cert>
@@ -57,6 +59,27 @@ fn push_title(number: usize, out: &mut Vec<u8>) -> Result<(), AllocError>
     say(b"\n", out)
 }
 
+/// Adds what a proof is for, if it shows that at least one of two castlings is lost.
+fn push_aim(
+    alloc: Global,
+    query: &Query,
+    pair: &Option<Pair>,
+    out: &mut Vec<u8>,
+) -> Result<(), AllocError>
+    ensures { IfOk result (λ _. out.new.items ≡ out.old.items ++ aim_text query.now pair.now) }
+{
+    let Some(pair) = pair else {
+        return Ok(());
+    };
+    tell_verdict(
+        alloc,
+        query,
+        &Verdict::NotBoth(pair.first, pair.second),
+        out,
+    )?;
+    say(b"If both are held, no game leads to this diagram:\n", out)
+}
+
 /// The proof of a certificate in words, behind the diagram and what is given if that is to be drawn.
 fn words_of(alloc: Global, cert: &Cert, drawn: bool) -> Result<Vec<u8>, AllocError>
     requires { ProvesClaim (cert_of cert.now) }
@@ -82,8 +105,9 @@ fn push_proof(
     requires proof { IsProofOf limits.depth (cert_of cert.now) shown.now.claim shown.now.query }
     ensures { IfOk result (λ _. (own : List ℕ) × TellsProof limits.depth limits.nodes number shown.now own × (out.new.items ≡ out.old.items ++ own)) }
 {
-    let text = words_of(alloc, cert, shown.drawn)?;
+    let text = words_of(alloc, cert, shown.pair.is_some())?;
     push_title(number, out)?;
+    push_aim(alloc, &shown.query, &shown.pair, out)?;
     say(text.as_slice(), out)?;
     push_check(limits, shown, out)
 }

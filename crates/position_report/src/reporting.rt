@@ -1,6 +1,6 @@
 //! A report.
 
-ghost use Rattle.std.specs.Prelude.{List, ℕ, ◌≡◌, ◌++◌, IfOk, None, Some, length};
+ghost use Rattle.std.specs.Prelude.{List, ℕ, ◌≡◌, ◌++◌, [], IfOk, None, Some, length};
 ghost use Rattle.std.specs.List.{All};
 ghost use Rattle.board_base.specs.declared.unmoves.Unmove.{Unmove as AnUnmove};
 ghost use Rattle.query_base.specs.Reach.{Holds};
@@ -10,19 +10,20 @@ ghost use Rattle.ledger_prose.specs.Sentences.{sentences_of};
 ghost use Rattle.ledger_prose.specs.Words.{prose_text};
 ghost use Rattle.diagram_study.specs.ClaimFindings.{IsFound};
 ghost use Rattle.diagram_study.specs.Studies.{without_demands};
-ghost use Rattle.diagram_study.specs.Findings.{AreFindings, IsFoundOf, other_side};
+ghost use Rattle.diagram_study.specs.Findings.{AreFindings, CanBeWritten, HasTexts, IsFoundOf, other_side};
 ghost use Rattle.verdict_prose.specs.LastMoves.{EndsWithOneOf, WereLast};
 ghost use Rattle.position_report.specs.Held.{held_prose};
 ghost use Rattle.position_report.specs.LastMoves.{TellsLast, proved_steps};
 ghost use Rattle.position_report.specs.Lengths.{TellsGame, length_text};
-ghost use Rattle.position_report.specs.Proofs.{TellsProofs};
+ghost use Rattle.position_report.specs.Proofs.{TellsProofs, line_help};
 ghost use Rattle.position_report.specs.Reports.{IsPlainFound, IsReport, TellsFindings, TellsFound, TellsImpossible, verdicts_text};
 ghost use Rattle.position_report.specs.Sayings.{impossible_of, shown_of};
 ghost use Rattle.position_report.specs.Told.{HaveEnds};
 
-use crate::games::{push_first, push_length};
+use crate::games::{other_part, push_first, push_length};
 use crate::held::push_each_held;
 use crate::last_moves::push_last;
+use crate::line_help::push_line_help;
 use crate::parts::push_part;
 use crate::proofs::push_proofs;
 use crate::sayings::{impossible_of, shown_of};
@@ -99,6 +100,22 @@ fn proofs_part(alloc: Global, limits: Limits, all: &[Shown]) -> Result<Vec<u8>, 
     Ok(part)
 }
 
+/// How a proof of several last moves is to be had, if they are proved.
+fn line_part(
+    alloc: Global,
+    query: &Query,
+    limits: Limits,
+    found: &Found,
+) -> Result<Vec<u8>, AllocError>
+    requires plain { query.now.barred ≡ None }
+    requires texts { HasTexts found.now }
+    ensures { IfOk result (λ part. part.items ≡ line_help limits.depth limits.nodes query.now (proved_steps found.now.steps)) }
+{
+    let mut part = Vec::new(alloc);
+    push_line_help(alloc, query, limits, &found.steps, &mut part)?;
+    Ok(part)
+}
+
 /// How long games are at least, and a game that was found.
 fn games_part(
     alloc: Global,
@@ -106,11 +123,11 @@ fn games_part(
     found: &Found,
     games: &[MoveList],
 ) -> Result<Vec<u8>, AllocError>
-    ensures { IfOk result (λ part. (game : List ℕ) × TellsGame query.now games.now game × (part.items ≡ length_text query.now found.now.length ++ game)) }
+    ensures { IfOk result (λ part. (game : List ℕ) × TellsGame query.now [] games.now game × (part.items ≡ length_text query.now found.now.length ++ game)) }
 {
     let mut part = Vec::new(alloc);
     push_length(alloc, query, found.length, &mut part)?;
-    push_first(alloc, query, games, &mut part)?;
+    push_first(alloc, query, b"", games, &mut part)?;
     Ok(part)
 }
 
@@ -159,19 +176,22 @@ fn push_impossible(
     alloc: Global,
     query: &Query,
     limits: Limits,
+    games: &[MoveList],
     against: Finding,
     out: &mut Vec<u8>,
 ) -> Result<(), AllocError>
     requires plain { query.now.barred ≡ None }
     requires shown { Holds Illegal query.now }
     requires against { IsFound (other_side query.now) Illegal limits.depth limits.nodes against }
-    ensures { IfOk result (λ _. (own : List ℕ) × TellsImpossible query.now limits.depth limits.nodes against own × (out.new.items ≡ out.old.items ++ own)) }
+    ensures { IfOk result (λ _. (own : List ℕ) × TellsImpossible query.now limits.depth limits.nodes games.now against own × (out.new.items ≡ out.old.items ++ own)) }
 {
     let plain = find_plain(alloc, query, limits)?;
     let said = impossible_part(alloc, query, against, plain)?;
     let proofs = proofs_part(alloc, limits, &[illegal_shown(query)])?;
+    let game = other_part(alloc, query, against, plain, games)?;
     push_part(said.as_slice(), out)?;
-    push_part(proofs.as_slice(), out)
+    push_part(proofs.as_slice(), out)?;
+    push_part(game.as_slice(), out)
 }
 
 /// Adds those of a position that isn't proved to be illegal.
@@ -185,6 +205,7 @@ fn push_found(
 ) -> Result<(), AllocError>
     requires plain { query.now.barred ≡ None }
     requires found { AreFindings query.now limits.depth limits.nodes games.now found.now }
+    requires texts { HasTexts found.now }
     ensures { IfOk result (λ _. (own : List ℕ) × TellsFound query.now limits.depth limits.nodes games.now found.now own × (out.new.items ≡ out.old.items ++ own)) }
 {
     told_lines_hold();
@@ -195,12 +216,14 @@ fn push_found(
     let held = held_part(alloc, query, found)?;
     let shown = shown_claims(alloc, query, found)?;
     let proofs = proofs_part(alloc, limits, shown.as_slice())?;
+    let line = line_part(alloc, query, limits, found)?;
     let unsettled = open_part(alloc, query, found)?;
     let ends = games_part(alloc, query, found, games)?;
     push_part(said.as_slice(), out)?;
     push_part(ledger.as_slice(), out)?;
     push_part(held.as_slice(), out)?;
     push_part(proofs.as_slice(), out)?;
+    push_part(line.as_slice(), out)?;
     push_part(unsettled.as_slice(), out)?;
     push_part(ends.as_slice(), out)
 }
@@ -216,17 +239,21 @@ fn push_findings(
 ) -> Result<(), AllocError>
     requires plain { query.now.barred ≡ None }
     requires found { IsFoundOf query.now limits.depth limits.nodes games.now findings.now }
+    requires texts { CanBeWritten findings.now }
     ensures { IfOk result (λ _. (own : List ℕ) × TellsFindings query.now limits.depth limits.nodes games.now findings.now own × (out.new.items ≡ out.old.items ++ own)) }
 {
     match findings {
-        Findings::Impossible(_, against) => push_impossible(alloc, query, limits, *against, out),
+        Findings::Impossible(_, against) => {
+            push_impossible(alloc, query, limits, games, *against, out)
+        }
         Findings::Unproved(found) => push_found(alloc, query, limits, games, found, out),
     }
 }
 
 /// The report of the position, in parts with an empty line between them: the diagram and what is given; what is proved and what games show;
-/// the ledger in a paragraph; what it says besides if a right to castle is held; the proofs, numbered; what is open, and where the search
-/// gets stuck; and how long games are at least, with a game that was found. It says no more than `study` does within the same limits.
+/// the ledger in a paragraph; what it says besides if a right to castle is held; the proofs, numbered; how to get a proof of several last
+/// moves; what is open, and where the search gets stuck; and how long games are at least, with a game that was found. It says no more than
+/// `study` does within the same limits.
 pub fn report(alloc: Global, query: &Query, limits: Limits) -> Result<Vec<u8>, AllocError>
     requires { query.now.barred ≡ None }
     ensures { IfOk result (λ text. IsReport query.now limits.depth limits.nodes text.items) }

@@ -5,18 +5,26 @@ ghost use Rattle.std.specs.List.{flat_map, list_any};
 ghost use Rattle.position_report.specs.Shown.{illegal_shown, last_shown, other_shown, pair_shown, proves_passing, right_shown, shown_as, shown_claims};
 
 use crate::sayings::is_asked;
+use board_base::Castle;
 use codex_verdict::claim_of;
 use diagram_study::{Found, MoveFound, PairFound, RightFound, with_both};
 use query_base::{Claim, Query};
 use std::alloc::{AllocError, Global};
 
-/// A claim that is proved, the position that it is about, and whether its proof begins with the diagram and what is given, since that is
-/// another position than the report's.
+/// Two castlings of which at least one is lost.
+#[derive(Clone, Copy, Debug)]
+pub struct Pair {
+    pub first: Castle,
+    pub second: Castle,
+}
+
+/// A claim that is proved, and the position that it is about: the report's, or the same with two castlings demanded besides, of which the
+/// proof shows that at least one is lost. Such a proof begins with that, the diagram and what is given.
 #[derive(Clone, Copy, Debug)]
 pub struct Shown {
     pub claim: Claim,
     pub query: Query,
-    pub drawn: bool,
+    pub pair: Option<Pair>,
 }
 
 /// That no game leads to the position.
@@ -26,18 +34,23 @@ pub(crate) fn illegal_shown(query: &Query) -> Shown
     Shown {
         claim: Claim::Illegal,
         query: *query,
-        drawn: false,
+        pair: None,
     }
 }
 
 /// Adds a claim about the position.
-fn add(claim: Claim, query: &Query, drawn: bool, all: &mut Vec<Shown>) -> Result<(), AllocError>
-    ensures { IfOk result (λ _. all.new.items ≡ all.old.items ++ shown_as claim query.now drawn ∷ []) }
+fn add(
+    claim: Claim,
+    query: &Query,
+    pair: Option<Pair>,
+    all: &mut Vec<Shown>,
+) -> Result<(), AllocError>
+    ensures { IfOk result (λ _. all.new.items ≡ all.old.items ++ shown_as claim query.now pair ∷ []) }
 {
     all.push(Shown {
         claim,
         query: *query,
-        drawn,
+        pair,
     })?;
     Ok(())
 }
@@ -49,7 +62,7 @@ fn add_right(query: &Query, found: &RightFound, all: &mut Vec<Shown>) -> Result<
     if !found.finding.is_proved() {
         return Ok(());
     }
-    add(claim_of(&found.right), query, false, all)
+    add(claim_of(&found.right), query, None, all)
 }
 
 /// Adds those of all rights.
@@ -70,7 +83,11 @@ fn add_pair(query: &Query, pair: &PairFound, all: &mut Vec<Shown>) -> Result<(),
         return Ok(());
     }
     let both = with_both(query, pair.first, pair.second);
-    add(Claim::Illegal, &both, true, all)
+    let castlings = Pair {
+        first: pair.first,
+        second: pair.second,
+    };
+    add(Claim::Illegal, &both, Some(castlings), all)
 }
 
 /// Adds the same of each two.
@@ -93,7 +110,7 @@ fn add_last(query: &Query, last: &Option<MoveFound>, all: &mut Vec<Shown>) -> Re
     if !found.finding.is_proved() {
         return Ok(());
     }
-    add(Claim::Last(found.mv), query, false, all)
+    add(Claim::Last(found.mv), query, None, all)
 }
 
 /// Whether it is proved that a capture en passant is legal.

@@ -1,19 +1,20 @@
 //! What is open, and where the search gets stuck.
 
-ghost use Rattle.std.specs.Prelude.{◌≡◌, ◌++◌, IfOk, IfSome, None};
+ghost use Rattle.std.specs.Prelude.{◌≡◌, ◌∷◌, ◌++◌, [], IfOk, IfSome, None};
 ghost use Rattle.std.specs.List.{All, flat_map};
 ghost use Rattle.query_base.specs.Targets.{target};
 ghost use Rattle.line_claims.specs.Due.{with_both};
 ghost use Rattle.line_claims.specs.Listing.{AreListed};
 ghost use Rattle.unmove_gen.specs.Predecessor.{left_by};
 ghost use Rattle.codex_verdict.specs.Rights.{claim_of};
-ghost use Rattle.position_report.specs.Open.{all_open, front_text, open_illegal, open_pair, open_right, open_text, stuck_text};
+ghost use Rattle.position_report.specs.Open.{all_open, front_text, if_open, is_lost, open_as, open_illegal, open_pair, open_right, stuck_text};
+ghost use Rattle.position_report.specs.Told.{AreTold};
 
+use crate::runs::{Run, push_run, push_run_before, run_behind};
 use board_base::{Unmove, UnmoveList};
 use codex_verdict::claim_of;
 use diagram_study::{Finding, Found, PairFound, RightFound, is_open, with_both};
 use proof_prose::draw;
-use prose_words::say;
 use query_base::{Claim, Query, target};
 use std::alloc::{AllocError, Global};
 use unmove_gen::pred;
@@ -41,7 +42,7 @@ fn steps_of(alloc: Global, front: &UnmoveList) -> Result<Vec<Unmove>, AllocError
     Ok(steps)
 }
 
-/// Adds with which moves a line ends that stays open, and what was before them.
+/// Adds with which moves a line ends that stays open, and what was before them, if there are any.
 fn push_front(
     alloc: Global,
     query: &Query,
@@ -52,7 +53,7 @@ fn push_front(
     ensures { IfOk result (λ _. out.new.items ≡ out.old.items ++ front_text query.now steps.now) }
 {
     match steps {
-        [] => say(b"The search for a proof gets lost in quiet moves.\n", out),
+        [] => Ok(()),
         [_, ..] => {
             tell_open_line(alloc, query, steps, out)?;
             draw(alloc, &before_all(query, steps), out)
@@ -79,7 +80,37 @@ fn push_stuck(
     }
 }
 
-/// Adds a claim that isn't settled, and where the search gets stuck at its target.
+/// Whether the search gets lost in quiet moves: it gets stuck, and no line is shown.
+fn is_lost(stuck: &Option<UnmoveList>) -> bool
+    ensures { result ≡ is_lost stuck.now }
+{
+    match stuck {
+        None => false,
+        Some(front) => front.len() == 0,
+    }
+}
+
+/// Adds a claim behind a run: that it isn't settled, and where the search gets stuck at its target. The run behind it.
+fn push_claim(
+    alloc: Global,
+    query: &Query,
+    said: &Verdict,
+    at_target: &Query,
+    stuck: &Option<UnmoveList>,
+    run: Run,
+    out: &mut Vec<u8>,
+) -> Result<Run, AllocError>
+    requires { IfSome stuck.now (AreListed at_target.now) }
+    ensures { IfOk result (λ behind. AreTold query.now (open_as said.now at_target.now stuck.now ∷ []) run behind out.old.items out.new.items) }
+{
+    let lost = is_lost(stuck);
+    push_run_before(lost, run, out)?;
+    tell_verdict(alloc, query, said, out)?;
+    push_stuck(alloc, at_target, stuck, out)?;
+    Ok(run_behind(lost, run))
+}
+
+/// Adds the same, if it isn't settled.
 fn push_open(
     alloc: Global,
     query: &Query,
@@ -87,44 +118,43 @@ fn push_open(
     at_target: &Query,
     finding: Finding,
     stuck: &Option<UnmoveList>,
+    run: Run,
     out: &mut Vec<u8>,
-) -> Result<(), AllocError>
+) -> Result<Run, AllocError>
     requires { IfSome stuck.now (AreListed at_target.now) }
-    ensures { IfOk result (λ _. out.new.items ≡ out.old.items ++ open_text query.now said.now at_target.now finding stuck.now) }
+    ensures { IfOk result (λ behind. AreTold query.now (if_open finding (open_as said.now at_target.now stuck.now)) run behind out.old.items out.new.items) }
 {
     if !is_open(finding) {
-        return Ok(());
+        return Ok(run);
     }
-    tell_verdict(alloc, query, said, out)?;
-    push_stuck(alloc, at_target, stuck, out)
+    push_claim(alloc, query, said, at_target, stuck, run, out)
 }
 
-/// Adds whether the position is illegal, if that isn't settled.
+/// Adds whether the position is illegal, if that isn't settled. The run behind it.
 fn push_illegal(
     alloc: Global,
     query: &Query,
     finding: Finding,
+    run: Run,
     out: &mut Vec<u8>,
-) -> Result<(), AllocError>
-    ensures { IfOk result (λ _. out.new.items ≡ out.old.items ++ open_illegal query.now finding) }
+) -> Result<Run, AllocError>
+    ensures { IfOk result (λ behind. AreTold query.now (open_illegal query.now finding) run behind out.old.items out.new.items) }
 {
-    if is_open(finding) {
-        tell_verdict(alloc, query, &Verdict::Unsettled(Claim::Illegal), out)
-    } else {
-        Ok(())
-    }
+    let said = Verdict::Unsettled(Claim::Illegal);
+    push_open(alloc, query, &said, query, finding, &None, run, out)
 }
 
-/// Adds a right that isn't settled.
+/// Adds a right that isn't settled. The run behind it.
 fn push_right(
     alloc: Global,
     query: &Query,
     found: &RightFound,
+    run: Run,
     out: &mut Vec<u8>,
-) -> Result<(), AllocError>
+) -> Result<Run, AllocError>
     requires plain { query.now.barred ≡ None }
     requires listed { IfSome found.now.stuck (AreListed (target query.now (claim_of found.now.right))) }
-    ensures { IfOk result (λ _. out.new.items ≡ out.old.items ++ open_right query.now found.now) }
+    ensures { IfOk result (λ behind. AreTold query.now (open_right query.now found.now) run behind out.old.items out.new.items) }
 {
     let claim = claim_of(&found.right);
     let at_target = target(query, &claim);
@@ -135,36 +165,40 @@ fn push_right(
         &at_target,
         found.finding,
         &found.stuck,
+        run,
         out,
     )
 }
 
-/// Adds the rights that aren't settled.
+/// Adds the rights that aren't settled. The run behind them.
 fn push_rights(
     alloc: Global,
     query: &Query,
     rights: &[RightFound],
+    before: Run,
     out: &mut Vec<u8>,
-) -> Result<(), AllocError>
+) -> Result<Run, AllocError>
     requires plain { query.now.barred ≡ None }
     requires listed { All (λ f. IfSome f.stuck (AreListed (target query.now (claim_of f.right)))) rights.now }
-    ensures { IfOk result (λ _. out.new.items ≡ out.old.items ++ flat_map (open_right query.now) rights.now) }
+    ensures { IfOk result (λ behind. AreTold query.now (flat_map (open_right query.now) rights.now) before behind out.old.items out.new.items) }
 {
+    let mut run = before;
     for f in rights {
-        push_right(alloc, query, f, out)?;
+        run = push_right(alloc, query, f, run, out)?;
     }
-    Ok(())
+    Ok(run)
 }
 
-/// Adds two castlings of which it isn't settled whether both can be kept.
+/// Adds two castlings of which it isn't settled whether both can be kept. The run behind them.
 fn push_pair(
     alloc: Global,
     query: &Query,
     pair: &PairFound,
+    run: Run,
     out: &mut Vec<u8>,
-) -> Result<(), AllocError>
+) -> Result<Run, AllocError>
     requires { IfSome pair.now.stuck (AreListed (with_both query.now pair.now.first pair.now.second)) }
-    ensures { IfOk result (λ _. out.new.items ≡ out.old.items ++ open_pair query.now pair.now) }
+    ensures { IfOk result (λ behind. AreTold query.now (open_pair query.now pair.now) run behind out.old.items out.new.items) }
 {
     let both = with_both(query, pair.first, pair.second);
     push_open(
@@ -174,24 +208,27 @@ fn push_pair(
         &both,
         pair.finding,
         &pair.stuck,
+        run,
         out,
     )
 }
 
-/// Adds those of each two.
+/// Adds those of each two. The run behind them.
 fn push_pairs(
     alloc: Global,
     query: &Query,
     pairs: &[PairFound],
+    before: Run,
     out: &mut Vec<u8>,
-) -> Result<(), AllocError>
+) -> Result<Run, AllocError>
     requires { All (λ f. IfSome f.stuck (AreListed (with_both query.now f.first f.second))) pairs.now }
-    ensures { IfOk result (λ _. out.new.items ≡ out.old.items ++ flat_map (open_pair query.now) pairs.now) }
+    ensures { IfOk result (λ behind. AreTold query.now (flat_map (open_pair query.now) pairs.now) before behind out.old.items out.new.items) }
 {
+    let mut run = before;
     for f in pairs {
-        push_pair(alloc, query, f, out)?;
+        run = push_pair(alloc, query, f, run, out)?;
     }
-    Ok(())
+    Ok(run)
 }
 
 /// What isn't settled, in the order of a study.
@@ -202,8 +239,9 @@ pub(crate) fn open_part(alloc: Global, query: &Query, found: &Found) -> Result<V
     ensures { IfOk result (λ part. part.items ≡ all_open query.now found.now) }
 {
     let mut part = Vec::new(alloc);
-    push_illegal(alloc, query, found.illegal.finding, &mut part)?;
-    push_rights(alloc, query, found.rights.as_slice(), &mut part)?;
-    push_pairs(alloc, query, found.pairs.as_slice(), &mut part)?;
+    let first = push_illegal(alloc, query, found.illegal.finding, Run::Empty, &mut part)?;
+    let second = push_rights(alloc, query, found.rights.as_slice(), first, &mut part)?;
+    let last = push_pairs(alloc, query, found.pairs.as_slice(), second, &mut part)?;
+    push_run(last, &mut part)?;
     Ok(part)
 }

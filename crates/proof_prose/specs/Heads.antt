@@ -1,10 +1,10 @@
 -- The diagram, the claim and what is supposed.
-use Rattle.std.specs.Prelude.{ℕ, ◌+◌, ◌*◌, ◌==◌, Bool, cond, ◌||◌, not, List, [], ◌∷◌, ◌++◌, codes, length, Option, Some, None, is_some}
+use Rattle.std.specs.Prelude.{ℕ, ◌+◌, ◌*◌, ◌==◌, Bool, cond, ◌||◌, ◌&&◌, not, List, [], ◌∷◌, ◌++◌, codes, length, Option, Some, None, is_some}
 use Rattle.std.specs.List.{flat_map, range_with_len}
 use Rattle.std.specs.Fmt.{decimal}
 use Rattle.board_base.specs.Board.{Places, at, is_in}
 use Rattle.board_base.specs.declared.castles.Castle.TheVariants.{WhiteShort, WhiteLong, BlackShort, BlackLong}
-use Rattle.board_base.specs.Play.{double_of, side}
+use Rattle.board_base.specs.Play.{double_of, king_home, rook_home, side}
 use Rattle.board_base.specs.Rights.{holds}
 use Rattle.board_base.specs.Texts.{square_text}
 use Rattle.board_base.specs.declared.men.Colour.{Colour}
@@ -90,10 +90,24 @@ right_words x = codes "It is given that " ++ unmoved_words x ++ ended (codes "."
 abbrev pub right_given : Bool → Castle → List ℕ
 right_given given x = cond given (right_words x) []
 
+-- that both rights to castle of a side are given, whose king and rooks stood on these squares
+unfoldable pub both_stayed : ℕ → ℕ → ℕ → List ℕ
+both_stayed king long short =
+    codes "It is given that the king of " ++ square_text king ++ codes " and the rooks of " ++ square_text long ++ codes " and " ++ square_text short ++ ended (codes " never moved, and neither rook was taken.")
+
+-- that both rights to castle of a side are given
+abbrev pub both_words : Castle → Castle → List ℕ
+both_words short long = both_stayed (king_home short) (rook_home long) (rook_home short)
+
+-- what is given of two rights to castle of one side: both in one sentence, or one
+abbrev pub both_given : Bool → Bool → Castle → Castle → List ℕ
+both_given has_short has_long short long =
+    cond (has_short && has_long) (both_words short long) (right_given has_short short ++ right_given has_long long)
+
 -- what is given beside the diagram
 abbrev pub givens_text : Asked → List ℕ
 givens_text q =
-    odds_given q.odds ++ clock_given q.clock ++ only_given q.only ++ right_given (holds q.held WhiteShort) WhiteShort ++ right_given (holds q.held WhiteLong) WhiteLong ++ right_given (holds q.held BlackShort) BlackShort ++ right_given (holds q.held BlackLong) BlackLong
+    odds_given q.odds ++ clock_given q.clock ++ only_given q.only ++ both_given (holds q.held WhiteShort) (holds q.held WhiteLong) WhiteShort WhiteLong ++ both_given (holds q.held BlackShort) (holds q.held BlackLong) BlackShort BlackLong
 
 -- some castling is held
 abbrev pub has_rights : Asked → Bool

@@ -1,13 +1,15 @@
 //! The diagram, the claim and what is supposed.
 
 ghost use Rattle.std.specs.Prelude.{◌≡◌, ◌++◌, ◌<◌, ◌||◌, IfOk, codes, cond, not};
-ghost use Rattle.proof_prose.specs.Heads.{claim_words, clock_given, clock_words, closing_text, diagram_text, drawn_text, given_words, givens_text, going_words, has_givens, has_rights, kept_words, last_words, left_out, legal_words, lost_words, lower_text, move_words, not_words, odds_given, odds_line, odds_words, only_given, other_words, place_text, promotion_words, rank_line, rank_text, reached_words, right_given, right_words, supposed_words, supposition_text, upper_text};
+ghost use Rattle.proof_prose.specs.Heads.{both_given, both_stayed, both_words, claim_words, clock_given, clock_words, closing_text, diagram_text, drawn_text, given_words, givens_text, going_words, has_givens, has_rights, kept_words, last_words, left_out, legal_words, lost_words, lower_text, move_words, not_words, odds_given, odds_line, odds_words, only_given, other_words, place_text, promotion_words, rank_line, rank_text, reached_words, right_given, right_words, supposed_words, supposition_text, upper_text};
 ghost use Rattle.proof_sentences.specs.Phrases.{unmoved_words};
 ghost use Rattle.board_base.specs.Board.{at};
+ghost use Rattle.board_base.specs.Rights.{holds};
 ghost use Rattle.fen_text.specs.OddsLines.{is_no_odds};
 ghost use Rattle.prose_words.specs.Words.{kind_word, squares_words};
 
-use board_base::{Board, Castle, Colour, Kind, Man, Move, Odds, Square};
+use board_base::{Board, Castle, CastleSet, Colour, Kind, Man, Move, Odds, Square};
+use castle_history::home;
 use ep_history::{double_of, ep_fits};
 use proof_sentences::{push_either, push_unmoved, set_squares};
 use proof_story::{mover_initial, push_became, push_wrapped};
@@ -191,6 +193,65 @@ fn push_right(given: bool, castle: Castle, out: &mut Vec<u8>) -> Result<(), Allo
     }
 }
 
+/// That both rights to castle of a side are given, whose king and rooks stood on these squares.
+#[tactic(auto, unfolding(crate::specs::Heads::both_stayed))]
+fn push_both_stayed(
+    king: Square,
+    long: Square,
+    short: Square,
+    out: &mut Vec<u8>,
+) -> Result<(), AllocError>
+    ensures { IfOk result (λ _. out.new.items ≡ out.old.items ++ both_stayed king long short) }
+{
+    say(b"It is given that the king of ", out)?;
+    push_square(king, out)?;
+    say(b" and the rooks of ", out)?;
+    push_square(long, out)?;
+    say(b" and ", out)?;
+    push_square(short, out)?;
+    say(b" never moved, and neither rook was taken.\n", out)?;
+    Ok(())
+}
+
+/// That both rights to castle of a side are given.
+fn push_both_words(short: Castle, long: Castle, out: &mut Vec<u8>) -> Result<(), AllocError>
+    ensures { IfOk result (λ _. out.new.items ≡ out.old.items ++ both_words short long) }
+{
+    let (king, near) = home(short);
+    let (_, far) = home(long);
+    push_both_stayed(king, far, near, out)
+}
+
+/// What is given of two rights to castle of one side.
+fn push_both(
+    has_short: bool,
+    has_long: bool,
+    short: Castle,
+    long: Castle,
+    out: &mut Vec<u8>,
+) -> Result<(), AllocError>
+    ensures { IfOk result (λ _. out.new.items ≡ out.old.items ++ both_given has_short has_long short long) }
+{
+    if has_short && has_long {
+        return push_both_words(short, long, out);
+    }
+    push_right(has_short, short, out)?;
+    push_right(has_long, long, out)?;
+    Ok(())
+}
+
+/// What is given of the two rights to castle of one side, of those that are held.
+fn push_rights(
+    held: CastleSet,
+    short: Castle,
+    long: Castle,
+    out: &mut Vec<u8>,
+) -> Result<(), AllocError>
+    ensures { IfOk result (λ _. out.new.items ≡ out.old.items ++ both_given (holds held short) (holds held long) short long) }
+{
+    push_both(held.has(short), held.has(long), short, long, out)
+}
+
 /// What is given beside the diagram.
 fn push_givens(alloc: Global, query: &Query, out: &mut Vec<u8>) -> Result<(), AllocError>
     ensures { IfOk result (λ _. out.new.items ≡ out.old.items ++ givens_text query.now) }
@@ -198,10 +259,8 @@ fn push_givens(alloc: Global, query: &Query, out: &mut Vec<u8>) -> Result<(), Al
     push_odds(alloc, query.odds, out)?;
     push_clock(query.clock, out)?;
     push_only(&query.only, out)?;
-    push_right(query.held.has(Castle::WhiteShort), Castle::WhiteShort, out)?;
-    push_right(query.held.has(Castle::WhiteLong), Castle::WhiteLong, out)?;
-    push_right(query.held.has(Castle::BlackShort), Castle::BlackShort, out)?;
-    push_right(query.held.has(Castle::BlackLong), Castle::BlackLong, out)?;
+    push_rights(query.held, Castle::WhiteShort, Castle::WhiteLong, out)?;
+    push_rights(query.held, Castle::BlackShort, Castle::BlackLong, out)?;
     Ok(())
 }
 

@@ -1,5 +1,5 @@
 -- When what a sentence says of a position is so.
-use Rattle.std.specs.Prelude.{ℕ, ◌≤◌, List, length, None}
+use Rattle.std.specs.Prelude.{◌≤◌, List, length, None}
 use Rattle.board_base.specs.Board.{opponent}
 use Rattle.board_base.specs.Rights.{no_rights}
 use Rattle.board_base.specs.declared.moves.Move.{Move}

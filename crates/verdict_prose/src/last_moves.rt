@@ -1,6 +1,6 @@
 //! Which the last moves were, or can have been.
 
-ghost use Rattle.std.specs.Prelude.{◌≡◌, ◌++◌, IfOk, codes, true};
+ghost use Rattle.std.specs.Prelude.{◌≡◌, ◌++◌, IfOk, true};
 ghost use Rattle.verdict_prose.specs.Moves.{all_left_words, choice_from, choice_sign, each_words, ends_text, ends_words, last_text, last_words, left_text, left_words, line_text, moves_words, open_line_text, open_line_words, remain_word, some_left_words, some_words, were_words};
 
 use crate::steps::{push_played, push_step};

@@ -1,5 +1,6 @@
 //! What a study says of a position, in sentences: what is proved, what a game shows, what stays open, which the last moves were, and how
-//! long games are.
+//! long games are. The words may be changed freely, here and in the definitions of `Sentences.antt` and `Moves.antt`; what they say of
+//! games stands apart from them, in `Verdicts.antt` and `LastMoves.antt`.
 #![tactic(auto)]
 
 mod claims;

@@ -12,9 +12,9 @@ pub returns-then-not-leads_here : goal.returns-then-not-leads_here
 returns-then-not-leads_here t c =
     let same = c.as_slice.ensures.value ∙ c.in_ok-moves-in-len1-up.ensures in
     on_ok_weaker c.push_first.result
-    (λ w. games-later c.args.query.now c.args.games.now c.game-item.result _ _ c.in-len1-up.len_at_least c.game-item.is
+    (λ w. games-later c.args.query.now c.args.whose.now c.args.games.now c.game-item.result _ _ c.in-len1-up.len_at_least c.game-item.is
     (λ here. both_ways _ c.if-not-leads_here.true (c.leads_here.ensures.1 (subst (λ (g : List Move). LeadsHere g c.args.query.now) (sym same) here)))
-    (w.0, subst (λ (gs : List (List Move)). TellsGame c.args.query.now gs w.0) (behind-first c.args.games.now) w.1, w.2))
+    (w.0, subst (λ (gs : List (List Move)). TellsGame c.args.query.now c.args.whose.now gs w.0) (behind-first c.args.games.now) w.1, w.2))
     c.push_first.ensures
 
 pub returns-in_ok-text-in-len1-up : goal.returns-in_ok-text-in-len1-up
@@ -24,5 +24,5 @@ returns-in_ok-text-in-len1-up t c =
     let same_again = c.as_slice-in-len1-up.ensures.value ∙ c.in_ok-moves-in-len1-up.ensures in
     let told = subst (Tells c.args.query.now.odds c.in_ok-text-in-len1-up.text.items) same_again c.in_ok-text-in-len1-up.ensures in
     on_ok_weaker c.push_game.result
-    (λ e. games-first c.args.query.now c.args.games.now c.game-item.result c.in_ok-text-in-len1-up.text.items _ _ c.in-len1-up.len_at_least c.game-item.is here told (rw c.as_slice-in-len1-up-2.ensures.value at e))
+    (λ e. games-first c.args.query.now c.args.whose.now c.args.games.now c.game-item.result c.in_ok-text-in-len1-up.text.items _ _ c.in-len1-up.len_at_least c.game-item.is here told (rw c.as_slice-in-len1-up-2.ensures.value at e))
     c.push_game.ensures

@@ -9,5 +9,5 @@ words_of-requires c = c.requires.proof.proves
 pub returns : goal.returns
 returns c =
     on_ok_weaker c.push_check.result
-    (proof-told c.args.limits.depth c.args.limits.nodes c.args.number c.args.shown.now (cert_of c.args.cert.now) c.args.out.now.items _ _ _ c.in_ok-text.text.items c.requires.proof c.in_ok-text.ensures c.in_ok-push_title.ensures (rw c.as_slice.ensures.value at c.in_ok-say.ensures))
+    (proof-told c.args.limits.depth c.args.limits.nodes c.args.number c.args.shown.now (cert_of c.args.cert.now) c.args.out.now.items _ _ _ _ c.in_ok-text.text.items c.requires.proof (rw c.is_some.ensures at c.in_ok-text.ensures) c.in_ok-push_title.ensures c.in_ok-push_aim.ensures (rw c.as_slice.ensures.value at c.in_ok-say.ensures))
     c.push_check.ensures

@@ -1,7 +1,6 @@
 use Rattle.std.proofs.Common.{List, ℕ, ◌++◌, ap, ◌∙◌}
 use Rattle.verdict_prose.specs.declared.verdicts.Verdict.{Verdict}
 use Rattle.position_report.specs.Reports.{verdicts_text}
-use Rattle.position_report.specs.Sayings.{impossible_of}
 use Rattle.position_report.proofs.reporting.impossible_part.Goals as goal
 
 pub returns : goal.returns

@@ -11,7 +11,7 @@ proofs_part-requires c = subst (λ (s : Shown). All IsPlain (s ∷ [])) (sym c.i
 
 pub returns : goal.returns
 returns c =
-    on_ok_weaker c.push_part-2.result
-    (λ e. impossible-told c.args.query.now c.args.limits.depth c.args.limits.nodes c.args.against c.in_ok-plain.plain c.args.out.now.items _ _ c.in_ok-said.said.items c.in_ok-proofs.proofs.items c.requires.shown c.requires.against c.in_ok-plain.ensures c.in_ok-said.ensures (rw c.illegal_shown.ensures at c.in_ok-proofs.ensures)
-    (rw c.as_slice.ensures.value at c.in_ok-push_part.ensures) (rw c.as_slice-2.ensures.value at e))
-    c.push_part-2.ensures
+    on_ok_weaker c.push_part-3.result
+    (λ e. impossible-told c.args.query.now c.args.limits.depth c.args.limits.nodes c.args.games.now c.args.against c.in_ok-plain.plain c.args.out.now.items _ _ _ c.in_ok-said.said.items c.in_ok-proofs.proofs.items c.in_ok-game.game.items c.requires.shown c.requires.against c.in_ok-plain.ensures c.in_ok-said.ensures (rw c.illegal_shown.ensures at c.in_ok-proofs.ensures) c.in_ok-game.ensures
+    (rw c.as_slice.ensures.value at c.in_ok-push_part.ensures) (rw c.as_slice-2.ensures.value at c.in_ok-push_part-2.ensures) (rw c.as_slice-3.ensures.value at e))
+    c.push_part-3.ensures

@@ -1,7 +1,8 @@
-use Rattle.std.proofs.Common.{◌≡◌, ◌++◌, take}
+use Rattle.std.proofs.Common.{take}
 use Rattle.std.specs.List.{flat_map}
 use Rattle.position_report.specs.Open.{open_pair}
+use Rattle.position_report.specs.Told.{AreTold}
 use Rattle.position_report.proofs.unsettled.push_pairs.Given as goal
 
 abbrev pub invariant-loop-f : goal.invariant-loop-f
-invariant-loop-f l = l.out.items ≡ l.fn.out.items ++ flat_map (open_pair l.query) (take l.f-index l.pairs)
+invariant-loop-f l = AreTold l.query (flat_map (open_pair l.query) (take l.f-index l.pairs)) l.fn.before l.run l.fn.out.items l.out.items
