@@ -9,7 +9,7 @@ complete -c retractor -n __fish_is_first_token -a unmoves -d 'each move that may
 complete -c retractor -n __fish_is_first_token -a study -d 'all that is proved of the position, a fact a line'
 complete -c retractor -n __fish_is_first_token -a report -d 'the same in sentences, with the ledger and the proofs'
 complete -c retractor -n __fish_is_first_token -a solve -d 'a certificate of the claim, or a game against it'
-complete -c retractor -n __fish_is_first_token -a settle -d 'the same, by the balance of captures too'
+complete -c retractor -n __fish_is_first_token -a settle -d 'the same, with all reasons and a search for games'
 complete -c retractor -n __fish_is_first_token -a verdict -d 'what the conventions say of castling and en passant'
 complete -c retractor -n __fish_is_first_token -a tree -d 'the moves that may lead to the position, as a tree'
 complete -c retractor -n __fish_is_first_token -a length -d 'how many half-moves each game to the position has at least'

@@ -11,7 +11,7 @@ use Rattle.hint_texts.specs.declared.advice.FenAdvice.{FenAdvice}
 use Rattle.hint_texts.specs.declared.advice.LineAdvice.{LineAdvice}
 use Rattle.hint_texts.specs.declared.advice.LineAdvice.TheVariants.{Empty}
 use Rattle.hint_texts.specs.declared.advice.TextAdvice.{TextAdvice}
-use Rattle.hint_texts.specs.declared.advice.TextAdvice.TheVariants.{Dossier, Length, Claim, ClaimToExplain, CarriageReturns, ReturnsToExplain, PositionToExplain}
+use Rattle.hint_texts.specs.declared.advice.TextAdvice.TheVariants.{Dossier, Length, Claim, NoProof, ClaimToExplain, CarriageReturns, ReturnsToExplain, PositionToExplain}
 use Rattle.hint_texts.specs.declared.advice.WordAdvice.{WordAdvice}
 use Rattle.hint_texts.specs.declared.advice.WordAdvice.TheVariants.{StandsAlone, NoCommand, NearestCommand}
 
@@ -55,11 +55,16 @@ HasReturns input = Says input (codes "retro 1" ++ 13 ∷ 10 ∷ []) ⊎ Says inp
 abbrev pub HasProofReturns : List ℕ → Type 0
 HasProofReturns input = HasReturns input ⊎ Says input (codes "retro line 1" ++ 13 ∷ 10 ∷ []) ⊎ Says input (codes "retro length 1" ++ 13 ∷ 10 ∷ [])
 
+-- the input begins with the word of a search that found no proof
+abbrev pub IsWithoutProof : List ℕ → Type 0
+IsWithoutProof input = Says input (codes "countered") ⊎ Says input (codes "undecided") ⊎ Says input (codes "spent ")
+
 -- The input begins as the text that the advice takes it for; of a position this isn't said.
 abbrev pub TellsText : TextAdvice → List ℕ → Type 0
 TellsText Dossier input = Says input (codes "retro line")
 TellsText Length input = Says input (codes "retro length")
 TellsText Claim input = Says input (codes "claim ")
+TellsText NoProof input = IsWithoutProof input
 TellsText ClaimToExplain input = Says input (codes "claim ")
 TellsText CarriageReturns input = HasReturns input
 TellsText ReturnsToExplain input = HasProofReturns input

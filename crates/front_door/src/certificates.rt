@@ -1,7 +1,7 @@
 //! What was given to `check` that is no certificate, or to `explain` that is no proof.
 
 ghost use Rattle.std.specs.Prelude.{IfSome, IsTrue};
-ghost use Rattle.front_door.specs.Hints.{HasProofReturns, HasReturns, TellsText};
+ghost use Rattle.front_door.specs.Hints.{HasProofReturns, HasReturns, IsWithoutProof, TellsText};
 
 use hint_texts::TextAdvice;
 use question_text::read_lone_question;
@@ -22,6 +22,15 @@ fn has_proof_returns(input: &[u8]) -> bool
         || input.starts_with(b"retro length 1\r\n")
 }
 
+/// The line is that of a search that found no proof.
+fn is_without_proof(input: &[u8]) -> bool
+    ensures { IsTrue result → IsWithoutProof input.now }
+{
+    input.starts_with(b"countered")
+        || input.starts_with(b"undecided")
+        || input.starts_with(b"spent ")
+}
+
 /// The input is the lines of a position alone, none of which is long.
 fn is_position(input: &[u8]) -> bool {
     let front = &input[..input.len().min(1_024)];
@@ -38,6 +47,8 @@ fn advise_check(input: &[u8]) -> Option<TextAdvice>
         Some(TextAdvice::Length)
     } else if input.starts_with(b"claim ") {
         Some(TextAdvice::Claim)
+    } else if is_without_proof(input) {
+        Some(TextAdvice::NoProof)
     } else if has_returns(input) {
         Some(TextAdvice::CarriageReturns)
     } else {
@@ -51,6 +62,8 @@ fn advise_explain(input: &[u8]) -> Option<TextAdvice>
 {
     if input.starts_with(b"claim ") {
         Some(TextAdvice::ClaimToExplain)
+    } else if is_without_proof(input) {
+        Some(TextAdvice::NoProof)
     } else if has_proof_returns(input) {
         Some(TextAdvice::ReturnsToExplain)
     } else if is_position(input) {

@@ -395,7 +395,7 @@ const GAMES: [(&str, &[u8], MoveAdvice); 16] = [
 ];
 
 /// What isn't a certificate, and what `check` and `explain` say of it.
-const TEXTS: [(&[u8], Option<TextAdvice>, TextAdvice); 6] = [
+const TEXTS: [(&[u8], Option<TextAdvice>, TextAdvice); 8] = [
     (
         b"retro line 1\r\nclaim notboth K Q\r\n",
         Some(TextAdvice::Dossier),
@@ -410,6 +410,16 @@ const TEXTS: [(&[u8], Option<TextAdvice>, TextAdvice); 6] = [
         b"claim illegal\n4k3/8/8/8/8/8/8/4K3 w - -",
         Some(TextAdvice::Claim),
         TextAdvice::ClaimToExplain,
+    ),
+    (
+        b"countered f3g1 h8g8\n",
+        Some(TextAdvice::NoProof),
+        TextAdvice::NoProof,
+    ),
+    (
+        b"undecided\n",
+        Some(TextAdvice::NoProof),
+        TextAdvice::NoProof,
     ),
     (
         b"retro 1\r\nclaim illegal\r\n",

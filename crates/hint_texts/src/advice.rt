@@ -28,7 +28,7 @@ impl WordAdvice {
             WordAdvice::NotUtf8 => "a word isn't UTF-8",
             WordAdvice::StandsAlone => "`--help` and `--version` stand alone",
             WordAdvice::ComesByInput => {
-                "positions, claims and files aren't words: the input comes by `<` or a pipe"
+                "a position, a claim or a file isn't given as a word: the input comes by `<` or a pipe"
             }
             WordAdvice::NoCommand => "there is no such command; `retractor --help` lists them",
             WordAdvice::NearestCommand => "there is no such command; the nearest is",
@@ -209,6 +209,7 @@ pub enum TextAdvice {
     Dossier,
     Length,
     Claim,
+    NoProof,
     CarriageReturns,
     ClaimToExplain,
     PositionToExplain,
@@ -224,6 +225,9 @@ impl TextAdvice {
             TextAdvice::Length => "this is the text of a length, which `retractor atleast` checks",
             TextAdvice::Claim => {
                 "this is a claim and a position; `retractor settle` searches for a certificate of it, or for a game against it"
+            }
+            TextAdvice::NoProof => {
+                "this is no proof: `countered` and a game that contradicts the claim, or how far a search came that found neither"
             }
             TextAdvice::CarriageReturns => {
                 "the lines end with \\r\\n, those of a certificate with \\n alone: `tr -d '\\r' < FILE | retractor check`"

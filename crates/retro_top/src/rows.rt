@@ -188,7 +188,7 @@ pub const ROWS: [Row; 17] = [
         calls: Calls::Search(Search::Settle, Some(USUAL_SETTLE)),
         input: InputKind::Claim,
         line: "settle [DEPTH NODES] < CLAIM-AND-FEN",
-        answer: "the same, by the balance of captures too",
+        answer: "the same, with all reasons and a search for games",
     },
     Row {
         name: "verdict",
