@@ -80,7 +80,7 @@ fn from_pawn(man: Man, home: Square, s: Square) -> u8
     }
 }
 
-/// The moves of a man on a square who began on a home if this man stood; 64 if he can't have begun there.
+/// The moves of a man on a square who began on a home where this man stood; 64 if he can't have begun there.
 fn cost_from(first: Option<Man>, man: Man, s: Square, home: Square) -> u8
     ensures value { result ≡ cost_from first man s home }
     ensures small { result ≤ 64 }

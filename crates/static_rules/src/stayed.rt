@@ -130,7 +130,7 @@ fn with_home(
     }
 }
 
-/// How many officers of the side on the first board don't stand on their homes, if no enemy pawn can have captured them.
+/// How many officers of the side on the first board don't stand on their homes and can't have been captured by an enemy pawn.
 fn may_be_spent_of(first: &Board, board: &Board, set: SquareSet, side: Colour) -> u8
     ensures number { result ≡ men_of side (may_be_spent first.now board.now set) first.now }
     ensures few { result ≤ 64 }
