@@ -14,10 +14,10 @@ use std::alloc::AllocError;
 pub fn say(text: &[u8], out: &mut Vec<u8>) -> Result<(), AllocError>
     ensures { IfOk result (λ _. out.new.items ≡ out.old.items ++ text.now) }
 {
-    out.extend_from_slice(text)?;
-    Ok(())
+    out.extend_from_slice(text)
 }
 
+/// A side by its name.
 pub fn side_word(side: Colour) -> &'static [u8]
     ensures { result.now ≡ side_word side }
 {
@@ -27,6 +27,7 @@ pub fn side_word(side: Colour) -> &'static [u8]
     }
 }
 
+/// The colour of a man, with a space behind.
 pub fn colour_word(side: Colour) -> &'static [u8]
     ensures { result.now ≡ colour_word side }
 {
@@ -36,6 +37,7 @@ pub fn colour_word(side: Colour) -> &'static [u8]
     }
 }
 
+/// What a man is, in a word.
 pub fn kind_word(kind: Kind) -> &'static [u8]
     ensures { result.now ≡ kind_word kind }
 {
@@ -73,6 +75,7 @@ pub fn place_initial(place: Option<Man>) -> &'static [u8]
     }
 }
 
+/// The letter of a man of White's in the diagram.
 fn capital_letter(kind: Kind) -> u8
     ensures { result ≡ man_letter Colour.White kind }
 {
@@ -109,6 +112,7 @@ pub fn wing_word(castle: Castle) -> &'static [u8]
     }
 }
 
+/// A square by its file and rank, as in `e4`.
 pub fn push_square(s: Square, out: &mut Vec<u8>) -> Result<(), AllocError>
     ensures { IfOk result (λ _. out.new.items ≡ out.old.items ++ square_text s) }
 {
@@ -122,8 +126,7 @@ pub fn push_number(n: usize, out: &mut Vec<u8>) -> Result<(), AllocError>
     ensures { IfOk result (λ _. out.new.items ≡ out.old.items ++ decimal n) }
 {
     let mut digits = Buffer::new();
-    say(digits.format(n).as_bytes(), out)?;
-    Ok(())
+    say(digits.format(n).as_bytes(), out)
 }
 
 /// A man as in `a black knight`; `nobody` if there is none.
@@ -131,14 +134,13 @@ pub fn push_man(place: Option<Man>, out: &mut Vec<u8>) -> Result<(), AllocError>
     ensures { IfOk result (λ _. out.new.items ≡ out.old.items ++ man_words place) }
 {
     match place {
-        None => say(b"nobody", out)?,
+        None => say(b"nobody", out),
         Some(man) => {
             say(b"a ", out)?;
             say(colour_word(man.colour), out)?;
-            say(kind_word(man.kind), out)?;
+            say(kind_word(man.kind), out)
         }
     }
-    Ok(())
 }
 
 /// A square after a space, if it is to be written.
