@@ -36,6 +36,7 @@ pub enum Bar {
     Otherwise,
 }
 
+/// Whether the right is held, and the move begins or ends on one of its homes.
 fn touches_held(query: &Query, m: &Move, castle: Castle) -> bool
     ensures { result ≡ (holds query.now.held castle && touches m.now castle) }
 {

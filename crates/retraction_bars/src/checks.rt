@@ -13,6 +13,7 @@ fn attacks_king(board: &Board, colour: Colour, s: Square, king: Square) -> bool
     is_the(colour.other(), Kind::King, board.at(king)) && attacks_from(board, s, king)
 }
 
+/// Whether the man of this side on the square attacks some king of the other side.
 fn attacks_a_king(board: &Board, colour: Colour, s: Square) -> bool
     ensures { result ≡ attacks_a_king board.now colour s }
 {

@@ -24,6 +24,7 @@ pub fn main_of(query: &Query) -> Option<Square>
     }
 }
 
+/// Whether the man on the main square, another, gave check already; false if nobody gives check.
 fn bars_main(query: &Query, main: &Option<Square>, u: &Unmove) -> bool
     ensures { result ≡ bars_main query.now main.now u.now }
 {
@@ -47,6 +48,7 @@ fn is_rest(query: &Query, main: &Option<Square>, scope: &Scope, u: &Unmove) -> b
     !is_within(scope, u) || bars_rest(query, main, u)
 }
 
+/// Whether each of these ways is out of the scope, or barred so.
 fn are_rest(query: &Query, main: &Option<Square>, scope: &Scope, ways: &[Unmove]) -> bool
     ensures { result ≡ list_all (is_rest query.now main.now scope.now) ways.now }
 {
@@ -66,6 +68,7 @@ fn rests(
     Ok(are_rest(query, main, &c.scope, ways.as_slice()))
 }
 
+/// Adds the clause, if it is to be told by itself.
 fn push_if(given: bool, c: &Clause, told: &mut Vec<Clause>) -> Result<(), AllocError>
     ensures { IfOk result (λ _. told.new.items ≡ told.old.items ++ cond given (c.now ∷ []) []) }
 {

@@ -42,6 +42,7 @@ fn push_part(
     Ok(())
 }
 
+/// The same for a manner of going from one origin, as a man who was or wasn't promoted.
 fn push_manner(
     query: &Query,
     ways: &[Unmove],
@@ -58,10 +59,10 @@ fn push_manner(
         from,
         promoted,
     };
-    push_part(query, ways, to, &scope, out)?;
-    Ok(())
+    push_part(query, ways, to, &scope, out)
 }
 
+/// The clauses of an origin manner by manner: without a capture, capturing on the target, and en passant.
 fn push_parts(
     query: &Query,
     ways: &[Unmove],
@@ -74,8 +75,7 @@ fn push_parts(
 {
     push_manner(query, ways, to, Manner::Quiet, from, promoted, out)?;
     push_manner(query, ways, to, Manner::Taking, from, promoted, out)?;
-    push_manner(query, ways, to, Manner::Passing, from, promoted, out)?;
-    Ok(())
+    push_manner(query, ways, to, Manner::Passing, from, promoted, out)
 }
 
 /// What bars the ways from an origin: one thing, or one for each manner.
@@ -101,6 +101,7 @@ fn push_origin(
     Ok(())
 }
 
+/// The clauses of an origin, first of a man who wasn't promoted by the move, then of one who was.
 fn push_from(
     query: &Query,
     ways: &[Unmove],
@@ -111,10 +112,10 @@ fn push_from(
     ensures { IfOk result (λ _. out.new.items ≡ out.old.items ++ clauses_from query.now ways.now to from) }
 {
     push_origin(query, ways, to, from, false, out)?;
-    push_origin(query, ways, to, from, true, out)?;
-    Ok(())
+    push_origin(query, ways, to, from, true, out)
 }
 
+/// The clauses of all origins, by squares ascending.
 fn push_origins(
     query: &Query,
     ways: &[Unmove],
@@ -151,6 +152,7 @@ fn push_man(
     Ok(())
 }
 
+/// The clauses of the man on this square; none if nobody stands there who can have moved last.
 #[tactic(auto, unfolding(crate::specs::Clauses::clauses_to))]
 fn push_to(
     alloc: Global,
@@ -161,8 +163,7 @@ fn push_to(
     ensures { IfOk result (λ _. out.new.items ≡ out.old.items ++ clauses_to query.now to) }
 {
     let ways = ways_to(alloc, query, to)?;
-    push_man(query, ways.as_slice(), to, out)?;
-    Ok(())
+    push_man(query, ways.as_slice(), to, out)
 }
 
 /// For each man of the side that moved last, by squares ascending, what bars his ways: first one thing that bars all of them, else for

@@ -26,6 +26,7 @@ fn bars_all(query: &Query, ways: &[Unmove], scope: &Scope, n: u8) -> bool
     ways.iter().all(|u| spares(query, scope, bar, u))
 }
 
+/// Whether some way is within the scope.
 fn has_any(ways: &[Unmove], scope: &Scope) -> bool
     ensures { result ≡ list_any (is_within scope.now) ways.now }
 {

@@ -24,6 +24,7 @@ fn is_first(query: &Query, t: Square) -> bool
     is_the(mover, Kind::Pawn, query.board.at(t)) && t.rank() == pawn_rank(mover)
 }
 
+/// Whether some pawn of the side that moved stands on its first square.
 fn has_first(query: &Query) -> bool
     ensures { result ≡ has_first query.now }
 {
@@ -35,6 +36,7 @@ fn has_first(query: &Query) -> bool
     false
 }
 
+/// A man by his letter and his square, if he is to be named.
 fn push_label_if(given: bool, query: &Query, t: Square, out: &mut Vec<u8>) -> Result<(), AllocError>
     ensures { IfOk result (λ _. out.new.items ≡ out.old.items ++ text_if given (label_words query.now t)) }
 {
@@ -44,6 +46,7 @@ fn push_label_if(given: bool, query: &Query, t: Square, out: &mut Vec<u8>) -> Re
     Ok(())
 }
 
+/// The pawns of the side that moved that stand on their first squares, by squares ascending.
 fn push_firsts(query: &Query, out: &mut Vec<u8>) -> Result<(), AllocError>
     ensures { IfOk result (λ _. out.new.items ≡ out.old.items ++ labels_words query.now (is_first query.now)) }
 {
@@ -63,6 +66,7 @@ fn firsts_of(alloc: Global, query: &Query) -> Result<Vec<u8>, AllocError>
     Ok(labels)
 }
 
+/// How the sentence of these pawns ends, for one pawn or for several: a name alone has three letters.
 fn firsts_phrase(labels: &[u8]) -> Phrase
     ensures { result ≡ firsts_phrase labels.now }
 {
@@ -73,12 +77,12 @@ fn firsts_phrase(labels: &[u8]) -> Phrase
     }
 }
 
+/// The pawns that are named, and that they stand on their first squares.
 fn push_some_firsts(labels: &[u8], out: &mut Vec<u8>) -> Result<(), AllocError>
     ensures { IfOk result (λ _. out.new.items ≡ out.old.items ++ some_firsts labels.now) }
 {
     say(labels, out)?;
-    say_phrase(firsts_phrase(labels), out)?;
-    Ok(())
+    say_phrase(firsts_phrase(labels), out)
 }
 
 /// The sentence of the pawns on their first squares.
@@ -99,6 +103,7 @@ fn has_rest(cs: &[Clause], told: &[Clause]) -> bool
     told.len() < cs.len()
 }
 
+/// How the sentence on the rest begins: it says "otherwise" if some clauses were told before it.
 fn rest_start(told: &[Clause]) -> Phrase
     ensures { result ≡ rest_start told.now }
 {
@@ -109,6 +114,7 @@ fn rest_start(told: &[Clause]) -> Phrase
     }
 }
 
+/// That the main man gave check already, as the alternative to an occupied square; nothing if nobody gives check.
 fn push_main(query: &Query, main: &Option<Square>, out: &mut Vec<u8>) -> Result<(), AllocError>
     ensures { IfOk result (λ _. out.new.items ≡ out.old.items ++ main_words query.now main.now) }
 {
@@ -131,10 +137,10 @@ fn push_rest(
     say_phrase(rest_start(told), out)?;
     say_phrase(Phrase::ToComeFrom, out)?;
     push_main(query, main, out)?;
-    say_phrase(Phrase::Stop, out)?;
-    Ok(())
+    say_phrase(Phrase::Stop, out)
 }
 
+/// The sentence on the rest, if there is a rest.
 fn push_rest_if(
     given: bool,
     query: &Query,
@@ -150,6 +156,7 @@ fn push_rest_if(
     Ok(())
 }
 
+/// The sentence of the pawns on their first squares, if no sentence on the rest covers them.
 fn push_firsts_if(
     given: bool,
     alloc: Global,
@@ -164,6 +171,7 @@ fn push_firsts_if(
     Ok(())
 }
 
+/// All sentences if no two men give check at once: the clauses told by themselves, and then the rest in one sentence.
 fn push_told(
     alloc: Global,
     query: &Query,
@@ -177,8 +185,7 @@ fn push_told(
     let rest = has_rest(cs, told);
     push_firsts_if(!rest, alloc, query, out)?;
     push_sentences(alloc, query, told, out)?;
-    push_rest_if(rest, query, main, told, out)?;
-    Ok(())
+    push_rest_if(rest, query, main, told, out)
 }
 
 /// The sentence of two men who give check at once.
@@ -188,18 +195,17 @@ fn push_pair(query: &Query, pair: &Pair, out: &mut Vec<u8>) -> Result<(), AllocE
     push_label(query, pair.first, out)?;
     say_phrase(Phrase::Also, out)?;
     push_label(query, pair.second, out)?;
-    say_phrase(Phrase::AtOnce, out)?;
-    Ok(())
+    say_phrase(Phrase::AtOnce, out)
 }
 
+/// The same for the query, of which the clauses are first found.
 fn push_all(alloc: Global, query: &Query, out: &mut Vec<u8>) -> Result<(), AllocError>
     ensures { IfOk result (λ _. out.new.items ≡ out.old.items ++ sentences_of query.now (main_of query.now) (clauses query.now) (told_clauses query.now)) }
 {
     let main = main_of(query);
     let cs = clauses(alloc, query)?;
     let told = exceptions(alloc, query, &main, cs.as_slice())?;
-    push_told(alloc, query, &main, cs.as_slice(), told.as_slice(), out)?;
-    Ok(())
+    push_told(alloc, query, &main, cs.as_slice(), told.as_slice(), out)
 }
 
 /// Why nobody can have moved last, in sentences, each after a space: that two men give check at once, if no move gives both checks;
@@ -210,8 +216,7 @@ pub fn push_bars(alloc: Global, query: &Query, out: &mut Vec<u8>) -> Result<(), 
     ensures { IfOk result (λ _. out.new.items ≡ out.old.items ++ bars_text query.now) }
 {
     match pair_of(alloc, query)? {
-        Some(pair) => push_pair(query, &pair, out)?,
-        None => push_all(alloc, query, out)?,
+        Some(pair) => push_pair(query, &pair, out),
+        None => push_all(alloc, query, out),
     }
-    Ok(())
 }

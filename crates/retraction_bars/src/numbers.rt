@@ -4,6 +4,7 @@ ghost use Rattle.retraction_bars.specs.Numbers.{bar_at, given_at, narrow_at, res
 use crate::bars::Bar;
 use board_base::{Castle, Colour, Square};
 
+/// What the query itself demands, by number: that the last move was a double step, then each right that is held.
 fn given_at(n: u8) -> Bar
     ensures { result ≡ given_at n }
 {
@@ -16,6 +17,7 @@ fn given_at(n: u8) -> Bar
     }
 }
 
+/// What may bar all of a man's ways at once, by number: the demands, then check from each square.
 fn wide_at(n: u8) -> Bar
     requires { n < 69 }
     ensures { result ≡ wide_at n }
@@ -27,6 +29,7 @@ fn wide_at(n: u8) -> Bar
     }
 }
 
+/// What is tried last of one origin, by number.
 fn rest_at(n: u8) -> Bar
     ensures { result ≡ rest_at n }
 {
@@ -40,6 +43,7 @@ fn rest_at(n: u8) -> Bar
     }
 }
 
+/// What may bar the ways from one origin, by number: the origin itself, checks, demands, and then the rest.
 fn narrow_at(n: u8) -> Bar
     ensures { result ≡ narrow_at n }
 {

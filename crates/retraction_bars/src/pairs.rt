@@ -30,12 +30,14 @@ fn bars_twice(query: &Query, a: Square, b: Square, u: &Unmove) -> bool
         || is_barred(query, u, Bar::Check(b))
 }
 
+/// Whether one of these bars each of the ways.
 fn are_barred(query: &Query, a: Square, b: Square, ways: &[Unmove]) -> bool
     ensures { result ≡ list_all (bars_twice query.now a b) ways.now }
 {
     ways.iter().all(|u| bars_twice(query, a, b, u))
 }
 
+/// Whether one of these bars each way to this square.
 fn is_twice_at(
     alloc: Global,
     query: &Query,
@@ -61,6 +63,7 @@ fn is_twice(alloc: Global, query: &Query, a: Square, b: Square) -> Result<bool, 
     Ok(true)
 }
 
+/// Whether a man of the side that moved gives check from this square.
 fn checks_from(query: &Query, s: Square) -> bool
     ensures { result ≡ gives_check query.now.board (mover query.now) s }
 {
@@ -81,6 +84,7 @@ pub fn checker_from(query: &Query, low: u8) -> Option<u8>
     None
 }
 
+/// These two men as a pair, if no way explains both checks.
 fn pair_if(is_twice: bool, first: Square, second: Square) -> Option<Pair>
     ensures { result ≡ pair_if is_twice first second }
 {
@@ -91,6 +95,7 @@ fn pair_if(is_twice: bool, first: Square, second: Square) -> Option<Pair>
     }
 }
 
+/// The pair of the first man who gives check, on this square, and the next one; None if there is no other.
 fn pair_with(alloc: Global, query: &Query, a: Square) -> Result<Option<Pair>, AllocError>
     ensures { IfOk result (λ p. p ≡ pair_with query.now a (checker_from query.now (a + 1))) }
 {

@@ -37,6 +37,7 @@ pub enum Phrase {
     Stop,
 }
 
+/// The words of a phrase.
 #[tactic(auto, unfolding(crate::specs::Phrases::phrase))]
 fn phrase_of(p: Phrase) -> &'static [u8]
     ensures { result.now ≡ phrase p }
@@ -73,9 +74,9 @@ fn phrase_of(p: Phrase) -> &'static [u8]
     }
 }
 
+/// Adds the words of a phrase.
 pub fn say_phrase(p: Phrase, out: &mut Vec<u8>) -> Result<(), AllocError>
     ensures { IfOk result (λ _. out.new.items ≡ out.old.items ++ phrase p) }
 {
-    say(phrase_of(p), out)?;
-    Ok(())
+    say(phrase_of(p), out)
 }

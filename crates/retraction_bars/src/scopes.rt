@@ -29,6 +29,7 @@ pub struct Scope {
     pub promoted: bool,
 }
 
+/// Whether the way leaves the scope's origin, by a promotion or by none as the scope has it.
 fn is_from(scope: &Scope, u: &Unmove) -> bool
     ensures { result ≡ is_from scope.now u.now }
 {
@@ -48,6 +49,7 @@ pub fn is_within(scope: &Scope, u: &Unmove) -> bool
     }
 }
 
+/// Whether both are the same manner.
 pub fn same_manner(a: Manner, b: Manner) -> bool
     ensures { result ≡ same_manner a b }
 {

@@ -15,6 +15,7 @@ use prose_words::{initial, place_initial, push_square, say, side_word};
 use query_base::Query;
 use std::alloc::{AllocError, Global};
 
+/// The squares of the double step that the query demands, as in `e2-e4`.
 fn push_double(m: &Option<Move>, out: &mut Vec<u8>) -> Result<(), AllocError>
     ensures { IfOk result (λ _. out.new.items ≡ out.old.items ++ double_words m.now) }
 {
@@ -26,12 +27,12 @@ fn push_double(m: &Option<Move>, out: &mut Vec<u8>) -> Result<(), AllocError>
     Ok(())
 }
 
+/// That the last move was a double step, which the query demands.
 fn push_only(query: &Query, out: &mut Vec<u8>) -> Result<(), AllocError>
     ensures { IfOk result (λ _. out.new.items ≡ out.old.items ++ bar_words query.now Bar.Only) }
 {
     say_phrase(Phrase::LastMove, out)?;
-    push_double(&query.only, out)?;
-    Ok(())
+    push_double(&query.only, out)
 }
 
 /// The letter of a man who stood on a square before the move of another, and gave check: he stands there still, or is a rook that castled.
@@ -46,15 +47,16 @@ fn bystander_initial(query: &Query, s: Square) -> &'static [u8]
     }
 }
 
+/// That the man on this square gave check already.
 fn push_check(query: &Query, s: Square, out: &mut Vec<u8>) -> Result<(), AllocError>
     ensures { IfOk result (λ _. out.new.items ≡ out.old.items ++ bar_words query.now (Bar.Check s)) }
 {
     say(bystander_initial(query, s), out)?;
     push_square(s, out)?;
-    say_phrase(Phrase::GaveCheck, out)?;
-    Ok(())
+    say_phrase(Phrase::GaveCheck, out)
 }
 
+/// That the king and the rook of a right that is held never moved.
 fn push_held(query: &Query, castle: Castle, out: &mut Vec<u8>) -> Result<(), AllocError>
     ensures { IfOk result (λ _. out.new.items ≡ out.old.items ++ bar_words query.now (Bar.Held castle)) }
 {
@@ -63,16 +65,15 @@ fn push_held(query: &Query, castle: Castle, out: &mut Vec<u8>) -> Result<(), All
     push_square(king, out)?;
     say_phrase(Phrase::AndTheRook, out)?;
     push_square(rook, out)?;
-    say_phrase(Phrase::NeverMoved, out)?;
-    Ok(())
+    say_phrase(Phrase::NeverMoved, out)
 }
 
+/// That this side would have had too many pawns and promoted men.
 fn push_account(query: &Query, side: Colour, out: &mut Vec<u8>) -> Result<(), AllocError>
     ensures { IfOk result (λ _. out.new.items ≡ out.old.items ++ bar_words query.now (Bar.Account side)) }
 {
     say(side_word(side), out)?;
-    say_phrase(Phrase::TooMany, out)?;
-    Ok(())
+    say_phrase(Phrase::TooMany, out)
 }
 
 /// What bars a retraction, in words.
@@ -80,20 +81,20 @@ pub fn push_bar(query: &Query, bar: Bar, out: &mut Vec<u8>) -> Result<(), AllocE
     ensures { IfOk result (λ _. out.new.items ≡ out.old.items ++ bar_words query.now bar) }
 {
     match bar {
-        Bar::Only => push_only(query, out)?,
-        Bar::Check(s) => push_check(query, s, out)?,
-        Bar::Occupied => say_phrase(Phrase::Occupied, out)?,
-        Bar::Itself => say_phrase(Phrase::ItGave, out)?,
-        Bar::Held(castle) => push_held(query, castle, out)?,
-        Bar::Barred => say_phrase(Phrase::RuledOut, out)?,
-        Bar::Account(side) => push_account(query, side, out)?,
-        Bar::Clock => say_phrase(Phrase::ByClock, out)?,
-        Bar::Passed => say_phrase(Phrase::NotPassed, out)?,
-        Bar::Otherwise => say_phrase(Phrase::Illegal, out)?,
+        Bar::Only => push_only(query, out),
+        Bar::Check(s) => push_check(query, s, out),
+        Bar::Occupied => say_phrase(Phrase::Occupied, out),
+        Bar::Itself => say_phrase(Phrase::ItGave, out),
+        Bar::Held(castle) => push_held(query, castle, out),
+        Bar::Barred => say_phrase(Phrase::RuledOut, out),
+        Bar::Account(side) => push_account(query, side, out),
+        Bar::Clock => say_phrase(Phrase::ByClock, out),
+        Bar::Passed => say_phrase(Phrase::NotPassed, out),
+        Bar::Otherwise => say_phrase(Phrase::Illegal, out),
     }
-    Ok(())
 }
 
+/// How the list of the squares that a man may have come from begins, by how he went.
 fn start_of(manner: Manner) -> Phrase
     ensures { result ≡ start_of manner }
 {
@@ -105,38 +106,43 @@ fn start_of(manner: Manner) -> Phrase
     }
 }
 
+/// Whether the clause tells of the man on t, in this manner, the bar with this number.
 fn is_ground(t: Square, manner: Manner, n: u8, c: &Clause) -> bool
     ensures { result ≡ is_ground t manner n c.now }
 {
     c.to == t && same_manner(manner, c.scope.manner) && c.bar == n
 }
 
+/// Whether some clause does.
 fn has_ground(cs: &[Clause], t: Square, manner: Manner, n: u8) -> bool
     ensures { result ≡ list_any (is_ground t manner n) cs.now }
 {
     cs.iter().any(|c| is_ground(t, manner, n, c))
 }
 
+/// Whether the clause does so of this origin, for a man who was or wasn't promoted by the move.
 fn tells(t: Square, manner: Manner, n: u8, from: Square, promoted: bool, c: &Clause) -> bool
     ensures { result ≡ tells t manner n from promoted c.now }
 {
     is_ground(t, manner, n, c) && c.scope.from == from && c.scope.promoted == promoted
 }
 
+/// Whether some clause does so.
 fn is_told(cs: &[Clause], t: Square, manner: Manner, n: u8, from: Square, promoted: bool) -> bool
     ensures { result ≡ list_any (tells t manner n from promoted) cs.now }
 {
     cs.iter().any(|c| tells(t, manner, n, from, promoted, c))
 }
 
+/// A square after a space.
 fn push_spaced(s: Square, out: &mut Vec<u8>) -> Result<(), AllocError>
     ensures { IfOk result (λ _. out.new.items ≡ out.old.items ++ spaced s) }
 {
     say(b" ", out)?;
-    push_square(s, out)?;
-    Ok(())
+    push_square(s, out)
 }
 
+/// The same, if the square is to be named.
 fn push_spaced_if(given: bool, s: Square, out: &mut Vec<u8>) -> Result<(), AllocError>
     ensures { IfOk result (λ _. out.new.items ≡ out.old.items ++ text_if given (spaced s)) }
 {
@@ -146,6 +152,7 @@ fn push_spaced_if(given: bool, s: Square, out: &mut Vec<u8>) -> Result<(), Alloc
     Ok(())
 }
 
+/// A square after a space, with the note that the man was a pawn there, if it is to be named.
 fn push_pawn_if(given: bool, s: Square, out: &mut Vec<u8>) -> Result<(), AllocError>
     ensures { IfOk result (λ _. out.new.items ≡ out.old.items ++ text_if given (spaced s ++ phrase Phrase.AsPawn)) }
 {
@@ -156,6 +163,7 @@ fn push_pawn_if(given: bool, s: Square, out: &mut Vec<u8>) -> Result<(), AllocEr
     Ok(())
 }
 
+/// An origin, once for each clause on it: of a man who came as himself, and of a pawn that was promoted.
 fn push_origin(
     cs: &[Clause],
     t: Square,
@@ -167,10 +175,10 @@ fn push_origin(
     ensures { IfOk result (λ _. out.new.items ≡ out.old.items ++ origin_words cs.now t manner n from) }
 {
     push_spaced_if(is_told(cs, t, manner, n, from, false), from, out)?;
-    push_pawn_if(is_told(cs, t, manner, n, from, true), from, out)?;
-    Ok(())
+    push_pawn_if(is_told(cs, t, manner, n, from, true), from, out)
 }
 
+/// The origins of which the bar with this number is told, by squares ascending.
 fn push_origins(
     cs: &[Clause],
     t: Square,
@@ -200,10 +208,10 @@ fn push_ways(
     say(b",", out)?;
     push_label(query, t, out)?;
     say_phrase(start_of(manner), out)?;
-    push_origins(cs, t, manner, n, out)?;
-    Ok(())
+    push_origins(cs, t, manner, n, out)
 }
 
+/// The same, if the bar with this number bars any ways of this manner.
 fn push_ways_if(
     query: &Query,
     cs: &[Clause],
@@ -220,6 +228,7 @@ fn push_ways_if(
     Ok(())
 }
 
+/// The ways of the man on t that the bar with this number bars, manner by manner.
 fn push_man(
     query: &Query,
     cs: &[Clause],
@@ -232,10 +241,10 @@ fn push_man(
     push_ways_if(query, cs, n, t, Manner::Origin, out)?;
     push_ways_if(query, cs, n, t, Manner::Quiet, out)?;
     push_ways_if(query, cs, n, t, Manner::Taking, out)?;
-    push_ways_if(query, cs, n, t, Manner::Passing, out)?;
-    Ok(())
+    push_ways_if(query, cs, n, t, Manner::Passing, out)
 }
 
+/// The ways that the bar with this number bars, of each man, by squares ascending.
 fn push_men(query: &Query, cs: &[Clause], n: u8, out: &mut Vec<u8>) -> Result<(), AllocError>
     ensures { IfOk result (λ _. out.new.items ≡ out.old.items ++ men_words query.now cs.now n) }
 {
@@ -266,12 +275,12 @@ fn push_any_square(bar: Bar, out: &mut Vec<u8>) -> Result<(), AllocError>
     ensures { IfOk result (λ _. out.new.items ≡ out.old.items ++ square_words bar) }
 {
     match bar {
-        Bar::Itself => say_phrase(Phrase::AnySquare, out)?,
-        _ => {}
+        Bar::Itself => say_phrase(Phrase::AnySquare, out),
+        _ => Ok(()),
     }
-    Ok(())
 }
 
+/// The man on t, if the bar with this number bars all of his ways.
 fn push_whole_if(
     query: &Query,
     cs: &[Clause],
@@ -308,10 +317,10 @@ fn push_wholes_first(
 {
     push_wholes(query, cs, n, out)?;
     push_any_square(bar_at(n), out)?;
-    push_men(query, cs, n, out)?;
-    Ok(())
+    push_men(query, cs, n, out)
 }
 
+/// The men of whom the bar with this number bars some ways, if it bars all ways of none: no comma stands before the first.
 fn push_men_alone(
     alloc: Global,
     query: &Query,
@@ -322,22 +331,24 @@ fn push_men_alone(
     ensures { IfOk result (λ _. out.new.items ≡ out.old.items ++ drop 1 (men_words query.now cs.now n)) }
 {
     let men = men_of(alloc, query, cs, n)?;
-    say(rest_of(men.as_slice()), out)?;
-    Ok(())
+    say(rest_of(men.as_slice()), out)
 }
 
+/// Whether the clause tells that the bar with this number bars all of a man's ways.
 fn is_whole(n: u8, c: &Clause) -> bool
     ensures { result ≡ is_whole n c.now }
 {
     same_manner(Manner::Anywhere, c.scope.manner) && c.bar == n
 }
 
+/// Whether the bar with this number bars all of some man's ways.
 fn has_whole(cs: &[Clause], n: u8) -> bool
     ensures { result ≡ list_any (is_whole n) cs.now }
 {
     cs.iter().any(|c| is_whole(n, c))
 }
 
+/// Whom the bar with this number concerns: the men all of whose ways it bars, and the ways of the others.
 fn push_named(
     alloc: Global,
     query: &Query,
@@ -348,11 +359,10 @@ fn push_named(
     ensures { IfOk result (λ _. out.new.items ≡ out.old.items ++ named_words query.now cs.now n) }
 {
     if has_whole(cs, n) {
-        push_wholes_first(query, cs, n, out)?;
+        push_wholes_first(query, cs, n, out)
     } else {
-        push_men_alone(alloc, query, cs, n, out)?;
+        push_men_alone(alloc, query, cs, n, out)
     }
-    Ok(())
 }
 
 /// The sentence of the bar with this number.
@@ -368,22 +378,24 @@ fn push_sentence(
     push_named(alloc, query, cs, n, out)?;
     say_phrase(Phrase::Is, out)?;
     push_bar(query, bar_at(n), out)?;
-    say_phrase(Phrase::Stop, out)?;
-    Ok(())
+    say_phrase(Phrase::Stop, out)
 }
 
+/// Whether the clause is one of the bar with this number.
 fn is_of_bar(n: u8, c: &Clause) -> bool
     ensures { result ≡ is_of_bar n c.now }
 {
     c.bar == n
 }
 
+/// Whether some clause is.
 fn has_bar(cs: &[Clause], n: u8) -> bool
     ensures { result ≡ list_any (is_of_bar n) cs.now }
 {
     cs.iter().any(|c| is_of_bar(n, c))
 }
 
+/// The sentence of the bar with this number, if some clause is one of it.
 fn push_sentence_if(
     alloc: Global,
     query: &Query,
@@ -420,6 +432,5 @@ pub fn push_label(query: &Query, t: Square, out: &mut Vec<u8>) -> Result<(), All
 {
     say(b" ", out)?;
     say(place_initial(query.board.at(t)), out)?;
-    push_square(t, out)?;
-    Ok(())
+    push_square(t, out)
 }

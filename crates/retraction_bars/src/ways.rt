@@ -33,6 +33,7 @@ fn passes_well(board: &Board, colour: Colour, u: &Unmove) -> bool
     !u.ep || (is_a(Kind::Pawn, board.at(u.mv.from)) && answered(u, colour).is_some())
 }
 
+/// Whether men move so on that board, the rights to castle and the double step before a capture en passant granted.
 fn may_come(board: &Board, colour: Colour, u: &Unmove) -> bool
     ensures { result ≡ may_come board.now colour u.now }
 {
@@ -63,6 +64,7 @@ pub fn is_way(query: &Query, u: &Unmove) -> bool
     keeps_kind(query, &u.mv) && comes_so(&take_back(&query.board, u), query.turn.other(), u)
 }
 
+/// Keeps the retraction if it is a way.
 fn push_way(query: &Query, u: &Unmove, out: &mut Vec<Unmove>) -> Result<(), AllocError>
     ensures { IfOk result (λ _. out.new.items ≡ out.old.items ++ filter (is_way query.now) (u.now ∷ [])) }
 {
@@ -72,6 +74,7 @@ fn push_way(query: &Query, u: &Unmove, out: &mut Vec<Unmove>) -> Result<(), Allo
     Ok(())
 }
 
+/// Keeps the retraction of a move and what it captured, if it is a way.
 fn push_taking(
     query: &Query,
     m: &Move,
@@ -86,10 +89,10 @@ fn push_taking(
         captured,
         ep,
     };
-    push_way(query, &u, out)?;
-    Ok(())
+    push_way(query, &u, out)
 }
 
+/// The ways of a move: without a capture, with each capture on the target, and en passant.
 fn push_ways_of(query: &Query, m: &Move, out: &mut Vec<Unmove>) -> Result<(), AllocError>
     ensures { IfOk result (λ _. out.new.items ≡ out.old.items ++ filter (is_way query.now) (unmoves_of m.now)) }
 {
@@ -99,10 +102,10 @@ fn push_ways_of(query: &Query, m: &Move, out: &mut Vec<Unmove>) -> Result<(), Al
     push_taking(query, m, Some(Kind::Bishop), false, out)?;
     push_taking(query, m, Some(Kind::Rook), false, out)?;
     push_taking(query, m, Some(Kind::Queen), false, out)?;
-    push_taking(query, m, Some(Kind::Pawn), true, out)?;
-    Ok(())
+    push_taking(query, m, Some(Kind::Pawn), true, out)
 }
 
+/// The ways between two squares, by one promotion or by none.
 fn push_ways_by(
     query: &Query,
     from: Square,
@@ -112,10 +115,10 @@ fn push_ways_by(
 ) -> Result<(), AllocError>
     ensures { IfOk result (λ _. out.new.items ≡ out.old.items ++ filter (is_way query.now) (unmoves_of (record { from = from; to = to; promo = promo }))) }
 {
-    push_ways_of(query, &Move { from, to, promo }, out)?;
-    Ok(())
+    push_ways_of(query, &Move { from, to, promo }, out)
 }
 
+/// The ways between two squares, first without a promotion, then with each.
 #[tactic(auto, unfolding(play_rules::specs::Listed::moves_between))]
 fn push_ways_between(
     query: &Query,
