@@ -210,29 +210,29 @@ fn lodgers_list(
     Ok(list)
 }
 
+/// One text after another.
 fn push_two(a: &[u8], b: &[u8], out: &mut Vec<u8>) -> Result<(), AllocError>
     ensures { IfOk result (λ _. out.new.items ≡ out.old.items ++ (a.now ++ b.now)) }
 {
     say(a, out)?;
-    say(b, out)?;
-    Ok(())
+    say(b, out)
 }
 
+/// The same of three texts.
 fn push_three(a: &[u8], b: &[u8], c: &[u8], out: &mut Vec<u8>) -> Result<(), AllocError>
     ensures { IfOk result (λ _. out.new.items ≡ out.old.items ++ (a.now ++ b.now ++ c.now)) }
 {
     push_two(a, b, out)?;
-    say(c, out)?;
-    Ok(())
+    say(c, out)
 }
 
+/// The same of four texts.
 fn push_four(a: &[u8], b: &[u8], c: &[u8], d: &[u8], out: &mut Vec<u8>) -> Result<(), AllocError>
     ensures { IfOk result (λ _. out.new.items ≡ out.old.items ++ (a.now ++ b.now ++ c.now ++ d.now)) }
 {
     push_two(a, b, out)?;
     say(c, out)?;
-    say(d, out)?;
-    Ok(())
+    say(d, out)
 }
 
 /// On which squares a man can have been, if they are at most eight; his home isn't among them.
@@ -265,8 +265,7 @@ fn push_lone(
     ensures { IfOk result (λ _. out.new.items ≡ out.old.items ++ lone_words diagram.now i figure squares.now) }
 {
     push_called(alloc, diagram, i, figure, out)?;
-    push_places(squares, out)?;
-    Ok(())
+    push_places(squares, out)
 }
 
 /// Men for whom there are only these homes; or one man, with this number, for whom there are none.
@@ -344,6 +343,7 @@ fn push_why_at(
     }
 }
 
+/// The same of the first figure for whom there are too few homes, if there is one.
 fn push_why(
     alloc: Global,
     odds: Odds,

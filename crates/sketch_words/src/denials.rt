@@ -11,6 +11,7 @@ use board_base::{Odds, Square, array_of};
 use prose_words::{push_man, push_square, say};
 use std::alloc::AllocError;
 
+/// Whether the flaw is that somebody else began on the square of a man who never moved.
 fn is_foreign_on(flaw: &Flaw, s: Square) -> bool
     ensures { result ≡ is_same_flaw flaw.now (Foreign s) }
 {
@@ -20,6 +21,7 @@ fn is_foreign_on(flaw: &Flaw, s: Square) -> bool
     }
 }
 
+/// Whether the flaw is that the captures by pawns wouldn't balance.
 fn is_unbalanced(flaw: &Flaw) -> bool
     ensures { result ≡ is_same_flaw flaw.now Unbalanced }
 {
@@ -29,6 +31,7 @@ fn is_unbalanced(flaw: &Flaw) -> bool
     }
 }
 
+/// Whether both are the same flaw, of the same square if they are of one.
 fn is_same_flaw(a: &Flaw, b: &Flaw) -> bool
     ensures { result ≡ is_same_flaw a.now b.now }
 {
@@ -69,6 +72,7 @@ fn is_told(before: &[Child], flaw: &Flaw) -> bool
     before.iter().any(|other| has_flaw(flaw, other))
 }
 
+/// A child that can't have been, after "nor" if it follows another.
 fn push_shown_behind(
     follows: bool,
     whole: bool,
@@ -78,8 +82,7 @@ fn push_shown_behind(
     ensures { IfOk result (λ _. out.new.items ≡ out.old.items ++ shown_once follows whole child.now) }
 {
     push_either(follows, b", nor ", b"", out)?;
-    push_shown(whole, &child.label, out)?;
-    Ok(())
+    push_shown(whole, &child.label, out)
 }
 
 /// A child behind these, if it can't have been for this, and isn't named already.
@@ -110,6 +113,7 @@ fn push_denied_each(all: &[Child], flaw: &Flaw, out: &mut Vec<u8>) -> Result<(),
     Ok(())
 }
 
+/// That the man on the square would never have moved, though another began there.
 fn push_foreign_cause(odds: Odds, s: Square, out: &mut Vec<u8>) -> Result<(), AllocError>
     ensures { IfOk result (λ _. out.new.items ≡ out.old.items ++ cause_words odds (Foreign s)) }
 {
@@ -131,6 +135,7 @@ fn push_cause(odds: Odds, flaw: &Flaw, out: &mut Vec<u8>) -> Result<(), AllocErr
     }
 }
 
+/// The line of those that can't have been for this: which they are, and why.
 fn push_denied(
     odds: Odds,
     spot: &Spot,
@@ -143,8 +148,7 @@ fn push_denied(
     say(spot.lead.as_slice(), out)?;
     say(b"It wasn't ", out)?;
     push_denied_each(all, flaw, out)?;
-    push_cause(odds, flaw, out)?;
-    Ok(())
+    push_cause(odds, flaw, out)
 }
 
 /// All children with the flaw of one, if none of these behind which it stands has it.

@@ -21,13 +21,13 @@ fn fixed_list(alloc: Global, figure: &Figure) -> Result<Vec<u8>, AllocError>
     Ok(list)
 }
 
+/// A list in parentheses, as where somebody stands now.
 fn push_around(list: &[u8], out: &mut Vec<u8>) -> Result<(), AllocError>
     ensures { IfOk result (λ _. out.new.items ≡ out.old.items ++ (codes " (now" ++ list.now ++ codes ")")) }
 {
     say(b" (now", out)?;
     say(list, out)?;
-    say(b")", out)?;
-    Ok(())
+    say(b")", out)
 }
 
 /// Where a figure stands in the diagram, if he does.
@@ -103,12 +103,12 @@ fn push_later(alloc: Global, figure: Option<Figure>, out: &mut Vec<u8>) -> Resul
     }
 }
 
+/// One text after another.
 fn push_pair(a: &[u8], b: &[u8], out: &mut Vec<u8>) -> Result<(), AllocError>
     ensures { IfOk result (λ _. out.new.items ≡ out.old.items ++ (a.now ++ b.now)) }
 {
     say(a, out)?;
-    say(b, out)?;
-    Ok(())
+    say(b, out)
 }
 
 /// Where the figure with this number, counted from 0, stands: on his square, if he has one alone, and otherwise where he does in the diagram.
@@ -128,6 +128,7 @@ fn push_place(
     push_pair(b" on", list.as_slice(), out)
 }
 
+/// The same of a figure who is given.
 fn push_called_one(
     alloc: Global,
     diagram: &Sketch,
@@ -138,8 +139,7 @@ fn push_called_one(
     ensures { IfOk result (λ _. out.new.items ≡ out.old.items ++ called_words diagram.now i (Some figure.now)) }
 {
     push_pair(b" the ", noun_of(figure), out)?;
-    push_place(alloc, diagram, i, figure, out)?;
-    Ok(())
+    push_place(alloc, diagram, i, figure, out)
 }
 
 /// What a man is called by his kinds and where he stands, as in `the knight on h2`.
@@ -158,6 +158,7 @@ pub(crate) fn push_called(
     }
 }
 
+/// Whether both hold, or neither.
 fn agree(a: bool, b: bool) -> bool
     ensures { result ≡ agree a b }
 {

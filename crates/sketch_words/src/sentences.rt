@@ -33,8 +33,7 @@ fn push_numbered(
     say(b". ", out)?;
     push_lead(label, out)?;
     push_name(label, out)?;
-    say(b":", out)?;
-    Ok(())
+    say(b":", out)
 }
 
 /// What is told of a node begins so.
@@ -52,13 +51,13 @@ pub fn push_heading(
     }
 }
 
+/// Some men, between a text before them and one behind.
 fn push_the(before: &[u8], list: &[u8], behind: &[u8], out: &mut Vec<u8>) -> Result<(), AllocError>
     ensures { IfOk result (λ _. out.new.items ≡ out.old.items ++ (before.now ++ men_words list.now ++ behind.now)) }
 {
     say(before, out)?;
     push_men(list, out)?;
-    say(behind, out)?;
-    Ok(())
+    say(behind, out)
 }
 
 /// That men never moved.
@@ -71,12 +70,12 @@ fn push_stayed(list: &[u8], out: &mut Vec<u8>) -> Result<(), AllocError>
     push_the(b" The", list, b" never moved.", out)
 }
 
+/// Some men, behind a text.
 fn push_and(before: &[u8], list: &[u8], out: &mut Vec<u8>) -> Result<(), AllocError>
     ensures { IfOk result (λ _. out.new.items ≡ out.old.items ++ (before.now ++ men_words list.now)) }
 {
     say(before, out)?;
-    push_men(list, out)?;
-    Ok(())
+    push_men(list, out)
 }
 
 /// That others didn't either.
@@ -101,6 +100,7 @@ fn push_kept(kept: &[u8], others: &[u8], out: &mut Vec<u8>) -> Result<(), AllocE
     Ok(())
 }
 
+/// That men never moved: first those who have a right to castle, if there are any, and then the others.
 fn push_unmoved_of(kept: &[u8], others: &[u8], out: &mut Vec<u8>) -> Result<(), AllocError>
     ensures { IfOk result (λ _. out.new.items ≡ out.old.items ++ unmoved_words kept.now others.now) }
 {
@@ -126,13 +126,13 @@ pub fn push_fresh(
     push_unmoved_of(kept.as_slice(), others.as_slice(), out)
 }
 
+/// A text, a list and a full stop.
 fn push_around(before: &[u8], list: &[u8], out: &mut Vec<u8>) -> Result<(), AllocError>
     ensures { IfOk result (λ _. out.new.items ≡ out.old.items ++ (before.now ++ list.now ++ codes ".")) }
 {
     say(before, out)?;
     say(list, out)?;
-    say(b".", out)?;
-    Ok(())
+    say(b".", out)
 }
 
 /// Something of men, if there are any.
@@ -178,6 +178,7 @@ fn files_list(alloc: Global, exact: &[bool; 8]) -> Result<Vec<u8>, AllocError>
     Ok(list)
 }
 
+/// The alternative of a move of a pawn on one of these files.
 fn push_or_moves(files: &[u8], out: &mut Vec<u8>) -> Result<(), AllocError>
     ensures { IfOk result (λ _. out.new.items ≡ out.old.items ++ (codes ", or a move of a pawn on file" ++ files.now ++ codes ",")) }
 {
@@ -217,6 +218,7 @@ pub fn push_settled(list: &[u8], count: u16, out: &mut Vec<u8>) -> Result<(), Al
     push_the(b" Since then the", list, b" can't have moved.", out)
 }
 
+/// The words for "without a step", if the step is the first that is spoken of.
 fn push_without_a(alloc: Global, exact: &[bool; 8], out: &mut Vec<u8>) -> Result<(), AllocError>
     ensures { IfOk result (λ _. out.new.items ≡ out.old.items ++ (codes " Without a " ++ deed_words exact.now)) }
 {
@@ -270,8 +272,7 @@ pub fn push_unknown(s: Square, out: &mut Vec<u8>) -> Result<(), AllocError>
 {
     say(b" The man on ", out)?;
     push_square(s, out)?;
-    say(b" was a knight, a rook or a queen.", out)?;
-    Ok(())
+    say(b" was a knight, a rook or a queen.", out)
 }
 
 /// Who stood on a square at the beginning.

@@ -19,6 +19,7 @@ pub fn without(a: SquareSet, b: SquareSet) -> SquareSet
     both(a, outside(b))
 }
 
+/// Whether the square is the home of this king or this rook, whose right to castle is held.
 fn is_home_of(held: CastleSet, castle: Castle, s: Square) -> bool
     ensures { result ≡ (holds held castle && ((king_home castle == s) || (rook_home castle == s))) }
 {
@@ -26,6 +27,7 @@ fn is_home_of(held: CastleSet, castle: Castle, s: Square) -> bool
     held.has(castle) && (king == s || rook == s)
 }
 
+/// Whether the square is the home of some king or rook whose right to castle is held.
 fn is_held_home(held: CastleSet, s: Square) -> bool
     ensures { result ≡ is_held_home held s }
 {
@@ -72,6 +74,5 @@ pub(crate) fn push_men(list: &[u8], out: &mut Vec<u8>) -> Result<(), AllocError>
     ensures { IfOk result (λ _. out.new.items ≡ out.old.items ++ men_words list.now) }
 {
     push_either(list.len() == 3, b" man on", b" men on", out)?;
-    say(list, out)?;
-    Ok(())
+    say(list, out)
 }

@@ -8,6 +8,7 @@ use prose_words::{push_number, push_square, say};
 use sketch_text::{Label, Officer, StepLabel, Taken, Victim, Way};
 use std::alloc::AllocError;
 
+/// The sign between the squares of a step: a cross for a capture, a hyphen for any other step.
 fn sign_of(way: Way) -> u8
     ensures { result ≡ sign_of way }
 {
@@ -17,6 +18,7 @@ fn sign_of(way: Way) -> u8
     }
 }
 
+/// What a pawn captured without promotion.
 fn victim_words(victim: Victim) -> &'static [u8]
     ensures { result.now ≡ victim_words victim }
 {
@@ -28,6 +30,7 @@ fn victim_words(victim: Victim) -> &'static [u8]
     }
 }
 
+/// What a pawn captured when it promoted.
 fn taken_words(taken: Taken) -> &'static [u8]
     ensures { result.now ≡ taken_words taken }
 {
@@ -37,6 +40,7 @@ fn taken_words(taken: Taken) -> &'static [u8]
     }
 }
 
+/// What an officer was, if this is the case.
 fn case_words(officer: Officer) -> &'static [u8]
     ensures { result.now ≡ case_words officer }
 {
@@ -47,6 +51,7 @@ fn case_words(officer: Officer) -> &'static [u8]
     }
 }
 
+/// What stands before the name of a step or of a case, when it heads what follows from it.
 fn lead_word(label: &Label) -> &'static [u8]
     ensures { result.now ≡ lead_word label.now }
 {
@@ -57,6 +62,7 @@ fn lead_word(label: &Label) -> &'static [u8]
     }
 }
 
+/// How many other pawns stood above it, if they were several.
 fn push_pawns_above(above: u8, out: &mut Vec<u8>) -> Result<(), AllocError>
     ensures { IfOk result (λ _. out.new.items ≡ out.old.items ++ (codes " with " ++ decimal above ++ codes " other pawns above it on its file")) }
 {
@@ -79,14 +85,15 @@ fn push_above(above: u8, out: &mut Vec<u8>) -> Result<(), AllocError>
     push_pawns_above(above, out)
 }
 
+/// Who fell by a capture without promotion, and how many other pawns stood above the one that captured.
 fn push_capture(victim: Victim, above: u8, out: &mut Vec<u8>) -> Result<(), AllocError>
     ensures { IfOk result (λ _. out.new.items ≡ out.old.items ++ (victim_words victim ++ above_words above)) }
 {
     say(victim_words(victim), out)?;
-    push_above(above, out)?;
-    Ok(())
+    push_above(above, out)
 }
 
+/// What a step was besides a move: who fell, and whether the pawn was promoted.
 fn push_way(way: Way, out: &mut Vec<u8>) -> Result<(), AllocError>
     ensures { IfOk result (λ _. out.new.items ≡ out.old.items ++ way_words way) }
 {
@@ -98,21 +105,21 @@ fn push_way(way: Way, out: &mut Vec<u8>) -> Result<(), AllocError>
     }
 }
 
+/// The squares of a step with its sign, as in `h3xg4`.
 fn push_between(step: &StepLabel, out: &mut Vec<u8>) -> Result<(), AllocError>
     ensures { IfOk result (λ _. out.new.items ≡ out.old.items ++ squares_of step.now) }
 {
     push_square(step.from, out)?;
     out.push(sign_of(step.way))?;
-    push_square(step.to, out)?;
-    Ok(())
+    push_square(step.to, out)
 }
 
+/// A step with who fell.
 fn push_step(step: &StepLabel, out: &mut Vec<u8>) -> Result<(), AllocError>
     ensures { IfOk result (λ _. out.new.items ≡ out.old.items ++ step_words step.now) }
 {
     push_between(step, out)?;
-    push_way(step.way, out)?;
-    Ok(())
+    push_way(step.way, out)
 }
 
 /// What leads to a node, as in `h3xg4 (a bishop fell)`.
@@ -126,6 +133,7 @@ pub(crate) fn push_name(label: &Label, out: &mut Vec<u8>) -> Result<(), AllocErr
     }
 }
 
+/// Whether the pawn was promoted by a step, whoever fell.
 fn push_bare_way(way: Way, out: &mut Vec<u8>) -> Result<(), AllocError>
     ensures { IfOk result (λ _. out.new.items ≡ out.old.items ++ bare_way way) }
 {
@@ -135,14 +143,15 @@ fn push_bare_way(way: Way, out: &mut Vec<u8>) -> Result<(), AllocError>
     }
 }
 
+/// A step, whoever fell.
 fn push_bare_step(step: &StepLabel, out: &mut Vec<u8>) -> Result<(), AllocError>
     ensures { IfOk result (λ _. out.new.items ≡ out.old.items ++ bare_step step.now) }
 {
     push_between(step, out)?;
-    push_bare_way(step.way, out)?;
-    Ok(())
+    push_bare_way(step.way, out)
 }
 
+/// What leads to a node, whoever fell.
 fn push_bare(label: &Label, out: &mut Vec<u8>) -> Result<(), AllocError>
     ensures { IfOk result (λ _. out.new.items ≡ out.old.items ++ bare_words label.now) }
 {
