@@ -25,6 +25,7 @@ fn goes_with(taking: &Taking, u: &Unmove) -> bool {
         && u.captured.is_some()
 }
 
+/// Whom the retraction captured on the target, as a list; empty if it captured nobody, or en passant.
 fn taken_by(alloc: Global, u: &Unmove) -> Result<Vec<Kind>, AllocError> {
     let mut taken = Vec::new(alloc);
     if let Some(kind) = u.captured {
@@ -35,6 +36,7 @@ fn taken_by(alloc: Global, u: &Unmove) -> Result<Vec<Kind>, AllocError> {
     Ok(taken)
 }
 
+/// Puts the retraction with the last of the moves, if it differs from that only in whom it captured, or else behind them.
 fn push_taking(
     alloc: Global,
     board: &Board,

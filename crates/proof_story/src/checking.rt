@@ -15,6 +15,7 @@ use crate::stories::{Bundle, Paragraph, Point, Way};
 use board_base::{Board, Man, Square, Unmove, UnmoveList};
 use std::alloc::{AllocError, Global};
 
+/// Whether the same man stands on both places, or nobody on either.
 fn is_same_place(a: Option<Man>, b: Option<Man>) -> bool
     ensures { IsTrue result → a ≡ b }
 {
@@ -191,6 +192,7 @@ fn is_numbered(story: &[Paragraph], i: usize) -> bool
     are_parts(story, number_at(story, i), below(story, i))
 }
 
+/// Whether below each paragraph the others are numbered by their places there.
 fn are_numbered(story: &[Paragraph]) -> bool
     ensures { IsTrue result → (i : ℕ) → i < length story.now → IsNumbered story.now i }
 {
@@ -210,6 +212,7 @@ fn is_before_next(story: &[Paragraph], i: usize) -> bool
     comes_before(number_at(story, i), number_at(story, i + 1))
 }
 
+/// Whether the paragraphs stand in the order of their numbers, as in a book.
 fn are_ordered(story: &[Paragraph]) -> bool
     ensures { IsTrue result → (i : ℕ) → i + 1 < length story.now → IsTrue (comes_before (number_at story.now i) (number_at story.now (i + 1))) }
 {
@@ -221,6 +224,7 @@ fn are_ordered(story: &[Paragraph]) -> bool
     true
 }
 
+/// Whether the paragraph at this place refers only to one that stands before it, if it refers to any.
 fn refers_back(story: &[Paragraph], i: usize) -> bool
     ensures { IsTrue result → RefersBack story.now i }
 {
@@ -230,6 +234,7 @@ fn refers_back(story: &[Paragraph], i: usize) -> bool
     }
 }
 
+/// Whether each paragraph does so.
 fn all_refer_back(story: &[Paragraph]) -> bool
     ensures { IsTrue result → (i : ℕ) → i < length story.now → RefersBack story.now i }
 {
@@ -241,6 +246,7 @@ fn all_refer_back(story: &[Paragraph]) -> bool
     true
 }
 
+/// Whether the move from this square isn't a castling.
 fn is_no_castling(board: &Board, way: &Way, from: Square) -> bool
     ensures { IsTrue result → castles_from board.now way.now from ≡ false }
 {
@@ -269,6 +275,7 @@ fn is_unmixed(board: &Board, way: &Way) -> bool
     none_castles(board, way, way.origins.as_slice())
 }
 
+/// Whether that holds of each of these ways.
 fn are_unmixed(board: &Board, ways: &[Way]) -> bool
     ensures { IsTrue result → All (IsUnmixed board.now) ways.now }
 {
@@ -280,12 +287,14 @@ fn are_unmixed(board: &Board, ways: &[Way]) -> bool
     true
 }
 
+/// Whether it holds of each way of a bundle.
 fn is_bundle_unmixed(board: &Board, bundle: &Bundle) -> bool
     ensures { IsTrue result → All (IsUnmixed board.now) bundle.now.ways.items }
 {
     are_unmixed(board, bundle.ways.as_slice())
 }
 
+/// Whether it holds of each way of these bundles.
 fn are_all_unmixed(board: &Board, bundles: &[Bundle]) -> bool
     ensures { IsTrue result → All (λ b. All (IsUnmixed board.now) b.ways.items) bundles.now }
 {
@@ -297,6 +306,7 @@ fn are_all_unmixed(board: &Board, bundles: &[Bundle]) -> bool
     true
 }
 
+/// Whether the paragraph tells no castling with another move.
 fn tells_castlings(paragraph: &Paragraph) -> bool
     ensures { IsTrue result → TellsCastlings paragraph.now }
 {

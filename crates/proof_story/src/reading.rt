@@ -17,6 +17,7 @@ fn is_kind(kind: Kind, captured: Option<Kind>) -> bool
     Some(kind) == captured
 }
 
+/// Whether one of these kinds was captured.
 fn is_one_of(kinds: &[Kind], captured: Option<Kind>) -> bool
     ensures { result ≡ list_any (λ k. same_promo (Some k) captured) kinds.now }
 {
@@ -69,6 +70,7 @@ fn fits(u: &Unmove, bundle: &Bundle) -> bool
     }
 }
 
+/// Whether the retraction is of a move of one of these ways.
 fn is_way(u: &Unmove, ways: &[Way]) -> bool
     ensures { result ≡ list_any (goes u.now) ways.now }
 {
@@ -87,6 +89,7 @@ fn is_in_bundle(u: &Unmove, bundle: &Bundle) -> bool
     fits(u, bundle) && is_way(u, bundle.ways.as_slice())
 }
 
+/// Whether the retraction is one of these bundles'.
 fn is_bundled(u: &Unmove, bundles: &[Bundle]) -> bool
     ensures { result ≡ list_any (is_in_bundle u.now) bundles.now }
 {
@@ -118,6 +121,7 @@ fn is_rest(story: &[Paragraph], i: usize) -> bool
     }
 }
 
+/// The first of these paragraphs that names the retraction.
 fn named(story: &[Paragraph], u: &Unmove, places: &[usize]) -> Option<usize>
     ensures { result ≡ find (names story.now u.now) places.now }
 {
@@ -129,6 +133,7 @@ fn named(story: &[Paragraph], u: &Unmove, places: &[usize]) -> Option<usize>
     None
 }
 
+/// The first of these paragraphs that tells every other move.
 fn rest(story: &[Paragraph], places: &[usize]) -> Option<usize>
     ensures { result ≡ find (is_rest story.now) places.now }
 {
@@ -217,6 +222,7 @@ pub(crate) fn walked(story: &[Paragraph], path: &UnmoveList) -> Option<usize>
     Some(at)
 }
 
+/// Whether the words are this text.
 fn has_text(words: &Letters, body: &[u8]) -> bool
     ensures { IsTrue result → words.now ≡ body.now }
 {

@@ -73,16 +73,17 @@ pub(crate) fn is_castling(board: &Board, way: &Way) -> bool
     }
 }
 
+/// A castling, as in `e1-g1 castles`.
 fn push_castles(way: &Way, out: &mut Vec<u8>) -> Result<(), AllocError>
     ensures { IfOk result (λ _. out.new.items ≡ out.old.items ++ castles_text way.now) }
 {
     push_origins(way.origins.as_slice(), out)?;
     say(b"-", out)?;
     push_square(way.to, out)?;
-    say(b" castles", out)?;
-    Ok(())
+    say(b" castles", out)
 }
 
+/// Moves to one square that aren't castlings, as in `Nf1/e2-g3`.
 fn push_goes(board: &Board, sign: u8, way: &Way, out: &mut Vec<u8>) -> Result<(), AllocError>
     ensures { IfOk result (λ _. out.new.items ≡ out.old.items ++ goes_text board.now sign way.now) }
 {
@@ -90,8 +91,7 @@ fn push_goes(board: &Board, sign: u8, way: &Way, out: &mut Vec<u8>) -> Result<()
     push_origins(way.origins.as_slice(), out)?;
     out.push(sign)?;
     push_square(way.to, out)?;
-    push_became(way.promo, out)?;
-    Ok(())
+    push_became(way.promo, out)
 }
 
 /// Moves to one square.
@@ -123,6 +123,7 @@ fn push_other_kinds(kinds: &[Kind], out: &mut Vec<u8>) -> Result<(), AllocError>
     Ok(())
 }
 
+/// Whether the kind at this place of the list is this one.
 fn is_at(kinds: &[Kind], i: usize, kind: Kind) -> bool
     ensures { result ≡ is_at kinds.now i kind }
 {
@@ -170,6 +171,7 @@ fn push_kinds(kinds: &[Kind], out: &mut Vec<u8>) -> Result<(), AllocError>
     }
 }
 
+/// What stands before the kinds that were captured, by one move or by each of several.
 fn capturing(single: bool) -> &'static [u8]
     ensures { result.now ≡ capturing single }
 {
@@ -180,6 +182,7 @@ fn capturing(single: bool) -> &'static [u8]
     }
 }
 
+/// Which kinds were captured, by one move or by each of several; nothing if no man was captured.
 fn push_taken_by(single: bool, kinds: &[Kind], out: &mut Vec<u8>) -> Result<(), AllocError>
     ensures { IfOk result (λ _. out.new.items ≡ out.old.items ++ taken_by single kinds.now) }
 {
@@ -217,6 +220,7 @@ fn push_taken(bundle: &Bundle, out: &mut Vec<u8>) -> Result<(), AllocError>
     )
 }
 
+/// The sign between the squares of a bundle's moves: a cross if they captured, and otherwise a hyphen.
 fn sign_of(bundle: &Bundle) -> u8
     ensures { result ≡ sign_of bundle.now }
 {
@@ -281,10 +285,10 @@ fn push_heading(paragraph: &Paragraph, out: &mut Vec<u8>) -> Result<(), AllocErr
     push_parts(paragraph.number.as_slice(), out)?;
     say(b" ", out)?;
     push_labels(paragraph, out)?;
-    say(b". ", out)?;
-    Ok(())
+    say(b". ", out)
 }
 
+/// What stands behind a reference from which so many paragraphs below differ.
 fn but_text(count: usize) -> &'static [u8]
     ensures { result.now ≡ but_text count }
 {

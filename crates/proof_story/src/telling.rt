@@ -66,6 +66,7 @@ struct Teller<'a> {
 }
 
 impl<'a> Teller<'a> {
+    /// What is said of a node; nothing if there is no such node.
     fn body(&self, node: usize) -> &'a [u8] {
         match self.points.get(node) {
             None => b"",
@@ -96,6 +97,7 @@ impl<'a> Teller<'a> {
         Ok(groups)
     }
 
+    /// The moves by which these children of one node are reached.
     fn bundles(&self, kids: &[usize]) -> Result<Vec<Bundle>, AllocError> {
         match kids.get(0) {
             None => Ok(Vec::new(self.alloc)),
@@ -155,6 +157,7 @@ impl<'a> Teller<'a> {
         Ok(left)
     }
 
+    /// How the retractions of two nodes are ordered.
     fn order(&self, a: usize, b: usize) -> Ordering {
         match (last_of(self.points, a), last_of(self.points, b)) {
             (Some(u), Some(v)) => cmp_unmove(&u, &v),
@@ -162,6 +165,7 @@ impl<'a> Teller<'a> {
         }
     }
 
+    /// Whether at this place stands a node whose retraction comes before the child's.
     fn is_before(&self, others: &[usize], k: usize, kid: usize) -> bool {
         match others.get(k) {
             None => false,
@@ -169,6 +173,7 @@ impl<'a> Teller<'a> {
         }
     }
 
+    /// Whether at this place stands a node that has the child's retraction and is told as the child is.
     fn is_told_so(&self, others: &[usize], k: usize, kid: usize) -> bool {
         match others.get(k) {
             None => false,
@@ -296,10 +301,12 @@ impl<'a> Teller<'a> {
         Ok(place)
     }
 
+    /// What is said of a node, in words of its own.
     fn words(&self, node: usize) -> Result<Said, AllocError> {
         Ok(Said::Words(copied(self.alloc, self.body(node))?))
     }
 
+    /// Notes that the node is told in full, for nodes with the same words that may refer to it.
     fn keep_full(&mut self, node: usize, place: usize) -> Result<(), AllocError> {
         let words = self.tree.at(node).words;
         let full = Full { node, place };

@@ -123,6 +123,7 @@ fn number_of(texts: &mut HashMap<Vec<u8>, usize>, text: Vec<u8>) -> Result<usize
     Ok(number)
 }
 
+/// A number, in the eight bytes that a machine word has.
 fn push_count(n: usize, out: &mut Vec<u8>) -> Result<(), AllocError> {
     for byte in n.to_le_bytes() {
         out.push(byte)?;
@@ -130,6 +131,7 @@ fn push_count(n: usize, out: &mut Vec<u8>) -> Result<(), AllocError> {
     Ok(())
 }
 
+/// A byte for a kind, and 0 for none.
 fn code_of(kind: Option<Kind>) -> u8 {
     match kind {
         None => 0,
@@ -234,6 +236,7 @@ pub(crate) fn tree_of(alloc: Global, points: &[Point]) -> Result<Tree, AllocErro
     Ok(tree)
 }
 
+/// A copy of these bytes.
 fn copied_bytes(alloc: Global, text: &[u8]) -> Result<Vec<u8>, AllocError> {
     let mut own = Vec::new(alloc);
     for byte in text {

@@ -6,6 +6,7 @@ ghost use Rattle.proof_story.specs.Rows.{column_after, cut_from, end_of, is_cut,
 use prose_words::say;
 use std::alloc::AllocError;
 
+/// Whether the letter is a blank or a line end.
 fn is_gap(letter: u8) -> bool
     ensures { result ≡ is_gap letter }
 {
@@ -33,6 +34,7 @@ fn is_cut(column: usize, letter: u8, rest: &[u8]) -> bool
     letter == b' ' && 100 <= column + word_length(rest)
 }
 
+/// How many letters a row of `column` letters has behind this one; none behind a line end.
 fn column_after(column: usize, letter: u8) -> usize
     requires { column + 1 < 2 ^ 64 }
     ensures { result ≡ column_after column letter }
@@ -85,8 +87,7 @@ fn push_end(line: &[u8], out: &mut Vec<u8>) -> Result<(), AllocError>
     if is_ended(line) {
         return Ok(());
     }
-    say(b"\n", out)?;
-    Ok(())
+    say(b"\n", out)
 }
 
 /// The rows of a line.
@@ -94,6 +95,5 @@ pub fn push_wrapped(line: &[u8], out: &mut Vec<u8>) -> Result<(), AllocError>
     ensures { IfOk result (λ _. out.new.items ≡ out.old.items ++ rows_of line.now) }
 {
     push_cut(line, out)?;
-    push_end(line, out)?;
-    Ok(())
+    push_end(line, out)
 }
