@@ -15,6 +15,7 @@ pub enum Leaf {
     Open,
 }
 
+/// Whether the label is that of the first node, to which no step leads.
 fn is_now(label: &Label) -> bool
     ensures { result ≡ is_now label.now }
 {
@@ -24,6 +25,7 @@ fn is_now(label: &Label) -> bool
     }
 }
 
+/// How a node without marks is told among its siblings, by how it ends.
 fn end_leaf(end: End) -> Leaf
     ensures { result ≡ end_leaf end }
 {

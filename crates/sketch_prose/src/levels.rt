@@ -48,6 +48,7 @@ impl Model for Levels {
 }
 
 impl Levels {
+    /// No levels.
     pub(crate) fn new(alloc: Global) -> Levels
         ensures { result ≡ [] }
     {

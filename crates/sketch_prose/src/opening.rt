@@ -24,6 +24,7 @@ use sketch_text::{Label, SketchNode};
 use sketch_words::Spot;
 use std::alloc::{AllocError, Global};
 
+/// These letters, kept.
 fn copied(alloc: Global, text: &[u8]) -> Result<Vec<u8>, AllocError>
     ensures { IfOk result (λ v. v.items ≡ text.now) }
 {
@@ -42,6 +43,7 @@ fn more_numbers(alloc: Global, prefix: &[u8], number: usize) -> Result<Vec<u8>, 
     Ok(own)
 }
 
+/// What the numbers below a node begin with: that of the node itself, if it has one.
 fn prefix_below(
     alloc: Global,
     label: &Label,

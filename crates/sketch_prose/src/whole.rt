@@ -19,6 +19,7 @@ use sketch_body::SketchBody;
 use sketch_words::Spot;
 use std::alloc::{AllocError, Global};
 
+/// Whether the file is among these.
 fn has_file(files: &[u8], file: u8) -> bool
     ensures { result ≡ list_any (λ n. n == file) files.now }
 {
