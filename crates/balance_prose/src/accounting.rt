@@ -143,8 +143,7 @@ fn push_none(men: usize, out: &mut Vec<u8>) -> Result<(), AllocError>
     ensures { IfOk result (λ _. out.new.items ≡ out.old.items ++ (makers_words men [] ++ codes "none")) }
 {
     say(makers(men, b""), out)?;
-    say(b"none", out)?;
-    Ok(())
+    say(b"none", out)
 }
 
 /// For how much they make up.
@@ -152,8 +151,7 @@ fn push_some(men: usize, idle: &[u8], n: u32, out: &mut Vec<u8>) -> Result<(), A
     ensures { IfOk result (λ _. out.new.items ≡ out.old.items ++ (makers_words men idle.now ++ decimal n)) }
 {
     say(makers(men, idle), out)?;
-    push_number(n as usize, out)?;
-    Ok(())
+    push_number(n as usize, out)
 }
 
 /// For how much so many men make up.
@@ -208,8 +206,7 @@ fn push_alone(alloc: Global, gates: &[Gate], out: &mut Vec<u8>) -> Result<(), Al
     ensures { IfOk result (λ _. out.new.items ≡ out.old.items ++ around (codes ": only") (drop 1 (flat_map gate_alone gates.now)) []) }
 {
     let list = gates_alone(alloc, gates)?;
-    push_around(b": only", rest_of(list.as_slice()), b"", out)?;
-    Ok(())
+    push_around(b": only", rest_of(list.as_slice()), b"", out)
 }
 
 /// Who makes up for how much, if men are gone and if none is.
@@ -244,8 +241,7 @@ fn push_end(
     ensures { IfOk result (λ _. out.new.items ≡ out.old.items ++ end_words men idle.now n gates.now) }
 {
     push_either(alloc, men, idle, n, gates, out)?;
-    say(b".", out)?;
-    Ok(())
+    say(b".", out)
 }
 
 /// What the men count at least with these homes.
@@ -329,8 +325,7 @@ fn push_but(first: bool, out: &mut Vec<u8>) -> Result<(), AllocError>
     ensures { IfOk result (λ _. out.new.items ≡ out.old.items ++ (codes ". But " ++ cond first [] (codes "before this move "))) }
 {
     say(b". But ", out)?;
-    either(first, b"", b"before this move ", out)?;
-    Ok(())
+    either(first, b"", b"before this move ", out)
 }
 
 /// What the men count at least, with how many men each side lacks, and who makes up for how much.

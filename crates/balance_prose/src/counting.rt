@@ -41,8 +41,7 @@ fn push_between(front: &[u8], list: &[u8], back: &[u8], out: &mut Vec<u8>) -> Re
 {
     say(front, out)?;
     say(list, out)?;
-    say(back, out)?;
-    Ok(())
+    say(back, out)
 }
 
 /// What stands around one file or several, and nothing if there is none.
@@ -113,8 +112,7 @@ fn push_two(one: &[u8], other: &[u8], out: &mut Vec<u8>) -> Result<(), AllocErro
     ensures { IfOk result (λ _. out.new.items ≡ out.old.items ++ (one.now ++ other.now)) }
 {
     say(one, out)?;
-    say(other, out)?;
-    Ok(())
+    say(other, out)
 }
 
 /// The captures of both sides' pawns that count, on different squares.
@@ -218,8 +216,7 @@ fn push_twice(
         twice_fronts(side),
         b" count twice. ",
         out,
-    )?;
-    Ok(())
+    )
 }
 
 /// What is added for a gate, and why it is added once at most.

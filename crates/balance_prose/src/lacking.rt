@@ -139,8 +139,7 @@ fn push_some_men(n: usize, out: &mut Vec<u8>) -> Result<(), AllocError>
     ensures { IfOk result (λ _. out.new.items ≡ out.old.items ++ (decimal n ++ cond (n == 1) (codes " man") (codes " men"))) }
 {
     push_number(n, out)?;
-    either(n == 1, b" man", b" men", out)?;
-    Ok(())
+    either(n == 1, b" man", b" men", out)
 }
 
 /// A number of men.

@@ -71,8 +71,7 @@ fn push_item(
     }
     let front = price_front(alloc, price)?;
     let files = files_of(alloc, prices, shade, price)?;
-    push_around(front.as_slice(), files.as_slice(), b"", list)?;
-    Ok(())
+    push_around(front.as_slice(), files.as_slice(), b"", list)
 }
 
 /// The prices on the squares of a shade that aren't the usual one, ascending.
@@ -143,8 +142,7 @@ fn push_gate(gate: &Gate, out: &mut Vec<u8>) -> Result<(), AllocError>
     say(b", ", out)?;
     push_number(gate.toll as usize, out)?;
     say(b" on ", out)?;
-    push_square(Square::known(gate.square), out)?;
-    Ok(())
+    push_square(Square::known(gate.square), out)
 }
 
 /// The tolls of all gates.

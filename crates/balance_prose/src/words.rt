@@ -23,8 +23,7 @@ pub fn push_around(
     }
     say(front, out)?;
     say(list, out)?;
-    say(back, out)?;
-    Ok(())
+    say(back, out)
 }
 
 /// One of two texts.
