@@ -3,11 +3,12 @@
 ghost use Rattle.std.specs.Prelude.{◌≡◌, ◌++◌, IfOk, cond};
 ghost use Rattle.board_base.specs.Board.{is_in};
 ghost use Rattle.proof_sentences.specs.Phrases.{stayed_words, unmoved_words};
+ghost use Rattle.proof_sentences.specs.Sentences.{counted};
 ghost use Rattle.prose_words.specs.Words.{squares_words};
 
 use board_base::{Castle, Square, SquareSet};
 use castle_history::home;
-use prose_words::{push_square, push_squares, say};
+use prose_words::{push_number, push_square, push_squares, say};
 use std::alloc::{AllocError, Global};
 
 /// Adds the one text if this is the first, and the other if not.
@@ -24,6 +25,19 @@ pub fn push_either(
     } else {
         say(other, out)
     }
+}
+
+/// A number of things, with the word for one or for several.
+pub(crate) fn push_counted(
+    n: usize,
+    one: &[u8],
+    several: &[u8],
+    out: &mut Vec<u8>,
+) -> Result<(), AllocError>
+    ensures { IfOk result (λ _. out.new.items ≡ out.old.items ++ counted n one.now several.now) }
+{
+    push_number(n, out)?;
+    push_either(n == 1, one, several, out)
 }
 
 /// Adds that the king and the rook of these squares are what they were.
