@@ -44,8 +44,7 @@ fn push_line(board: &Board, rank: u8, out: &mut Vec<u8>) -> Result<(), AllocErro
     ensures { IfOk result (λ _. out.new.items ≡ out.old.items ++ rank_line board.now rank) }
 {
     push_rank(board, rank, out)?;
-    say(b"\n", out)?;
-    Ok(())
+    say(b"\n", out)
 }
 
 #[tactic(auto, unfolding(crate::specs::Heads::upper_text))]
@@ -56,8 +55,7 @@ fn push_upper(board: &Board, out: &mut Vec<u8>) -> Result<(), AllocError>
     push_line(board, 7, out)?;
     push_line(board, 6, out)?;
     push_line(board, 5, out)?;
-    push_line(board, 4, out)?;
-    Ok(())
+    push_line(board, 4, out)
 }
 
 #[tactic(auto, unfolding(crate::specs::Heads::lower_text))]
@@ -112,8 +110,7 @@ fn push_odds_words(alloc: Global, odds: Odds, out: &mut Vec<u8>) -> Result<(), A
     ensures { IfOk result (λ _. out.new.items ≡ out.old.items ++ odds_words odds) }
 {
     let line = odds_line(alloc, odds)?;
-    push_wrapped(line.as_slice(), out)?;
-    Ok(())
+    push_wrapped(line.as_slice(), out)
 }
 
 /// Which men the game began without.
@@ -236,8 +233,7 @@ fn push_both(
         return push_both_words(short, long, out);
     }
     push_right(has_short, short, out)?;
-    push_right(has_long, long, out)?;
-    Ok(())
+    push_right(has_long, long, out)
 }
 
 /// What is given of the two rights to castle of one side, of those that are held.
@@ -393,8 +389,7 @@ fn push_legal(m: &Move, out: &mut Vec<u8>) -> Result<(), AllocError>
     push_square(m.from, out)?;
     say(b"x", out)?;
     push_square(m.to, out)?;
-    say(b" en passant is legal", out)?;
-    Ok(())
+    say(b" en passant is legal", out)
 }
 
 /// What is claimed, in words.

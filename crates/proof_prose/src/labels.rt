@@ -46,8 +46,7 @@ fn push_between(m: &Move, sign: u8, out: &mut Vec<u8>) -> Result<(), AllocError>
 {
     push_square(m.from, out)?;
     out.push(sign)?;
-    push_square(m.to, out)?;
-    Ok(())
+    push_square(m.to, out)
 }
 
 /// A castling, by the squares of the king.
@@ -55,8 +54,7 @@ fn push_castles(m: &Move, out: &mut Vec<u8>) -> Result<(), AllocError>
     ensures { IfOk result (λ _. out.new.items ≡ out.old.items ++ castles_words m.now) }
 {
     push_between(m, b'-', out)?;
-    say(b" castles", out)?;
-    Ok(())
+    say(b" castles", out)
 }
 
 /// A capture en passant.
@@ -64,8 +62,7 @@ fn push_passing(m: &Move, out: &mut Vec<u8>) -> Result<(), AllocError>
     ensures { IfOk result (λ _. out.new.items ≡ out.old.items ++ passing_words m.now) }
 {
     push_between(m, b'x', out)?;
-    say(b" en passant", out)?;
-    Ok(())
+    say(b" en passant", out)
 }
 
 /// A move that was neither a capture en passant nor a castling.

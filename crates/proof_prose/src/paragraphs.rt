@@ -111,8 +111,7 @@ fn push_kind(last: bool, spoken: &Spoken, out: &mut Vec<u8>) -> Result<(), Alloc
     } else {
         say(b", ", out)?;
     }
-    say(captured_word(&spoken.node.label), out)?;
-    Ok(())
+    say(captured_word(&spoken.node.label), out)
 }
 
 /// The men who may have been captured in the place of the first one, as in `, bishop or rook`.
@@ -133,8 +132,7 @@ fn push_last(first: usize, last: usize, out: &mut Vec<u8>) -> Result<(), AllocEr
         return Ok(());
     }
     say(b"-", out)?;
-    push_number(last, out)?;
-    Ok(())
+    push_number(last, out)
 }
 
 /// The first and the last number of a run, behind what both begin with.
@@ -148,8 +146,7 @@ fn push_numbers(
 {
     say(prefix, out)?;
     push_number(first, out)?;
-    push_last(first, last, out)?;
-    Ok(())
+    push_last(first, last, out)
 }
 
 /// The place of the last of these nodes.
@@ -235,8 +232,7 @@ fn push_as_in(name: &[u8], out: &mut Vec<u8>) -> Result<(), AllocError>
 {
     say(b"As in ", out)?;
     say(name, out)?;
-    say(b".", out)?;
-    Ok(())
+    say(b".", out)
 }
 
 /// That it is as in the first of the earlier paragraphs that says so, or what is said, if none does.
