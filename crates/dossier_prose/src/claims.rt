@@ -74,8 +74,7 @@ fn push_several(count: usize, out: &mut Vec<u8>) -> Result<(), AllocError>
 {
     say(b"the last ", out)?;
     push_number(count, out)?;
-    say(b" moves were, the last one first: ", out)?;
-    Ok(())
+    say(b" moves were, the last one first: ", out)
 }
 
 /// Of how many moves is spoken.
@@ -95,8 +94,7 @@ fn push_steps(query: &Query, steps: &[Unmove], out: &mut Vec<u8>) -> Result<(), 
     ensures { IfOk result (λ _. out.new.items ≡ out.old.items ++ (count_words (length steps.now) ++ moves_words true query.now steps.now)) }
 {
     push_count(steps.len(), out)?;
-    push_moves(query, steps, out)?;
-    Ok(())
+    push_moves(query, steps, out)
 }
 
 /// What is claimed.

@@ -76,8 +76,7 @@ fn push_need(
 {
     say(place_initial(place), out)?;
     push_square(s, out)?;
-    push_cost(cost, home, out)?;
-    Ok(())
+    push_cost(cost, home, out)
 }
 
 /// What the man on a square needs from a home, if he needs anything.
@@ -286,8 +285,7 @@ fn push_many(side: Colour, out: &mut Vec<u8>) -> Result<(), AllocError>
     say(
         b" has more than sixteen men, of whom nothing is counted.\n",
         out,
-    )?;
-    Ok(())
+    )
 }
 
 /// What the men of a side need.
@@ -324,8 +322,7 @@ fn push_end(half_moves: u16, out: &mut Vec<u8>) -> Result<(), AllocError>
 {
     say(b"So no game that leads here is shorter than ", out)?;
     push_counted(half_moves, b"half-move", out)?;
-    say(b". QED\n", out)?;
-    Ok(())
+    say(b". QED\n", out)
 }
 
 /// What shows a length, in plain words: the diagram and the claim, what the men of each side need, and the claim again. The number is that

@@ -44,8 +44,7 @@ fn push_nobody(s: Square, out: &mut Vec<u8>) -> Result<(), AllocError>
     ensures { IfOk result (λ _. out.new.items ≡ out.old.items ++ (codes "nobody on " ++ square_text s)) }
 {
     say(b"nobody on ", out)?;
-    push_square(s, out)?;
-    Ok(())
+    push_square(s, out)
 }
 
 /// A man of this kind.
@@ -169,6 +168,7 @@ fn push_heading(
     Ok(())
 }
 
+/// Whether both are the same query.
 fn is_same(a: &Query, b: &Query) -> bool
     ensures { IsTrue result ↔ (a.now ≡ b.now) }
 {
