@@ -1,11 +1,9 @@
 -- A side's pawns took no more men than the other side lacks.
-use Rattle.std.proofs.Common.{◌≡◌, ◌==◌, ℕ, ◌≤◌, Bool, true, false, List, [], ◌∷◌, length, refl, ap, sym, ◌∙◌, arith}
-use Rattle.std.specs.List.{filter}
+use Rattle.std.proofs.Common.{◌≡◌, ℕ, ◌≤◌, Bool, true, false, List, [], ◌∷◌, length, refl, ap, sym, ◌∙◌, arith}
 use Rattle.std.proofs.lemmas.Bool.{both_ways, leb-true}
 use Rattle.std.proofs.lemmas.List.{length-map}
 use Rattle.std.proofs.lemmas.List.Sums.{count_by-le-length, length-filter}
-use Rattle.board_base.specs.Board.{Places, array_of, at, is_of, opponent}
-use Rattle.board_base.specs.Game.{IsGame}
+use Rattle.board_base.specs.Board.{Places, opponent}
 use Rattle.board_base.specs.declared.men.Colour.{Colour}
 use Rattle.board_base.specs.declared.moves.Move.{Move}
 use Rattle.men_account.specs.Account.{is_any}
@@ -14,9 +12,8 @@ use Rattle.men_account.specs.Homes.{men_of}
 use Rattle.men_account.proofs.Missing.{men-missing}
 use Rattle.query_base.specs.Asked.{Asked}
 use Rattle.cage_rules.specs.Reach.{LeadsTo}
-use Rattle.men_fates.specs.Deeds.{Strike, strikes, struck_by, way_of}
-use Rattle.men_fates.specs.Ways.{captures_on}
-use Rattle.men_fates.proofs.Strikes.{strikes-take, way-captures}
+use Rattle.men_fates.specs.Deeds.{Strike, strikes}
+use Rattle.men_fates.proofs.Strikes.{strikes-take}
 use Rattle.capture_prices.specs.Prices.{class_of}
 use Rattle.ledger_facts.specs.Supposed.{captures, has_class}
 use Rattle.ledger_facts.specs.declared.suppositions.Squares.{Squares}

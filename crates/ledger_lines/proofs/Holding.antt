@@ -1,6 +1,6 @@
 -- What a ledger knows holds of every game.
 use Rattle.std.proofs.Common.{◌≡◌, ℕ, ◌+◌, ◌<◌, ◌≤◌, ◌==◌, inl, inr, Bool, true, false, not, List, [], length, zero, suc, refl, ap, sym, subst, ◌∙◌, ◌⊎◌, append-nil, arith}
-use Rattle.std.specs.Prelude.{◌&&◌, ◌||◌, IsTrue, Option, None, Some, is_none, nat_le, nat_lt, slice_index_or}
+use Rattle.std.specs.Prelude.{◌&&◌, IsTrue, Option, None, Some, is_none, nat_le, nat_lt, slice_index_or}
 use Rattle.std.specs.Bool.{beq}
 use Rattle.std.proofs.lemmas.Bool.{and_from, and_parts, both_ways, cases_Bool, eq-eqb, leb-true, ltb-false, ltb-true, or_cases}
 use Rattle.std.proofs.lemmas.List.{get_or-set_same}
@@ -29,6 +29,10 @@ use Rattle.query_base.specs.Reach.{Reaches}
 use Rattle.cage_rules.specs.Frozen.{IsFrozen}
 use Rattle.cage_rules.specs.Laws.{Caged}
 use Rattle.cage_rules.specs.Reach.{LeadsTo}
+use Rattle.cage_rules.specs.Regions.{beginner, is_officer_home, region}
+use Rattle.cage_rules.proofs.Regions.{length-region}
+use Rattle.cage_rules.proofs.Roamers.{in-region}
+use Rattle.cage_rules.proofs.Tested.{member-inside}
 use Rattle.cage_rules.proofs.WalledGames.{caged-walled}
 use Rattle.cage_rules.proofs.Histories.{reaches-leads}
 use Rattle.ledger_facts.specs.Refuted.{IsRuledOut}
@@ -43,8 +47,8 @@ use Rattle.ledger_search.specs.Questions.{is_asked, is_man, only, shares_side}
 use Rattle.ledger_search.specs.declared.counts.Range.{Range}
 use Rattle.ledger_search.specs.declared.ledgers.Ledger.{Ledger}
 use Rattle.ledger_search.specs.declared.questions.Question.TheVariants.{Home}
-use Rattle.ledger_lines.specs.Facts.{Says, began_as_pawns}
-use Rattle.ledger_lines.specs.Known.{AreMen, AreRuledOut, IsKnown, IsOnBoard, are_lacking, counts_of, has_few, has_taken, have_few, is_class, is_fallen, is_far, is_few, is_few_on, is_left, is_most, is_nearer, is_other_pawn, is_piece_home, is_piece_home_of, least_of, least_taken, most_aside, number_in, piece_homes, taken_by_others}
+use Rattle.ledger_lines.specs.Facts.{Says, StayedOn, began_as_pawns}
+use Rattle.ledger_lines.specs.Known.{AreMen, AreRuledOut, HasStayed, IsKnown, IsOnBoard, are_lacking, counts_of, has_few, has_taken, have_few, is_class, is_fallen, is_far, is_few, is_few_on, is_left, is_most, is_nearer, is_other_pawn, is_piece_home, is_piece_home_of, least_of, least_taken, most_aside, number_in, piece_homes, taken_by_others}
 use Rattle.ledger_lines.specs.Losses.{losses_of}
 use Rattle.ledger_lines.specs.Slants.{is_slant, slant}
 use Rattle.ledger_lines.proofs.Counted.{count-within}
@@ -55,7 +59,7 @@ use Rattle.ledger_lines.proofs.Promotions.{pawns-among}
 use Rattle.ledger_lines.proofs.Shares.{IsShare, home_on, label-there, shares-add}
 use Rattle.ledger_lines.proofs.Slanting.{slant-captured}
 use Rattle.ledger_lines.specs.declared.facts.Fact.{Fact}
-use Rattle.ledger_lines.specs.declared.facts.Fact.TheVariants.{Began, Original, Promoted, Captured, Took, TookAtMost, Slanted, Straight, Fell, FellToPawn, EscapedPawns, Became, NeverBecame, AtLeast, AtMost, Lacks, Among}
+use Rattle.ledger_lines.specs.declared.facts.Fact.TheVariants.{Began, Original, Promoted, Captured, Took, TookAtMost, Slanted, Straight, Fell, FellToPawn, EscapedPawns, Became, NeverBecame, Stayed, AtLeast, AtMost, Lacks, Among}
 
 pawn-man : (place : Option Man) → is_a Pawn place ≡ true → is_man place ≡ true
 pawn-man None h = absurd (both_ways false refl h)
@@ -295,6 +299,15 @@ module _ (q : Asked) (l : Ledger) (set : List Bool) (frozen : IsFrozen q set) (i
     owner : is_man (at (array_of q.odds) h) ≡ true → (c : Colour) × (is_of c (at (array_of q.odds) h) ≡ true)
     owner here = let m = man-on (at (array_of q.odds) h) here in (m.0.colour, ap (is_of m.0.colour) m.1 ∙ colour-self m.0.colour)
 
+  -- an officer is in his region beside a set, and so on one of the squares
+  stayed : (h : ℕ) (squares : List Bool) → HasStayed q h squares → StayedOn q.odds g h squares
+  stayed h squares known before begins s label =
+      let kept = known.1 in
+      let home = and_parts (is_officer_home h) (not (is_in q.odds h)) known.0 in
+      let caged : Caged q.odds g q kept.set = record { leads = leads; frozen = kept.frozen } in
+      let there = (in-region q.odds g kept.set h (caged-walled q.odds g q kept.set caged) home.0 (not-so (is_in q.odds h) home.1) before begins s label).0 in
+      kept.within s (member-inside (region kept.set h) s (length-region kept.set (beginner h) h) there) there
+
   pub holds : (x : Fact) → IsOnBoard x → IsKnown x q l → Says x q.odds g
   holds (Began s homes) on known = λ h label. from-not (is_in homes h) (not-ruled-out s h (λ k. not (is_in homes k)) on known label)
   holds (Original s) on known = λ h label. not-not false (is_a Pawn (at (array_of q.odds) h)) (not-ruled-out s h (λ k. not (beq false (is_a Pawn (at (array_of q.odds) k)))) on known label)
@@ -329,6 +342,7 @@ module _ (q : Asked) (l : Ledger) (set : List Bool) (frozen : IsFrozen q set) (i
       let b = and_parts _ (is_in l.fates.taken_promoted h) e.0 in
       let a = and_parts (is_man (at (array_of q.odds) h)) (is_in l.fates.stands_promoted h) b.0 in
       never-promoted q c h home g leads (up h on a.1) (struck-later h on e.1) (taken-later h on b.1)
+  holds (Stayed h squares) on known = stayed h squares known
   holds (AtLeast c squares n) on known = least-holds c squares n (least_of (counts_of l c) squares) (least-known c squares on) (leb-true n _ known)
   holds (AtMost c squares n) on known = side-few c squares n known
   holds (Among men n) on known = among-holds men n known.0 known.1

@@ -1,5 +1,5 @@
 -- What the lines that a ledger knows say holds of every game.
-use Rattle.std.proofs.Common.{ℕ, ◌<◌, List, refl, slice_index}
+use Rattle.std.proofs.Common.{ℕ, ◌<◌, Bool, List, refl, slice_index}
 use Rattle.std.specs.Prelude.{IsTrue, Option, None, Some}
 use Rattle.std.proofs.lemmas.Bool.{lt-ltb}
 use Rattle.board_base.specs.declared.men.Colour.{Colour}
@@ -18,8 +18,8 @@ use Rattle.ledger_search.specs.declared.counts.Range.{Range}
 use Rattle.ledger_search.specs.declared.ledgers.Ledger.{Ledger}
 use Rattle.ledger_lines.specs.Facts.{Says}
 use Rattle.ledger_lines.specs.Known.{IsKnown, is_class}
-use Rattle.ledger_lines.specs.Lines.{IsLineKnown, IsLineOnBoard, LineSays, OfDark, OfManner, OfRange, OfTaker}
-use Rattle.ledger_lines.specs.declared.facts.Fact.TheVariants.{Began, Original as BeganOriginal, Promoted as BeganPawn, Took, TookAtMost, Slanted, Straight, Fell as Taken, FellToPawn, EscapedPawns, Became as WasPromoted, NeverBecame, AtLeast, AtMost, Lacks as LacksMen, Among as PawnsAmong}
+use Rattle.ledger_lines.specs.Lines.{IsLineKnown, IsLineOnBoard, LineSays, OfDark, OfManner, OfRange, OfTaker, OfWithin}
+use Rattle.ledger_lines.specs.declared.facts.Fact.TheVariants.{Began, Original as BeganOriginal, Promoted as BeganPawn, Took, TookAtMost, Slanted, Straight, Fell as Taken, FellToPawn, EscapedPawns, Became as WasPromoted, NeverBecame, Stayed, AtLeast, AtMost, Lacks as LacksMen, Among as PawnsAmong}
 use Rattle.ledger_lines.specs.declared.lines.Line.{Line}
 use Rattle.ledger_lines.specs.declared.lines.Line.TheVariants.{Unmoved, Lacks, Captures, Pawn, Man, Ahead, Original, Promoted, Among, Fell, Became}
 use Rattle.ledger_lines.specs.declared.lines.Taker.{Taker}
@@ -39,6 +39,9 @@ module _ (q : Asked) (l : Ledger) (is : IsLedgerOf q l) (g : List Move) (leads :
   of-manner h AsPawn low known = known-holds (NeverBecame h) q l low is known g leads
   of-manner h AsPromoted low known = known-holds (WasPromoted h) q l low is known g leads
 
+  of-within : (h : ℕ) (within : List Bool) → h < 64 → OfWithin (λ f. IsKnown f q l) h within → OfWithin (λ f. Says f q.odds g) h within
+  of-within h within low known told = known-holds (Stayed h within) q l low is (known told) g leads
+
   of-range : (side : Colour) (squares : Squares) (range : Range) → IsTrue (is_class squares) → OfRange (λ f. IsKnown f q l) side squares range → OfRange (λ f. Says f q.odds g) side squares range
   of-range side squares range on known = (known-holds (AtLeast side squares range.least) q l on is known.0 g leads, known-holds (AtMost side squares range.most) q l on is known.1 g leads)
 
@@ -56,7 +59,7 @@ module _ (q : Asked) (l : Ledger) (is : IsLedgerOf q l) (g : List Move) (leads :
   line-holds (Original set) on known = λ s low there. known-holds (BeganOriginal s) q l low is (known s low there) g leads
   line-holds (Promoted s homes) on known = (known-holds (BeganPawn s) q l on is known.0 g leads, known-holds (Began s homes) q l on is known.1 g leads)
   line-holds (Among n set) on known = known-holds (PawnsAmong set n) q l tt is known g leads
-  line-holds (Fell h taker manner) on known = (known-holds (Taken h) q l on is known.0 g leads, of-taker h taker on known.1, of-manner h manner on known.2)
+  line-holds (Fell h taker manner within) on known = (known-holds (Taken h) q l on is known.0 g leads, of-taker h taker on known.1, of-manner h manner on known.2, of-within h within on known.3)
   line-holds (Became h) on known = known-holds (WasPromoted h) q l on is known g leads
 
 pub known-line-holds : (x : Line) (q : Asked) (l : Ledger) → IsLineOnBoard x → IsLedgerOf q l → IsLineKnown x q l → (g : List Move) → LeadsTo q.odds g q → LineSays x q.odds g

@@ -7,7 +7,7 @@ use Rattle.board_base.specs.declared.men.Kind.TheVariants.{Pawn}
 use Rattle.board_base.specs.declared.moves.Move.{Move}
 use Rattle.board_base.specs.Game.{board_after}
 use Rattle.men_account.specs.Labels.{label_at, labels_after}
-use Rattle.cage_rules.specs.Laws.{IsGone}
+use Rattle.cage_rules.specs.Laws.{Begins, IsGone}
 use Rattle.men_fates.specs.Deeds.{way_of}
 use Rattle.men_fates.specs.Ways.{captures_on}
 use Rattle.ledger_facts.specs.Lines.{BeganOn, FellToPawn, HasCaptured, KeptFile}
@@ -15,7 +15,7 @@ use Rattle.ledger_facts.specs.Supposed.{captures, is_last}
 use Rattle.ledger_lines.specs.Losses.{losses_of}
 use Rattle.ledger_lines.specs.Slants.{is_slant, slant}
 use Rattle.ledger_lines.specs.declared.facts.Fact.{Fact}
-use Rattle.ledger_lines.specs.declared.facts.Fact.TheVariants.{Began, Original, Promoted, Captured, Took, TookAtMost, Slanted, Straight, Fell, FellToPawn as ToPawn, EscapedPawns, Became, NeverBecame, AtLeast, AtMost, Lacks, Among}
+use Rattle.ledger_lines.specs.declared.facts.Fact.TheVariants.{Began, Original, Promoted, Captured, Took, TookAtMost, Slanted, Straight, Fell, FellToPawn as ToPawn, EscapedPawns, Became, NeverBecame, Stayed, AtLeast, AtMost, Lacks, Among}
 
 -- whoever stands on s began as a pawn, or as none
 abbrev pub BeganAs : List Bool → List Move → ℕ → Bool → Type 0
@@ -24,6 +24,11 @@ BeganAs o g s pawn = (h : ℕ) → label_at (labels_after o g) s ≡ Some h → 
 -- Article 3.7: the way of the man of h ends on his last rank, or short of it, whichever side he is of
 abbrev pub Ended : List Bool → List Move → ℕ → Bool → Type 0
 Ended o g h promoted = (c : Colour) → IsTrue (is_of c (at (array_of o) h)) → is_last c h (way_of o g h) ≡ promoted
+
+-- After each of the game's beginnings the man who began on h, if he is still on the board, stands on one of these squares; so if he was
+-- taken, he was taken there.
+abbrev pub StayedOn : List Bool → List Move → ℕ → List Bool → Type 0
+StayedOn o g h squares = (before : List Move) → Begins before g → (s : ℕ) → label_at (labels_after o before) s ≡ Some h → IsTrue (is_in squares s)
 
 -- the label is the home of a pawn
 abbrev pub is_of_pawn : Places → Option ℕ → Bool
@@ -49,6 +54,7 @@ Says (ToPawn h) o g = (c : Colour) → IsTrue (is_of c (at (array_of o) h)) → 
 Says (EscapedPawns h) o g = (c : Colour) → IsTrue (is_of c (at (array_of o) h)) → FellToPawn o g c h → ⊥
 Says (Became h) o g = Ended o g h true
 Says (NeverBecame h) o g = Ended o g h false
+Says (Stayed h squares) o g = StayedOn o g h squares
 Says (AtLeast c squares n) o g = n ≤ captures o g c squares
 Says (AtMost c squares n) o g = captures o g c squares ≤ n
 Says (Lacks c losses) o g = losses ≡ losses_of c (array_of o) (board_after o g)

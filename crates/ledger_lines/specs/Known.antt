@@ -1,5 +1,5 @@
 -- Which facts a ledger knows.
-use Rattle.std.specs.Prelude.{ℕ, ◌≡◌, ◌+◌, ◌-◌, ◌%◌, ◌==◌, ◌<◌, ◌≤◌, ◌&&◌, ◌||◌, ◌⊎◌, Bool, true, false, not, IsTrue, List, [], nat_le, nat_lt, Option, Some, None, slice_index, slice_index_or}
+use Rattle.std.specs.Prelude.{ℕ, ◌≡◌, ◌+◌, ◌-◌, ◌%◌, ◌==◌, ◌<◌, ◌≤◌, ◌&&◌, ◌||◌, ◌⊎◌, Bool, true, false, not, IsTrue, List, [], length, nat_le, nat_lt, Option, Some, None, slice_index, slice_index_or}
 use Rattle.std.specs.Bool.{beq}
 use Rattle.std.specs.List.{count_by, filter, list_all, list_any, range_with_len, sum_by}
 use Rattle.board_base.specs.Board.{Places, array_of, at, is_a, is_in, is_the, opponent}
@@ -11,6 +11,8 @@ use Rattle.board_base.specs.declared.men.Man.{Man}
 use Rattle.men_account.specs.Account.{is_any}
 use Rattle.men_account.specs.Homes.{men_of}
 use Rattle.query_base.specs.Asked.{Asked}
+use Rattle.cage_rules.specs.Frozen.{IsFrozen}
+use Rattle.cage_rules.specs.Regions.{is_officer_home, region}
 use Rattle.ledger_facts.specs.declared.suppositions.Squares.{Squares}
 use Rattle.ledger_facts.specs.declared.suppositions.Squares.TheVariants.{All, Dark, Light, Class}
 use Rattle.ledger_search.specs.Questions.{is_asked, is_man}
@@ -21,7 +23,7 @@ use Rattle.ledger_search.specs.declared.ledgers.Ledger.{Ledger}
 use Rattle.ledger_search.specs.declared.questions.Question.TheVariants.{Home}
 use Rattle.ledger_lines.specs.Losses.{losses_of}
 use Rattle.ledger_lines.specs.declared.facts.Fact.{Fact}
-use Rattle.ledger_lines.specs.declared.facts.Fact.TheVariants.{Began, Original, Promoted, Captured, Took, TookAtMost, Slanted, Straight, Fell, FellToPawn, EscapedPawns, Became, NeverBecame, AtLeast, AtMost, Lacks, Among}
+use Rattle.ledger_lines.specs.declared.facts.Fact.TheVariants.{Began, Original, Promoted, Captured, Took, TookAtMost, Slanted, Straight, Fell, FellToPawn, EscapedPawns, Became, NeverBecame, Stayed, AtLeast, AtMost, Lacks, Among}
 
 -- a man stands on s, and each home of his side that passes the test is ruled out for him
 abbrev pub AreRuledOut : Asked → Ledger → ℕ → (ℕ → Bool) → Type 0
@@ -144,6 +146,25 @@ piece_homes q l set = count_by (is_piece_home_of q l set) (range_with_len 0 64)
 abbrev pub AreMen : Asked → List Bool → Type 0
 AreMen q set = (s : ℕ) → s < 64 → IsTrue (is_in set s) → IsTrue (is_man (at q.board s))
 
+-- Article 2.3: a queen, a rook, a bishop or a knight begins on h, and isn't left out
+abbrev pub has_officer : Asked → ℕ → Bool
+has_officer q h = is_officer_home h && not (is_in q.odds h)
+
+-- each square of the first set is one of the second
+abbrev pub AreWithin : List Bool → List Bool → Type 0
+AreWithin inner outer = (s : ℕ) → s < 64 → IsTrue (is_in inner s) → IsTrue (is_in outer s)
+
+-- The array's man on h can't have left these squares while the men of some frozen set stood: his region has no other.
+pub record IsKept (q : Asked) (h : ℕ) (squares : List Bool) : Type 0 where
+  pub set : List Bool
+  pub whole : length set ≡ 64
+  pub frozen : IsFrozen q set
+  pub within : AreWithin (region set h) squares
+
+-- an officer began on h, and can't have left these squares
+abbrev pub HasStayed : Asked → ℕ → List Bool → Type 0
+HasStayed q h squares = IsTrue (has_officer q h) × IsKept q h squares
+
 -- the ledger of a query knows the fact
 abbrev pub IsKnown : Fact → Asked → Ledger → Type 0
 IsKnown (Began s homes) q l = AreRuledOut q l s (λ h. not (is_in homes h))
@@ -159,6 +180,7 @@ IsKnown (FellToPawn h) q l = IsTrue (is_struck (array_of q.odds) l.fates h)
 IsKnown (EscapedPawns h) q l = IsTrue (is_unstruck (array_of q.odds) l.fates h)
 IsKnown (Became h) q l = IsTrue (is_promoted (array_of q.odds) l.fates h)
 IsKnown (NeverBecame h) q l = IsTrue (is_unpromoted (array_of q.odds) l.fates h)
+IsKnown (Stayed h squares) q l = HasStayed q h squares
 IsKnown (AtLeast c squares n) q l = IsTrue (nat_le n (least_of (counts_of l c) squares))
 IsKnown (AtMost c squares n) q l = IsTrue (have_few q l c squares n)
 IsKnown (Lacks c losses) q l = losses ≡ losses_of c (array_of q.odds) q.board
@@ -185,6 +207,7 @@ IsOnBoard (FellToPawn h) = h < 64
 IsOnBoard (EscapedPawns h) = h < 64
 IsOnBoard (Became h) = h < 64
 IsOnBoard (NeverBecame h) = h < 64
+IsOnBoard (Stayed h squares) = h < 64
 IsOnBoard (AtLeast c squares n) = IsTrue (is_class squares)
 IsOnBoard (AtMost c squares n) = IsTrue (is_class squares)
 IsOnBoard (Lacks c losses) = Unit {0}

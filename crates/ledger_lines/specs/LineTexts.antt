@@ -8,6 +8,7 @@ use Rattle.board_base.specs.declared.men.Colour.{Colour}
 use Rattle.board_base.specs.declared.men.Colour.TheVariants.{White, Black}
 use Rattle.prose_words.specs.Words.{squares_words}
 use Rattle.ledger_search.specs.declared.counts.Range.{Range}
+use Rattle.ledger_lines.specs.Known.{number_in}
 use Rattle.ledger_lines.specs.Slants.{tells_way, way_words}
 use Rattle.ledger_lines.specs.declared.lines.Line.{Line}
 use Rattle.ledger_lines.specs.declared.lines.Line.TheVariants.{Unmoved, Lacks, Captures, Pawn, Man, Ahead, Original, Promoted, Among, Fell, Became}
@@ -38,6 +39,10 @@ manner_word AsPromoted = codes " as-promoted"
 -- a number and a square after a space
 abbrev pub spaced_number : ℕ → List ℕ
 spaced_number n = codes " " ++ decimal n
+
+-- on one of how many squares the man of h was taken, after a space, if that is told
+abbrev pub within_words : ℕ → List Bool → List ℕ
+within_words h within = cond (is_in within h) (codes " within" ++ spaced_number (number_in within)) []
 
 -- the shade of squares, behind their file
 abbrev pub shade_word : Bool → List ℕ
@@ -105,5 +110,5 @@ line_text (Ahead set) = codes "ahead" ++ squares_words (is_in set)
 line_text (Original set) = codes "original" ++ squares_words (is_in set)
 line_text (Promoted s homes) = codes "promoted" ++ spaced_square s ++ homes_words homes
 line_text (Among n set) = codes "among" ++ spaced_number n ++ squares_words (is_in set)
-line_text (Fell h taker manner) = codes "fell" ++ spaced_square h ++ taker_word taker ++ manner_word manner
+line_text (Fell h taker manner within) = codes "fell" ++ spaced_square h ++ taker_word taker ++ manner_word manner ++ within_words h within
 line_text (Became h) = codes "became" ++ spaced_square h

@@ -14,7 +14,7 @@ use Rattle.ledger_search.specs.declared.ledgers.Ledger.{Ledger}
 use Rattle.ledger_lines.specs.Facts.{Says}
 use Rattle.ledger_lines.specs.Known.{IsKnown}
 use Rattle.ledger_lines.specs.declared.facts.Fact.{Fact}
-use Rattle.ledger_lines.specs.declared.facts.Fact.TheVariants.{Began, Original as BeganOriginal, Promoted as BeganPawn, Took, TookAtMost, Slanted, Straight, Fell as Taken, FellToPawn, EscapedPawns, Became as WasPromoted, NeverBecame, AtLeast, AtMost, Lacks as LacksMen, Among as PawnsAmong}
+use Rattle.ledger_lines.specs.declared.facts.Fact.TheVariants.{Began, Original as BeganOriginal, Promoted as BeganPawn, Took, TookAtMost, Slanted, Straight, Fell as Taken, FellToPawn, EscapedPawns, Became as WasPromoted, NeverBecame, Stayed, AtLeast, AtMost, Lacks as LacksMen, Among as PawnsAmong}
 use Rattle.ledger_lines.specs.declared.lines.Line.{Line}
 use Rattle.ledger_lines.specs.declared.lines.Line.TheVariants.{Unmoved, Lacks, Captures, Pawn, Man, Ahead, Original, Promoted, Among, Fell, Became}
 use Rattle.ledger_lines.specs.declared.lines.Taker.{Taker}
@@ -34,6 +34,10 @@ abbrev pub OfManner : (Fact → Type 0) → ℕ → Manner → Type 0
 OfManner P h Anyhow = Unit {0}
 OfManner P h AsPawn = P (NeverBecame h)
 OfManner P h AsPromoted = P (WasPromoted h)
+
+-- where he was taken, if that is told: then his home is one of the squares
+abbrev pub OfWithin : (Fact → Type 0) → ℕ → List Bool → Type 0
+OfWithin P h within = IsTrue (is_in within h) → P (Stayed h within)
 
 -- between which numbers the captures of a side's pawns lie, on some squares
 abbrev pub OfRange : (Fact → Type 0) → Colour → Squares → Range → Type 0
@@ -59,7 +63,7 @@ OfEach P F (Ahead set) = (s : ℕ) → s < 64 → IsTrue (is_in set s) → P (St
 OfEach P F (Original set) = (s : ℕ) → s < 64 → IsTrue (is_in set s) → P (BeganOriginal s)
 OfEach P F (Promoted s homes) = P (BeganPawn s) × P (Began s homes)
 OfEach P F (Among n set) = P (PawnsAmong set n)
-OfEach P F (Fell h taker manner) = P (Taken h) × OfTaker P h taker × OfManner P h manner
+OfEach P F (Fell h taker manner within) = P (Taken h) × OfTaker P h taker × OfManner P h manner × OfWithin P h within
 OfEach P F (Became h) = P (WasPromoted h)
 
 -- The line is true of a game: that the other side lacks so many men is a count on the board, and says nothing of a game.
@@ -81,5 +85,5 @@ IsLineOnBoard (Ahead set) = Unit {0}
 IsLineOnBoard (Original set) = Unit {0}
 IsLineOnBoard (Promoted s homes) = s < 64
 IsLineOnBoard (Among n set) = Unit {0}
-IsLineOnBoard (Fell h taker manner) = h < 64
+IsLineOnBoard (Fell h taker manner within) = h < 64
 IsLineOnBoard (Became h) = h < 64

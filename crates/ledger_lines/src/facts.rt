@@ -31,6 +31,8 @@ pub enum Fact {
     Became(Square),
     /// He never was promoted.
     NeverBecame(Square),
+    /// He has always stood on one of these; so if he was taken, he was taken there.
+    Stayed(Square, SquareSet),
     /// This side's pawns made at least so many captures on these squares.
     AtLeast(Colour, Squares, u8),
     /// They made at most so many there.

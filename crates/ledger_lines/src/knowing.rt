@@ -9,6 +9,7 @@ ghost use Rattle.ledger_lines.specs.Known.{AreRuledOut, IsKnown, IsOnBoard, are_
 
 use crate::among::is_among;
 use crate::captors::{has_taken, taken_by_others};
+use crate::confined::has_stayed;
 use crate::facts::Fact;
 use crate::losses::are_losses;
 use board_base::{
@@ -264,6 +265,7 @@ pub fn is_known(query: &Query, ledger: &Ledger, fact: &Fact) -> bool
         Fact::EscapedPawns(h) => is_unstruck(&first, &ledger.fates, h),
         Fact::Became(h) => is_promoted(&first, &ledger.fates, h),
         Fact::NeverBecame(h) => is_unpromoted(&first, &ledger.fates, h),
+        Fact::Stayed(h, squares) => has_stayed(query, h, squares),
         Fact::AtLeast(side, squares, number) => {
             number <= least_of(&counts_of(ledger, side), squares)
         }

@@ -6,6 +6,7 @@
 
 mod among;
 mod captors;
+mod confined;
 mod facts;
 mod knowing;
 mod laws;
@@ -16,6 +17,7 @@ mod writing;
 
 pub use among::{number_in, piece_homes};
 pub use captors::is_left;
+pub use confined::has_officer;
 pub use facts::Fact;
 pub use knowing::{
     counts_of, is_fallen, is_known, is_promoted, is_struck, is_unpromoted, is_unstruck, lacking,

@@ -53,8 +53,8 @@ pub enum Line {
     Promoted(Square, SquareSet),
     /// At least so many of the men on these squares began as pawns.
     Among(u8, SquareSet),
-    /// The man who began on this square was taken.
-    Fell(Square, Taker, Manner),
+    /// The man who began on this square was taken. If the set has the square, he was taken on one of the set.
+    Fell(Square, Taker, Manner, SquareSet),
     /// He was a pawn and was promoted.
     Became(Square),
 }

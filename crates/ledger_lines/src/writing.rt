@@ -2,8 +2,9 @@ ghost use Rattle.std.specs.Prelude.{◌≡◌, ◌||◌, ◌++◌, ◌<◌, IfOk
 ghost use Rattle.board_base.specs.Board.{is_in};
 ghost use Rattle.prose_words.specs.Words.{squares_words};
 ghost use Rattle.ledger_lines.specs.declared.lines.Line.TheVariants.{Among, Became, Captures, Fell, Lacks, Man, Pawn, Promoted};
-ghost use Rattle.ledger_lines.specs.LineTexts.{class_words, classes_words, dark_words, home_word, homes_words, line_text, losses_words, made_words, manner_word, more_word, range_words, repeated, shade_word, side_letter, spaced_number, spaced_square, taker_word, takings_words};
+ghost use Rattle.ledger_lines.specs.LineTexts.{class_words, classes_words, dark_words, home_word, homes_words, line_text, losses_words, made_words, manner_word, more_word, range_words, repeated, shade_word, side_letter, spaced_number, spaced_square, taker_word, takings_words, within_words};
 
+use crate::among::number_in;
 use crate::lines::{Line, Manner, Taker, Takings};
 use crate::losses::Losses;
 use crate::slants::{push_way, tells_way};
@@ -235,14 +236,32 @@ fn push_man(s: Square, h: Square, out: &mut Vec<u8>) -> Result<(), AllocError>
     push_spaced_square(h, out)
 }
 
+/// Adds on one of how many squares a man was taken, if it is told.
+fn push_within(h: Square, within: SquareSet, out: &mut Vec<u8>) -> Result<(), AllocError>
+    ensures { IfOk result (λ _. out.new.items ≡ out.old.items ++ within_words h within) }
+{
+    if !within.has(h) {
+        return Ok(());
+    }
+    say(b" within", out)?;
+    push_spaced_number(number_in(within), out)
+}
+
 /// Adds how a man fell.
-fn push_fall(h: Square, taker: Taker, manner: Manner, out: &mut Vec<u8>) -> Result<(), AllocError>
-    ensures { IfOk result (λ _. out.new.items ≡ out.old.items ++ line_text (Fell h taker manner)) }
+fn push_fall(
+    h: Square,
+    taker: Taker,
+    manner: Manner,
+    within: SquareSet,
+    out: &mut Vec<u8>,
+) -> Result<(), AllocError>
+    ensures { IfOk result (λ _. out.new.items ≡ out.old.items ++ line_text (Fell h taker manner within)) }
 {
     say(b"fell", out)?;
     push_spaced_square(h, out)?;
     say(taker_word(taker), out)?;
-    say(manner_word(manner), out)
+    say(manner_word(manner), out)?;
+    push_within(h, within, out)
 }
 
 /// Adds that a man was promoted, and where he began.
@@ -293,7 +312,7 @@ pub fn write_line(line: &Line, out: &mut Vec<u8>) -> Result<(), AllocError>
         Line::Original(set) => push_set(b"original", set, out),
         Line::Promoted(s, homes) => push_officer(s, homes, out),
         Line::Among(number, set) => push_among(number, set, out),
-        Line::Fell(h, taker, manner) => push_fall(h, taker, manner, out),
+        Line::Fell(h, taker, manner, within) => push_fall(h, taker, manner, within, out),
         Line::Became(h) => push_promoted(h, out),
     }
 }

@@ -1,5 +1,5 @@
 -- Lines without men of whom others say that they never moved are as true as they were.
-use Rattle.std.proofs.Common.{ℕ, List, [], ◌∷◌, map}
+use Rattle.std.proofs.Common.{List, [], ◌∷◌, map}
 use Rattle.std.specs.List.{All}
 use Rattle.std.proofs.lemmas.Bool.{and_parts}
 use Rattle.std.proofs.lemmas.List.Elements.{All-cons, All-head, All-nil, All-tail}
@@ -22,7 +22,7 @@ one-news known q g (Ahead set) so = so
 one-news known q g (Original set) so = so
 one-news known q g (Promoted t homes) so = so
 one-news known q g (Among n set) so = so
-one-news known q g (Fell h taker manner) so = so
+one-news known q g (Fell h taker manner within) so = so
 one-news known q g (Became h) so = so
 
 abbrev IsTrueLine : Asked → Line → Type 0

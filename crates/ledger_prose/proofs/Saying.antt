@@ -1,18 +1,20 @@
 -- What sentences say is so of each game of which their lines are true.
 use Rattle.std.proofs.Common.{◌≡◌, ℕ, ◌<◌, inl, inr, Bool, true, false, List, [], ◌∷◌, refl, subst, arith}
-use Rattle.std.specs.Prelude.{◌&&◌, nat_lt}
+use Rattle.std.specs.Prelude.{◌&&◌, ◌==◌, nat_lt, not}
+use Rattle.std.specs.Bool.{beq}
 use Rattle.std.specs.List.{All, Contains, filter, list_any}
 use Rattle.std.proofs.lemmas.Bool.{and_parts, both_ways, eqb-true, leb-true, or_cases}
 use Rattle.std.proofs.lemmas.List.Elements.{All-contains, All-filter, All-weaker}
-use Rattle.board_base.specs.Board.{opponent}
+use Rattle.board_base.specs.Board.{is_in, opponent}
 use Rattle.board_base.specs.declared.men.Colour.{Colour}
 use Rattle.board_base.specs.declared.men.Colour.TheVariants.{White, Black}
 use Rattle.board_base.specs.declared.moves.Move.{Move}
+use Rattle.general_lemmas.proofs.Ranges.{all_in_range}
 use Rattle.general_lemmas.proofs.Lists.{contains-filter, contains-first, contains-later, filter-contains}
 use Rattle.query_base.specs.Asked.{Asked}
 use Rattle.query_base.specs.Reach.{Reaches}
 use Rattle.ledger_lines.specs.Facts.{Says}
-use Rattle.ledger_lines.specs.Lines.{LineSays, OfManner, OfTaker}
+use Rattle.ledger_lines.specs.Lines.{LineSays, OfManner, OfTaker, OfWithin}
 use Rattle.ledger_lines.specs.declared.facts.Fact.{Fact}
 use Rattle.ledger_lines.specs.declared.lines.Line.{Line}
 use Rattle.ledger_lines.specs.declared.lines.Line.TheVariants.{Unmoved as UnmovedLine, Lacks, Captures, Pawn, Man, Ahead, Original as OriginalLine, Promoted as PromotedLine, Among, Fell, Became}
@@ -20,10 +22,10 @@ use Rattle.ledger_lines.specs.declared.lines.Manner.{Manner}
 use Rattle.ledger_lines.specs.declared.lines.Manner.TheVariants.{Anyhow, AsPawn, AsPromoted}
 use Rattle.ledger_lines.specs.declared.lines.Taker.{Taker}
 use Rattle.ledger_lines.specs.declared.lines.Taker.TheVariants.{Anyone, Pawn as ByPawn, Officer}
-use Rattle.ledger_prose.specs.Saying.{SaidOf, SentenceSays, TookAll}
-use Rattle.ledger_prose.specs.Sentences.{alone, are_all_taken, group_lines, group_sentences, has_taken_all, is_change, is_lacking, is_of_group, is_officer_fall, is_origin, is_pawn_fall, is_promotion, is_taken, lacks, line_sentences, names_square, needed, number_named, same_manner, same_taker, sentences_of, together, told_taker, took}
+use Rattle.ledger_prose.specs.Saying.{NeverLeft, SaidOf, SentenceSays, TookAll}
+use Rattle.ledger_prose.specs.Sentences.{alone, are_all_taken, group_lines, group_sentences, has_taken_all, is_alone, is_at_home, is_change, is_lacking, is_of_group, is_officer_fall, is_origin, is_pawn_fall, is_promotion, is_taken, lacks, line_sentences, names_square, needed, number_named, same_manner, same_taker, sentences_of, together, told_taker, took}
 use Rattle.ledger_prose.specs.declared.parts.Group.{Group}
-use Rattle.ledger_prose.specs.declared.parts.Group.TheVariants.{Captors, Pawns, Officers, Promoted, Original, Unmoved}
+use Rattle.ledger_prose.specs.declared.parts.Group.TheVariants.{Captors, Pawns, Officers, AtHome, Promoted, Original, Unmoved}
 use Rattle.ledger_prose.specs.declared.parts.Topic.{Topic}
 use Rattle.ledger_prose.specs.declared.parts.Topic.TheVariants.{Lacking, Taken, Spare, Changed, Origins}
 use Rattle.ledger_prose.proofs.EachSentence.{all-one, all-sentences}
@@ -68,12 +70,27 @@ told-so P h all Officer so = so
 of-taker : (P : Fact → Type 0) (h : ℕ) (all : Bool) (told taker : Taker) → same_taker told (told_taker all taker) ≡ true → OfTaker P h taker → OfTaker P h told
 of-taker P h all told taker same so = subst (OfTaker P h) (same-taker told (told_taker all taker) same) (told-so P h all taker so)
 
+not-both : (a b : Bool) → not (a && not b) ≡ true → a ≡ true → b ≡ true
+not-both true true h so = refl
+not-both true false h so = absurd (both_ways false refl h)
+not-both false b h so = absurd (both_ways false refl so)
+
+both-so : (b : Bool) → beq true b ≡ true → b ≡ true
+both-so true h = refl
+both-so false h = absurd (both_ways false refl h)
+
+-- a set that has no other square
+in-alone : (h : ℕ) (set : List Bool) (s : ℕ) → is_alone h set ≡ true → s < 64 → is_in set s ≡ true → s ≡ h
+unfolding is_alone
+in-alone h set s none low there =
+    eqb-true s h (not-both (is_in set s) (s == h) (all_in_range (λ t. not (is_in set t && not (t == h))) 0 64 s none (omega arith) (omega arith)) there)
+
 module _ (q : Asked) (lines : List Line) (g : List Move) where
   abbrev Is : Line → Type 0
   Is x = LineSays x q.odds g
 
   pawn-falls : (c : Colour) (told : Taker) (manner : Manner) (s : ℕ) (x : Line) → is_pawn_fall c told manner q lines x ≡ true → names_square q s x ≡ true → Is x → SaidOf (Pawns c told manner) q.odds g s
-  pawn-falls c told manner s (Fell h taker how) of names so =
+  pawn-falls c told manner s (Fell h taker how within) of names so =
       let parts = and_parts _ _ of in
       let rest = and_parts _ _ parts.0 in
       let there : h ≡ s = eqb-true h s names in
@@ -89,29 +106,37 @@ module _ (q : Asked) (lines : List Line) (g : List Move) where
   pawn-falls c told manner s (Among n set) of names so = absurd (both_ways false refl of)
   pawn-falls c told manner s (Became h) of names so = absurd (both_ways false refl of)
 
-  officer-falls : (c : Colour) (told : Taker) (s : ℕ) (x : Line) → is_officer_fall c told q lines x ≡ true → names_square q s x ≡ true → Is x → SaidOf (Officers c told) q.odds g s
-  officer-falls c told s (Fell h taker how) of names so =
-      let parts = and_parts _ _ of in
+  -- he was taken at home if that is told
+  never-left : (h : ℕ) (home : Bool) (within : List Bool) → beq home (is_at_home h within) ≡ true → OfWithin (λ f. Says f q.odds g) h within → home ≡ true → NeverLeft q.odds g h
+  never-left h home within same so asked =
+      let told = and_parts (is_in within h) (is_alone h within) (both-so (is_at_home h within) (subst (λ (b : Bool). beq b (is_at_home h within) ≡ true) asked same)) in
+      λ before begins s low label. in-alone h within s told.1 low (so told.0 before begins s label)
+
+  officer-falls : (c : Colour) (told : Taker) (home : Bool) (s : ℕ) (x : Line) → is_officer_fall c told home q lines x ≡ true → names_square q s x ≡ true → Is x → SaidOf (Officers c told) q.odds g s × (home ≡ true → NeverLeft q.odds g s)
+  officer-falls c told home s (Fell h taker how within) of names so =
+      let whole = and_parts _ _ of in
+      let parts = and_parts _ _ whole.0 in
       let rest = and_parts _ _ parts.0 in
       let there : h ≡ s = eqb-true h s names in
-      subst (λ (k : ℕ). SaidOf (Officers c told) q.odds g k) there (rest.0, so.0, of-taker (λ f. Says f q.odds g) h (has_taken_all (opponent c) lines) told taker parts.1 so.1)
-  officer-falls c told s (UnmovedLine set) of names so = absurd (both_ways false refl of)
-  officer-falls c told s (Lacks side x) of names so = absurd (both_ways false refl of)
-  officer-falls c told s (Captures side x) of names so = absurd (both_ways false refl of)
-  officer-falls c told s (Pawn t homes n exact) of names so = absurd (both_ways false refl of)
-  officer-falls c told s (Man t h) of names so = absurd (both_ways false refl of)
-  officer-falls c told s (Ahead set) of names so = absurd (both_ways false refl of)
-  officer-falls c told s (OriginalLine set) of names so = absurd (both_ways false refl of)
-  officer-falls c told s (PromotedLine t homes) of names so = absurd (both_ways false refl of)
-  officer-falls c told s (Among n set) of names so = absurd (both_ways false refl of)
-  officer-falls c told s (Became h) of names so = absurd (both_ways false refl of)
+      let said : SaidOf (Officers c told) q.odds g h = (rest.0, so.0, of-taker (λ f. Says f q.odds g) h (has_taken_all (opponent c) lines) told taker parts.1 so.1) in
+      subst (λ (k : ℕ). SaidOf (Officers c told) q.odds g k × (home ≡ true → NeverLeft q.odds g k)) there (said, never-left h home within whole.1 so.3)
+  officer-falls c told home s (UnmovedLine set) of names so = absurd (both_ways false refl of)
+  officer-falls c told home s (Lacks side x) of names so = absurd (both_ways false refl of)
+  officer-falls c told home s (Captures side x) of names so = absurd (both_ways false refl of)
+  officer-falls c told home s (Pawn t homes n exact) of names so = absurd (both_ways false refl of)
+  officer-falls c told home s (Man t h) of names so = absurd (both_ways false refl of)
+  officer-falls c told home s (Ahead set) of names so = absurd (both_ways false refl of)
+  officer-falls c told home s (OriginalLine set) of names so = absurd (both_ways false refl of)
+  officer-falls c told home s (PromotedLine t homes) of names so = absurd (both_ways false refl of)
+  officer-falls c told home s (Among n set) of names so = absurd (both_ways false refl of)
+  officer-falls c told home s (Became h) of names so = absurd (both_ways false refl of)
 
   promotions : (c : Colour) (s : ℕ) (x : Line) → is_promotion c q lines x ≡ true → names_square q s x ≡ true → Is x → SaidOf (Promoted c) q.odds g s
   promotions c s (Became h) of names so =
       let parts = and_parts _ _ of in
       let there : h ≡ s = eqb-true h s names in
       subst (λ (k : ℕ). SaidOf (Promoted c) q.odds g k) there (parts.0, so)
-  promotions c s (Fell h taker how) of names so = absurd (both_ways false refl of)
+  promotions c s (Fell h taker how within) of names so = absurd (both_ways false refl of)
   promotions c s (UnmovedLine set) of names so = absurd (both_ways false refl of)
   promotions c s (Lacks side x) of names so = absurd (both_ways false refl of)
   promotions c s (Captures side x) of names so = absurd (both_ways false refl of)
@@ -125,7 +150,7 @@ module _ (q : Asked) (lines : List Line) (g : List Move) where
   originals : (s : ℕ) → s < 64 → (x : Line) → is_of_group Original q lines x ≡ true → names_square q s x ≡ true → Is x → SaidOf Original q.odds g s
   originals s low (OriginalLine set) of names so = so s low names
   originals s low (Became h) of names so = absurd (both_ways false refl of)
-  originals s low (Fell h taker how) of names so = absurd (both_ways false refl of)
+  originals s low (Fell h taker how within) of names so = absurd (both_ways false refl of)
   originals s low (UnmovedLine set) of names so = absurd (both_ways false refl of)
   originals s low (Lacks side x) of names so = absurd (both_ways false refl of)
   originals s low (Captures side x) of names so = absurd (both_ways false refl of)
@@ -139,7 +164,7 @@ module _ (q : Asked) (lines : List Line) (g : List Move) where
   stays s (UnmovedLine set) of names so = λ before begins. so before begins s (and_parts _ _ (and_parts _ _ names).0).0
   stays s (OriginalLine set) of names so = absurd (both_ways false refl of)
   stays s (Became h) of names so = absurd (both_ways false refl of)
-  stays s (Fell h taker how) of names so = absurd (both_ways false refl of)
+  stays s (Fell h taker how within) of names so = absurd (both_ways false refl of)
   stays s (Lacks side x) of names so = absurd (both_ways false refl of)
   stays s (Captures side x) of names so = absurd (both_ways false refl of)
   stays s (Pawn t homes n exact) of names so = absurd (both_ways false refl of)
@@ -152,7 +177,10 @@ module _ (q : Asked) (lines : List Line) (g : List Move) where
   said-of : (group : Group) (s : ℕ) → s < 64 → (x : Line) → is_of_group group q lines x ≡ true → names_square q s x ≡ true → Is x → SaidOf group q.odds g s
   said-of (Captors c) s low x of names so = tt
   said-of (Pawns c told manner) s low x of names so = pawn-falls c told manner s x of names so
-  said-of (Officers c told) s low x of names so = officer-falls c told s x of names so
+  said-of (Officers c told) s low x of names so = (officer-falls c told false s x of names so).0
+  said-of (AtHome c told) s low x of names so =
+      let it = officer-falls c told true s x of names so in
+      (it.0.0, it.0.1, it.0.2, it.1 refl)
   said-of (Promoted c) s low x of names so = promotions c s x of names so
   said-of Original s low x of names so = originals s low x of names so
   said-of Unmoved s low x of names so = stays s x of names so
@@ -166,7 +194,7 @@ module _ (q : Asked) (lines : List Line) (g : List Move) where
   took-all c (UnmovedLine set) of so = absurd (both_ways false refl of)
   took-all c (OriginalLine set) of so = absurd (both_ways false refl of)
   took-all c (Became h) of so = absurd (both_ways false refl of)
-  took-all c (Fell h taker how) of so = absurd (both_ways false refl of)
+  took-all c (Fell h taker how within) of so = absurd (both_ways false refl of)
   took-all c (Lacks side x) of so = absurd (both_ways false refl of)
   took-all c (Pawn t homes n exact) of so = absurd (both_ways false refl of)
   took-all c (Man t h) of so = absurd (both_ways false refl of)

@@ -17,18 +17,23 @@ use Rattle.ledger_lines.specs.declared.lines.Line.{Line}
 use Rattle.ledger_lines.specs.declared.lines.Line.TheVariants as line
 use Rattle.ledger_prose.specs.Sentences.{Sentence, alone, is_named, lacks, needed, together, took}
 use Rattle.ledger_prose.specs.declared.parts.Group.{Group}
-use Rattle.ledger_prose.specs.declared.parts.Group.TheVariants.{Captors, Pawns, Officers, Promoted, Original, Unmoved}
+use Rattle.ledger_prose.specs.declared.parts.Group.TheVariants.{Captors, Pawns, Officers, AtHome, Promoted, Original, Unmoved}
 
 -- after each of the game's beginnings whoever stands on s is the man who began there
 abbrev pub NeverMoved : List Bool → List Move → ℕ → Type 0
 NeverMoved o g s = (before : List Move) → Begins before g → label_at (labels_after o before) s ≡ Some s
 
+-- after each of the game's beginnings the man who began on h, if he is still on the board, stands there; so if he was taken, he was taken there
+abbrev pub NeverLeft : List Bool → List Move → ℕ → Type 0
+NeverLeft o g h = (before : List Move) → Begins before g → (s : ℕ) → s < 64 → label_at (labels_after o before) s ≡ Some h → s ≡ h
+
 -- What the sentence of a group says of each square that it names: a pawn, or an officer, of this side began there, and fell to such a taker, and
--- as this; a pawn began there, and was promoted; whoever stands there began as no pawn; he never moved.
+-- as this, or at home; a pawn began there, and was promoted; whoever stands there began as no pawn; he never moved.
 abbrev pub SaidOf : Group → List Bool → List Move → ℕ → Type 0
 SaidOf (Captors c) o g s = Unit {0}
 SaidOf (Pawns c taker manner) o g h = IsTrue (is_the c APawn (at (array_of o) h)) × Says (WasTaken h) o g × OfTaker (λ f. Says f o g) h taker × OfManner (λ f. Says f o g) h manner
 SaidOf (Officers c taker) o g h = IsTrue (is_of c (at (array_of o) h)) × Says (WasTaken h) o g × OfTaker (λ f. Says f o g) h taker
+SaidOf (AtHome c taker) o g h = IsTrue (is_of c (at (array_of o) h)) × Says (WasTaken h) o g × OfTaker (λ f. Says f o g) h taker × NeverLeft o g h
 SaidOf (Promoted c) o g h = IsTrue (is_the c APawn (at (array_of o) h)) × Says (WasPromoted h) o g
 SaidOf Original o g s = Says (BeganOriginal s) o g
 SaidOf Unmoved o g s = NeverMoved o g s

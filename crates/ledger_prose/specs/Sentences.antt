@@ -1,6 +1,7 @@
 -- The sentences of a ledger's paragraph, and the lines on which each rests.
 use Rattle.std.specs.Prelude.{ℕ, ◌==◌, ◌&&◌, ◌||◌, Bool, true, false, cond, not, List, [], ◌∷◌, ◌++◌, nat_le, nat_lt, Some, None}
-use Rattle.std.specs.List.{All, Contains, count_by, filter, flat_map, list_any, range_with_len}
+use Rattle.std.specs.Bool.{beq}
+use Rattle.std.specs.List.{All, Contains, count_by, filter, flat_map, list_all, list_any, range_with_len}
 use Rattle.board_base.specs.Board.{array_of, at, is_a, is_in, is_of, is_the, opponent, same_colour}
 use Rattle.board_base.specs.Play.{king_home, rook_home}
 use Rattle.board_base.specs.Rights.{Rights, holds}
@@ -17,7 +18,7 @@ use Rattle.ledger_lines.specs.declared.lines.Taker.TheVariants.{Anyone, Pawn as 
 use Rattle.ledger_lines.specs.declared.lines.Manner.{Manner}
 use Rattle.ledger_lines.specs.declared.lines.Manner.TheVariants.{Anyhow, AsPawn, AsPromoted}
 use Rattle.ledger_prose.specs.declared.parts.Group.{Group}
-use Rattle.ledger_prose.specs.declared.parts.Group.TheVariants.{Captors, Pawns, Officers, Promoted, Original, Unmoved}
+use Rattle.ledger_prose.specs.declared.parts.Group.TheVariants.{Captors, Pawns, Officers, AtHome, Promoted, Original, Unmoved}
 use Rattle.ledger_prose.specs.declared.parts.Part.{Part}
 use Rattle.ledger_prose.specs.declared.parts.Part.TheVariants.{Each, Together}
 use Rattle.ledger_prose.specs.declared.parts.Topic.{Topic}
@@ -65,7 +66,7 @@ has_taken_all c lines = list_any (are_all_taken c) lines
 
 -- the line says of the man who began on h that he was promoted and then taken
 abbrev pub is_later_fall : ℕ → Line → Bool
-is_later_fall h (line.Fell k taker AsPromoted) = k == h
+is_later_fall h (line.Fell k taker AsPromoted within) = k == h
 is_later_fall h _ = false
 
 -- the king's or the rook's home of a castling that is held
@@ -88,7 +89,7 @@ names_square q s (line.Pawn t homes n exact) = is_in homes s
 names_square q s (line.Original set) = is_in set s
 names_square q s (line.Promoted t homes) = is_in homes s
 names_square q s (line.Among n set) = is_in set s
-names_square q s (line.Fell h taker manner) = h == s
+names_square q s (line.Fell h taker manner within) = h == s
 names_square q s (line.Became h) = h == s
 names_square q s _ = false
 
@@ -131,13 +132,22 @@ is_captor c q _ = false
 
 -- it is that of a pawn, or of an officer, of this side who fell so
 abbrev pub is_pawn_fall : Colour → Taker → Manner → Asked → List Line → Line → Bool
-is_pawn_fall c told manner q lines (line.Fell h taker how) = is_the c APawn (at (array_of q.odds) h) && same_manner manner how && fell_to c told lines taker
+is_pawn_fall c told manner q lines (line.Fell h taker how within) = is_the c APawn (at (array_of q.odds) h) && same_manner manner how && fell_to c told lines taker
 is_pawn_fall c told manner q lines _ = false
 
--- the line says of a man of c who began as no pawn that he was taken, by this taker as far as it is told
-abbrev pub is_officer_fall : Colour → Taker → Asked → List Line → Line → Bool
-is_officer_fall c told q lines (line.Fell h taker how) = is_of c (at (array_of q.odds) h) && not (is_a APawn (at (array_of q.odds) h)) && fell_to c told lines taker
-is_officer_fall c told q lines _ = false
+-- the set has no other square
+unfoldable pub is_alone : ℕ → List Bool → Bool
+is_alone h set = list_all (λ s. not (is_in set s && not (s == h))) (range_with_len 0 64)
+
+-- it is told of whoever began on h that he was taken there
+abbrev pub is_at_home : ℕ → List Bool → Bool
+is_at_home h within = is_in within h && is_alone h within
+
+-- the line says of a man of c who began as no pawn that he was taken, by this taker as far as it is told, and at home if that is asked
+abbrev pub is_officer_fall : Colour → Taker → Bool → Asked → List Line → Line → Bool
+is_officer_fall c told home q lines (line.Fell h taker how within) =
+    is_of c (at (array_of q.odds) h) && not (is_a APawn (at (array_of q.odds) h)) && fell_to c told lines taker && beq home (is_at_home h within)
+is_officer_fall c told home q lines _ = false
 
 -- it is that of a promoted pawn of whom no line says that he was taken then
 abbrev pub is_promotion : Colour → Asked → List Line → Line → Bool
@@ -158,7 +168,8 @@ is_unmoved _ = false
 abbrev pub is_of_group : Group → Asked → List Line → Line → Bool
 is_of_group (Captors c) q lines x = is_captor c q x
 is_of_group (Pawns c told manner) q lines x = is_pawn_fall c told manner q lines x
-is_of_group (Officers c told) q lines x = is_officer_fall c told q lines x
+is_of_group (Officers c told) q lines x = is_officer_fall c told false q lines x
+is_of_group (AtHome c told) q lines x = is_officer_fall c told true q lines x
 is_of_group (Promoted c) q lines x = is_promotion c q lines x
 is_of_group Original q lines x = is_original x
 is_of_group Unmoved q lines x = is_unmoved x
@@ -210,7 +221,7 @@ part_sentences (Together group) q lines = group_sentences group q lines
 -- the groups of a side's men who fell
 abbrev pub falls : Colour → List Part
 falls c =
-    Together (Pawns c Anyone AsPawn) ∷ Together (Pawns c ByPawn AsPawn) ∷ Together (Pawns c Officer AsPawn) ∷ Together (Pawns c Anyone AsPromoted) ∷ Together (Pawns c ByPawn AsPromoted) ∷ Together (Pawns c Officer AsPromoted) ∷ Together (Pawns c Anyone Anyhow) ∷ Together (Pawns c ByPawn Anyhow) ∷ Together (Pawns c Officer Anyhow) ∷ Together (Officers c Anyone) ∷ Together (Officers c ByPawn) ∷ Together (Officers c Officer) ∷ []
+    Together (Pawns c Anyone AsPawn) ∷ Together (Pawns c ByPawn AsPawn) ∷ Together (Pawns c Officer AsPawn) ∷ Together (Pawns c Anyone AsPromoted) ∷ Together (Pawns c ByPawn AsPromoted) ∷ Together (Pawns c Officer AsPromoted) ∷ Together (Pawns c Anyone Anyhow) ∷ Together (Pawns c ByPawn Anyhow) ∷ Together (Pawns c Officer Anyhow) ∷ Together (Officers c Anyone) ∷ Together (Officers c ByPawn) ∷ Together (Officers c Officer) ∷ Together (AtHome c Anyone) ∷ Together (AtHome c ByPawn) ∷ Together (AtHome c Officer) ∷ []
 
 -- The parts of the paragraph, in order: whom White lacks and whom of them Black's pawns took, the same of Black, whether a capture is to spare,
 -- who fell and how, who was promoted, who wasn't, whose homes are known, and who never moved.

@@ -26,7 +26,7 @@ use Rattle.ledger_prose.specs.declared.names.Joint.TheVariants.{Slash, And, AndT
 use Rattle.ledger_prose.specs.declared.names.Style.{Style}
 use Rattle.ledger_prose.specs.declared.names.Style.TheVariants.{Squares, Standing, Homes, Files}
 use Rattle.ledger_prose.specs.declared.parts.Group.{Group}
-use Rattle.ledger_prose.specs.declared.parts.Group.TheVariants.{Captors, Pawns, Officers, Promoted, Original, Unmoved}
+use Rattle.ledger_prose.specs.declared.parts.Group.TheVariants.{Captors, Pawns, Officers, AtHome, Promoted, Original, Unmoved}
 
 -- what stands between two, if another follows
 abbrev pub comma_of : Joint → List ℕ
@@ -315,11 +315,16 @@ taker_words single c Anyone = []
 taker_words single c ByPawn = pawn_words single c
 taker_words single c Officer = codes ", but not by a pawn"
 
+-- that officers of this side fell, in words for one or for several
+abbrev pub officers_words : Colour → Taker → Asked → List Line → List ℕ → List ℕ → List ℕ
+officers_words c taker q xs one several = codes "The " ++ names_words AndThe Homes q xs ++ cond (is_single q xs) one several ++ taker_words (is_single q xs) (opponent c) taker
+
 -- what the lines of a group say
 abbrev pub group_words : Group → Asked → List Line → List ℕ
 group_words (Captors c) q xs = []
 group_words (Pawns c taker manner) q xs = pawns_of c q xs ++ manner_words (is_single q xs) manner ++ taker_words (is_single q xs) (opponent c) taker
-group_words (Officers c taker) q xs = codes "The " ++ names_words AndThe Homes q xs ++ cond (is_single q xs) (codes " was taken") (codes " were taken") ++ taker_words (is_single q xs) (opponent c) taker
+group_words (Officers c taker) q xs = officers_words c taker q xs (codes " was taken") (codes " were taken")
+group_words (AtHome c taker) q xs = officers_words c taker q xs (codes " was taken at home") (codes " were taken at home")
 group_words (Promoted c) q xs = pawns_of c q xs ++ codes "promoted"
 group_words Original q xs = of_men q xs (codes " is not a promoted pawn") (codes " are not promoted pawns")
 group_words Unmoved q xs = of_men q xs (codes " never moved") (codes " never moved")

@@ -1,12 +1,15 @@
 //! Which lines are told, and which squares a sentence names.
 
-ghost use Rattle.std.specs.Prelude.{◌≡◌, ◌≤◌, ◌+◌, ◌<◌, IfOk, cond};
+ghost use Rattle.std.specs.Prelude.{◌≡◌, ◌≤◌, ◌+◌, ◌<◌, ◌==◌, ◌&&◌, IfOk, cond, not};
+ghost use Rattle.board_base.specs.Board.{is_in};
 ghost use Rattle.std.specs.List.{list_any};
-ghost use Rattle.ledger_prose.specs.Sentences.{are_all_taken, fell_to, group_lines, has_taken_all, is_captor, is_change, is_given, is_home_of, is_lacking, is_later_fall, is_named, is_no_pawn, is_of_group, is_officer_fall, is_origin, is_original, is_pawn_fall, is_promotion, is_taken, is_unmoved, names_square, number_named, same_manner, same_taker, told_taker};
+ghost use Rattle.ledger_prose.specs.Sentences.{are_all_taken, fell_to, group_lines, has_taken_all, is_alone, is_at_home, is_captor, is_change, is_given, is_home_of, is_lacking, is_later_fall, is_named, is_no_pawn, is_of_group, is_officer_fall, is_origin, is_original, is_pawn_fall, is_promotion, is_taken, is_unmoved, names_square, number_named, same_manner, same_taker, told_taker};
 ghost use Rattle.ledger_prose.specs.Words.{is_any_from};
 
 use crate::parts::Group;
-use board_base::{Castle, CastleSet, Colour, Kind, Square, array_of, is_a, is_of, is_the};
+use board_base::{
+    Castle, CastleSet, Colour, Kind, Square, SquareSet, array_of, is_a, is_of, is_the,
+};
 use castle_history::home;
 use ledger_lines::{Line, Manner, Taker};
 use query_base::Query;
@@ -61,7 +64,7 @@ fn is_later_fall(h: Square, line: &Line) -> bool
     ensures { result ≡ is_later_fall h line.now }
 {
     match *line {
-        Line::Fell(k, _, Manner::AsPromoted) => k.index() == h.index(),
+        Line::Fell(k, _, Manner::AsPromoted, _) => k.index() == h.index(),
         _ => false,
     }
 }
@@ -117,7 +120,7 @@ fn names_square(query: &Query, s: Square, line: &Line) -> bool
         Line::Original(set) => set.has(s),
         Line::Promoted(_, homes) => homes.has(s),
         Line::Among(_, set) => set.has(s),
-        Line::Fell(h, _, _) => h.index() == s.index(),
+        Line::Fell(h, _, _, _) => h.index() == s.index(),
         Line::Became(h) => h.index() == s.index(),
         _ => false,
     }
@@ -230,7 +233,7 @@ fn is_pawn_fall(
     ensures { result ≡ is_pawn_fall side told manner query.now lines.now line.now }
 {
     match *line {
-        Line::Fell(h, taker, how) => {
+        Line::Fell(h, taker, how, _) => {
             is_the(side, Kind::Pawn, array_of(query.odds).at(h))
                 && same_manner(manner, how)
                 && fell_to(side, told, lines, taker)
@@ -239,14 +242,50 @@ fn is_pawn_fall(
     }
 }
 
-/// It is that of an officer of this side who fell so.
-fn is_officer_fall(side: Colour, told: Taker, query: &Query, lines: &[Line], line: &Line) -> bool
-    ensures { result ≡ is_officer_fall side told query.now lines.now line.now }
+/// Whether a square is another one of the set.
+fn is_other(h: Square, set: SquareSet, s: Square) -> bool
+    ensures { result ≡ (is_in set s && not (s == h)) }
+{
+    set.has(s) && s.index() != h.index()
+}
+
+/// Whether the set has no other square.
+fn is_alone(h: Square, set: SquareSet) -> bool
+    ensures { result ≡ is_alone h set }
+{
+    for i in 0..64 {
+        if is_other(h, set, Square::known(i)) {
+            return false;
+        }
+    }
+    true
+}
+
+/// Whether it is told of whoever began on a square that he was taken there.
+fn is_at_home(h: Square, within: SquareSet) -> bool
+    ensures { result ≡ is_at_home h within }
+{
+    within.has(h) && is_alone(h, within)
+}
+
+/// It is that of an officer of this side who fell so, at home or not.
+fn is_officer_fall(
+    side: Colour,
+    told: Taker,
+    home: bool,
+    query: &Query,
+    lines: &[Line],
+    line: &Line,
+) -> bool
+    ensures { result ≡ is_officer_fall side told home query.now lines.now line.now }
 {
     match *line {
-        Line::Fell(h, taker, _) => {
+        Line::Fell(h, taker, _, within) => {
             let place = array_of(query.odds).at(h);
-            is_of(side, place) && !is_a(Kind::Pawn, place) && fell_to(side, told, lines, taker)
+            is_of(side, place)
+                && !is_a(Kind::Pawn, place)
+                && fell_to(side, told, lines, taker)
+                && home == is_at_home(h, within)
         }
         _ => false,
     }
@@ -285,7 +324,8 @@ fn is_of_group(group: Group, query: &Query, lines: &[Line], line: &Line) -> bool
         Group::Pawns(side, taker, manner) => {
             is_pawn_fall(side, taker, manner, query, lines, line)
         }
-        Group::Officers(side, taker) => is_officer_fall(side, taker, query, lines, line),
+        Group::Officers(side, taker) => is_officer_fall(side, taker, false, query, lines, line),
+        Group::AtHome(side, taker) => is_officer_fall(side, taker, true, query, lines, line),
         Group::Promoted(side) => is_promotion(side, query, lines, line),
         Group::Original => is_original(line),
         Group::Unmoved => is_unmoved(line),

@@ -2,8 +2,8 @@
 
 ghost use Rattle.std.specs.Prelude.{◌≡◌, ◌++◌, IfOk, cond};
 ghost use Rattle.ledger_lines.specs.declared.lines.Line.TheVariants.{Among, Man, Promoted};
-ghost use Rattle.ledger_prose.specs.Words.{among_words, group_words, is_single, line_words, manner_words, pawn_was, pawn_words, pawns_of, taker_words};
-ghost use Rattle.ledger_prose.specs.declared.parts.Group.TheVariants.{Officers, Pawns};
+ghost use Rattle.ledger_prose.specs.Words.{among_words, group_words, is_single, line_words, manner_words, officers_words, pawn_was, pawn_words, pawns_of, taker_words};
+ghost use Rattle.ledger_prose.specs.declared.parts.Group.TheVariants.{Pawns};
 
 use crate::due::number_named;
 use crate::names::{Joint, Style, push_names, push_of_men, push_square_words};
@@ -99,20 +99,22 @@ fn push_pawn_falls(
     push_taker(single, side.other(), taker, out)
 }
 
-/// Adds that officers of this side fell.
+/// Adds that officers of this side fell, in words for one or for several.
 fn push_officer_falls(
     side: Colour,
     taker: Taker,
     query: &Query,
     lines: &[Line],
+    one: &'static [u8],
+    several: &'static [u8],
     out: &mut Vec<u8>,
 ) -> Result<(), AllocError>
-    ensures { IfOk result (λ _. out.new.items ≡ out.old.items ++ group_words (Officers side taker) query.now lines.now) }
+    ensures { IfOk result (λ _. out.new.items ≡ out.old.items ++ officers_words side taker query.now lines.now one.now several.now) }
 {
     let single = is_single(query, lines);
     say(b"The ", out)?;
     push_names(Joint::AndThe, Style::Homes, query, lines, out)?;
-    say(chosen(single, b" was taken", b" were taken"), out)?;
+    say(chosen(single, one, several), out)?;
     push_taker(single, side.other(), taker, out)
 }
 
@@ -130,7 +132,24 @@ pub(crate) fn push_group_words(
         Group::Pawns(side, taker, manner) => {
             push_pawn_falls(side, taker, manner, query, lines, out)
         }
-        Group::Officers(side, taker) => push_officer_falls(side, taker, query, lines, out),
+        Group::Officers(side, taker) => push_officer_falls(
+            side,
+            taker,
+            query,
+            lines,
+            b" was taken",
+            b" were taken",
+            out,
+        ),
+        Group::AtHome(side, taker) => push_officer_falls(
+            side,
+            taker,
+            query,
+            lines,
+            b" was taken at home",
+            b" were taken at home",
+            out,
+        ),
         Group::Promoted(side) => {
             push_pawns_of(side, query, lines, out)?;
             say(b"promoted", out)

@@ -23,8 +23,10 @@ pub enum Group {
     Captors(Colour),
     /// The pawns of this side who fell, to whom and as what.
     Pawns(Colour, Taker, Manner),
-    /// The officers of this side who fell, and to whom.
+    /// The officers of this side who fell, and to whom, but for those who fell at home.
     Officers(Colour, Taker),
+    /// Those who fell at home, and to whom.
+    AtHome(Colour, Taker),
     /// The pawns of this side who were promoted, if it isn't told that they were taken then.
     Promoted(Colour),
     /// Men who aren't promoted pawns.

@@ -263,7 +263,7 @@ fn opening() -> [Part; 5]
 }
 
 /// The groups of a side's men who fell.
-fn falls(side: Colour) -> [Part; 12]
+fn falls(side: Colour) -> [Part; 15]
     ensures { result ≡ falls side }
 {
     [
@@ -279,6 +279,9 @@ fn falls(side: Colour) -> [Part; 12]
         Part::Together(Group::Officers(side, Taker::Anyone)),
         Part::Together(Group::Officers(side, Taker::Pawn)),
         Part::Together(Group::Officers(side, Taker::Officer)),
+        Part::Together(Group::AtHome(side, Taker::Anyone)),
+        Part::Together(Group::AtHome(side, Taker::Pawn)),
+        Part::Together(Group::AtHome(side, Taker::Officer)),
     ]
 }
 

@@ -1,7 +1,7 @@
 //! The paragraph of a ledger, of lines that solutions and rules of the sentences give.
 
 use crate::ledgers::{query, squares};
-use board_base::{Colour, Square, read_square};
+use board_base::{Colour, Square, SquareSet, read_square};
 use ledger_lines::{Line, Losses, Manner, Taker, Takings};
 use ledger_prose::{news_of_all, tell_ledger_prose};
 use ledger_search::Range;
@@ -32,9 +32,10 @@ White lacks both rooks and a pawn, but is only seven men short. Black's pawns to
     most six: g7xf6xe5xd4xc3, a7/b7-b6 at least one. Black lacks four men. White's pawns never
     captured. White's h-pawn was promoted and then taken by a black pawn. White's a- and b-pawns
     were taken, but not by a pawn. The rook of a1 and the knight of b1 were taken by black pawns.
-    White's c-pawn was promoted. The knight on f5 is the promoted pawn of f2 or g2. At least one of
-    the men on f4 and f5 is a promoted pawn. The queen on f4 is that of d1. The king on e2 never
-    moved.
+    The rook of h1 was taken, but not by a pawn. The bishop of c1 and the bishop of f1 were taken at
+    home, but not by a pawn. White's c-pawn was promoted. The knight on f5 is the promoted pawn of
+    f2 or g2. At least one of the men on f4 and f5 is a promoted pawn. The queen on f4 is that of
+    d1. The king on e2 never moved.
 ";
 
 fn losses(queens: u8, rooks: u8, dark_bishops: u8, knights: u8, pawns: u8) -> Losses {
@@ -75,6 +76,15 @@ fn pawn(name: &str, homes: &str, number: u8, exact: bool) -> Option<Line> {
     Some(Line::Pawn(square(name)?, squares(Some(homes))?, number, exact))
 }
 
+/// Who fell, how, and on one of which squares, if that is told.
+fn fell(name: &str, taker: Taker, manner: Manner, within: Option<&str>) -> Option<Line> {
+    let squares = match within {
+        None => SquareSet::from_bits(0),
+        Some(names) => squares(Some(names))?,
+    };
+    Some(Line::Fell(square(name)?, taker, manner, squares))
+}
+
 fn dawson() -> Option<[Line; 9]> {
     Some([
         Line::Unmoved(squares(Some("e2 a7 f7 g7"))?),
@@ -85,7 +95,7 @@ fn dawson() -> Option<[Line; 9]> {
         pawn("e4", "f2", 1, true)?,
         pawn("c2", "h7", 5, true)?,
         Line::Original(squares(Some("a4"))?),
-        Line::Fell(square("g2")?, Taker::Pawn, Manner::AsPawn),
+        fell("g2", Taker::Pawn, Manner::AsPawn, None)?,
     ])
 }
 
@@ -96,7 +106,7 @@ fn open_way() -> Option<[Line; 2]> {
     ])
 }
 
-fn sample() -> Option<[Line; 16]> {
+fn sample() -> Option<[Line; 19]> {
     Some([
         Line::Unmoved(squares(Some("e2 f2 a8 e8 h8"))?),
         Line::Lacks(Colour::White, losses(0, 2, 0, 0, 1)),
@@ -108,11 +118,14 @@ fn sample() -> Option<[Line; 16]> {
         Line::Man(square("f4")?, square("d1")?),
         Line::Promoted(square("f5")?, squares(Some("f2 g2"))?),
         Line::Among(1, squares(Some("f4 f5"))?),
-        Line::Fell(square("a1")?, Taker::Pawn, Manner::Anyhow),
-        Line::Fell(square("b1")?, Taker::Pawn, Manner::Anyhow),
-        Line::Fell(square("a2")?, Taker::Officer, Manner::Anyhow),
-        Line::Fell(square("b2")?, Taker::Officer, Manner::Anyhow),
-        Line::Fell(square("h2")?, Taker::Pawn, Manner::AsPromoted),
+        fell("a1", Taker::Pawn, Manner::Anyhow, None)?,
+        fell("b1", Taker::Pawn, Manner::Anyhow, None)?,
+        fell("c1", Taker::Officer, Manner::Anyhow, Some("c1"))?,
+        fell("f1", Taker::Officer, Manner::Anyhow, Some("f1"))?,
+        fell("h1", Taker::Officer, Manner::Anyhow, Some("g1 h1"))?,
+        fell("a2", Taker::Officer, Manner::Anyhow, None)?,
+        fell("b2", Taker::Officer, Manner::Anyhow, None)?,
+        fell("h2", Taker::Pawn, Manner::AsPromoted, None)?,
         Line::Became(square("c2")?),
     ])
 }

@@ -49,7 +49,7 @@ then-adds P Q a b c first last = (first.0 ++ last.0, record { front = first.0; r
 pub among-told : (c : Colour) (q : Asked) (l : Ledger) (set : List Bool) (t0 t1 t2 t3 t4 t5 : List Line) → Adds (TellsWhole (Among c Queens) q l set) t0 t1 → Adds (TellsWhole (Among c Rooks) q l set) t1 t2 → Adds (TellsWhole (Among c DarkBishops) q l set) t2 t3 → Adds (TellsWhole (Among c LightBishops) q l set) t3 t4 → Adds (TellsWhole (Among c Knights) q l set) t4 t5 → Adds (TellsAmong c q l set) t0 t5
 among-told c q l set t0 t1 t2 t3 t4 t5 queens rooks dark light knights = then-adds _ _ _ _ _ queens (then-adds _ _ _ _ _ rooks (then-adds _ _ _ _ _ dark (then-adds _ _ _ _ _ light knights)))
 
-pub all-told : (q : Asked) (l : Ledger) (set : List Bool) (t0 t1 t2 t3 t4 t5 t6 t7 t8 t9 t10 t11 t12 t13 t14 t15 t16 t17 : List Line) → Adds (TellsWhole Unmoved q l set) t0 t1 → Adds (TellsWhole (Lacks White) q l set) t1 t2 → Adds (TellsWhole (Lacks Black) q l set) t2 t3 → Adds (TellsWhole (Captures White) q l set) t3 t4 → Adds (TellsWhole (Captures Black) q l set) t4 t5 → Adds (TellsFirst (Pawns White) q l 64) t5 t6 → Adds (TellsFirst (Pawns Black) q l 64) t6 t7 → Adds (TellsFirst (Men White) q l 64) t7 t8 → Adds (TellsFirst (Men Black) q l 64) t8 t9 → Adds (TellsWhole (Those Ahead) q l set) t9 t10 → Adds (TellsWhole (Those Original) q l set) t10 t11 → Adds (TellsFirst (Officers White) q l 64) t11 t12 → Adds (TellsFirst (Officers Black) q l 64) t12 t13 → Adds (TellsAmong White q l set) t13 t14 → Adds (TellsAmong Black q l set) t14 t15 → Adds (TellsFirst Falls q l 64) t15 t16 → Adds (TellsFirst Promotions q l 64) t16 t17 → Adds (TellsAll q l set) t0 t17
+pub all-told : (q : Asked) (l : Ledger) (set : List Bool) (t0 t1 t2 t3 t4 t5 t6 t7 t8 t9 t10 t11 t12 t13 t14 t15 t16 t17 : List Line) → Adds (TellsWhole Unmoved q l set) t0 t1 → Adds (TellsWhole (Lacks White) q l set) t1 t2 → Adds (TellsWhole (Lacks Black) q l set) t2 t3 → Adds (TellsWhole (Captures White) q l set) t3 t4 → Adds (TellsWhole (Captures Black) q l set) t4 t5 → Adds (TellsFirst (Pawns White) q l 64) t5 t6 → Adds (TellsFirst (Pawns Black) q l 64) t6 t7 → Adds (TellsFirst (Men White) q l 64) t7 t8 → Adds (TellsFirst (Men Black) q l 64) t8 t9 → Adds (TellsWhole (Those Ahead) q l set) t9 t10 → Adds (TellsWhole (Those Original) q l set) t10 t11 → Adds (TellsFirst (Officers White) q l 64) t11 t12 → Adds (TellsFirst (Officers Black) q l 64) t12 t13 → Adds (TellsAmong White q l set) t13 t14 → Adds (TellsAmong Black q l set) t14 t15 → Adds (TellsFirst (Falls set) q l 64) t15 t16 → Adds (TellsFirst Promotions q l 64) t16 t17 → Adds (TellsAll q l set) t0 t17
 all-told q l set t0 t1 t2 t3 t4 t5 t6 t7 t8 t9 t10 t11 t12 t13 t14 t15 t16 t17 a0 a1 a2 a3 a4 a5 a6 a7 a8 a9 a10 a11 a12 a13 a14 a15 a16 =
     then-adds _ _ _ _ _ a0
     (then-adds _ _ _ _ _ a1

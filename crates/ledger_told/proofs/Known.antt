@@ -1,12 +1,13 @@
 -- Each line that is told is known, and so it is true of every game.
 use Rattle.std.proofs.Common.{◌≡◌, ℕ, ◌<◌, ◌≤◌, inl, inr, Bool, true, false, cond, ◌&&◌, ◌||◌, not, List, [], zero, suc, refl, ap, sym, subst, ◌∙◌, arith}
-use Rattle.std.specs.Prelude.{IsTrue, Option, None, Some, map, nat_le, nat_lt, slice_index, slice_index_or}
+use Rattle.std.specs.Prelude.{IsTrue, Option, None, Some, map, nat_le, nat_lt, slice_index, slice_index_or, length}
 use Rattle.std.specs.List.{All, range_with_len}
 use Rattle.std.proofs.lemmas.Bool.{and_from, and_parts, both_ways, cases_Bool, le-leb, ltb-true, or_left, or_right}
 use Rattle.std.proofs.lemmas.List.Elements.{All-append, All-cons, All-nil}
 use Rattle.std.proofs.lemmas.List.FromFn.{get_or-map-range_with_len}
 use Rattle.std.proofs.lemmas.Option.{cond_some}
 use Rattle.board_base.specs.Board.{array_of, at, is_a, is_in, is_like, is_the, opponent}
+use Rattle.board_base.specs.Squares.{squares_of}
 use Rattle.board_base.specs.declared.men.Colour.{Colour}
 use Rattle.board_base.specs.declared.men.Colour.TheVariants.{White, Black}
 use Rattle.board_base.specs.declared.men.Man.{Man}
@@ -15,22 +16,23 @@ use Rattle.board_base.specs.declared.men.Kind.TheVariants.{Pawn as APawn, Knight
 use Rattle.men_account.specs.Account.{is_dark, is_light}
 use Rattle.query_base.specs.Asked.{Asked}
 use Rattle.cage_rules.specs.Frozen.{IsFrozen}
-use Rattle.cage_rules.proofs.Filling.{is_in-that}
+use Rattle.cage_rules.specs.Regions.{region}
+use Rattle.cage_rules.proofs.Filling.{is_in-that, none-in-zero}
 use Rattle.ledger_search.specs.Ledgers.{IsLedgerOf}
 use Rattle.ledger_search.specs.Questions.{is_man}
 use Rattle.ledger_search.specs.declared.ledgers.Ledger.{Ledger}
 use Rattle.ledger_facts.specs.declared.suppositions.Squares.{Squares}
 use Rattle.ledger_facts.specs.declared.suppositions.Squares.TheVariants.{All as AllSquares, Dark, Class}
-use Rattle.ledger_lines.specs.Known.{IsKnown, counts_of as captures_of, is_fallen, is_few_on, is_left, is_promoted, is_struck, is_unpromoted, is_unstruck, lacking, least_of, number_in, piece_homes}
+use Rattle.ledger_lines.specs.Known.{IsKnown, counts_of as captures_of, has_officer, is_fallen, is_few_on, is_left, is_promoted, is_struck, is_unpromoted, is_unstruck, lacking, least_of, number_in, piece_homes}
 use Rattle.ledger_lines.specs.Losses.{losses_of}
 use Rattle.ledger_lines.specs.declared.facts.Fact.TheVariants.{Began, AtLeast, AtMost}
-use Rattle.ledger_lines.specs.Lines.{IsLineKnown, IsLineOnBoard, OfDark, OfManner, OfTaker}
+use Rattle.ledger_lines.specs.Lines.{IsLineKnown, IsLineOnBoard, OfDark, OfManner, OfTaker, OfWithin}
 use Rattle.ledger_lines.specs.declared.lines.Line.{Line}
 use Rattle.ledger_lines.specs.declared.lines.Line.TheVariants.{Captures as CapturesLine}
 use Rattle.ledger_lines.specs.declared.lines.Taker.TheVariants as taker
 use Rattle.ledger_lines.specs.declared.lines.Manner.TheVariants as manner
 use Rattle.ledger_lines.proofs.LinesHolding.{known-line-reached}
-use Rattle.ledger_told.specs.Due.{IsAmongLine, IsChosen, IsSquareLine, IsWhole, TellsPawn, homes_left, is_class_told, is_moving, is_of_breed, is_somebody, is_pawn_news, is_news, most_dark, most_made, of_group, takings, told_on}
+use Rattle.ledger_told.specs.Due.{IsAmongLine, IsChosen, IsSquareLine, IsWhole, TellsPawn, homes_left, is_class_told, is_moving, is_of_breed, is_somebody, is_pawn_news, is_news, most_dark, most_made, of_group, takings, tells_within, told_on}
 use Rattle.ledger_told.specs.Told.{IsLineTrue, TellsAll, TellsAmong, TellsFirst, TellsLines, TellsWhole, Then, one_line}
 use Rattle.ledger_told.specs.declared.topics.Breed.{Breed}
 use Rattle.ledger_told.specs.declared.topics.Breed.TheVariants.{Queens, Rooks, DarkBishops, LightBishops, Knights}
@@ -153,21 +155,30 @@ module _ (q : Asked) (l : Ledger) where
       let y = cond_some (is_pawn_news (homes_left q l s) s told.number) _ x (sym told.line_is) in
       subst Is y.1 (low, (left-known s (a-pawn (at q.board s) told.took.0), told.took, told.exact_is.0, told.took.0))
 
-  square-known : (topic : Topic) (s : ℕ) (x : Line) → s < 64 → IsSquareLine topic q l s (Some x) → Is x
-  square-known (Pawns c) s x low is = elim (cases_Bool (is_moving q l c s)) [
+  -- the set beside which where men fell is told is whole and frozen
+  abbrev IsBeside : Topic → Type 0
+  IsBeside (Falls set) = (length set ≡ 64) × IsFrozen q set
+  IsBeside _ = Unit {0}
+
+  within-known : (set : List Bool) (h : ℕ) (tells : Bool) → (length set ≡ 64) × IsFrozen q set → tells_within q set h ≡ tells → OfWithin (λ f. IsKnown f q l) h (cond tells (region set h) (squares_of 0))
+  within-known set h true beside is = λ told. ((and_parts (has_officer q h) _ is).0, record { set = set; whole = beside.0; frozen = beside.1; within = λ s low there. there })
+  within-known set h false beside is = λ told. absurd (both_ways _ (none-in-zero h) told)
+
+  square-known : (topic : Topic) (s : ℕ) (x : Line) → s < 64 → IsBeside topic → IsSquareLine topic q l s (Some x) → Is x
+  square-known (Pawns c) s x low beside is = elim (cases_Bool (is_moving q l c s)) [
     | inl moving ↦ pawn-known c s x low moving (is.0 moving)
     | inr other ↦ cc (is.1 other)
   ]
-  square-known (Men c) s x low is = subst Is (sym is.2) (low, is.3.1)
-  square-known (Officers c) s x low is = subst Is (sym is.1) (low, (is.0.1, left-known s is.0.1.0))
-  square-known Falls s x low is =
-      let y = cond_some (is_fallen (array_of q.odds) l.fates s && is_news q l s) _ x (sym is) in
-      subst Is y.1 (low, ((and_parts (is_fallen (array_of q.odds) l.fates s) (is_news q l s) y.0).0, taker-known s (is_struck (array_of q.odds) l.fates s) (is_unstruck (array_of q.odds) l.fates s) refl refl, manner-known s (is_a APawn (at (array_of q.odds) s)) (is_unpromoted (array_of q.odds) l.fates s) (is_promoted (array_of q.odds) l.fates s) refl refl))
-  square-known Promotions s x low is =
+  square-known (Men c) s x low beside is = subst Is (sym is.2) (low, is.3.1)
+  square-known (Officers c) s x low beside is = subst Is (sym is.1) (low, (is.0.1, left-known s is.0.1.0))
+  square-known (Falls set) s x low beside is =
+      let y = cond_some (is_fallen (array_of q.odds) l.fates s && is_news q l set s) _ x (sym is) in
+      subst Is y.1 (low, ((and_parts (is_fallen (array_of q.odds) l.fates s) (is_news q l set s) y.0).0, taker-known s (is_struck (array_of q.odds) l.fates s) (is_unstruck (array_of q.odds) l.fates s) refl refl, manner-known s (is_a APawn (at (array_of q.odds) s)) (is_unpromoted (array_of q.odds) l.fates s) (is_promoted (array_of q.odds) l.fates s) refl refl, within-known set s (tells_within q set s) beside refl))
+  square-known Promotions s x low beside is =
       let y = cond_some (is_promoted (array_of q.odds) l.fates s && is_a APawn (at (array_of q.odds) s)) _ x (sym is) in
       subst Is y.1 (low, (and_parts (is_promoted (array_of q.odds) l.fates s) (is_a APawn (at (array_of q.odds) s)) y.0).0)
 
-  module _ (is : IsLedgerOf q l) (set : List Bool) (frozen : IsFrozen q set) where
+  module _ (is : IsLedgerOf q l) (set : List Bool) (whole : length set ≡ 64) (frozen : IsFrozen q set) where
     true-line : (x : Line) → Is x → IsLineTrue q x
     true-line x known g reaches = known-line-reached x q l known.0 is known.1 g reaches
 
@@ -178,19 +189,19 @@ module _ (q : Asked) (l : Ledger) where
     true-whole : (whole : Whole) (xs : List Line) → TellsWhole whole q l set xs → All (IsLineTrue q) xs
     true-whole whole xs told = subst (All (IsLineTrue q)) (sym told.2) (true-one told.0 (λ x e. whole-known whole set x frozen (subst (IsWhole whole q l set) e told.1)))
 
-    true-first : (topic : Topic) (n : ℕ) (xs : List Line) → n ≤ 64 → TellsFirst topic q l n xs → All (IsLineTrue q) xs
+    true-first : (topic : Topic) (n : ℕ) (xs : List Line) → n ≤ 64 → IsBeside topic → TellsFirst topic q l n xs → All (IsLineTrue q) xs
     unfolding TellsFirst
-    true-first topic zero xs few told = subst (All (IsLineTrue q)) (sym told) (All-nil (IsLineTrue q))
-    true-first topic (suc n) xs few told =
+    true-first topic zero xs few beside told = subst (All (IsLineTrue q)) (sym told) (All-nil (IsLineTrue q))
+    true-first topic (suc n) xs few beside told =
         subst (All (IsLineTrue q)) (sym told.4)
-        (All-append (IsLineTrue q) told.0 (one_line told.1) (true-first topic n told.0 (omega arith) told.2) (true-one told.1 (λ x e. square-known topic n x (omega arith) (subst (IsSquareLine topic q l n) e told.3))))
+        (All-append (IsLineTrue q) told.0 (one_line told.1) (true-first topic n told.0 (omega arith) beside told.2) (true-one told.1 (λ x e. square-known topic n x (omega arith) beside (subst (IsSquareLine topic q l n) e told.3))))
 
     true-then : (P Q : List Line → Type 0) → ((xs : List Line) → P xs → All (IsLineTrue q) xs) → ((xs : List Line) → Q xs → All (IsLineTrue q) xs) → (xs : List Line) → Then P Q xs → All (IsLineTrue q) xs
     true-then P Q first last xs told = subst (All (IsLineTrue q)) (sym told.all) (All-append (IsLineTrue q) told.front told.rest (first told.front told.first) (last told.rest told.last))
 
     -- what is told square by square, and the rest
-    true-squares : (topic : Topic) (xs : List Line) → TellsFirst topic q l 64 xs → All (IsLineTrue q) xs
-    true-squares topic xs told = true-first topic 64 xs (omega arith) told
+    true-squares : (topic : Topic) → IsBeside topic → (xs : List Line) → TellsFirst topic q l 64 xs → All (IsLineTrue q) xs
+    true-squares topic beside xs told = true-first topic 64 xs (omega arith) beside told
 
     true-among : (c : Colour) (xs : List Line) → TellsAmong c q l set xs → All (IsLineTrue q) xs
     true-among c = true-then _ _ (true-whole (Among c Queens)) (true-then _ _ (true-whole (Among c Rooks)) (true-then _ _ (true-whole (Among c DarkBishops)) (true-then _ _ (true-whole (Among c LightBishops)) (true-whole (Among c Knights)))))
@@ -202,22 +213,22 @@ module _ (q : Asked) (l : Ledger) where
         (true-then _ _ (true-whole (Lacks Black))
         (true-then _ _ (true-whole (Captures White))
         (true-then _ _ (true-whole (Captures Black))
-        (true-then _ _ (true-squares (Pawns White))
-        (true-then _ _ (true-squares (Pawns Black))
-        (true-then _ _ (true-squares (Men White))
-        (true-then _ _ (true-squares (Men Black))
+        (true-then _ _ (true-squares (Pawns White) tt)
+        (true-then _ _ (true-squares (Pawns Black) tt)
+        (true-then _ _ (true-squares (Men White) tt)
+        (true-then _ _ (true-squares (Men Black) tt)
         (true-then _ _ (true-whole (Those Ahead))
         (true-then _ _ (true-whole (Those Original))
-        (true-then _ _ (true-squares (Officers White))
-        (true-then _ _ (true-squares (Officers Black))
+        (true-then _ _ (true-squares (Officers White) tt)
+        (true-then _ _ (true-squares (Officers Black) tt)
         (true-then _ _ (true-among White)
         (true-then _ _ (true-among Black)
-        (true-then _ _ (true-squares Falls)
-        (true-squares Promotions))))))))))))))))
+        (true-then _ _ (true-squares (Falls set) (whole, frozen))
+        (true-squares Promotions tt))))))))))))))))
 
 -- each line that is told of a query's ledger is true
 pub all-true : (q : Asked) (lines : List Line) → TellsLines q lines → All (IsLineTrue q) lines
 all-true q lines t = elim t.told [
   | inl void ↦ subst (All (IsLineTrue q)) (sym void.1) (All-nil (IsLineTrue q))
-  | inr told ↦ true-all q t.ledger t.ledger_is t.set t.set_is.frozen lines told.1
+  | inr told ↦ true-all q t.ledger t.ledger_is t.set t.set_is.whole t.set_is.frozen lines told.1
 ]

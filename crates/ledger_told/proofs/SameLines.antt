@@ -16,6 +16,8 @@ use Rattle.ledger_lines.specs.declared.lines.Taker.{Taker}
 use Rattle.ledger_lines.specs.declared.lines.Takings.{Takings}
 use Rattle.ledger_lines.specs.declared.losses.Losses.{Losses}
 use Rattle.ledger_lines.specs.contracts.lines.LinePartialEq.TheImpl as lines
+use Rattle.ledger_lines.specs.contracts.lines.MannerPartialEq.TheImpl as manners
+use Rattle.ledger_lines.specs.contracts.lines.TakerPartialEq.TheImpl as takers
 
 -- sets and numbers that compare equal
 sets_itself : (a : List Bool) → pointwise beq a a ≡ true
@@ -43,7 +45,7 @@ of_unmoved s (Ahead s2) e = grind arith
 of_unmoved s (Original s2) e = grind arith
 of_unmoved s (Promoted s2 u2) e = grind arith
 of_unmoved s (Among n2 u2) e = grind arith
-of_unmoved s (Fell s2 t2 m2) e = grind arith
+of_unmoved s (Fell s2 t2 m2 p2) e = grind arith
 of_unmoved s (Became s2) e = grind arith
 
 of_lacks : (c : Colour) (l : Losses) (b : Line) → lines.eq-value.it (Lacks c l) b ≡ true → Lacks c l ≡ b
@@ -65,7 +67,7 @@ of_pawn s u n x (Ahead s2) e = grind arith
 of_pawn s u n x (Original s2) e = grind arith
 of_pawn s u n x (Promoted s2 u2) e = grind arith
 of_pawn s u n x (Among n2 u2) e = grind arith
-of_pawn s u n x (Fell s2 t2 m2) e = grind arith
+of_pawn s u n x (Fell s2 t2 m2 p2) e = grind arith
 of_pawn s u n x (Became s2) e = grind arith
 
 of_man : (s t : ℕ) (b : Line) → lines.eq-value.it (Man s t) b ≡ true → Man s t ≡ b
@@ -81,7 +83,7 @@ of_ahead s (Man s2 t2) e = grind arith
 of_ahead s (Original s2) e = grind arith
 of_ahead s (Promoted s2 u2) e = grind arith
 of_ahead s (Among n2 u2) e = grind arith
-of_ahead s (Fell s2 t2 m2) e = grind arith
+of_ahead s (Fell s2 t2 m2 p2) e = grind arith
 of_ahead s (Became s2) e = grind arith
 
 of_original : (s : List Bool) (b : Line) → lines.eq-value.it (Original s) b ≡ true → Original s ≡ b
@@ -94,7 +96,7 @@ of_original s (Man s2 t2) e = grind arith
 of_original s (Ahead s2) e = grind arith
 of_original s (Promoted s2 u2) e = grind arith
 of_original s (Among n2 u2) e = grind arith
-of_original s (Fell s2 t2 m2) e = grind arith
+of_original s (Fell s2 t2 m2 p2) e = grind arith
 of_original s (Became s2) e = grind arith
 
 of_promoted : (s : ℕ) (u : List Bool) (b : Line) → lines.eq-value.it (Promoted s u) b ≡ true → Promoted s u ≡ b
@@ -110,7 +112,7 @@ of_promoted s u (Man s2 t2) e = grind arith
 of_promoted s u (Ahead s2) e = grind arith
 of_promoted s u (Original s2) e = grind arith
 of_promoted s u (Among n2 u2) e = grind arith
-of_promoted s u (Fell s2 t2 m2) e = grind arith
+of_promoted s u (Fell s2 t2 m2 p2) e = grind arith
 of_promoted s u (Became s2) e = grind arith
 
 of_among : (n : ℕ) (u : List Bool) (b : Line) → lines.eq-value.it (Among n u) b ≡ true → Among n u ≡ b
@@ -126,14 +128,41 @@ of_among n u (Man s2 t2) e = grind arith
 of_among n u (Ahead s2) e = grind arith
 of_among n u (Original s2) e = grind arith
 of_among n u (Promoted s2 u2) e = grind arith
-of_among n u (Fell s2 t2 m2) e = grind arith
+of_among n u (Fell s2 t2 m2 p2) e = grind arith
 of_among n u (Became s2) e = grind arith
 
-of_fell : (s : ℕ) (t : Taker) (m : Manner) (b : Line) → lines.eq-value.it (Fell s t m) b ≡ true → Fell s t m ≡ b
-of_fell s t m b e = grind arith
+-- what holds of the last of four parts that compare equal
+of_last : (a b c d : Bool) → (a && (b && (c && d))) ≡ true → d ≡ true
+of_last a b c d whole = (and_parts c d (and_parts b (c && d) (and_parts a (b && (c && d)) whole).1).1).1
+
+of_fell : (s : ℕ) (t : Taker) (m : Manner) (u : List Bool) (b : Line) → lines.eq-value.it (Fell s t m u) b ≡ true → Fell s t m u ≡ b
+of_fell s t m u (Fell s2 t2 m2 u2) e =
+    let same : u ≡ u2 = (sets_decide u u2).0 (of_last (squares.eq-value.it s s2) (takers.eq-value.it t t2) (manners.eq-value.it m m2) (pointwise beq u u2) e) in
+    grind arith
+of_fell s t m u (Unmoved s2) e = grind arith
+of_fell s t m u (Lacks c2 l2) e = grind arith
+of_fell s t m u (Captures c2 t2) e = grind arith
+of_fell s t m u (Pawn s2 u2 n2 x2) e = grind arith
+of_fell s t m u (Man s2 t2) e = grind arith
+of_fell s t m u (Ahead s2) e = grind arith
+of_fell s t m u (Original s2) e = grind arith
+of_fell s t m u (Promoted s2 u2) e = grind arith
+of_fell s t m u (Among n2 u2) e = grind arith
+of_fell s t m u (Became s2) e = grind arith
 
 of_became : (s : ℕ) (b : Line) → lines.eq-value.it (Became s) b ≡ true → Became s ≡ b
 of_became s b e = grind arith
+
+taker_itself : (t : Taker) → takers.eq-value.it t t ≡ true
+taker_itself t = grind arith
+
+manner_itself : (m : Manner) → manners.eq-value.it m m ≡ true
+manner_itself m = grind arith
+
+fell_itself : (s : ℕ) (t : Taker) (m : Manner) (u : List Bool) → lines.eq-value.it (Fell s t m u) (Fell s t m u) ≡ true
+fell_itself s t m u =
+    let whole : (squares.eq-value.it s s && (takers.eq-value.it t t && (manners.eq-value.it m m && pointwise beq u u))) ≡ true = and_from _ _ (square_itself s) (and_from _ _ (taker_itself t) (and_from _ _ (manner_itself m) (sets_itself u))) in
+    whole
 
 pub exact : (a b : Line) → lines.eq-value.it a b ≡ true → a ≡ b
 exact (Unmoved s) b e = of_unmoved s b e
@@ -145,7 +174,7 @@ exact (Ahead s) b e = of_ahead s b e
 exact (Original s) b e = of_original s b e
 exact (Promoted s u) b e = of_promoted s u b e
 exact (Among n u) b e = of_among n u b e
-exact (Fell s t m) b e = of_fell s t m b e
+exact (Fell s t m u) b e = of_fell s t m u b e
 exact (Became s) b e = of_became s b e
 
 pub itself : (a : Line) → lines.eq-value.it a a ≡ true
@@ -166,5 +195,5 @@ itself (Among n u) =
     let number : nat_eq n n ≡ true = grind arith in
     let whole : (nat_eq n n && pointwise beq u u) ≡ true = and_from _ _ number (sets_itself u) in
     whole
-itself (Fell s t m) = grind arith
+itself (Fell s t m u) = fell_itself s t m u
 itself (Became s) = grind arith

@@ -2,17 +2,19 @@
 use Rattle.std.specs.Prelude.{ℕ, ◌≡◌, ◌+◌, ◌-◌, ◌*◌, ◌<◌, ◌==◌, ◌&&◌, ◌||◌, ◌↔◌, Bool, false, cond, not, slice_index, IsTrue, List, map, nat_le, nat_lt, Option, Some, None}
 use Rattle.std.specs.List.{list_any, range_with_len}
 use Rattle.board_base.specs.Board.{Places, array_of, at, file, is_a, is_in, is_like, is_of, is_the, opponent, rank}
+use Rattle.board_base.specs.Squares.{squares_of}
 use Rattle.board_base.specs.declared.men.Colour.{Colour}
 use Rattle.board_base.specs.declared.men.Kind.TheVariants.{Pawn, Knight, Bishop, Rook, Queen, King}
 use Rattle.board_base.specs.declared.men.Man.{Man}
 use Rattle.men_account.specs.Account.{counts_of, is_dark, is_light}
 use Rattle.query_base.specs.Asked.{Asked}
+use Rattle.cage_rules.specs.Regions.{region}
 use Rattle.cage_rules.specs.Sets.{squares_that}
 use Rattle.ledger_search.specs.Questions.{only}
 use Rattle.ledger_search.specs.declared.counts.Range.{Range}
 use Rattle.ledger_search.specs.declared.ledgers.Fates.{Fates}
 use Rattle.ledger_search.specs.declared.ledgers.Ledger.{Ledger}
-use Rattle.ledger_lines.specs.Known.{IsKnown, counts_of as captures_of, is_fallen, is_left, is_promoted, is_struck, is_unpromoted, is_unstruck, lacking, number_in, piece_homes}
+use Rattle.ledger_lines.specs.Known.{IsKnown, counts_of as captures_of, has_officer, is_fallen, is_left, is_promoted, is_struck, is_unpromoted, is_unstruck, lacking, number_in, piece_homes}
 use Rattle.ledger_lines.specs.Losses.{losses_of}
 use Rattle.ledger_lines.specs.Slants.{tells_class}
 use Rattle.ledger_lines.specs.declared.losses.Losses.{Losses}
@@ -200,18 +202,26 @@ mirrored h = 8 * rank h + (7 - file h)
 abbrev pub is_one_of_two : Places → Fates → ℕ → Bool
 is_one_of_two first f h = (is_a Rook (at first h) || is_a Knight (at first h)) && not (is_fallen first f (mirrored h))
 
+-- where he fell says more if he is an officer who can't have left three squares at most beside the men of the set
+abbrev pub tells_within : Asked → List Bool → ℕ → Bool
+tells_within q set h = has_officer q h && nat_le (number_in (region set h)) 3
+
+-- then these squares are told, and none otherwise
+abbrev pub told_within : Asked → List Bool → ℕ → List Bool
+told_within q set h = cond (tells_within q set h) (region set h) (squares_of 0)
+
 -- some of these say more
-abbrev pub is_news : Asked → Ledger → ℕ → Bool
-is_news q l h = tells_taker q l (at (array_of q.odds) h) h || tells_manner (array_of q.odds) l.fates h || is_one_of_two (array_of q.odds) l.fates h
+abbrev pub is_news : Asked → Ledger → List Bool → ℕ → Bool
+is_news q l set h = tells_taker q l (at (array_of q.odds) h) h || tells_manner (array_of q.odds) l.fates h || is_one_of_two (array_of q.odds) l.fates h || tells_within q set h
 
 -- only of a pawn is it told as what he fell
 abbrev pub told_manner : Places → Fates → ℕ → Manner
 told_manner first f h = cond (is_a Pawn (at first h)) (manner_of first f h) manner.Anyhow
 
 -- he fell, and that is told if it is news
-abbrev pub fall_line : Asked → Ledger → ℕ → Option Line
-fall_line q l h =
-    cond (is_fallen (array_of q.odds) l.fates h && is_news q l h) (Some (Fell h (taker_of (array_of q.odds) l.fates h) (told_manner (array_of q.odds) l.fates h))) None
+abbrev pub fall_line : Asked → Ledger → List Bool → ℕ → Option Line
+fall_line q l set h =
+    cond (is_fallen (array_of q.odds) l.fates h && is_news q l set h) (Some (Fell h (taker_of (array_of q.odds) l.fates h) (told_manner (array_of q.odds) l.fates h) (told_within q set h))) None
 
 -- he was promoted, and that is told of a pawn
 abbrev pub promotion_line : Asked → Ledger → ℕ → Option Line
@@ -224,5 +234,5 @@ IsSquareLine (Men c) q l s None = (h : ℕ) → h < 64 → IsManLine q l c s h �
 IsSquareLine (Men c) q l s (Some x) = (h : ℕ) × (h < 64) × (x ≡ ManLine s h) × IsManLine q l c s h
 IsSquareLine (Officers c) q l s None = IsPromotedMan q l c s → ⊥
 IsSquareLine (Officers c) q l s (Some x) = IsPromotedMan q l c s × (x ≡ PromotedLine s (homes_left q l s))
-IsSquareLine Falls q l s line = line ≡ fall_line q l s
+IsSquareLine (Falls set) q l s line = line ≡ fall_line q l set s
 IsSquareLine Promotions q l s line = line ≡ promotion_line q l s

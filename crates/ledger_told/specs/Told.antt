@@ -1,5 +1,5 @@
 -- What is told of a position's ledger.
-use Rattle.std.specs.Prelude.{ℕ, ◌≡◌, ◌⊎◌, zero, suc, List, [], ◌∷◌, ◌++◌, Bool, Option, Some, None}
+use Rattle.std.specs.Prelude.{ℕ, ◌≡◌, ◌⊎◌, zero, suc, List, [], ◌∷◌, ◌++◌, Bool, Option, Some, None, length}
 use Rattle.std.specs.List.{flat_map}
 use Rattle.board_base.specs.declared.men.Colour.{Colour}
 use Rattle.board_base.specs.declared.men.Colour.TheVariants.{White, Black}
@@ -79,11 +79,12 @@ TellsAll q l set =
     (Then (TellsFirst (Officers Black) q l 64)
     (Then (TellsAmong White q l set)
     (Then (TellsAmong Black q l set)
-    (Then (TellsFirst Falls q l 64)
+    (Then (TellsFirst (Falls set) q l 64)
     (TellsFirst Promotions q l 64))))))))))))))))
 
 -- the greatest frozen set that is as in the array at the query's odds
 pub record IsGreatest (q : Asked) (set : List Bool) : Type 0 where
+  pub whole : length set ≡ 64
   pub frozen : IsFrozen q set
   pub as_array : IsAsArray q.odds q.board set
   pub greatest : (other : List Bool) → IsFrozen q other → IsAsArray q.odds q.board other → IsWithin other set

@@ -1,14 +1,15 @@
 ghost use Rattle.std.specs.Prelude.{◌≡◌, ◌↔◌, IsTrue};
 ghost use Rattle.board_base.specs.Board.{array_of, at};
-ghost use Rattle.ledger_told.specs.Due.{IsManLine, IsPromotedMan, IsSquareLine, are_all_taken, fall_line, is_moved_man, is_news, is_one_of_two, manner_of, mirrored, most_made, promotion_line, taker_of, tells_manner, tells_taker, told_manner};
+ghost use Rattle.ledger_told.specs.Due.{IsManLine, IsPromotedMan, IsSquareLine, are_all_taken, fall_line, is_moved_man, is_news, is_one_of_two, manner_of, mirrored, most_made, promotion_line, taker_of, tells_manner, tells_taker, tells_within, told_manner, told_within};
 
 use crate::pawns::{homes_left, pawn_line};
 use crate::topics::Topic;
 use crate::wholes::{all_taken, most_made};
 use board_base::{Board, Colour, Kind, Square, SquareSet, array_of, is_a, is_of, is_the};
+use cage_rules::region;
 use ledger_lines::{
-    Fact, Line, Manner, Taker, is_fallen, is_known, is_promoted, is_struck, is_unpromoted,
-    is_unstruck,
+    Fact, Line, Manner, Taker, has_officer, is_fallen, is_known, is_promoted, is_struck,
+    is_unpromoted, is_unstruck, number_in,
 };
 use ledger_search::{Fates, Ledger};
 use query_base::Query;
@@ -142,25 +143,45 @@ fn is_one_of_two(first: &Board, fates: &Fates, h: Square) -> bool
     (is_a(Kind::Rook, place) || is_a(Kind::Knight, place)) && !is_fallen(first, fates, mirrored(h))
 }
 
+/// Whether he is an officer who can't have left three squares at most, beside the men of a frozen set.
+fn tells_within(query: &Query, set: SquareSet, h: Square) -> bool
+    ensures { result ≡ tells_within query.now set h }
+{
+    has_officer(query, h) && number_in(region(set, h)) <= 3
+}
+
+/// These squares, if he can't; none otherwise.
+fn told_within(query: &Query, set: SquareSet, h: Square) -> SquareSet
+    ensures { result ≡ told_within query.now set h }
+{
+    if tells_within(query, set, h) {
+        region(set, h)
+    } else {
+        SquareSet::from_bits(0)
+    }
+}
+
 /// Whether it says more than the lines before that he fell.
-fn is_news(query: &Query, ledger: &Ledger, first: &Board, h: Square) -> bool
+fn is_news(query: &Query, ledger: &Ledger, first: &Board, set: SquareSet, h: Square) -> bool
     requires { first.now ≡ array_of query.now.odds }
-    ensures { result ≡ is_news query.now ledger.now h }
+    ensures { result ≡ is_news query.now ledger.now set h }
 {
     tells_taker(query, ledger, first, h)
         || tells_manner(first, &ledger.fates, h)
         || is_one_of_two(first, &ledger.fates, h)
+        || tells_within(query, set, h)
 }
 
 /// The line of the fall of the man who began on a square.
-fn fall_line(query: &Query, ledger: &Ledger, h: Square) -> Option<Line>
-    ensures { result ≡ fall_line query.now ledger.now h }
+fn fall_line(query: &Query, ledger: &Ledger, set: SquareSet, h: Square) -> Option<Line>
+    ensures { result ≡ fall_line query.now ledger.now set h }
 {
     let first = array_of(query.odds);
-    if is_fallen(&first, &ledger.fates, h) && is_news(query, ledger, &first, h) {
+    if is_fallen(&first, &ledger.fates, h) && is_news(query, ledger, &first, set, h) {
         let taker = taker_of(&first, &ledger.fates, h);
         let manner = told_manner(&first, &ledger.fates, h);
-        Some(Line::Fell(h, taker, manner))
+        let within = told_within(query, set, h);
+        Some(Line::Fell(h, taker, manner, within))
     } else {
         None
     }
@@ -179,14 +200,14 @@ fn promotion_line(query: &Query, ledger: &Ledger, h: Square) -> Option<Line>
 }
 
 /// The line that is told of a square.
-pub(crate) fn square_line(topic: Topic, query: &Query, ledger: &Ledger, s: Square) -> Option<Line>
-    ensures { IsSquareLine topic query.now ledger.now s result }
+pub(crate) fn square_line(topic: &Topic, query: &Query, ledger: &Ledger, s: Square) -> Option<Line>
+    ensures { IsSquareLine topic.now query.now ledger.now s result }
 {
-    match topic {
+    match *topic {
         Topic::Pawns(side) => pawn_line(query, ledger, side, s),
         Topic::Men(side) => man_line(query, ledger, side, s),
         Topic::Officers(side) => officer_line(query, ledger, side, s),
-        Topic::Falls => fall_line(query, ledger, s),
+        Topic::Falls(set) => fall_line(query, ledger, set, s),
         Topic::Promotions => promotion_line(query, ledger, s),
     }
 }

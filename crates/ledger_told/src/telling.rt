@@ -1,4 +1,4 @@
-ghost use Rattle.std.specs.Prelude.{List, ◌≡◌, ◌++◌, IfOk, OnOk};
+ghost use Rattle.std.specs.Prelude.{List, ◌≡◌, ◌++◌, IfOk, OnOk, length};
 ghost use Rattle.ledger_lines.specs.declared.lines.Line.{Line as ALine};
 ghost use Rattle.ledger_told.specs.Told.{TellsAll, TellsAmong, TellsFirst, TellsLines, TellsWhole, one_line};
 
@@ -42,12 +42,12 @@ fn add_whole(
 
 /// Adds the lines of what is told square by square.
 fn add_each(
-    topic: Topic,
+    topic: &Topic,
     query: &Query,
     ledger: &Ledger,
     lines: &mut Vec<Line>,
 ) -> Result<(), AllocError>
-    ensures { OnOk result ((xs : List ALine) × TellsFirst topic query.now ledger.now 64 xs
+    ensures { OnOk result ((xs : List ALine) × TellsFirst topic.now query.now ledger.now 64 xs
         × (lines.new.items ≡ lines.old.items ++ xs)) }
 {
     for i in 0..64 {
@@ -108,18 +108,25 @@ fn add_all(
     add_whole(Whole::Lacks(Colour::Black), query, ledger, set, lines)?;
     add_whole(Whole::Captures(Colour::White), query, ledger, set, lines)?;
     add_whole(Whole::Captures(Colour::Black), query, ledger, set, lines)?;
-    add_each(Topic::Pawns(Colour::White), query, ledger, lines)?;
-    add_each(Topic::Pawns(Colour::Black), query, ledger, lines)?;
-    add_each(Topic::Men(Colour::White), query, ledger, lines)?;
-    add_each(Topic::Men(Colour::Black), query, ledger, lines)?;
+    add_each(&Topic::Pawns(Colour::White), query, ledger, lines)?;
+    add_each(&Topic::Pawns(Colour::Black), query, ledger, lines)?;
+    add_each(&Topic::Men(Colour::White), query, ledger, lines)?;
+    add_each(&Topic::Men(Colour::Black), query, ledger, lines)?;
     add_whole(Whole::Those(Group::Ahead), query, ledger, set, lines)?;
     add_whole(Whole::Those(Group::Original), query, ledger, set, lines)?;
-    add_each(Topic::Officers(Colour::White), query, ledger, lines)?;
-    add_each(Topic::Officers(Colour::Black), query, ledger, lines)?;
+    add_each(&Topic::Officers(Colour::White), query, ledger, lines)?;
+    add_each(&Topic::Officers(Colour::Black), query, ledger, lines)?;
     add_among(Colour::White, query, ledger, set, lines)?;
     add_among(Colour::Black, query, ledger, set, lines)?;
-    add_each(Topic::Falls, query, ledger, lines)?;
-    add_each(Topic::Promotions, query, ledger, lines)
+    add_each(&Topic::Falls(set), query, ledger, lines)?;
+    add_each(&Topic::Promotions, query, ledger, lines)
+}
+
+/// Tells the caller that a set has 64 truth values.
+fn is_whole(set: SquareSet)
+    ensures { length set ≡ 64 }
+{
+    let _ = set.has(Square::known(0));
 }
 
 /// The lines of the query's ledger that say more than the board does, in order: of who never moved, of the men who are lacking, of the
@@ -131,6 +138,7 @@ pub fn told_lines(alloc: Global, query: &Query) -> Result<Vec<Line>, AllocError>
 {
     let ledger = ledger_of(query);
     let set = greatest_as_array(query);
+    is_whole(set);
     let mut lines = Vec::new(alloc);
     if is_contradictory(query, &ledger) {
         return Ok(lines);

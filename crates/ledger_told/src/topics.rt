@@ -1,4 +1,4 @@
-use board_base::Colour;
+use board_base::{Colour, SquareSet};
 
 /// The men whom one line names together.
 #[derive(Clone, Copy, PartialEq, Eq, Debug)]
@@ -43,8 +43,8 @@ pub enum Topic {
     Men(Colour),
     /// Which of this side's officers began as pawns, and where.
     Officers(Colour),
-    /// Who fell, and how.
-    Falls,
+    /// Who fell, and how, and where beside the men of this frozen set.
+    Falls(SquareSet),
     /// Who was promoted.
     Promotions,
 }

@@ -1,4 +1,4 @@
-use Rattle.std.proofs.Common.{◌≡◌, ◌++◌, ◌∙◌, ℕ, Bool, List, [], ap, cond, arith}
+use Rattle.std.proofs.Common.{◌++◌, ◌∙◌, ℕ, Bool, [], ap, cond, arith}
 use Rattle.prose_words.proofs.Squares.{flat_more, flat_whole}
 use Rattle.ledger_prose.specs.Words.{class_words, classes_words, is_elsewhere}
 use Rattle.ledger_prose.proofs.leftovers.push_classes.Goals as goal

@@ -1,4 +1,3 @@
-use Rattle.std.proofs.Common.{arith}
 use Rattle.std.proofs.lemmas.Bool.{both_ways}
 use Rattle.ledger_told.proofs.News.{among-more}
 use Rattle.ledger_told.proofs.held.is_among.Goals as goal

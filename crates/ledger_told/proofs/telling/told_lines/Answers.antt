@@ -9,7 +9,7 @@ returns-then-is_contradictory c = record {
   ledger = c.ledger_of-ledger.result;
   ledger_is = c.ledger_of-ledger.ensures;
   set = c.greatest_as_array-set.result;
-  set_is = record { frozen = c.greatest_as_array-set.ensures.frozen; as_array = c.greatest_as_array-set.ensures.as_array; greatest = c.greatest_as_array-set.ensures.greatest };
+  set_is = record { whole = c.is_whole.ensures; frozen = c.greatest_as_array-set.ensures.frozen; as_array = c.greatest_as_array-set.ensures.as_array; greatest = c.greatest_as_array-set.ensures.greatest };
   told = inl (c.is_contradictory.ensures.0 c.if-is_contradictory.true, c.new-lines.ensures.items);
 }
 
@@ -18,6 +18,6 @@ returns c = record {
   ledger = c.ledger_of-ledger.result;
   ledger_is = c.ledger_of-ledger.ensures;
   set = c.greatest_as_array-set.result;
-  set_is = record { frozen = c.greatest_as_array-set.ensures.frozen; as_array = c.greatest_as_array-set.ensures.as_array; greatest = c.greatest_as_array-set.ensures.greatest };
+  set_is = record { whole = c.is_whole.ensures; frozen = c.greatest_as_array-set.ensures.frozen; as_array = c.greatest_as_array-set.ensures.as_array; greatest = c.greatest_as_array-set.ensures.greatest };
   told = inr (λ void. both_ways _ c.if-is_contradictory.false (c.is_contradictory.ensures.1 void), alone (TellsAll c.args.query.now c.ledger_of-ledger.result c.greatest_as_array-set.result) _ _ c.new-lines.ensures.items c.in_ok-add_all.ensures);
 }
