@@ -98,7 +98,7 @@ LEDGER_LINES = (
     (rf"original{SQUARE}+", "?"),
     (rf"promoted{SQUARE} [a-h][1-8](?:,[a-h][1-8])*", "*"),
     (rf"among \d+{SQUARE}+", "*"),
-    (rf"fell{SQUARE}(?: pawn| officer)?(?: as-pawn| as-promoted)?", "*"),
+    (rf"fell{SQUARE}(?: pawn| officer)?(?: as-pawn| as-promoted)?(?: within [1-3])?", "*"),
     (rf"became{SQUARE}", "*"),
 )
 LEDGER = "".join(rf"(?:{form}\n){times}" for form, times in LEDGER_LINES)

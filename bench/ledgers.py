@@ -32,6 +32,7 @@ class Labelled:
         men = [s for s in range(64) if self.position.board[s] != "."]
         self.labels = {s: s for s in men}
         self.captures = {h: [] for h in men}
+        self.stood = {h: {h} for h in men}
         self.promoted, self.gone, self.struck = set(), set(), set()
         # The squares on which each side's pawns captured, and those on which moves began and ended.
         self.strikes, self.touched = {True: [], False: []}, set()
@@ -56,6 +57,8 @@ class Labelled:
             self.labels[beside] = self.labels.pop(rook)
             self.touched |= {rook, beside}
         self.labels[move.target] = mover
+        for place, man in self.labels.items():
+            self.stood[man].add(place)
         self.position = position.after(move)
 
     def fate(self, home):
@@ -152,8 +155,10 @@ def is_false_line(line, game):
     if word == "became":
         return squares[0] not in game.promoted
     home = squares[0]
+    if "within" in words and len(game.stood[home]) > numbers[0]:
+        return True
     holds = {"pawn": home in game.struck, "officer": home not in game.struck, "as-pawn": home not in game.promoted, "as-promoted": home in game.promoted}
-    return home not in game.gone or not all(holds[one] for one in words[1:])
+    return home not in game.gone or not all(holds[one] for one in words[1:] if one in holds)
 
 
 def main():

@@ -143,7 +143,7 @@ is_alone h set = list_all (λ s. not (is_in set s && not (s == h))) (range_with_
 abbrev pub is_at_home : ℕ → List Bool → Bool
 is_at_home h within = is_in within h && is_alone h within
 
--- the line says of a man of c who began as no pawn that he was taken, by this taker as far as it is told, and at home if that is asked
+-- the line says of a man of c who began as no pawn that he was taken, by this taker as far as it is told; and it tells that he was at home, or it does not
 abbrev pub is_officer_fall : Colour → Taker → Bool → Asked → List Line → Line → Bool
 is_officer_fall c told home q lines (line.Fell h taker how within) =
     is_of c (at (array_of q.odds) h) && not (is_a APawn (at (array_of q.odds) h)) && fell_to c told lines taker && beq home (is_at_home h within)
