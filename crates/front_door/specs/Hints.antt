@@ -11,7 +11,7 @@ use Rattle.hint_texts.specs.declared.advice.FenAdvice.{FenAdvice}
 use Rattle.hint_texts.specs.declared.advice.LineAdvice.{LineAdvice}
 use Rattle.hint_texts.specs.declared.advice.LineAdvice.TheVariants.{Empty}
 use Rattle.hint_texts.specs.declared.advice.TextAdvice.{TextAdvice}
-use Rattle.hint_texts.specs.declared.advice.TextAdvice.TheVariants.{Dossier, Length, Claim, NoProof, ClaimToExplain, CarriageReturns, ReturnsToExplain, PositionToExplain}
+use Rattle.hint_texts.specs.declared.advice.TextAdvice.TheVariants.{ByteOrderMark, Dossier, Length, Claim, NoProof, ClaimToExplain, CarriageReturns, ReturnsToExplain, PositionToExplain}
 use Rattle.hint_texts.specs.declared.advice.WordAdvice.{WordAdvice}
 use Rattle.hint_texts.specs.declared.advice.WordAdvice.TheVariants.{StandsAlone, NoCommand, NearestCommand}
 
@@ -59,8 +59,13 @@ HasProofReturns input = HasReturns input ⊎ Says input (codes "retro line 1" ++
 abbrev pub IsWithoutProof : List ℕ → Type 0
 IsWithoutProof input = Says input (codes "countered") ⊎ Says input (codes "undecided") ⊎ Says input (codes "spent ")
 
+-- the input begins with a byte-order mark in UTF-8
+abbrev pub HasMark : List ℕ → Type 0
+HasMark input = Says input (239 ∷ 187 ∷ 191 ∷ [])
+
 -- The input begins as the text that the advice takes it for; of a position this isn't said.
 abbrev pub TellsText : TextAdvice → List ℕ → Type 0
+TellsText ByteOrderMark input = HasMark input
 TellsText Dossier input = Says input (codes "retro line")
 TellsText Length input = Says input (codes "retro length")
 TellsText Claim input = Says input (codes "claim ")

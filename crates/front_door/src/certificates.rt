@@ -3,6 +3,7 @@
 ghost use Rattle.std.specs.Prelude.{IfSome, IsTrue};
 ghost use Rattle.front_door.specs.Hints.{HasProofReturns, HasReturns, IsWithoutProof, TellsText};
 
+use crate::inputs::has_mark;
 use hint_texts::TextAdvice;
 use question_text::read_lone_question;
 
@@ -41,7 +42,9 @@ fn is_position(input: &[u8]) -> bool {
 fn advise_check(input: &[u8]) -> Option<TextAdvice>
     ensures { IfSome result (λ advice. TellsText advice input.now) }
 {
-    if input.starts_with(b"retro line") {
+    if has_mark(input) {
+        Some(TextAdvice::ByteOrderMark)
+    } else if input.starts_with(b"retro line") {
         Some(TextAdvice::Dossier)
     } else if input.starts_with(b"retro length") {
         Some(TextAdvice::Length)
@@ -60,7 +63,9 @@ fn advise_check(input: &[u8]) -> Option<TextAdvice>
 fn advise_explain(input: &[u8]) -> Option<TextAdvice>
     ensures { IfSome result (λ advice. TellsText advice input.now) }
 {
-    if input.starts_with(b"claim ") {
+    if has_mark(input) {
+        Some(TextAdvice::ByteOrderMark)
+    } else if input.starts_with(b"claim ") {
         Some(TextAdvice::ClaimToExplain)
     } else if is_without_proof(input) {
         Some(TextAdvice::NoProof)

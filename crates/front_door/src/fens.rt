@@ -1,5 +1,6 @@
 //! What is wrong with a line that is due as a FEN.
 
+use crate::inputs::has_mark;
 use hint_texts::FenAdvice;
 
 /// How many squares the text of a rank fills.
@@ -16,16 +17,52 @@ fn width(rank: &[u8]) -> usize {
     squares
 }
 
+/// How many ranks end in the text.
+fn ranks_ended(text: &[u8]) -> usize {
+    text.iter().filter(|byte| **byte == b'/').count()
+}
+
+/// How many squares the last rank of the text fills.
+fn last_width(text: &[u8]) -> usize {
+    text.rsplit(|byte| *byte == b'/').next().map_or(0, width)
+}
+
 /// The text has eight ranks, the last of which is full.
 fn is_placement(text: &[u8]) -> bool {
-    let strokes = text.iter().filter(|byte| **byte == b'/').count();
-    let last = text.rsplit(|byte| *byte == b'/').next();
-    strokes == 7 && last.is_some_and(|rank| width(rank) == 8)
+    ranks_ended(text) == 7 && last_width(text) == 8
+}
+
+/// The number of the last rank of the text, of which so many end in it; 1 if there are too many.
+fn rank_behind(ended: usize) -> u8 {
+    match ended {
+        0 => 8,
+        1 => 7,
+        2 => 6,
+        3 => 5,
+        4 => 4,
+        5 => 3,
+        6 => 2,
+        _ => 1,
+    }
+}
+
+/// What is wrong with a rank that ends behind a part that begins some FEN, or with the number of ranks.
+fn advise_end(good: &[u8], another: bool) -> FenAdvice {
+    let ended = ranks_ended(good);
+    if last_width(good) < 8 {
+        FenAdvice::ShortRank(rank_behind(ended))
+    } else if another {
+        FenAdvice::ManyRanks
+    } else {
+        FenAdvice::FewRanks
+    }
 }
 
 /// The line is of another kind than a FEN.
 fn other_kind(line: &[u8]) -> Option<FenAdvice> {
-    if line.is_empty() {
+    if has_mark(line) {
+        Some(FenAdvice::ByteOrderMark)
+    } else if line.is_empty() {
         Some(FenAdvice::EmptyLine)
     } else if line.starts_with(b"claim") {
         Some(FenAdvice::ClaimLine)
@@ -50,6 +87,26 @@ fn advise_blanks(good: &[u8], rest: &[u8]) -> Option<FenAdvice> {
     }
 }
 
+/// The byte is a man or so many empty squares.
+fn fills(byte: u8) -> bool {
+    matches!(byte, b'1'..=b'8' | b'P' | b'N' | b'B' | b'R' | b'Q' | b'K')
+        || matches!(byte, b'p' | b'n' | b'b' | b'r' | b'q' | b'k')
+}
+
+/// What is wrong with a rank behind a part that begins some FEN.
+fn advise_rank(good: &[u8], rest: &[u8]) -> FenAdvice {
+    match rest {
+        [b'/', ..] if !good.is_empty() => advise_end(good, true),
+        [] | [b' ', ..] if ranks_ended(good) == 7 || last_width(good) == 8 => {
+            advise_end(good, false)
+        }
+        [byte, ..] if fills(*byte) && last_width(good) > 0 => {
+            FenAdvice::LongRank(rank_behind(ranks_ended(good)))
+        }
+        _ => FenAdvice::Placement,
+    }
+}
+
 /// What is wrong with the men.
 fn advise_men(good: &[u8], rest: &[u8]) -> FenAdvice {
     match rest {
@@ -58,7 +115,7 @@ fn advise_men(good: &[u8], rest: &[u8]) -> FenAdvice {
         [b'0'..=b'9', ..] if good.last().is_some_and(|byte| byte.is_ascii_digit()) => {
             FenAdvice::Digits
         }
-        _ => FenAdvice::Placement,
+        _ => advise_rank(good, rest),
     }
 }
 

@@ -1,9 +1,17 @@
 //! The front of an input, cut into lines.
 
-ghost use Rattle.std.specs.Prelude.{◌≤◌};
+ghost use Rattle.std.specs.Prelude.{◌≤◌, IsTrue};
+ghost use Rattle.front_door.specs.Hints.{HasMark};
 
 use question_text::split_first_line;
 use retro_top::InputKind;
+
+/// The text begins with a byte-order mark in UTF-8.
+pub(crate) fn has_mark(text: &[u8]) -> bool
+    ensures { IsTrue result → HasMark text.now }
+{
+    text.starts_with(b"\xEF\xBB\xBF")
+}
 
 /// The first line is a claim.
 pub(crate) fn asks_for_claim(kind: InputKind) -> bool {

@@ -3,7 +3,7 @@
 ghost use Rattle.std.specs.Prelude.{◌≡◌, ◌≢◌, ◌↔◌, []};
 ghost use Rattle.hint_texts.specs.declared.advice.LineAdvice.TheVariants.{Empty};
 
-use crate::inputs::{asks_for_claim, fen_number, line_at};
+use crate::inputs::{asks_for_claim, fen_number, has_mark, line_at};
 use fen_text::{read_clock, read_odds};
 use hint_texts::LineAdvice;
 use retro_top::InputKind;
@@ -48,12 +48,26 @@ fn advise_demand(line: &[u8]) -> LineAdvice
     }
 }
 
+/// What is wrong with a line that stands behind the FEN.
+fn advise_behind(line: &[u8]) -> LineAdvice
+    ensures { result ≢ Empty }
+{
+    if line.is_empty() {
+        LineAdvice::EmptyBehindFen
+    } else {
+        LineAdvice::LineTooMany
+    }
+}
+
 /// What is wrong with the line of this number of the command's input.
 pub(crate) fn advise_line(kind: InputKind, input: &[u8], number: u32) -> LineAdvice
     ensures { (result ≡ Empty) ↔ (input.now ≡ []) }
 {
     if input.is_empty() {
         return LineAdvice::Empty;
+    }
+    if has_mark(input) {
+        return LineAdvice::ByteOrderMark;
     }
     let due = fen_number(kind, input);
     let Some(line) = line_at(input, number) else {
@@ -64,7 +78,7 @@ pub(crate) fn advise_line(kind: InputKind, input: &[u8], number: u32) -> LineAdv
         };
     };
     if number > due {
-        return LineAdvice::LineTooMany;
+        return advise_behind(line);
     }
     if number == 1 && asks_for_claim(kind) {
         return if kind == InputKind::Steps {

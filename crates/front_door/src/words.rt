@@ -109,6 +109,22 @@ fn advice_on(number: Number) -> WordAdvice
     }
 }
 
+/// The command is called with a depth and nodes, and not without.
+fn needs_numbers(row: &Row) -> bool {
+    row.line.split(' ').nth(1) == Some("DEPTH")
+}
+
+/// What is said of too many or too few words behind a command's name.
+fn advice_on_count(row: &Row, words: &[String]) -> WordAdvice
+    ensures { (all : List (String AGlobal)) → TellsWords result all }
+{
+    if words.len() == 1 && needs_numbers(row) {
+        WordAdvice::NoNumbers
+    } else {
+        WordAdvice::Count
+    }
+}
+
 /// What is said of the words behind a command's name.
 fn advise_rest(row: Row, words: &[String], why: RestFault) -> Hint
     ensures told { (words : List (String AGlobal)) → IsOfWords result words }
@@ -118,7 +134,7 @@ fn advise_rest(row: Row, words: &[String], why: RestFault) -> Hint
         return about(WordAdvice::ComesByInput, row);
     }
     match why {
-        RestFault::Count => about(WordAdvice::Count, row),
+        RestFault::Count => about(advice_on_count(&row, words), row),
         RestFault::Number(number) => about(advice_on(number), row),
     }
 }

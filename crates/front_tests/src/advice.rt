@@ -52,7 +52,7 @@ const WORDS: [(&[&str], WordAdvice, &str); 38] = [
     ),
     (
         &["solve"],
-        WordAdvice::Count,
+        WordAdvice::NoNumbers,
         "solve DEPTH NODES < CLAIM-AND-FEN",
     ),
     (
@@ -162,7 +162,12 @@ const READING: [(&[&str], &str); 5] = [
 ];
 
 /// The words of a command with a claim and of one without, and inputs of theirs with a bad line.
-const LINES: [(&[&str], &[u8], LineAdvice); 22] = [
+const LINES: [(&[&str], &[u8], LineAdvice); 23] = [
+    (
+        &["settle"],
+        b"\xEF\xBB\xBFclaim illegal\n4k3/8/8/8/8/8/8/4K3 w - -\n",
+        LineAdvice::ByteOrderMark,
+    ),
     (
         &["settle"],
         b"4k3/8/8/8/8/8/8/4K3 w - -\n",
@@ -262,7 +267,7 @@ const LINES: [(&[&str], &[u8], LineAdvice); 22] = [
     (
         &["unmoves"],
         b"4k3/8/8/8/8/8/8/4K3 w - -\n\n",
-        LineAdvice::LineTooMany,
+        LineAdvice::EmptyBehindFen,
     ),
     (
         &["verdict", "1", "100"],
@@ -272,7 +277,11 @@ const LINES: [(&[&str], &[u8], LineAdvice); 22] = [
 ];
 
 /// Inputs whose line that is due as a FEN isn't one.
-const FENS: [(&[u8], FenAdvice); 32] = [
+const FENS: [(&[u8], FenAdvice); 36] = [
+    (
+        b"\xEF\xBB\xBF4k3/8/8/8/8/8/8/4K3 w - -",
+        FenAdvice::ByteOrderMark,
+    ),
     (b"\n", FenAdvice::EmptyLine),
     (
         b"claim illegal\n4k3/8/8/8/8/8/8/4K3 w - -",
@@ -296,9 +305,12 @@ const FENS: [(&[u8], FenAdvice); 32] = [
     (b"4k3/8/8/8/8/8/8/4KS2 w - -", FenAdvice::Knight),
     (b"4ks2/8/8/8/8/8/8/4K3 w - -", FenAdvice::Knight),
     (b"44/8/8/8/8/8/8/8 w - -", FenAdvice::Digits),
-    (b"4k3/8/8/8/8/8/8/4K4 w - -", FenAdvice::Placement),
-    (b"4k3/8/8/8/8/8/8 w - -", FenAdvice::Placement),
-    (b"4k3/8/8/8/8/8/8/4K", FenAdvice::Placement),
+    (b"4k3/8/8/8/8/8/8/4K4 w - -", FenAdvice::LongRank(1)),
+    (b"4k3/8/8/ppppppppp/8/8/8/4K3 w - -", FenAdvice::LongRank(5)),
+    (b"4k3/8/8/8/8/8/8 w - -", FenAdvice::FewRanks),
+    (b"4k3/8/8/8/8/8/8/8/4K3 w - -", FenAdvice::ManyRanks),
+    (b"4k3/ppppppp/8/8/8/8/8/4K3 w - -", FenAdvice::ShortRank(7)),
+    (b"4k3/8/8/8/8/8/8/4K", FenAdvice::ShortRank(1)),
     (b"hello", FenAdvice::Placement),
     (b"4k3/8/8/8/8/8/8/4K3", FenAdvice::NoSide),
     (b"4k3/8/8/8/8/8/8/4K3 ", FenAdvice::NoSide),
@@ -395,7 +407,12 @@ const GAMES: [(&str, &[u8], MoveAdvice); 16] = [
 ];
 
 /// What isn't a certificate, and what `check` and `explain` say of it.
-const TEXTS: [(&[u8], Option<TextAdvice>, TextAdvice); 8] = [
+const TEXTS: [(&[u8], Option<TextAdvice>, TextAdvice); 9] = [
+    (
+        b"\xEF\xBB\xBFretro 1\nclaim illegal\n",
+        Some(TextAdvice::ByteOrderMark),
+        TextAdvice::ByteOrderMark,
+    ),
     (
         b"retro line 1\r\nclaim notboth K Q\r\n",
         Some(TextAdvice::Dossier),

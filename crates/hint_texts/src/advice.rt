@@ -3,6 +3,9 @@
 ghost use Rattle.std.specs.Prelude.{IsTrue};
 ghost use Rattle.hint_texts.specs.OneLine.{is_one_line};
 
+const BYTE_ORDER_MARK: &str =
+    "the input begins with a byte-order mark (the bytes EF BB BF): save the file as UTF-8 without it";
+
 /// What is wrong with the words of the command line.
 #[derive(Clone, Copy, PartialEq, Eq, Debug)]
 pub enum WordAdvice {
@@ -12,6 +15,7 @@ pub enum WordAdvice {
     NoCommand,
     NearestCommand,
     Count,
+    NoNumbers,
     Depth,
     Nodes,
     Start,
@@ -33,6 +37,9 @@ impl WordAdvice {
             WordAdvice::NoCommand => "there is no such command; `retractor --help` lists them",
             WordAdvice::NearestCommand => "there is no such command; the nearest is",
             WordAdvice::Count => "there are too many or too few words",
+            WordAdvice::NoNumbers => {
+                "DEPTH and NODES are missing: the numbers 64 and 20000 serve as a rule"
+            }
             WordAdvice::Depth => "DEPTH is a number from 0 to 64",
             WordAdvice::Nodes => "NODES is a number from 1 to 500000",
             WordAdvice::Start => "START is a number from 0 to 18446744073709551615",
@@ -47,6 +54,7 @@ impl WordAdvice {
 #[derive(Clone, Copy, PartialEq, Eq, Debug)]
 pub enum LineAdvice {
     Empty,
+    ByteOrderMark,
     Claim,
     ClaimOfSteps,
     Steps,
@@ -57,6 +65,7 @@ pub enum LineAdvice {
     Clock,
     ClockAgainstFen,
     NoFen,
+    EmptyBehindFen,
     LineTooMany,
     Lines,
 }
@@ -67,6 +76,7 @@ impl LineAdvice {
     {
         match self {
             LineAdvice::Empty => "the input is empty; it comes by `<` or a pipe",
+            LineAdvice::ByteOrderMark => BYTE_ORDER_MARK,
             LineAdvice::Claim => {
                 "line 1 is a claim: `claim illegal`, `claim last f3g3`, `claim lost K` (or Q, k, q) or `claim ep e5d6`"
             }
@@ -97,8 +107,9 @@ impl LineAdvice {
             LineAdvice::NoFen => {
                 "the FEN line is missing; it is the last line of a position, behind the lines of claim, odds and clock"
             }
+            LineAdvice::EmptyBehindFen => "an empty line stands behind the FEN line: leave it out",
             LineAdvice::LineTooMany => {
-                "nothing may follow the FEN line, and no empty line; only `play` and `san` read moves behind it"
+                "nothing may follow the FEN line; only `play` and `san` read moves behind it"
             }
             LineAdvice::Lines => {
                 "the lines are, in this order: the claim if one is asked for, `odds ..` and `clock ..` if they are wanted, and the FEN"
@@ -107,9 +118,42 @@ impl LineAdvice {
     }
 }
 
+/// That the rank of this number has too many squares.
+fn long_rank(rank: u8) -> &'static str
+    ensures { IsTrue (is_one_line result.now) }
+{
+    match rank {
+        1 => "rank 1, the last one of field 1, has more than eight squares",
+        2 => "rank 2, the seventh of field 1, has more than eight squares",
+        3 => "rank 3, the sixth of field 1, has more than eight squares",
+        4 => "rank 4, the fifth of field 1, has more than eight squares",
+        5 => "rank 5, the fourth of field 1, has more than eight squares",
+        6 => "rank 6, the third of field 1, has more than eight squares",
+        7 => "rank 7, the second of field 1, has more than eight squares",
+        _ => "rank 8, the first of field 1, has more than eight squares",
+    }
+}
+
+/// That the rank of this number has too few squares.
+fn short_rank(rank: u8) -> &'static str
+    ensures { IsTrue (is_one_line result.now) }
+{
+    match rank {
+        1 => "rank 1, the last one of field 1, has fewer than eight squares",
+        2 => "rank 2, the seventh of field 1, has fewer than eight squares",
+        3 => "rank 3, the sixth of field 1, has fewer than eight squares",
+        4 => "rank 4, the fifth of field 1, has fewer than eight squares",
+        5 => "rank 5, the fourth of field 1, has fewer than eight squares",
+        6 => "rank 6, the third of field 1, has fewer than eight squares",
+        7 => "rank 7, the second of field 1, has fewer than eight squares",
+        _ => "rank 8, the first of field 1, has fewer than eight squares",
+    }
+}
+
 /// What is wrong with the line that is due as a FEN.
 #[derive(Clone, Copy, PartialEq, Eq, Debug)]
 pub enum FenAdvice {
+    ByteOrderMark,
     EmptyLine,
     ClaimLine,
     Demand,
@@ -119,6 +163,12 @@ pub enum FenAdvice {
     BlankAtEnd,
     Knight,
     Digits,
+    FewRanks,
+    ManyRanks,
+    /// The rank of this number.
+    LongRank(u8),
+    /// The rank of this number.
+    ShortRank(u8),
     Placement,
     NoSide,
     Side,
@@ -133,6 +183,7 @@ impl FenAdvice {
         ensures { IsTrue (is_one_line result.now) }
     {
         match self {
+            FenAdvice::ByteOrderMark => BYTE_ORDER_MARK,
             FenAdvice::EmptyLine => "the line that is due as a FEN is empty",
             FenAdvice::ClaimLine => {
                 "a claim line is read by `solve`, `settle` and `dossier` alone, as line 1"
@@ -149,6 +200,14 @@ impl FenAdvice {
             FenAdvice::Knight => "the knight is N for White and n for Black, not S",
             FenAdvice::Digits =>
                 "no digit follows a digit: write their sum, as 8 for an empty rank",
+            FenAdvice::FewRanks => {
+                "field 1 has fewer than eight ranks: they go from 8 down to 1, separated by /, and 8 is an empty one"
+            }
+            FenAdvice::ManyRanks => {
+                "field 1 has more than eight ranks: after the eighth a space and the side to move follow"
+            }
+            FenAdvice::LongRank(rank) => long_rank(rank),
+            FenAdvice::ShortRank(rank) => short_rank(rank),
             FenAdvice::Placement => {
                 "field 1 is eight ranks from 8 down to 1, separated by /, each of eight squares: PNBRQK for White's men, pnbrqk for Black's, a digit for so many empty squares"
             }
@@ -206,6 +265,7 @@ impl MoveAdvice {
 /// What was given to `check` or `explain` that is no certificate.
 #[derive(Clone, Copy, PartialEq, Eq, Debug)]
 pub enum TextAdvice {
+    ByteOrderMark,
     Dossier,
     Length,
     Claim,
@@ -221,6 +281,7 @@ impl TextAdvice {
         ensures { IsTrue (is_one_line result.now) }
     {
         match self {
+            TextAdvice::ByteOrderMark => BYTE_ORDER_MARK,
             TextAdvice::Dossier => "this is a dossier, which `retractor line` checks",
             TextAdvice::Length => "this is the text of a length, which `retractor atleast` checks",
             TextAdvice::Claim => {
