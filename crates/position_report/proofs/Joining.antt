@@ -1,6 +1,6 @@
 -- Texts and lists that are put together.
 use Rattle.std.proofs.Common.{◌≡◌, ℕ, ◌+◌, ◌-◌, ◌<◌, ◌≤◌, Bool, true, false, cond, List, [], ◌∷◌, ◌++◌, length, get_or, take, drop, sym, ap, subst, ◌∙◌, append-nil, arith, length-drop}
-use Rattle.std.specs.Prelude.{Option, None, Some}
+use Rattle.std.specs.Prelude.{◌&&◌, ◌||◌, not, Option, None, Some}
 use Rattle.std.specs.List.{All, flat_map, list_any}
 use Rattle.std.proofs.lemmas.List.{flat_map_more, take_all}
 use Rattle.std.proofs.lemmas.List.Elements.{All-append, All-cons, All-drop, All-get_or, All-nil, All-take}
@@ -12,7 +12,8 @@ use Rattle.diagram_study.specs.declared.retractions.MoveFound.{MoveFound}
 use Rattle.diagram_study.specs.declared.rights.RightFound.{RightFound}
 use Rattle.diagram_study.specs.ClaimFindings.{is_proved}
 use Rattle.position_report.specs.Parts.{part_text, parts_text}
-use Rattle.position_report.specs.Shown.{illegal_shown, last_shown, other_shown, pair_shown, proves_passing, right_shown, shown_claims}
+use Rattle.position_report.specs.Sayings.{has_last}
+use Rattle.position_report.specs.Shown.{illegal_shown, is_given, last_shown, other_shown, pair_shown, proves_passing, right_shown, shown_claims}
 use Rattle.position_report.specs.declared.shown.Shown.{Shown}
 
 -- what one item more adds
@@ -55,17 +56,23 @@ no-part : (o : List ℕ) → o ≡ o ++ parts_text []
 unfolding parts_text
 no-part o = sym (append-nil o)
 
--- three parts, and seven
-pub three-parts : (o p1 p2 p3 a b c : List ℕ) → p1 ≡ o ++ part_text a → p2 ≡ p1 ++ part_text b → p3 ≡ p2 ++ part_text c → p3 ≡ o ++ parts_text (a ∷ b ∷ c ∷ [])
+-- three parts, five and eight
+three-parts : (o p1 p2 p3 a b c : List ℕ) → p1 ≡ o ++ part_text a → p2 ≡ p1 ++ part_text b → p3 ≡ p2 ++ part_text c → p3 ≡ o ++ parts_text (a ∷ b ∷ c ∷ [])
 three-parts o p1 p2 p3 a b c e1 e2 e3 =
     part-more o p2 p3 (a ∷ b ∷ []) c (part-more o p1 p2 (a ∷ []) b (part-more o o p1 [] a (no-part o) e1) e2) e3
 
-pub seven-parts : (o p1 p2 p3 p4 p5 p6 p7 a b c d e f g : List ℕ) → p1 ≡ o ++ part_text a → p2 ≡ p1 ++ part_text b → p3 ≡ p2 ++ part_text c → p4 ≡ p3 ++ part_text d → p5 ≡ p4 ++ part_text e → p6 ≡ p5 ++ part_text f → p7 ≡ p6 ++ part_text g → p7 ≡ o ++ parts_text (a ∷ b ∷ c ∷ d ∷ e ∷ f ∷ g ∷ [])
-seven-parts o p1 p2 p3 p4 p5 p6 p7 a b c d e f g e1 e2 e3 e4 e5 e6 e7 =
-    let to4 : p4 ≡ o ++ parts_text (a ∷ b ∷ c ∷ d ∷ []) = part-more o p3 p4 (a ∷ b ∷ c ∷ []) d (three-parts o p1 p2 p3 a b c e1 e2 e3) e4 in
-    let to5 : p5 ≡ o ++ parts_text (a ∷ b ∷ c ∷ d ∷ e ∷ []) = part-more o p4 p5 (a ∷ b ∷ c ∷ d ∷ []) e to4 e5 in
+four-parts : (o p1 p2 p3 p4 a b c d : List ℕ) → p1 ≡ o ++ part_text a → p2 ≡ p1 ++ part_text b → p3 ≡ p2 ++ part_text c → p4 ≡ p3 ++ part_text d → p4 ≡ o ++ parts_text (a ∷ b ∷ c ∷ d ∷ [])
+four-parts o p1 p2 p3 p4 a b c d e1 e2 e3 e4 = part-more o p3 p4 (a ∷ b ∷ c ∷ []) d (three-parts o p1 p2 p3 a b c e1 e2 e3) e4
+
+pub five-parts : (o p1 p2 p3 p4 p5 a b c d e : List ℕ) → p1 ≡ o ++ part_text a → p2 ≡ p1 ++ part_text b → p3 ≡ p2 ++ part_text c → p4 ≡ p3 ++ part_text d → p5 ≡ p4 ++ part_text e → p5 ≡ o ++ parts_text (a ∷ b ∷ c ∷ d ∷ e ∷ [])
+five-parts o p1 p2 p3 p4 p5 a b c d e e1 e2 e3 e4 e5 = part-more o p4 p5 (a ∷ b ∷ c ∷ d ∷ []) e (four-parts o p1 p2 p3 p4 a b c d e1 e2 e3 e4) e5
+
+pub eight-parts : (o p1 p2 p3 p4 p5 p6 p7 p8 a b c d e f g h : List ℕ) → p1 ≡ o ++ part_text a → p2 ≡ p1 ++ part_text b → p3 ≡ p2 ++ part_text c → p4 ≡ p3 ++ part_text d → p5 ≡ p4 ++ part_text e → p6 ≡ p5 ++ part_text f → p7 ≡ p6 ++ part_text g → p8 ≡ p7 ++ part_text h → p8 ≡ o ++ parts_text (a ∷ b ∷ c ∷ d ∷ e ∷ f ∷ g ∷ h ∷ [])
+eight-parts o p1 p2 p3 p4 p5 p6 p7 p8 a b c d e f g h e1 e2 e3 e4 e5 e6 e7 e8 =
+    let to5 : p5 ≡ o ++ parts_text (a ∷ b ∷ c ∷ d ∷ e ∷ []) = five-parts o p1 p2 p3 p4 p5 a b c d e e1 e2 e3 e4 e5 in
     let to6 : p6 ≡ o ++ parts_text (a ∷ b ∷ c ∷ d ∷ e ∷ f ∷ []) = part-more o p5 p6 (a ∷ b ∷ c ∷ d ∷ e ∷ []) f to5 e6 in
-    part-more o p6 p7 (a ∷ b ∷ c ∷ d ∷ e ∷ f ∷ []) g to6 e7
+    let to7 : p7 ≡ o ++ parts_text (a ∷ b ∷ c ∷ d ∷ e ∷ f ∷ g ∷ []) = part-more o p6 p7 (a ∷ b ∷ c ∷ d ∷ e ∷ f ∷ []) g to6 e7 in
+    part-more o p7 p8 (a ∷ b ∷ c ∷ d ∷ e ∷ f ∷ g ∷ []) h to7 e8
 
 -- no move is barred in what is shown of a query in which none is
 abbrev pub IsPlain : Shown → Type 0
@@ -93,8 +100,8 @@ plain-claims q f plain =
     let rights : List Shown = flat_map (right_shown q) f.rights.items in
     let pairs : List Shown = flat_map (pair_shown q) f.pairs.items in
     All-append IsPlain (rights ++ pairs) (other_shown q f)
-    (All-append IsPlain rights pairs (plain-each (right_shown q) (λ (r : RightFound). plain-if (is_proved r.finding) _ plain) f.rights.items) (plain-each (pair_shown q) (λ (p : PairFound). plain-if (is_proved p.finding) _ plain) f.pairs.items))
-    (plain-unless (list_any proves_passing f.rights.items) (last_shown q f.last) (plain-last q f.last plain))
+    (All-append IsPlain rights pairs (plain-each (right_shown q) (λ (r : RightFound). plain-if (is_proved r.finding && not (is_given q r.right)) _ plain) f.rights.items) (plain-each (pair_shown q) (λ (p : PairFound). plain-if (is_proved p.finding) _ plain) f.pairs.items))
+    (plain-unless (has_last q || list_any proves_passing f.rights.items) (last_shown q f.last) (plain-last q f.last plain))
 
 -- none is in the first of them, nor in the others
 pub plain-first : (all : List Shown) (s : Shown) → 1 ≤ length all → s ≡ get_or all 0 s → All IsPlain all → IsPlain s

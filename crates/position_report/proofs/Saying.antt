@@ -10,7 +10,7 @@ use Rattle.board_base.specs.declared.unmoves.Unmove.{Unmove}
 use Rattle.query_base.specs.Asked.{Asked}
 use Rattle.query_base.specs.Reach.{Holds}
 use Rattle.query_base.specs.declared.claims.Claim.{Claim}
-use Rattle.query_base.specs.declared.claims.Claim.TheVariants.{Illegal}
+use Rattle.query_base.specs.declared.claims.Claim.TheVariants.{Illegal, Last, Lost, Ep}
 use Rattle.line_claims.specs.Holding.{HoldsLine}
 use Rattle.line_claims.specs.declared.claims.LineClaim.{LineClaim}
 use Rattle.line_claims.specs.declared.claims.LineClaim.TheVariants as line
@@ -33,10 +33,10 @@ use Rattle.diagram_study.specs.declared.rights.RightFound.{RightFound}
 use Rattle.verdict_prose.specs.LastMoves.{IsEnd, WereLast}
 use Rattle.verdict_prose.specs.Verdicts.{IsSo}
 use Rattle.verdict_prose.specs.declared.verdicts.Verdict.{Verdict}
-use Rattle.verdict_prose.specs.declared.verdicts.Verdict.TheVariants.{AtLeast, Countered, GivenShown, NotBoth, PlainCountered, PlainShown, Shown}
+use Rattle.verdict_prose.specs.declared.verdicts.Verdict.TheVariants.{AtLeast, Countered, GivenPassing, GivenShown, NotBoth, PlainCountered, PlainShown, Shown}
 use Rattle.position_report.specs.LastMoves.{proved_steps, steps_in}
-use Rattle.position_report.specs.Reports.{IsPlainFound}
-use Rattle.position_report.specs.Sayings.{impossible_of, is_asked, other_of, pair_verdicts, plain_of, right_verdicts, settled_of, shown_of}
+use Rattle.position_report.specs.Reports.{IsPlainFound, PlainIsFound}
+use Rattle.position_report.specs.Sayings.{has_last, impossible_of, is_asked, other_of, pair_verdicts, plain_of, proved_of, right_verdicts, settled_of, shown_of}
 
 -- a claim that is found proved holds
 pub proved-holds : (q : Asked) (claim : Claim) (most nodes : ℕ) (f : Finding) → IsFound q claim most nodes f → IsTrue (is_proved f) → Holds claim q
@@ -45,9 +45,20 @@ proved-holds q claim most nodes finding.Countered found proved = absurd (cc)
 proved-holds q claim most nodes finding.Open found proved = absurd (cc)
 proved-holds q claim most nodes finding.Spent found proved = absurd (cc)
 
+passing-so : (q : Asked) (m : Move) (given : Bool) → given ≡ has_last q → Holds (Ep m) q → IsSo q (cond given (GivenPassing m) (Shown (Ep m)))
+passing-so q m true is holds = (holds, sym is)
+passing-so q m false is holds = holds
+
+-- what is said of a claim that is proved
+proved-so : (q : Asked) (claim : Claim) → Holds claim q → IsSo q (proved_of (has_last q) claim)
+proved-so q Illegal holds = holds
+proved-so q (Last m) holds = holds
+proved-so q (Lost x) holds = holds
+proved-so q (Ep m) holds = passing-so q m (has_last q) refl holds
+
 -- what is said of a claim that is settled
-pub settled-so : (q : Asked) (claim : Claim) (most nodes : ℕ) (f : Finding) → IsFound q claim most nodes f → All (IsSo q) (settled_of f claim)
-settled-so q claim most nodes (finding.Proved depth) found = All-cons (IsSo q) (Shown claim) [] found.proved.holds (All-nil (IsSo q))
+pub settled-so : (q : Asked) (claim : Claim) (most nodes : ℕ) (f : Finding) → IsFound q claim most nodes f → All (IsSo q) (settled_of (has_last q) f claim)
+settled-so q claim most nodes (finding.Proved depth) found = All-cons (IsSo q) (proved_of (has_last q) claim) [] (proved-so q claim found.proved.holds) (All-nil (IsSo q))
 settled-so q claim most nodes finding.Countered found = All-cons (IsSo q) (Countered claim) [] found (All-nil (IsSo q))
 settled-so q claim most nodes finding.Open found = All-nil (IsSo q)
 settled-so q claim most nodes finding.Spent found = All-nil (IsSo q)
@@ -66,25 +77,29 @@ plain-so q most nodes finding.Countered found = All-cons (IsSo q) PlainCountered
 plain-so q most nodes finding.Open found = All-nil (IsSo q)
 plain-so q most nodes finding.Spent found = All-nil (IsSo q)
 
--- all that is said of a position that is illegal
-pub impossible-so : (q : Asked) (most nodes : ℕ) (against : Finding) (plain : Option Finding) → Holds Illegal q → IsFound (other_side q) Illegal most nodes against → IsPlainFound q most nodes plain → All (IsSo q) (impossible_of against plain)
-impossible-so q most nodes against None holds found none =
-    All-cons (IsSo q) (Shown Illegal) (other_of against ∷ []) holds (All-cons (IsSo q) (other_of against) [] (other-so q most nodes against found) (All-nil (IsSo q)))
-impossible-so q most nodes against (Some plain) holds found (demands, here) =
-    All-cons (IsSo q) GivenShown (plain_of plain) holds (plain-so q most nodes plain here)
-
 -- what was found of the claim that a position is illegal
 pub found-illegal : (q : Asked) (most nodes : ℕ) (by : List (List Move)) (f : Findings) → IsFoundOf q most nodes by f → IsFound q Illegal most nodes (finding_of f)
 found-illegal q most nodes by (Impossible f against) found = found.0
 found-illegal q most nodes by (Unproved f) found = found.illegal.decided.found
 
+plain-illegal-found : (q : Asked) (most nodes : ℕ) (plain : Finding) (game : List ℕ) → PlainIsFound q most nodes plain game → IsFound (without_demands q) Illegal most nodes plain
+plain-illegal-found q most nodes plain game is =
+    subst (λ (f : Finding). IsFound (without_demands q) Illegal most nodes f) (sym is.finding_is) (found-illegal (without_demands q) most nodes is.by is.findings is.found)
+
+-- all that is said of a position that is illegal
+pub impossible-so : (q : Asked) (most nodes : ℕ) (against : Finding) (plain : Option Finding) (game : List ℕ) → Holds Illegal q → IsFound (other_side q) Illegal most nodes against → IsPlainFound q most nodes plain game → All (IsSo q) (impossible_of against plain)
+impossible-so q most nodes against None game holds found none =
+    All-cons (IsSo q) (Shown Illegal) (other_of against ∷ []) holds (All-cons (IsSo q) (other_of against) [] (other-so q most nodes against found) (All-nil (IsSo q)))
+impossible-so q most nodes against (Some plain) game holds found (demands, here) =
+    All-cons (IsSo q) GivenShown (plain_of plain) holds (plain-so q most nodes plain (plain-illegal-found q most nodes plain game here))
+
 asked-so : (q : Asked) (b : Bool) (xs : List Verdict) → All (IsSo q) xs → All (IsSo q) (cond b xs [])
 asked-so q true xs so = so
 asked-so q false xs so = All-nil (IsSo q)
 
-right-so : (q : Asked) (most nodes : ℕ) (by : List (List Move)) (castlings : Bool) (f : RightFound) → IsRightFound q most nodes by f → All (IsSo q) (right_verdicts castlings f)
+right-so : (q : Asked) (most nodes : ℕ) (by : List (List Move)) (castlings : Bool) (f : RightFound) → IsRightFound q most nodes by f → All (IsSo q) (right_verdicts castlings (has_last q) f)
 right-so q most nodes by castlings f found =
-    asked-so q (is_asked castlings f.right) (settled_of f.finding (claim_of f.right)) (settled-so q (claim_of f.right) most nodes f.finding found.found)
+    asked-so q (is_asked castlings f.right) (settled_of (has_last q) f.finding (claim_of f.right)) (settled-so q (claim_of f.right) most nodes f.finding found.found)
 
 pair-if : (q : Asked) (b : Bool) (x y : Castle) → (IsTrue b → HoldsLine (line.NotBoth x y) q) → All (IsSo q) (cond b (NotBoth x y ∷ []) [])
 pair-if q true x y holds = All-cons (IsSo q) (NotBoth x y) [] (holds refl) (All-nil (IsSo q))
@@ -99,18 +114,19 @@ each-so {X} q P f one (x ∷ xs) all =
     All-append (IsSo q) (f x) (flat_map f xs) (one x (All-head P x xs all)) (each-so q P f one xs (All-tail P x xs all))
 
 -- all that is said of a position that isn't proved to be illegal
-pub shown-so : (q : Asked) (most nodes : ℕ) (by : List (List Move)) (f : Found) → AreFindings q most nodes by f → All (IsSo q) (shown_of f)
+pub shown-so : (q : Asked) (most nodes : ℕ) (by : List (List Move)) (f : Found) → AreFindings q most nodes by f → All (IsSo q) (shown_of q f)
 unfolding shown_of
 shown-so q most nodes by f found =
-    let own : List Verdict = settled_of f.illegal.finding Illegal in
-    let castlings : List Verdict = flat_map (right_verdicts true) f.rights.items in
+    let given : Bool = has_last q in
+    let own : List Verdict = settled_of given f.illegal.finding Illegal in
+    let castlings : List Verdict = flat_map (right_verdicts true given) f.rights.items in
     let pairs : List Verdict = flat_map pair_verdicts f.pairs.items in
-    let captures : List Verdict = flat_map (right_verdicts false) f.rights.items in
+    let captures : List Verdict = flat_map (right_verdicts false given) f.rights.items in
     let first : All (IsSo q) (own ++ castlings) =
-    All-append (IsSo q) own castlings (settled-so q Illegal most nodes f.illegal.finding found.illegal.decided.found) (each-so q (IsRightFound q most nodes by) (right_verdicts true) (right-so q most nodes by true) f.rights.items found.rights.each) in
+    All-append (IsSo q) own castlings (settled-so q Illegal most nodes f.illegal.finding found.illegal.decided.found) (each-so q (IsRightFound q most nodes by) (right_verdicts true given) (right-so q most nodes by true) f.rights.items found.rights.each) in
     let second : All (IsSo q) ((own ++ castlings) ++ pairs) =
     All-append (IsSo q) (own ++ castlings) pairs first (each-so q (IsPairFound q most nodes by) pair_verdicts (pair-so q most nodes by) f.pairs.items found.pairs.each) in
-    All-append (IsSo q) ((own ++ castlings) ++ pairs) captures second (each-so q (IsRightFound q most nodes by) (right_verdicts false) (right-so q most nodes by false) f.rights.items found.rights.each)
+    All-append (IsSo q) ((own ++ castlings) ++ pairs) captures second (each-so q (IsRightFound q most nodes by) (right_verdicts false given) (right-so q most nodes by false) f.rights.items found.rights.each)
 
 in-line : (q : Asked) (claim : LineClaim) (steps : List Unmove) → steps_in claim ≡ Some steps → HoldsLine claim q → WereLast q steps
 in-line q (line.Line own) steps e holds =

@@ -1,12 +1,12 @@
 -- What a report says of the last moves.
-use Rattle.std.specs.Prelude.{ℕ, ◌≡◌, ◌⊎◌, cond, IfSome, List, [], ◌++◌, length, Option, Some, None}
+use Rattle.std.specs.Prelude.{ℕ, ◌≡◌, ◌≤◌, ◌⊎◌, cond, IfSome, List, [], ◌++◌, length, Option, Some, None}
 use Rattle.std.specs.List.{All}
 use Rattle.board_base.specs.declared.unmoves.Unmove.{Unmove}
 use Rattle.query_base.specs.Asked.{Asked}
+use Rattle.query_base.specs.Reach.{Reaches}
 use Rattle.line_claims.specs.declared.claims.LineClaim.{LineClaim}
 use Rattle.line_claims.specs.declared.claims.LineClaim.TheVariants.{NotBoth, Line}
 use Rattle.diagram_study.specs.ClaimFindings.{is_proved}
-use Rattle.diagram_study.specs.Possible.{HasFewLeft}
 use Rattle.diagram_study.specs.declared.findings.Found.{Found}
 use Rattle.diagram_study.specs.declared.forced.StepsFound.{StepsFound}
 use Rattle.verdict_prose.specs.LastMoves.{IsEnd, Remain, WasOneOf, WereLast}
@@ -34,10 +34,16 @@ pub record TellsLine (q : Asked) (f : Found) (text : List ℕ) : Type 0 where
   pub so : WereLast q steps
   pub text_is : text ≡ line_text q steps
 
--- None are, and few retractions are left: the last move of each game is one of them, and with some of them games end.
+-- One to 24 retractions are left, and the game of no moves doesn't reach the query.
+pub record CanBeNamed (q : Asked) (left : List Unmove) : Type 0 where
+  pub some : 1 ≤ length left
+  pub few : length left ≤ 24
+  pub elsewhere : Reaches [] q → ⊥
+
+-- None are, and those left can be named: the last move of each game is one of them, and with some of them games end, if that was asked.
 pub record TellsFew (q : Asked) (f : Found) (text : List ℕ) : Type 0 where
   pub none : proved_steps f.steps ≡ None
-  pub few : HasFewLeft q f.left
+  pub few : CanBeNamed q f.left
   pub so : WasOneOf q f.left
   pub ends : IfSome f.ends (All (IsEnd q))
   pub text_is : text ≡ last_text q f.left ++ possible_text q f.ends (length f.left)
@@ -45,7 +51,7 @@ pub record TellsFew (q : Asked) (f : Found) (text : List ℕ) : Type 0 where
 -- None are, and many or none are left, or the game of no moves leads to the position: how many are left.
 pub record TellsMany (q : Asked) (f : Found) (text : List ℕ) : Type 0 where
   pub none : proved_steps f.steps ≡ None
-  pub many : HasFewLeft q f.left → ⊥
+  pub many : CanBeNamed q f.left → ⊥
   pub so : Remain q f.left (length f.left) f.all
   pub text_is : text ≡ left_text (length f.left) f.all
 

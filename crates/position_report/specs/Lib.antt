@@ -4,6 +4,7 @@ pub mod LastMoves
 pub mod Held
 pub mod Shown
 pub mod Proofs
+pub mod Asking
 pub mod Open
 pub mod Lengths
 pub mod Reports

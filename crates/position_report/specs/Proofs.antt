@@ -17,7 +17,6 @@ use Rattle.claim_search.specs.Plain.{HasPlainSketch}
 use Rattle.claim_search.specs.Unsettled.{WhereRefutable}
 use Rattle.price_search.specs.FlatPrices.{FlatPricesSupport}
 use Rattle.proof_prose.specs.Prose.{Explains, Retells}
-use Rattle.proof_story.specs.Rows.{rows_of}
 use Rattle.verdict_prose.specs.Sentences.{verdict_text}
 use Rattle.verdict_prose.specs.declared.verdicts.Verdict.TheVariants.{NotBoth}
 use Rattle.position_report.specs.declared.shown.Pair.{Pair}
@@ -40,27 +39,27 @@ clock_lines (Some n) = ended (clock_text n)
 unfoldable pub position_lines : Asked → List ℕ
 position_lines q = odds_lines q.odds ++ clock_lines q.clock ++ ended (spelling q)
 
--- the words of `settle`
-unfoldable pub words_text : ℕ → ℕ → List ℕ
-words_text depth nodes =
-    codes "To check it, give `settle " ++ decimal depth ++ codes " " ++ decimal nodes ++ codes "` these lines, and what it writes to `check`:\n"
+-- the depth and the nodes of a command
+unfoldable pub limits_text : ℕ → ℕ → List ℕ
+limits_text depth nodes = decimal depth ++ codes " " ++ decimal nodes
 
--- the words and the input by which `settle` writes the certificate
-abbrev pub input_text : ℕ → ℕ → Shown → List ℕ
-input_text depth nodes s = words_text depth nodes ++ ended (claim_text s.claim) ++ position_lines s.query
+-- a call of the shell: a command, its limits, and what stands behind them. The input follows, up to a line `END`.
+abbrev pub call_text : List ℕ → ℕ → ℕ → List ℕ → List ℕ
+call_text command depth nodes after = command ++ limits_text depth nodes ++ after
+
+-- how to check a proof: `settle` writes the certificate
+unfoldable pub input_text : ℕ → ℕ → Shown → List ℕ
+input_text depth nodes s =
+    call_text (codes "To check it:\nretractor settle ") depth nodes (codes " << END | retractor check\n") ++ ended (claim_text s.claim) ++ position_lines s.query ++ codes "END\n"
 
 -- the same, if the claim has a text
 abbrev pub check_text : ℕ → ℕ → Shown → List ℕ
 check_text depth nodes s = cond (promotes_well s.claim) (input_text depth nodes s) []
 
--- the words of `dossier`
-unfoldable pub line_words : ℕ → ℕ → List ℕ
-line_words depth nodes =
-    codes "For a proof of the last moves, give `dossier " ++ decimal depth ++ codes " " ++ decimal nodes ++ codes "` these lines, and what it writes to `line` or `explain`:"
-
--- the words, in rows, and the input by which `dossier` writes a proof of several last moves
-abbrev pub line_input : ℕ → ℕ → Asked → LineClaim → List ℕ
-line_input depth nodes q claim = rows_of (line_words depth nodes) ++ ended (line_claim_text claim) ++ position_lines q
+-- how a proof of several last moves is to be had: `dossier` writes it, and `explain` checks it
+unfoldable pub line_input : ℕ → ℕ → Asked → LineClaim → List ℕ
+line_input depth nodes q claim =
+    call_text (codes "For a proof of the last moves:\nretractor dossier ") depth nodes (codes " << END | retractor explain\n") ++ ended (line_claim_text claim) ++ position_lines q ++ codes "END\n"
 
 -- the same, if they are proved
 abbrev pub line_help : ℕ → ℕ → Asked → Option (List Unmove) → List ℕ

@@ -7,7 +7,7 @@ ghost use Rattle.board_base.specs.Board.{no_odds};
 ghost use Rattle.fen_text.specs.OddsLines.{is_no_odds, odds_text};
 ghost use Rattle.fen_text.specs.Spelling.{spelling};
 ghost use Rattle.cert_text.specs.ClaimLines.{claim_text, promotes_well};
-ghost use Rattle.position_report.specs.Proofs.{check_text, clock_lines, ended, input_text, odds_lines, position_lines, words_text};
+ghost use Rattle.position_report.specs.Proofs.{call_text, check_text, clock_lines, ended, input_text, limits_text, odds_lines, position_lines};
 
 use crate::shown::Shown;
 use arrayvec::ArrayVec;
@@ -26,6 +26,30 @@ pub(crate) fn push_line(text: &[u8], out: &mut Vec<u8>) -> Result<(), AllocError
 {
     say(text, out)?;
     say(b"\n", out)
+}
+
+/// Adds a depth and nodes.
+#[tactic(auto, unfolding(crate::specs::Proofs::limits_text))]
+fn push_limits(limits: Limits, out: &mut Vec<u8>) -> Result<(), AllocError>
+    ensures { IfOk result (λ _. out.new.items ≡ out.old.items ++ limits_text limits.depth limits.nodes) }
+{
+    push_number(limits.depth as usize, out)?;
+    say(b" ", out)?;
+    push_number(limits.nodes as usize, out)
+}
+
+/// Adds a call of the shell: a command, its limits, and what stands behind them.
+pub(crate) fn push_call(
+    command: &[u8],
+    limits: Limits,
+    after: &[u8],
+    out: &mut Vec<u8>,
+) -> Result<(), AllocError>
+    ensures { IfOk result (λ _. out.new.items ≡ out.old.items ++ call_text command.now limits.depth limits.nodes after.now) }
+{
+    say(command, out)?;
+    push_limits(limits, out)?;
+    say(after, out)
 }
 
 /// Whether nobody is left out.
@@ -117,17 +141,6 @@ fn has_text(claim: &Claim) -> bool
     }
 }
 
-/// Adds the words of `settle`.
-fn push_words(limits: Limits, out: &mut Vec<u8>) -> Result<(), AllocError>
-    ensures { IfOk result (λ _. out.new.items ≡ out.old.items ++ words_text limits.depth limits.nodes) }
-{
-    say(b"To check it, give `settle ", out)?;
-    push_number(limits.depth as usize, out)?;
-    say(b" ", out)?;
-    push_number(limits.nodes as usize, out)?;
-    say(b"` these lines, and what it writes to `check`:\n", out)
-}
-
 /// Adds the line of a claim that has a text.
 fn push_claim(claim: &Claim, out: &mut Vec<u8>) -> Result<(), AllocError>
     requires { IsTrue (promotes_well claim.now) }
@@ -138,15 +151,21 @@ fn push_claim(claim: &Claim, out: &mut Vec<u8>) -> Result<(), AllocError>
     push_line(text.as_slice(), out)
 }
 
-/// Adds the words and the input by which `settle` writes the certificate.
+/// Adds how `settle` writes the certificate, and `check` takes it.
 fn push_input(limits: Limits, shown: &Shown, out: &mut Vec<u8>) -> Result<(), AllocError>
     requires plain { shown.now.query.barred ≡ None }
     requires text { IsTrue (promotes_well shown.now.claim) }
     ensures { IfOk result (λ _. out.new.items ≡ out.old.items ++ input_text limits.depth limits.nodes shown.now) }
 {
-    push_words(limits, out)?;
+    push_call(
+        b"To check it:\nretractor settle ",
+        limits,
+        b" << END | retractor check\n",
+        out,
+    )?;
     push_claim(&shown.claim, out)?;
-    push_position(&shown.query, out)
+    push_position(&shown.query, out)?;
+    say(b"END\n", out)
 }
 
 /// Adds how to check a proof, if its claim has a text.

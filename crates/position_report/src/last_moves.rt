@@ -3,9 +3,8 @@
 ghost use Rattle.std.specs.Prelude.{List, ℕ, ◌≡◌, ◌↔◌, ◌++◌, IfOk, IsTrue, None, Some, length};
 ghost use Rattle.board_base.specs.declared.unmoves.Unmove.{Unmove as AnUnmove};
 ghost use Rattle.unmove_gen.specs.Listed.{unmoves};
-ghost use Rattle.diagram_study.specs.Possible.{HasFewLeft};
 ghost use Rattle.verdict_prose.specs.LastMoves.{EndsWithOneOf, WereLast};
-ghost use Rattle.position_report.specs.LastMoves.{TellsLast, possible_text, proved_steps, steps_in};
+ghost use Rattle.position_report.specs.LastMoves.{CanBeNamed, TellsLast, possible_text, proved_steps, steps_in};
 ghost use Rattle.position_report.specs.Told.{HaveEnds, IsLineTold};
 
 use board_base::UnmoveList;
@@ -16,7 +15,7 @@ use std::alloc::{AllocError, Global};
 use verdict_prose::{tell_ends, tell_last, tell_left, tell_line};
 
 /// The most retractions left that are named.
-const MOST_NAMED: usize = 8;
+const MOST_NAMED: usize = 24;
 
 /// Adds the last moves of the claim, if it is one about them. Whether it is.
 fn tell_claim(
@@ -55,9 +54,9 @@ fn tell_steps(
     }
 }
 
-/// Some retractions are left, at most eight, and the game of no moves doesn't reach the query.
-fn has_few_left(query: &Query, left: &UnmoveList) -> bool
-    ensures { IsTrue result ↔ HasFewLeft query.now left.now }
+/// Some retractions are left, at most 24, and the game of no moves doesn't reach the query.
+fn can_be_named(query: &Query, left: &UnmoveList) -> bool
+    ensures { IsTrue result ↔ CanBeNamed query.now left.now }
 {
     left.len() > 0 && left.len() <= MOST_NAMED && !is_array(query)
 }
@@ -91,7 +90,7 @@ fn push_left(
     requires ends { HaveEnds query.now found.now.left found.now.ends }
     ensures { IfOk result (λ _. (own : List ℕ) × TellsLast query.now found.now own × (out.new.items ≡ out.old.items ++ own)) }
 {
-    if has_few_left(query, &found.left) {
+    if can_be_named(query, &found.left) {
         tell_last(alloc, query, &found.left, out)?;
         push_possible(alloc, query, &found.ends, found.left.len(), out)
     } else {

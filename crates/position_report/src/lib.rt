@@ -1,9 +1,10 @@
 //! A report of a position: the diagram, what is proved and what games show, the ledger in a paragraph, what follows if a right to castle is
-//! held, the proofs, how to get a proof of several last moves, what is open, and how long games are. The parts, their order and the words
+//! held, the proofs, how to ask without a last move that is given, how to get a proof of several last moves, what is open, and how long games are. The parts, their order and the words
 //! between them may be changed freely, here and in the definitions; each sentence keeps the fact beside it, in `TellsFound` and
 //! `TellsImpossible` of `Reports.antt`.
 #![tactic(auto)]
 
+mod asking;
 mod checking;
 mod games;
 mod held;

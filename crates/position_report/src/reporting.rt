@@ -9,17 +9,17 @@ ghost use Rattle.unmove_gen.specs.Listed.{unmoves};
 ghost use Rattle.ledger_prose.specs.Sentences.{sentences_of};
 ghost use Rattle.ledger_prose.specs.Words.{prose_text};
 ghost use Rattle.diagram_study.specs.ClaimFindings.{IsFound};
-ghost use Rattle.diagram_study.specs.Studies.{without_demands};
 ghost use Rattle.diagram_study.specs.Findings.{AreFindings, CanBeWritten, HasTexts, IsFoundOf, other_side};
 ghost use Rattle.verdict_prose.specs.LastMoves.{EndsWithOneOf, WereLast};
 ghost use Rattle.position_report.specs.Held.{held_prose};
 ghost use Rattle.position_report.specs.LastMoves.{TellsLast, proved_steps};
 ghost use Rattle.position_report.specs.Lengths.{TellsGame, length_text};
 ghost use Rattle.position_report.specs.Proofs.{TellsProofs, line_help};
-ghost use Rattle.position_report.specs.Reports.{IsPlainFound, IsReport, TellsFindings, TellsFound, TellsImpossible, verdicts_text};
+ghost use Rattle.position_report.specs.Reports.{IsPlainFound, IsReport, PlainIsFound, TellsFindings, TellsFound, TellsImpossible, verdicts_text};
 ghost use Rattle.position_report.specs.Sayings.{impossible_of, shown_of};
 ghost use Rattle.position_report.specs.Told.{HaveEnds};
 
+use crate::asking::{last_part, plain_part};
 use crate::games::{other_part, push_first, push_length};
 use crate::held::push_each_held;
 use crate::last_moves::push_last;
@@ -62,9 +62,9 @@ fn said_part(alloc: Global, query: &Query, found: &Found) -> Result<Vec<u8>, All
     requires among { EndsWithOneOf query.now found.now.left }
     requires all { found.now.all ≡ length (unmoves query.now) }
     requires ends { HaveEnds query.now found.now.left found.now.ends }
-    ensures { IfOk result (λ part. (last : List ℕ) × TellsLast query.now found.now last × (part.items ≡ verdicts_text query.now (shown_of found.now) ++ last)) }
+    ensures { IfOk result (λ part. (last : List ℕ) × TellsLast query.now found.now last × (part.items ≡ verdicts_text query.now (shown_of query.now found.now) ++ last)) }
 {
-    let verdicts = shown_of(alloc, found)?;
+    let verdicts = shown_of(alloc, query, found)?;
     let mut part = Vec::new(alloc);
     push_verdicts(alloc, query, verdicts.as_slice(), &mut part)?;
     push_last(alloc, query, found, &mut part)?;
@@ -112,7 +112,7 @@ fn line_part(
     ensures { IfOk result (λ part. part.items ≡ line_help limits.depth limits.nodes query.now (proved_steps found.now.steps)) }
 {
     let mut part = Vec::new(alloc);
-    push_line_help(alloc, query, limits, &found.steps, &mut part)?;
+    push_line_help(query, limits, &found.steps, &mut part)?;
     Ok(part)
 }
 
@@ -131,9 +131,14 @@ fn games_part(
     Ok(part)
 }
 
-/// What is found of the claim that the position is illegal without its demands.
-fn find_without(alloc: Global, query: &Query, limits: Limits) -> Result<Finding, AllocError>
-    ensures { IfOk result (IsFound (without_demands query.now) Illegal limits.depth limits.nodes) }
+/// What is found of the claim that the position is illegal without its demands, and adds a game that leads there, if one was found.
+fn find_without(
+    alloc: Global,
+    query: &Query,
+    limits: Limits,
+    out: &mut Vec<u8>,
+) -> Result<Finding, AllocError>
+    ensures { IfOk result (λ plain. (game : List ℕ) × PlainIsFound query.now limits.depth limits.nodes plain game × (out.new.items ≡ out.old.items ++ game)) }
 {
     let subject = &Subject {
         query: without_demands(query),
@@ -142,17 +147,24 @@ fn find_without(alloc: Global, query: &Query, limits: Limits) -> Result<Finding,
     let mut searchers = Searchers::new(alloc);
     let mut games = Games::new(alloc);
     let findings = find(&mut searchers, &mut games, subject)?;
+    let by = games.found.as_slice();
+    push_first(alloc, &subject.query, b" without that", by, out)?;
     Ok(findings.finding())
 }
 
 /// The same, if it makes any.
-fn find_plain(alloc: Global, query: &Query, limits: Limits) -> Result<Option<Finding>, AllocError>
-    ensures { IfOk result (IsPlainFound query.now limits.depth limits.nodes) }
+fn find_plain(
+    alloc: Global,
+    query: &Query,
+    limits: Limits,
+    out: &mut Vec<u8>,
+) -> Result<Option<Finding>, AllocError>
+    ensures { IfOk result (λ plain. (game : List ℕ) × IsPlainFound query.now limits.depth limits.nodes plain game × (out.new.items ≡ out.old.items ++ game)) }
 {
     if !makes_demands(query) {
         return Ok(None);
     }
-    let finding = find_without(alloc, query, limits)?;
+    let finding = find_without(alloc, query, limits, out)?;
     Ok(Some(finding))
 }
 
@@ -185,13 +197,17 @@ fn push_impossible(
     requires against { IsFound (other_side query.now) Illegal limits.depth limits.nodes against }
     ensures { IfOk result (λ _. (own : List ℕ) × TellsImpossible query.now limits.depth limits.nodes games.now against own × (out.new.items ≡ out.old.items ++ own)) }
 {
-    let plain = find_plain(alloc, query, limits)?;
+    let mut plain_game = Vec::new(alloc);
+    let plain = find_plain(alloc, query, limits, &mut plain_game)?;
     let said = impossible_part(alloc, query, against, plain)?;
     let proofs = proofs_part(alloc, limits, &[illegal_shown(query)])?;
     let game = other_part(alloc, query, against, plain, games)?;
+    let ask = plain_part(alloc, query, limits, plain)?;
     push_part(said.as_slice(), out)?;
     push_part(proofs.as_slice(), out)?;
-    push_part(game.as_slice(), out)
+    push_part(game.as_slice(), out)?;
+    push_part(plain_game.as_slice(), out)?;
+    push_part(ask.as_slice(), out)
 }
 
 /// Adds those of a position that isn't proved to be illegal.
@@ -216,6 +232,7 @@ fn push_found(
     let held = held_part(alloc, query, found)?;
     let shown = shown_claims(alloc, query, found)?;
     let proofs = proofs_part(alloc, limits, shown.as_slice())?;
+    let ask = last_part(alloc, query, limits)?;
     let line = line_part(alloc, query, limits, found)?;
     let unsettled = open_part(alloc, query, found)?;
     let ends = games_part(alloc, query, found, games)?;
@@ -223,6 +240,7 @@ fn push_found(
     push_part(ledger.as_slice(), out)?;
     push_part(held.as_slice(), out)?;
     push_part(proofs.as_slice(), out)?;
+    push_part(ask.as_slice(), out)?;
     push_part(line.as_slice(), out)?;
     push_part(unsettled.as_slice(), out)?;
     push_part(ends.as_slice(), out)
@@ -251,8 +269,8 @@ fn push_findings(
 }
 
 /// The report of the position, in parts with an empty line between them: the diagram and what is given; what is proved and what games show;
-/// the ledger in a paragraph; what it says besides if a right to castle is held; the proofs, numbered; how to get a proof of several last
-/// moves; what is open, and where the search gets stuck; and how long games are at least, with a game that was found. It says no more than
+/// the ledger in a paragraph; what it says besides if a right to castle is held; the proofs, numbered; how to ask without a last move that is
+/// given; how to get a proof of several last moves; what is open, and where the search gets stuck; and how long games are at least, with a game that was found. It says no more than
 /// `study` does within the same limits.
 pub fn report(alloc: Global, query: &Query, limits: Limits) -> Result<Vec<u8>, AllocError>
     requires { query.now.barred ≡ None }

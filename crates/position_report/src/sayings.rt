@@ -1,27 +1,59 @@
 //! What is said of a position that isn't proved to be illegal.
 
-ghost use Rattle.std.specs.Prelude.{◌≡◌, ◌∷◌, ◌++◌, [], IfOk};
+ghost use Rattle.std.specs.Prelude.{◌≡◌, ◌∷◌, ◌++◌, [], IfOk, cond};
 ghost use Rattle.std.specs.List.{flat_map};
-ghost use Rattle.query_base.specs.declared.claims.Claim.TheVariants.{Illegal};
-ghost use Rattle.verdict_prose.specs.declared.verdicts.Verdict.TheVariants.{GivenShown, Shown as IsShown};
-ghost use Rattle.position_report.specs.Sayings.{impossible_of, is_asked, other_of, pair_verdicts, plain_of, right_verdicts, settled_of, shown_of};
+ghost use Rattle.query_base.specs.declared.claims.Claim.TheVariants.{Ep, Illegal};
+ghost use Rattle.verdict_prose.specs.declared.verdicts.Verdict.TheVariants.{GivenPassing, GivenShown, Shown as IsShown};
+ghost use Rattle.position_report.specs.Sayings.{has_last, impossible_of, is_asked, other_of, pair_verdicts, plain_of, proved_of, right_verdicts, settled_of, shown_of};
 
+use board_base::Move;
 use codex_verdict::{Right, claim_of};
 use diagram_study::{Finding, Found, PairFound, RightFound};
-use query_base::Claim;
+use query_base::{Claim, Query};
 use std::alloc::{AllocError, Global};
 use verdict_prose::Verdict;
 
-/// Adds what was found of a claim, if it is settled.
+/// Whether a last move is demanded.
+pub(crate) fn has_last(query: &Query) -> bool
+    ensures { result ≡ has_last query.now }
+{
+    query.only.is_some()
+}
+
+/// What is said of a capture en passant that is proved to be legal, by whether a last move is given.
+fn passing_of(given: bool, m: Move) -> Verdict
+    ensures { result ≡ cond given (GivenPassing m) (IsShown (Ep m)) }
+{
+    if given {
+        Verdict::GivenPassing(m)
+    } else {
+        Verdict::Shown(Claim::Ep(m))
+    }
+}
+
+/// What is said of a claim that is proved, by whether a last move is given.
+fn proved_of(given: bool, claim: Claim) -> Verdict
+    ensures { result ≡ proved_of given claim }
+{
+    match claim {
+        Claim::Illegal => Verdict::Shown(Claim::Illegal),
+        Claim::Last(m) => Verdict::Shown(Claim::Last(m)),
+        Claim::Lost(castle) => Verdict::Shown(Claim::Lost(castle)),
+        Claim::Ep(m) => passing_of(given, m),
+    }
+}
+
+/// Adds what was found of a claim, if it is settled, by whether a last move is given.
 fn add_settled(
+    given: bool,
     finding: Finding,
     claim: Claim,
     verdicts: &mut Vec<Verdict>,
 ) -> Result<(), AllocError>
-    ensures { IfOk result (λ _. verdicts.new.items ≡ verdicts.old.items ++ settled_of finding claim) }
+    ensures { IfOk result (λ _. verdicts.new.items ≡ verdicts.old.items ++ settled_of given finding claim) }
 {
     match finding {
-        Finding::Proved(_) => verdicts.push(Verdict::Shown(claim))?,
+        Finding::Proved(_) => verdicts.push(proved_of(given, claim))?,
         Finding::Countered => verdicts.push(Verdict::Countered(claim))?,
         Finding::Open => return Ok(()),
         Finding::Spent => return Ok(()),
@@ -42,13 +74,14 @@ pub(crate) fn is_asked(castlings: bool, right: &Right) -> bool
 /// Adds what was found of a right, if it is one of those that are asked.
 fn add_right(
     castlings: bool,
+    given: bool,
     found: &RightFound,
     verdicts: &mut Vec<Verdict>,
 ) -> Result<(), AllocError>
-    ensures { IfOk result (λ _. verdicts.new.items ≡ verdicts.old.items ++ right_verdicts castlings found.now) }
+    ensures { IfOk result (λ _. verdicts.new.items ≡ verdicts.old.items ++ right_verdicts castlings given found.now) }
 {
     if is_asked(castlings, &found.right) {
-        add_settled(found.finding, claim_of(&found.right), verdicts)
+        add_settled(given, found.finding, claim_of(&found.right), verdicts)
     } else {
         Ok(())
     }
@@ -57,13 +90,14 @@ fn add_right(
 /// Adds what was found of castlings, or of captures en passant.
 fn add_rights(
     castlings: bool,
+    given: bool,
     rights: &[RightFound],
     verdicts: &mut Vec<Verdict>,
 ) -> Result<(), AllocError>
-    ensures { IfOk result (λ _. verdicts.new.items ≡ verdicts.old.items ++ flat_map (right_verdicts castlings) rights.now) }
+    ensures { IfOk result (λ _. verdicts.new.items ≡ verdicts.old.items ++ flat_map (right_verdicts castlings given) rights.now) }
 {
     for found in rights {
-        add_right(castlings, found, verdicts)?;
+        add_right(castlings, given, found, verdicts)?;
     }
     Ok(())
 }
@@ -91,14 +125,19 @@ fn add_pairs(pairs: &[PairFound], verdicts: &mut Vec<Verdict>) -> Result<(), All
 }
 
 /// What is proved, and what games show, in the order of a study.
-pub(crate) fn shown_of(alloc: Global, found: &Found) -> Result<Vec<Verdict>, AllocError>
-    ensures { IfOk result (λ verdicts. verdicts.items ≡ shown_of found.now) }
+pub(crate) fn shown_of(
+    alloc: Global,
+    query: &Query,
+    found: &Found,
+) -> Result<Vec<Verdict>, AllocError>
+    ensures { IfOk result (λ verdicts. verdicts.items ≡ shown_of query.now found.now) }
 {
+    let given = has_last(query);
     let mut verdicts = Vec::new(alloc);
-    add_settled(found.illegal.finding, Claim::Illegal, &mut verdicts)?;
-    add_rights(true, found.rights.as_slice(), &mut verdicts)?;
+    add_settled(given, found.illegal.finding, Claim::Illegal, &mut verdicts)?;
+    add_rights(true, given, found.rights.as_slice(), &mut verdicts)?;
     add_pairs(found.pairs.as_slice(), &mut verdicts)?;
-    add_rights(false, found.rights.as_slice(), &mut verdicts)?;
+    add_rights(false, given, found.rights.as_slice(), &mut verdicts)?;
     Ok(verdicts)
 }
 

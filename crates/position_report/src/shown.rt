@@ -1,12 +1,13 @@
 //! The claims that are proved.
 
-ghost use Rattle.std.specs.Prelude.{◌≡◌, ◌∷◌, ◌++◌, [], IfOk};
+ghost use Rattle.std.specs.Prelude.{◌≡◌, ◌&&◌, ◌∷◌, ◌++◌, [], IfOk, not};
 ghost use Rattle.std.specs.List.{flat_map, list_any};
-ghost use Rattle.position_report.specs.Shown.{illegal_shown, last_shown, other_shown, pair_shown, proves_passing, right_shown, shown_as, shown_claims};
+ghost use Rattle.diagram_study.specs.ClaimFindings.{is_proved};
+ghost use Rattle.position_report.specs.Shown.{illegal_shown, is_given, last_shown, other_shown, pair_shown, proves_passing, right_shown, shown_as, shown_claims};
 
-use crate::sayings::is_asked;
+use crate::sayings::{has_last, is_asked};
 use board_base::Castle;
-use codex_verdict::claim_of;
+use codex_verdict::{Right, claim_of};
 use diagram_study::{Found, MoveFound, PairFound, RightFound, with_both};
 use query_base::{Claim, Query};
 use std::alloc::{AllocError, Global};
@@ -55,11 +56,25 @@ fn add(
     Ok(())
 }
 
-/// Adds the claim of a right, if it is proved.
+/// Whether the right is that of a capture en passant, and a last move is given, from which it follows.
+fn is_given(query: &Query, right: &Right) -> bool
+    ensures { result ≡ is_given query.now right.now }
+{
+    has_last(query) && is_asked(false, right)
+}
+
+/// Whether the claim of a right is proved, and doesn't follow from what is given.
+fn is_shown(query: &Query, found: &RightFound) -> bool
+    ensures { result ≡ is_proved found.now.finding && not (is_given query.now found.now.right) }
+{
+    found.finding.is_proved() && !is_given(query, &found.right)
+}
+
+/// Adds the claim of a right, if it is proved, and doesn't follow from what is given.
 fn add_right(query: &Query, found: &RightFound, all: &mut Vec<Shown>) -> Result<(), AllocError>
     ensures { IfOk result (λ _. all.new.items ≡ all.old.items ++ right_shown query.now found.now) }
 {
-    if !found.finding.is_proved() {
+    if !is_shown(query, found) {
         return Ok(());
     }
     add(claim_of(&found.right), query, None, all)
@@ -130,11 +145,11 @@ fn prove_passing(rights: &[RightFound]) -> bool
     }
 }
 
-/// Adds the last move, unless a capture en passant is proved to be legal, since then the proof would be the same.
+/// Adds the last move, unless it is given, or a capture en passant is proved to be legal, since then the proof would be the same.
 fn add_other(query: &Query, found: &Found, all: &mut Vec<Shown>) -> Result<(), AllocError>
     ensures { IfOk result (λ _. all.new.items ≡ all.old.items ++ other_shown query.now found.now) }
 {
-    if prove_passing(found.rights.as_slice()) {
+    if has_last(query) || prove_passing(found.rights.as_slice()) {
         Ok(())
     } else {
         add_last(query, &found.last, all)

@@ -95,11 +95,11 @@ last_text q left = rows_of (last_words q.board left)
 
 -- that games end with all of so many moves
 abbrev pub each_words : ℕ → List ℕ
-each_words n = cond (n == 1) (codes "A game ends so") (codes "Games end with each of these")
+each_words n = cond (n == 1) (codes "There is a game that ends with it") (codes "There are games that end with each of them")
 
 -- that games end with so many of them
 abbrev pub some_words : ℕ → List ℕ
-some_words n = cond (n == 1) (codes "A game ends with ") (codes "Games end with ")
+some_words n = cond (n == 1) (codes "There is a game that ends with ") (codes "There are games that end with ")
 
 -- with which of so many moves games end
 abbrev pub ends_words : Places → List Unmove → ℕ → List ℕ

@@ -15,7 +15,7 @@ use Rattle.prose_words.specs.Words.{side_word, wing_word}
 use Rattle.proof_story.specs.Movers.{became}
 use Rattle.proof_story.specs.Rows.{rows_of}
 use Rattle.verdict_prose.specs.declared.verdicts.Verdict.{Verdict}
-use Rattle.verdict_prose.specs.declared.verdicts.Verdict.TheVariants.{Shown, Countered, Unsettled, NotBoth, UnsettledBoth, OtherShown, OtherCountered, OtherUnsettled, GivenShown, PlainShown, PlainCountered, AtLeast}
+use Rattle.verdict_prose.specs.declared.verdicts.Verdict.TheVariants.{Shown, GivenPassing, Countered, Unsettled, NotBoth, UnsettledBoth, OtherShown, OtherCountered, OtherUnsettled, GivenShown, PlainShown, PlainCountered, AtLeast}
 
 -- whence and where a move went; whether it captured isn't told
 unfoldable pub move_words : Move → List ℕ
@@ -48,7 +48,7 @@ either_words between x y = owner_words x ++ between ++ owner_words y
 -- that at least one of two rights is lost
 unfoldable pub not_both_words : Castle → Castle → List ℕ
 not_both_words x y =
-    cond (same_colour (side x) (side y)) (side_word (side x) ++ codes " may castle on one side at most: at least one of the two rights is lost") (codes "At least one of two rights to castle is lost: " ++ either_words (codes " or ") x y)
+    cond (same_colour (side x) (side y)) (side_word (side x) ++ codes " may castle on one side at most: at least one of the two rights is lost") (codes "At least one of two rights to castle is lost: " ++ either_words (codes " or ") x y ++ codes "; so whoever castles first shows that the other has lost the right")
 
 -- that two rights can both be kept
 unfoldable pub may_both_words : Castle → Castle → List ℕ
@@ -66,12 +66,16 @@ shown_words (Last m) = codes "The last move went " ++ move_words m
 shown_words (Lost x) = lost_words x
 shown_words (Ep m) = codes "The capture " ++ capture_words m ++ codes " is legal"
 
+-- that a capture en passant is legal after the double step that is given
+unfoldable pub given_words : Move → List ℕ
+given_words m = codes "The capture " ++ capture_words m ++ codes " is legal, since the last move is given"
+
 -- that a game contradicts it
 abbrev pub countered_words : Claim → List ℕ
 countered_words Illegal = codes "A game leads to this position"
 countered_words (Last m) = codes "A game leads here that doesn't end with the move " ++ move_words m
 countered_words (Lost x) = codes "A game leads here in which " ++ keeps_words x
-countered_words (Ep m) = codes "A game leads here after which the capture " ++ capture_words m ++ codes " isn't legal"
+countered_words (Ep m) = codes "The capture " ++ capture_words m ++ codes " need not be legal: a game leads here after which it isn't"
 
 -- what is claimed
 abbrev pub whether_words : Claim → List ℕ
@@ -116,6 +120,7 @@ turned_words q said = codes "With " ++ side_word (opponent q.turn) ++ codes " to
 abbrev pub words_of : Asked → Verdict → List ℕ
 words_of q (Shown claim) = shown_words claim
 words_of q (Countered claim) = countered_words claim
+words_of q (GivenPassing m) = given_words m
 words_of q (Unsettled claim) = codes "Not settled: whether " ++ whether_words claim
 words_of q (NotBoth x y) = not_both_words x y
 words_of q (UnsettledBoth x y) = unsettled_both_words x y

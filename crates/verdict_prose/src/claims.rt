@@ -1,7 +1,7 @@
 //! Claims in words.
 
 ghost use Rattle.std.specs.Prelude.{◌≡◌, ◌++◌, IfOk, codes};
-ghost use Rattle.verdict_prose.specs.Sentences.{capture_words, countered_words, keeps_words, move_words, shown_words, whether_words};
+ghost use Rattle.verdict_prose.specs.Sentences.{capture_words, countered_words, given_words, keeps_words, move_words, shown_words, whether_words};
 
 use crate::rights::{push_keeps, push_lost};
 use board_base::{Castle, Move};
@@ -75,6 +75,19 @@ pub(crate) fn push_shown(claim: &Claim, out: &mut Vec<u8>) -> Result<(), AllocEr
     }
 }
 
+/// Adds that a capture en passant is legal after the double step that is given.
+#[tactic(auto, unfolding(crate::specs::Sentences::given_words))]
+pub(crate) fn push_given(m: &Move, out: &mut Vec<u8>) -> Result<(), AllocError>
+    ensures { IfOk result (λ _. out.new.items ≡ out.old.items ++ given_words m.now) }
+{
+    push_with_capture(
+        b"The capture ",
+        m,
+        b" is legal, since the last move is given",
+        out,
+    )
+}
+
 /// Adds that a game contradicts it.
 pub(crate) fn push_countered(claim: &Claim, out: &mut Vec<u8>) -> Result<(), AllocError>
     ensures { IfOk result (λ _. out.new.items ≡ out.old.items ++ countered_words claim.now) }
@@ -86,9 +99,9 @@ pub(crate) fn push_countered(claim: &Claim, out: &mut Vec<u8>) -> Result<(), All
         }
         Claim::Lost(castle) => push_with_right(b"A game leads here in which ", *castle, out),
         Claim::Ep(m) => push_with_capture(
-            b"A game leads here after which the capture ",
+            b"The capture ",
             m,
-            b" isn't legal",
+            b" need not be legal: a game leads here after which it isn't",
             out,
         ),
     }

@@ -134,9 +134,9 @@ fn each_words(n: usize) -> &'static [u8]
     ensures { result.now ≡ each_words n }
 {
     if n == 1 {
-        b"A game ends so"
+        b"There is a game that ends with it"
     } else {
-        b"Games end with each of these"
+        b"There are games that end with each of them"
     }
 }
 
@@ -144,9 +144,9 @@ fn some_words(n: usize) -> &'static [u8]
     ensures { result.now ≡ some_words n }
 {
     if n == 1 {
-        b"A game ends with "
+        b"There is a game that ends with "
     } else {
-        b"Games end with "
+        b"There are games that end with "
     }
 }
 

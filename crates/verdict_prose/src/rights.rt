@@ -87,6 +87,22 @@ fn push_with_either(
     push_either(between, first, second, out)
 }
 
+/// Adds two rights between these words, with this between them.
+fn push_around_either(
+    before: &[u8],
+    between: &[u8],
+    behind: &[u8],
+    first: Castle,
+    second: Castle,
+    out: &mut Vec<u8>,
+) -> Result<(), AllocError>
+    ensures { IfOk result (λ _. out.new.items ≡ out.old.items ++ (before.now ++ either_words between.now first second ++ behind.now)) }
+{
+    say(before, out)?;
+    push_either(between, first, second, out)?;
+    say(behind, out)
+}
+
 /// Adds the side whose castling it is before these words.
 fn push_side(castle: Castle, words: &[u8], out: &mut Vec<u8>) -> Result<(), AllocError>
     ensures { IfOk result (λ _. out.new.items ≡ out.old.items ++ (side_word (side castle) ++ words.now)) }
@@ -111,9 +127,10 @@ pub(crate) fn push_not_both(
             out,
         )
     } else {
-        push_with_either(
+        push_around_either(
             b"At least one of two rights to castle is lost: ",
             b" or ",
+            b"; so whoever castles first shows that the other has lost the right",
             first,
             second,
             out,

@@ -3,7 +3,7 @@
 ghost use Rattle.std.specs.Prelude.{◌≡◌, ◌++◌, [], IfOk, codes, cond};
 ghost use Rattle.verdict_prose.specs.Sentences.{is_question, turned_words, verdict_text, words_of};
 
-use crate::claims::{push_countered, push_shown, push_unsettled};
+use crate::claims::{push_countered, push_given, push_shown, push_unsettled};
 use crate::lengths::push_length;
 use crate::rights::{push_not_both, push_unsettled_both};
 use crate::verdicts::Verdict;
@@ -29,6 +29,7 @@ fn push_words(query: &Query, verdict: &Verdict, out: &mut Vec<u8>) -> Result<(),
     match verdict {
         Verdict::Shown(claim) => push_shown(claim, out),
         Verdict::Countered(claim) => push_countered(claim, out),
+        Verdict::GivenPassing(m) => push_given(m, out),
         Verdict::Unsettled(claim) => push_unsettled(claim, out),
         Verdict::NotBoth(first, second) => push_not_both(*first, *second, out),
         Verdict::UnsettledBoth(first, second) => push_unsettled_both(*first, *second, out),

@@ -1,4 +1,4 @@
-use board_base::Castle;
+use board_base::{Castle, Move};
 use query_base::Claim;
 
 /// What one sentence says of a position.
@@ -6,6 +6,8 @@ use query_base::Claim;
 pub enum Verdict {
     /// The claim holds of every game.
     Shown(Claim),
+    /// The capture en passant is legal after every game, of which a last move is demanded.
+    GivenPassing(Move),
     /// A game contradicts it.
     Countered(Claim),
     /// Neither is known.

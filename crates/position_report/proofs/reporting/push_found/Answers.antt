@@ -27,13 +27,14 @@ open_part-requires-clause-pairs c = pairs-listed c.args.query.now c.args.limits.
 
 pub returns : goal.returns
 returns c =
-    on_ok_weaker c.push_part-7.result
-    (λ e. found-told c.args.query.now c.args.limits.depth c.args.limits.nodes c.args.games.now c.args.found.now _ _ _ _ _ _ _ c.args.out.now.items _ _ _ _ _ _ _ c.told_lines_hold.ensures c.sentences_hold.ensures.reached c.news_hold.ensures c.requires.found
+    on_ok_weaker c.push_part-8.result
+    (λ e. found-told c.args.query.now c.args.limits.depth c.args.limits.nodes c.args.games.now c.args.found.now _ _ _ _ _ _ _ _ c.args.out.now.items _ _ _ _ _ _ _ _ c.told_lines_hold.ensures c.sentences_hold.ensures.reached c.news_hold.ensures c.requires.found
     (record {
       said_told = c.in_ok-said.ensures;
       ledger_told = c.in_ok-ledger.ensures;
       held_told = c.in_ok-held.ensures;
       proofs_told = rw (c.as_slice.ensures.value, c.in_ok-shown.ensures) at c.in_ok-proofs.ensures;
+      ask_told = c.in_ok-ask.ensures;
       line_told = c.in_ok-line.ensures;
       unsettled_told = c.in_ok-unsettled.ensures;
       ends_told = c.in_ok-ends.ensures;
@@ -44,5 +45,6 @@ returns c =
     (rw c.as_slice-5.ensures.value at c.in_ok-push_part-4.ensures)
     (rw c.as_slice-6.ensures.value at c.in_ok-push_part-5.ensures)
     (rw c.as_slice-7.ensures.value at c.in_ok-push_part-6.ensures)
-    (rw c.as_slice-8.ensures.value at e))
-    c.push_part-7.ensures
+    (rw c.as_slice-8.ensures.value at c.in_ok-push_part-7.ensures)
+    (rw c.as_slice-9.ensures.value at e))
+    c.push_part-8.ensures

@@ -4,4 +4,4 @@ use Rattle.position_report.specs.Sayings.{right_verdicts}
 use Rattle.position_report.proofs.sayings.add_rights.Given as goal
 
 abbrev pub invariant-loop-found : goal.invariant-loop-found
-invariant-loop-found l = l.verdicts.items ≡ l.fn.verdicts.items ++ flat_map (right_verdicts l.castlings) (take l.found-index l.rights)
+invariant-loop-found l = l.verdicts.items ≡ l.fn.verdicts.items ++ flat_map (right_verdicts l.castlings l.given) (take l.found-index l.rights)
