@@ -1,5 +1,5 @@
 -- What a report says, part by part.
-use Rattle.std.proofs.Common.{◌≡◌, ℕ, List, [], ◌∷◌, ◌++◌, map, ap}
+use Rattle.std.proofs.Common.{◌≡◌, ℕ, List, [], ◌∷◌, ◌++◌, map}
 use Rattle.std.specs.Prelude.{Option, codes}
 use Rattle.std.specs.List.{All}
 use Rattle.std.proofs.lemmas.List.Elements.{All-weaker}
@@ -33,7 +33,7 @@ use Rattle.position_report.specs.Proofs.{TellsProofs, line_help}
 use Rattle.position_report.specs.Reports.{IsPlainFound, IsReport, PlainIsFound, TellsFindings, TellsFound, TellsImpossible, verdicts_text}
 use Rattle.position_report.specs.Sayings.{impossible_of, shown_of}
 use Rattle.position_report.specs.Shown.{illegal_shown, shown_claims}
-use Rattle.position_report.proofs.Joining.{eight-parts, five-parts, from-nothing, from-text}
+use Rattle.position_report.proofs.Joining.{eight-parts, five-parts, from-text}
 use Rattle.position_report.proofs.Saying.{impossible-so, length-so, shown-so}
 
 -- what was found without the demands, with a game

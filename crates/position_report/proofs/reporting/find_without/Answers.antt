@@ -1,4 +1,3 @@
-use Rattle.std.specs.Prelude.{codes}
 use Rattle.position_report.proofs.Reported.{plain-told}
 use Rattle.position_report.proofs.reporting.find_without.Goals as goal
 
