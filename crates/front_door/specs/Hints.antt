@@ -11,7 +11,7 @@ use Rattle.hint_texts.specs.declared.advice.FenAdvice.{FenAdvice}
 use Rattle.hint_texts.specs.declared.advice.LineAdvice.{LineAdvice}
 use Rattle.hint_texts.specs.declared.advice.LineAdvice.TheVariants.{Empty}
 use Rattle.hint_texts.specs.declared.advice.TextAdvice.{TextAdvice}
-use Rattle.hint_texts.specs.declared.advice.TextAdvice.TheVariants.{ByteOrderMark, Dossier, Length, Claim, NoProof, ClaimToExplain, CarriageReturns, ReturnsToExplain, PositionToExplain}
+use Rattle.hint_texts.specs.declared.advice.TextAdvice.TheVariants.{ByteOrderMark, Dossier, Length, Claim, NoProof, Report, ClaimToExplain, CarriageReturns, ReturnsToExplain, PositionToCheck, PositionToExplain}
 use Rattle.hint_texts.specs.declared.advice.WordAdvice.{WordAdvice}
 use Rattle.hint_texts.specs.declared.advice.WordAdvice.TheVariants.{StandsAlone, NoCommand, NearestCommand}
 
@@ -59,6 +59,10 @@ HasProofReturns input = HasReturns input ⊎ Says input (codes "retro line 1" ++
 abbrev pub IsWithoutProof : List ℕ → Type 0
 IsWithoutProof input = Says input (codes "countered") ⊎ Says input (codes "undecided") ⊎ Says input (codes "spent ")
 
+-- the input begins with the first line of a board, as it is drawn for a reader
+abbrev pub ShowsBoard : List ℕ → Type 0
+ShowsBoard input = Says input (codes "  a b c d e f g h")
+
 -- the input begins with a byte-order mark in UTF-8
 abbrev pub HasMark : List ℕ → Type 0
 HasMark input = Says input (239 ∷ 187 ∷ 191 ∷ [])
@@ -70,9 +74,11 @@ TellsText Dossier input = Says input (codes "retro line")
 TellsText Length input = Says input (codes "retro length")
 TellsText Claim input = Says input (codes "claim ")
 TellsText NoProof input = IsWithoutProof input
+TellsText Report input = ShowsBoard input
 TellsText ClaimToExplain input = Says input (codes "claim ")
 TellsText CarriageReturns input = HasReturns input
 TellsText ReturnsToExplain input = HasProofReturns input
+TellsText PositionToCheck input = Unit {0}
 TellsText PositionToExplain input = Unit {0}
 
 -- What the advice takes the run for. Of words and of lines it says what stands above. Of a FEN line advice comes only if the answer

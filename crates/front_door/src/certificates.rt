@@ -1,7 +1,7 @@
 //! What was given to `check` that is no certificate, or to `explain` that is no proof.
 
 ghost use Rattle.std.specs.Prelude.{IfSome, IsTrue};
-ghost use Rattle.front_door.specs.Hints.{HasProofReturns, HasReturns, IsWithoutProof, TellsText};
+ghost use Rattle.front_door.specs.Hints.{HasProofReturns, HasReturns, IsWithoutProof, ShowsBoard, TellsText};
 
 use crate::inputs::has_mark;
 use hint_texts::TextAdvice;
@@ -32,6 +32,13 @@ fn is_without_proof(input: &[u8]) -> bool
         || input.starts_with(b"spent ")
 }
 
+/// The text begins with a board, as a report or an explanation does.
+fn is_report(input: &[u8]) -> bool
+    ensures { IsTrue result → ShowsBoard input.now }
+{
+    input.starts_with(b"  a b c d e f g h")
+}
+
 /// The input is the lines of a position alone, none of which is long.
 fn is_position(input: &[u8]) -> bool {
     let front = &input[..input.len().min(1_024)];
@@ -52,8 +59,12 @@ fn advise_check(input: &[u8]) -> Option<TextAdvice>
         Some(TextAdvice::Claim)
     } else if is_without_proof(input) {
         Some(TextAdvice::NoProof)
+    } else if is_report(input) {
+        Some(TextAdvice::Report)
     } else if has_returns(input) {
         Some(TextAdvice::CarriageReturns)
+    } else if is_position(input) {
+        Some(TextAdvice::PositionToCheck)
     } else {
         None
     }
@@ -69,6 +80,8 @@ fn advise_explain(input: &[u8]) -> Option<TextAdvice>
         Some(TextAdvice::ClaimToExplain)
     } else if is_without_proof(input) {
         Some(TextAdvice::NoProof)
+    } else if is_report(input) {
+        Some(TextAdvice::Report)
     } else if has_proof_returns(input) {
         Some(TextAdvice::ReturnsToExplain)
     } else if is_position(input) {

@@ -75,9 +75,11 @@ fn other_kind(line: &[u8]) -> Option<FenAdvice> {
     }
 }
 
-/// Whatever the field, what is wrong with the blanks where the line stops being a FEN.
-fn advise_blanks(good: &[u8], rest: &[u8]) -> Option<FenAdvice> {
+/// Whatever the field, what is wrong with the blank, the quotation mark or the dash where the line stops being a FEN.
+fn advise_sign(good: &[u8], rest: &[u8]) -> Option<FenAdvice> {
     match rest {
+        [b'\'' | b'"', ..] | [0xE2, 0x80, 0x98..=0x9F, ..] => Some(FenAdvice::Quotes),
+        [0xE2, 0x80, 0x90..=0x95, ..] | [0xE2, 0x88, 0x92, ..] => Some(FenAdvice::Dash),
         [b'\t', ..] => Some(FenAdvice::Tab),
         [b' ', ..] if rest.iter().all(|byte| *byte == b' ') && !good.is_empty() => {
             Some(FenAdvice::BlankAtEnd)
@@ -88,7 +90,7 @@ fn advise_blanks(good: &[u8], rest: &[u8]) -> Option<FenAdvice> {
 }
 
 /// The byte is a man or so many empty squares.
-fn fills(byte: u8) -> bool {
+pub(crate) fn fills(byte: u8) -> bool {
     matches!(byte, b'1'..=b'8' | b'P' | b'N' | b'B' | b'R' | b'Q' | b'K')
         || matches!(byte, b'p' | b'n' | b'b' | b'r' | b'q' | b'k')
 }
@@ -142,7 +144,7 @@ pub(crate) fn advise_fen(line: &[u8], field: u32, at: usize) -> FenAdvice {
     if let Some(advice) = other_kind(line) {
         return advice;
     }
-    if let Some(advice) = advise_blanks(good, rest) {
+    if let Some(advice) = advise_sign(good, rest) {
         return advice;
     }
     if field == 1 {

@@ -35,6 +35,12 @@ fn is_remark(word: &[u8]) -> bool {
     marks || word.starts_with(b"e.p")
 }
 
+/// A word ends with a colon, as the label does before a printed game.
+fn has_label(game: &[u8]) -> bool {
+    game.split(|byte| is_blank(*byte))
+        .any(|word| word.ends_with(b":"))
+}
+
 /// What is wrong with a word of `san`.
 fn advise_san(word: &[u8]) -> MoveAdvice {
     let word = without_number(word);
@@ -55,7 +61,9 @@ pub(crate) fn advise_word(kind: InputKind, game: &[u8], number: u32) -> MoveAdvi
         .split(|byte| is_blank(*byte))
         .filter(|word| !word.is_empty());
     let word = words.nth(number.saturating_sub(1) as usize).unwrap_or(b"");
-    if kind == InputKind::Notation {
+    if number == 1 && !is_remark(word) && has_label(game) {
+        MoveAdvice::Label
+    } else if kind == InputKind::Notation {
         advise_san(word)
     } else if !word.is_empty() && is_algebraic(word) {
         MoveAdvice::UseSan

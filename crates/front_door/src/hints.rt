@@ -17,7 +17,7 @@ use crate::inputs::{after_fen, fen_line};
 use crate::lines::advise_line;
 use crate::refusals::{Refusal, refusal_of};
 use crate::words::advise_words;
-use hint_texts::{Advice, LineAdvice, MoveAdvice};
+use hint_texts::{Advice, LineAdvice, MoveAdvice, WordAdvice};
 use retro_top::{Command, InputKind, Row, Status, first_row, parse_words};
 use std::alloc::Global;
 
@@ -44,6 +44,14 @@ impl Hint {
             advice,
             call: Some(call),
         }
+    }
+
+    /// The text ends with a command whose output the call reads.
+    pub(crate) fn is_piped(&self) -> bool {
+        matches!(
+            self.advice,
+            Advice::Words(WordAdvice::PositionAsWord | WordAdvice::ClaimAsWord)
+        )
     }
 }
 

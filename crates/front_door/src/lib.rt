@@ -79,10 +79,22 @@ impl Termination for Ended {
     }
 }
 
+/// What stands before the mark in the text; all of it if there is none.
+fn before(text: &'static str, mark: &str) -> &'static str {
+    match text.split_once(mark) {
+        Some((front, _)) => front,
+        None => text,
+    }
+}
+
 /// Says the hint on standard error, in one line.
 fn say_hint<R: Eprint>(rt: &R, hint: Hint) {
     let text = hint.advice.text();
     let _ = match hint.call {
+        Some(row) if hint.is_piped() => {
+            let call = before(before(row.line, " <"), " [");
+            eprintln!(rt; "retractor: {text} | retractor {call}")
+        }
         Some(row) => {
             let line = row.line;
             eprintln!(rt; "retractor: {text}: retractor {line}")

@@ -18,6 +18,8 @@ fn advise_claim(line: &[u8]) -> LineAdvice
         LineAdvice::MoveOfClaim
     } else if line.starts_with(b"claim lost") {
         LineAdvice::RightOfClaim
+    } else if line.starts_with(b"claim legal") {
+        LineAdvice::LegalClaim
     } else {
         LineAdvice::Claim
     }
@@ -45,6 +47,28 @@ fn advise_demand(line: &[u8]) -> LineAdvice
         LineAdvice::ClockAgainstFen
     } else {
         LineAdvice::Clock
+    }
+}
+
+/// The line begins as a claim, the odds or the clock does, and ends with a blank.
+fn has_blank_at_end(line: &[u8]) -> bool {
+    let fronts: [&[u8]; 3] = [b"claim ", b"odds ", b"clock "];
+    let blank = line.ends_with(b" ") || line.ends_with(b"\t");
+    blank && fronts.iter().any(|front| line.starts_with(front))
+}
+
+/// What is wrong with a line that is due as the claim, or stands before the FEN as the odds or the clock.
+fn advise_before(kind: InputKind, line: &[u8], number: u32) -> LineAdvice
+    ensures { result ≢ Empty }
+{
+    if has_blank_at_end(line) {
+        LineAdvice::BlankAtEnd
+    } else if number != 1 || !asks_for_claim(kind) {
+        advise_demand(line)
+    } else if kind == InputKind::Steps {
+        advise_steps(line)
+    } else {
+        advise_claim(line)
     }
 }
 
@@ -80,12 +104,5 @@ pub(crate) fn advise_line(kind: InputKind, input: &[u8], number: u32) -> LineAdv
     if number > due {
         return advise_behind(line);
     }
-    if number == 1 && asks_for_claim(kind) {
-        return if kind == InputKind::Steps {
-            advise_steps(line)
-        } else {
-            advise_claim(line)
-        };
-    }
-    advise_demand(line)
+    advise_before(kind, line, number)
 }

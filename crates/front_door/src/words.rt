@@ -8,9 +8,10 @@ ghost use Rattle.front_door.specs.WordHints.{IsOfWords, ShowsCall};
 ghost use Rattle.hint_texts.specs.declared.advice.Advice.TheVariants.{Words};
 ghost use Rattle.hint_texts.specs.declared.advice.WordAdvice.TheVariants.{NearestCommand};
 
+use crate::fens::fills;
 use crate::hints::{Hint, begin};
 use hint_texts::{Advice, WordAdvice};
-use retro_top::{Number, ROWS, RestFault, Row, WordFault, parse_words};
+use retro_top::{InputKind, Number, ROWS, RestFault, Row, WordFault, parse_words};
 use std::alloc::{AllocError, Global};
 use strsim::osa_distance;
 
@@ -56,6 +57,26 @@ fn is_input(word: &str) -> bool {
             .any(|byte| matches!(*byte, b'/' | b'.' | b' ' | b'<'))
 }
 
+/// The word begins as a position does: with men and numbers of empty squares, rank by rank.
+fn is_position(word: &str) -> bool {
+    let text = word.as_bytes();
+    let men = text.split(|byte| *byte == b' ').next().unwrap_or(b"");
+    men.contains(&b'/')
+        && men
+            .iter()
+            .all(|byte| fills(*byte) || matches!(*byte, b'/' | b'S' | b's'))
+}
+
+/// The word begins as a claim does.
+fn is_claim(word: &str) -> bool {
+    word == "claim" || word.as_bytes().starts_with(b"claim ")
+}
+
+/// The word is a number, as far as its signs go.
+fn is_number(word: &str) -> bool {
+    word.as_bytes().iter().all(|byte| byte.is_ascii_digit())
+}
+
 /// The command whose name is nearest to the word, if one is near.
 fn nearest(alloc: Global, word: &str) -> Result<Option<Row>, AllocError> {
     if word.len() > MOST_NAME {
@@ -89,7 +110,7 @@ fn advise_name(alloc: Global, words: &[String]) -> Hint
         return plain(WordAdvice::Usage);
     }
     if is_input(first) {
-        return plain(WordAdvice::ComesByInput);
+        return plain(WordAdvice::CommandFirst);
     }
     match nearest(alloc, first) {
         Ok(Some(row)) => about(WordAdvice::NearestCommand, row),
@@ -109,19 +130,32 @@ fn advice_on(number: Number) -> WordAdvice
     }
 }
 
-/// The command is called with a depth and nodes, and not without.
-fn needs_numbers(row: &Row) -> bool {
-    row.line.split(' ').nth(1) == Some("DEPTH")
+/// The second word of the line that says how the command is called is this one.
+fn takes(row: &Row, word: &str) -> bool {
+    row.line.split(' ').nth(1) == Some(word)
 }
 
 /// What is said of too many or too few words behind a command's name.
 fn advice_on_count(row: &Row, words: &[String]) -> WordAdvice
     ensures { (all : List (String AGlobal)) → TellsWords result all }
 {
-    if words.len() == 1 && needs_numbers(row) {
-        WordAdvice::NoNumbers
-    } else {
-        WordAdvice::Count
+    match words {
+        [_] if takes(row, "DEPTH") => WordAdvice::NoNumbers,
+        [_, depth] if is_number(depth.as_str()) && takes(row, "DEPTH") => WordAdvice::NoNodes,
+        [_, depth] if is_number(depth.as_str()) && takes(row, "[DEPTH") => WordAdvice::BothNumbers,
+        _ => WordAdvice::Count,
+    }
+}
+
+/// What is said of an input among the words of a command that reads this; `typed` if it is a position or a claim and no file.
+fn advice_on_input(kind: InputKind, typed: bool) -> WordAdvice
+    ensures { (all : List (String AGlobal)) → TellsWords result all }
+{
+    match kind {
+        _ if !typed => WordAdvice::FileAsWord,
+        InputKind::Position | InputKind::PlainPosition => WordAdvice::PositionAsWord,
+        InputKind::Claim | InputKind::Steps => WordAdvice::ClaimAsWord,
+        _ => WordAdvice::ComesByInput,
     }
 }
 
@@ -130,8 +164,10 @@ fn advise_rest(row: Row, words: &[String], why: RestFault) -> Hint
     ensures told { (words : List (String AGlobal)) → IsOfWords result words }
     ensures called { result.call ≡ Some row }
 {
-    if words.iter().skip(1).any(|word| is_input(word.as_str())) {
-        return about(WordAdvice::ComesByInput, row);
+    if row.reads() && words.iter().skip(1).any(|word| is_input(word.as_str())) {
+        let typed = words.iter().skip(1).any(|word| is_position(word.as_str())
+            || is_claim(word.as_str()));
+        return about(advice_on_input(row.input, typed), row);
     }
     match why {
         RestFault::Count => about(advice_on_count(&row, words), row),

@@ -7,28 +7,58 @@ use retro_ports::{MemSink, MemSource};
 use std::alloc::{AllocError, Global};
 
 /// Words that call no command, what is said of them, and how the command that is meant is called.
-const WORDS: [(&[&str], WordAdvice, &str); 38] = [
+const WORDS: [(&[&str], WordAdvice, &str); 46] = [
     (&[], WordAdvice::Usage, ""),
     (&["help"], WordAdvice::Usage, ""),
     (&["-h"], WordAdvice::Usage, ""),
     (&["--help", "check"], WordAdvice::StandsAlone, ""),
     (
         &["check", "mate.cert"],
+        WordAdvice::FileAsWord,
+        "check < CERTIFICATE",
+    ),
+    (
+        &["report", "examples/diagrams.fen"],
+        WordAdvice::FileAsWord,
+        "report [DEPTH NODES] < FEN",
+    ),
+    (
+        &["verdict", "2", "1000", "8/8/8/8/8/8/8/8 w - -"],
+        WordAdvice::PositionAsWord,
+        "verdict DEPTH NODES < FEN",
+    ),
+    (
+        &["report", "4k3/8/8/8/8/8/8/4K3", "w", "-", "-"],
+        WordAdvice::PositionAsWord,
+        "report [DEPTH NODES] < FEN",
+    ),
+    (
+        &["settle", "4k3/8/8/8/8/8/8/4K3 w - -"],
+        WordAdvice::ClaimAsWord,
+        "settle [DEPTH NODES] < CLAIM-AND-FEN",
+    ),
+    (
+        &["settle", "claim", "lost", "K"],
+        WordAdvice::ClaimAsWord,
+        "settle [DEPTH NODES] < CLAIM-AND-FEN",
+    ),
+    (
+        &["check", "4k3/8/8/8/8/8/8/4K3 w - -"],
         WordAdvice::ComesByInput,
         "check < CERTIFICATE",
     ),
     (
-        &["verdict", "2", "1000", "8/8/8/8/8/8/8/8 w - -"],
-        WordAdvice::ComesByInput,
-        "verdict DEPTH NODES < FEN",
+        &["sample", "1.", "1"],
+        WordAdvice::Count,
+        "sample START GAMES PLIES",
     ),
     (
         &["8/8/8/8/8/8/8/8", "w", "-", "-"],
-        WordAdvice::ComesByInput,
+        WordAdvice::CommandFirst,
         "",
     ),
-    (&["claim illegal"], WordAdvice::ComesByInput, ""),
-    (&["loyd.claim"], WordAdvice::ComesByInput, ""),
+    (&["claim illegal"], WordAdvice::CommandFirst, ""),
+    (&["loyd.claim"], WordAdvice::CommandFirst, ""),
     (
         &["sovle", "1", "100"],
         WordAdvice::NearestCommand,
@@ -57,8 +87,18 @@ const WORDS: [(&[&str], WordAdvice, &str); 38] = [
     ),
     (
         &["solve", "1"],
-        WordAdvice::Count,
+        WordAdvice::NoNodes,
         "solve DEPTH NODES < CLAIM-AND-FEN",
+    ),
+    (
+        &["report", "8"],
+        WordAdvice::BothNumbers,
+        "report [DEPTH NODES] < FEN",
+    ),
+    (
+        &["report", "deep"],
+        WordAdvice::Count,
+        "report [DEPTH NODES] < FEN",
     ),
     (
         &["solve", "1", "100", "1"],
@@ -162,7 +202,7 @@ const READING: [(&[&str], &str); 5] = [
 ];
 
 /// The words of a command with a claim and of one without, and inputs of theirs with a bad line.
-const LINES: [(&[&str], &[u8], LineAdvice); 23] = [
+const LINES: [(&[&str], &[u8], LineAdvice); 28] = [
     (
         &["settle"],
         b"\xEF\xBB\xBFclaim illegal\n4k3/8/8/8/8/8/8/4K3 w - -\n",
@@ -217,6 +257,31 @@ const LINES: [(&[&str], &[u8], LineAdvice); 23] = [
         &["solve", "1", "100"],
         b"claim lost w\n4k3/8/8/8/8/8/8/4K3 w - -",
         LineAdvice::RightOfClaim,
+    ),
+    (
+        &["settle"],
+        b"claim lost K \n4k3/8/8/8/8/8/8/4K3 w - -",
+        LineAdvice::BlankAtEnd,
+    ),
+    (
+        &["dossier", "1", "100"],
+        b"claim notboth K Q \n4k3/8/8/8/8/8/8/4K3 w - -",
+        LineAdvice::BlankAtEnd,
+    ),
+    (
+        &["unmoves"],
+        b"odds 0000000000000002 \n4k3/8/8/8/8/8/8/4K3 w - -",
+        LineAdvice::BlankAtEnd,
+    ),
+    (
+        &["settle"],
+        b"4k3/8/8/8/8/8/8/4K3 w - - \n",
+        LineAdvice::Claim,
+    ),
+    (
+        &["settle"],
+        b"claim legal\n4k3/8/8/8/8/8/8/4K3 w - -",
+        LineAdvice::LegalClaim,
     ),
     (
         &["dossier", "1", "100"],
@@ -277,7 +342,7 @@ const LINES: [(&[&str], &[u8], LineAdvice); 23] = [
 ];
 
 /// Inputs whose line that is due as a FEN isn't one.
-const FENS: [(&[u8], FenAdvice); 36] = [
+const FENS: [(&[u8], FenAdvice); 41] = [
     (
         b"\xEF\xBB\xBF4k3/8/8/8/8/8/8/4K3 w - -",
         FenAdvice::ByteOrderMark,
@@ -295,6 +360,17 @@ const FENS: [(&[u8], FenAdvice); 36] = [
         b"retro 1\nclaim illegal\nfen 4k3/8/8/8/8/8/8/4K3 w - -",
         FenAdvice::OtherText,
     ),
+    (b"'4k3/8/8/8/8/8/8/4K3 w - -'", FenAdvice::Quotes),
+    (
+        b"\xE2\x80\x9C4k3/8/8/8/8/8/8/4K3 w - -\xE2\x80\x9D",
+        FenAdvice::Quotes,
+    ),
+    (b"4k3/8/8/8/8/8/8/4K3 w - -\xE2\x80\x99", FenAdvice::Quotes),
+    (
+        b"4k3/8/8/8/8/8/8/4K3 w \xE2\x80\x93 \xE2\x80\x93",
+        FenAdvice::Dash,
+    ),
+    (b"4k3/8/8/8/8/8/8/4K3 w - \xE2\x80\x94", FenAdvice::Dash),
     (b"4k3/8/8/8/8/8/8/4K3\tw - -", FenAdvice::Tab),
     (b" 4k3/8/8/8/8/8/8/4K3 w - -", FenAdvice::Blanks),
     (b"4k3/8/8/8/8/8/8/4K3  w - -", FenAdvice::Blanks),
@@ -335,7 +411,7 @@ const FENS: [(&[u8], FenAdvice); 36] = [
 ];
 
 /// Games with a word that is none.
-const GAMES: [(&str, &[u8], MoveAdvice); 16] = [
+const GAMES: [(&str, &[u8], MoveAdvice); 19] = [
     (
         "play",
         b"rnbqkbnr/pppppppp/8/8/8/8/PPPPPPPP/RNBQKBNR w KQkq -\nNf3",
@@ -350,6 +426,21 @@ const GAMES: [(&str, &[u8], MoveAdvice); 16] = [
         "play",
         b"rnbqkbnr/pppppppp/8/8/8/8/PPPPPPPP/RNBQKBNR w KQkq -\ne2e4 O-O",
         MoveAdvice::UseSan,
+    ),
+    (
+        "play",
+        b"rnbqkbnr/pppppppp/8/8/8/8/PPPPPPPP/RNBQKBNR w KQkq -\nA game that leads here: e2e4",
+        MoveAdvice::Label,
+    ),
+    (
+        "san",
+        b"rnbqkbnr/pppppppp/8/8/8/8/PPPPPPPP/RNBQKBNR w KQkq -\nA game that leads here: 1. e4 e5 2. Nf3",
+        MoveAdvice::Label,
+    ),
+    (
+        "san",
+        b"rnbqkbnr/pppppppp/8/8/8/8/PPPPPPPP/RNBQKBNR w KQkq -\n[Date: 1891]",
+        MoveAdvice::Marks,
     ),
     ("spell", b"1. e4", MoveAdvice::UseSan),
     ("spell", b"g1f3 Nf6", MoveAdvice::UseSan),
@@ -407,50 +498,51 @@ const GAMES: [(&str, &[u8], MoveAdvice); 16] = [
 ];
 
 /// What isn't a certificate, and what `check` and `explain` say of it.
-const TEXTS: [(&[u8], Option<TextAdvice>, TextAdvice); 9] = [
+const TEXTS: [(&[u8], TextAdvice, TextAdvice); 10] = [
     (
         b"\xEF\xBB\xBFretro 1\nclaim illegal\n",
-        Some(TextAdvice::ByteOrderMark),
+        TextAdvice::ByteOrderMark,
         TextAdvice::ByteOrderMark,
     ),
     (
         b"retro line 1\r\nclaim notboth K Q\r\n",
-        Some(TextAdvice::Dossier),
+        TextAdvice::Dossier,
         TextAdvice::ReturnsToExplain,
     ),
     (
         b"retro length 1\r\n",
-        Some(TextAdvice::Length),
+        TextAdvice::Length,
         TextAdvice::ReturnsToExplain,
     ),
     (
         b"claim illegal\n4k3/8/8/8/8/8/8/4K3 w - -",
-        Some(TextAdvice::Claim),
+        TextAdvice::Claim,
         TextAdvice::ClaimToExplain,
     ),
     (
         b"countered f3g1 h8g8\n",
-        Some(TextAdvice::NoProof),
+        TextAdvice::NoProof,
         TextAdvice::NoProof,
     ),
-    (
-        b"undecided\n",
-        Some(TextAdvice::NoProof),
-        TextAdvice::NoProof,
-    ),
+    (b"undecided\n", TextAdvice::NoProof, TextAdvice::NoProof),
     (
         b"retro 1\r\nclaim illegal\r\n",
-        Some(TextAdvice::CarriageReturns),
+        TextAdvice::CarriageReturns,
         TextAdvice::ReturnsToExplain,
     ),
     (
+        b"  a b c d e f g h\n8 . . . . k . . .\n",
+        TextAdvice::Report,
+        TextAdvice::Report,
+    ),
+    (
         b"4k3/8/8/8/8/8/8/4K3 w - -",
-        None,
+        TextAdvice::PositionToCheck,
         TextAdvice::PositionToExplain,
     ),
     (
         b"odds 0000000000000002\nclock 1\n4k3/8/8/8/8/8/8/4K3 w - -\n",
-        None,
+        TextAdvice::PositionToCheck,
         TextAdvice::PositionToExplain,
     ),
 ];
@@ -587,7 +679,7 @@ fn tells_what_is_wrong_with_a_word_of_a_game(rt: HostRuntime) {
 fn tells_what_is_no_certificate(rt: HostRuntime) {
     for (input, checked, explained) in TEXTS {
         let told_check = told(rt.alloc(), &["check"], input);
-        let checked = checked.map(|advice| Advice::Texts(advice));
+        let checked = Some(Advice::Texts(checked));
         assert!(rt;
             told_check == Ok((Status::Refused, checked, "")),
             "{input:?}"

@@ -264,6 +264,20 @@ fn says_one_line_or_nothing(rt: HostRuntime) {
             working(&[b"retractor", b"solve", b"65", b"1"], TWO_KINGS),
             "retractor: DEPTH is a number from 0 to 64: retractor solve DEPTH NODES < CLAIM-AND-FEN",
         ),
+        (
+            working(
+                &[b"retractor", b"report", b"4k3/8/8/8/8/8/8/4K3 w - -"],
+                b"",
+            ),
+            "retractor: a position isn't given as a word, but through a pipe: echo 'FEN' | retractor report",
+        ),
+        (
+            working(
+                &[b"retractor", b"tree", b"1", b"9", b"4k3/8/8/8/8/8/8/4K3"],
+                b"",
+            ),
+            "retractor: a position isn't given as a word, but through a pipe: echo 'FEN' | retractor tree DEPTH NODES",
+        ),
         (unreadable(CHECK), "retractor: reading the input failed"),
         (
             beginning(CHECK, KINGLESS, None),

@@ -11,11 +11,17 @@ const BYTE_ORDER_MARK: &str =
 pub enum WordAdvice {
     NotUtf8,
     StandsAlone,
+    CommandFirst,
     ComesByInput,
+    FileAsWord,
+    PositionAsWord,
+    ClaimAsWord,
     NoCommand,
     NearestCommand,
     Count,
     NoNumbers,
+    NoNodes,
+    BothNumbers,
     Depth,
     Nodes,
     Start,
@@ -31,14 +37,28 @@ impl WordAdvice {
         match self {
             WordAdvice::NotUtf8 => "a word isn't UTF-8",
             WordAdvice::StandsAlone => "`--help` and `--version` stand alone",
+            WordAdvice::CommandFirst => {
+                "a command comes first, and a position or a file isn't a word: `echo 'FEN' | retractor report`, or `retractor report < FILE`"
+            }
             WordAdvice::ComesByInput => {
                 "a position, a claim or a file isn't given as a word: the input comes by `<` or a pipe"
+            }
+            WordAdvice::FileAsWord => "a file isn't given as a word: put `<` before its name",
+            WordAdvice::PositionAsWord => {
+                "a position isn't given as a word, but through a pipe: echo 'FEN'"
+            }
+            WordAdvice::ClaimAsWord => {
+                "a claim and a position aren't given as words, but through a pipe, each as a line: printf '%s\\n' 'CLAIM' 'FEN'"
             }
             WordAdvice::NoCommand => "there is no such command; `retractor --help` lists them",
             WordAdvice::NearestCommand => "there is no such command; the nearest is",
             WordAdvice::Count => "there are too many or too few words",
             WordAdvice::NoNumbers => {
                 "DEPTH and NODES are missing: the numbers 64 and 20000 serve as a rule"
+            }
+            WordAdvice::NoNodes => "NODES is missing behind DEPTH: 20000 serves as a rule",
+            WordAdvice::BothNumbers => {
+                "NODES is missing behind DEPTH: give both numbers, or none"
             }
             WordAdvice::Depth => "DEPTH is a number from 0 to 64",
             WordAdvice::Nodes => "NODES is a number from 1 to 500000",
@@ -55,7 +75,9 @@ impl WordAdvice {
 pub enum LineAdvice {
     Empty,
     ByteOrderMark,
+    BlankAtEnd,
     Claim,
+    LegalClaim,
     ClaimOfSteps,
     Steps,
     ClaimOfOne,
@@ -77,14 +99,18 @@ impl LineAdvice {
         match self {
             LineAdvice::Empty => "the input is empty; it comes by `<` or a pipe",
             LineAdvice::ByteOrderMark => BYTE_ORDER_MARK,
+            LineAdvice::BlankAtEnd => "a blank stands at the end of the line: leave it out",
             LineAdvice::Claim => {
-                "line 1 is a claim: `claim illegal`, `claim last f3g3`, `claim lost K` (or Q, k, q) or `claim ep e5d6`"
+                "line 1 must be a claim, before the FEN: `claim illegal`, `claim last f3g3`, `claim lost K` (or Q, k, q) or `claim ep e5d6`"
+            }
+            LineAdvice::LegalClaim => {
+                "`claim legal` is no claim; ask for `claim illegal`: a game that answers it shows that the position is legal"
             }
             LineAdvice::ClaimOfSteps => {
                 "`claim line` and `claim notboth` belong to `dossier DEPTH NODES`"
             }
             LineAdvice::Steps => {
-                "line 1 is a claim of several steps: `claim notboth K Q`, or `claim line` and retractions, the last move first, as `claim line f3g3xp f4g3ep`"
+                "line 1 must be a claim of several steps: `claim notboth K Q`, or `claim line` and retractions, the last move first, as `claim line f3g3xp f4g3ep`"
             }
             LineAdvice::ClaimOfOne => {
                 "`claim illegal`, `claim last`, `claim lost` and `claim ep` belong to `settle` and `solve DEPTH NODES`"
@@ -109,7 +135,7 @@ impl LineAdvice {
             }
             LineAdvice::EmptyBehindFen => "an empty line stands behind the FEN line: leave it out",
             LineAdvice::LineTooMany => {
-                "nothing may follow the FEN line; only `play` and `san` read moves behind it"
+                "nothing may follow the FEN line: one position is read at a time, and only `play` and `san` read moves behind it"
             }
             LineAdvice::Lines => {
                 "the lines are, in this order: the claim if one is asked for, `odds ..` and `clock ..` if they are wanted, and the FEN"
@@ -158,6 +184,8 @@ pub enum FenAdvice {
     ClaimLine,
     Demand,
     OtherText,
+    Quotes,
+    Dash,
     Tab,
     Blanks,
     BlankAtEnd,
@@ -193,6 +221,12 @@ impl FenAdvice {
             }
             FenAdvice::OtherText => {
                 "a FEN is due, and this is a certificate, a length or a dossier, which `check`, `atleast` and `line` read"
+            }
+            FenAdvice::Quotes => {
+                "quotation marks are no part of a FEN; only a shell wants them round it, and straight ones: 'FEN'"
+            }
+            FenAdvice::Dash => {
+                "a long dash stands where a hyphen is due: type -, the sign between two words"
             }
             FenAdvice::Tab => "one space stands between two fields, and no tab",
             FenAdvice::Blanks => "one space stands between two fields, and none before the first",
@@ -233,6 +267,7 @@ impl FenAdvice {
 /// What is wrong with a word of a game.
 #[derive(Clone, Copy, PartialEq, Eq, Debug)]
 pub enum MoveAdvice {
+    Label,
     UseSan,
     UsePlay,
     CastlingLetters,
@@ -246,6 +281,7 @@ impl MoveAdvice {
         ensures { IsTrue (is_one_line result.now) }
     {
         match self {
+            MoveAdvice::Label => "leave out the words before the first move, up to the colon",
             MoveAdvice::UseSan => {
                 "a move is its origin and its target here, as g1f3; use `san` for Nf3"
             }
@@ -270,7 +306,9 @@ pub enum TextAdvice {
     Length,
     Claim,
     NoProof,
+    Report,
     CarriageReturns,
+    PositionToCheck,
     ClaimToExplain,
     PositionToExplain,
     ReturnsToExplain,
@@ -290,8 +328,14 @@ impl TextAdvice {
             TextAdvice::NoProof => {
                 "this is no proof: `countered` and a game that contradicts the claim, or how far a search came that found neither"
             }
+            TextAdvice::Report => {
+                "this is a text to be read; `check` and `explain` take a certificate, which `retractor settle` writes"
+            }
             TextAdvice::CarriageReturns => {
                 "the lines end with \\r\\n, those of a certificate with \\n alone: `tr -d '\\r' < FILE | retractor check`"
+            }
+            TextAdvice::PositionToCheck => {
+                "this is a position; with a claim before it, as `claim illegal`, `retractor settle` writes a certificate to check"
             }
             TextAdvice::ClaimToExplain => {
                 "this is a claim and a position; `retractor settle` writes a certificate of it: `retractor settle < FILE | retractor explain`"

@@ -3,14 +3,15 @@ use Rattle.std.proofs.Common.{◌≡◌, inl, inr, Bool, true, List, [], ◌∷�
 use Rattle.std.specs.List.{All, Contains, flat_map}
 use Rattle.std.proofs.lemmas.Bool.{cases_Bool, cond-false, cond-true}
 use Rattle.std.proofs.lemmas.List.Elements.{All-append, All-cons, All-nil, All-same}
+use Rattle.board_base.specs.declared.men.Colour.{Colour}
 use Rattle.board_base.specs.declared.men.Colour.TheVariants.{White, Black}
 use Rattle.general_lemmas.proofs.Lists.{contains-first, contains-later}
 use Rattle.query_base.specs.Asked.{Asked}
 use Rattle.ledger_lines.specs.declared.lines.Line.{Line}
-use Rattle.ledger_prose.specs.Sentences.{Sentence, closing, falls, group_sentences, line_sentences, one_if, opening, part_sentences, sentences_in, sentences_of, topic_sentences}
+use Rattle.ledger_prose.specs.Sentences.{Sentence, captured_sentences, closing, falls, group_sentences, line_sentences, one_if, opening, part_sentences, sentences_in, sentences_of, topic_sentences}
 use Rattle.ledger_prose.specs.declared.parts.Group.{Group}
 use Rattle.ledger_prose.specs.declared.parts.Part.{Part}
-use Rattle.ledger_prose.specs.declared.parts.Part.TheVariants.{Each, Together}
+use Rattle.ledger_prose.specs.declared.parts.Part.TheVariants.{Captured, Each, Together}
 use Rattle.ledger_prose.specs.declared.parts.Topic.{Topic}
 
 -- a sentence that is due, or none
@@ -20,7 +21,7 @@ all-one R due s holds = elim (cases_Bool due) [
   | inr less ↦ All-same R (one_if due s) [] (cond-false due (s ∷ []) [] less) (All-nil R)
 ]
 
-module _ (R : Sentence → Type 0) (q : Asked) (lines : List Line) (each : (topic : Topic) (x : Line) → Contains lines x → All R (line_sentences topic q lines x)) (grouped : (group : Group) → All R (group_sentences group q lines)) where
+module _ (R : Sentence → Type 0) (q : Asked) (lines : List Line) (each : (topic : Topic) (x : Line) → Contains lines x → All R (line_sentences topic q lines x)) (pawns : (c : Colour) → All R (captured_sentences c q lines)) (grouped : (group : Group) → All R (group_sentences group q lines)) where
   all-lines : (topic : Topic) (xs : List Line) → ((x : Line) → Contains xs x → Contains lines x) → All R (flat_map (line_sentences topic q lines) xs)
   all-lines topic [] among = All-nil R
   all-lines topic (x ∷ xs) among =
@@ -32,6 +33,7 @@ module _ (R : Sentence → Type 0) (q : Asked) (lines : List Line) (each : (topi
 
   of-part : (part : Part) → All R (part_sentences part q lines)
   of-part (Each topic) = of-topic topic
+  of-part (Captured c) = pawns c
   of-part (Together group) = grouped group
 
   of-each : (parts : List Part) → All R (flat_map (λ (part : Part). part_sentences part q lines) parts)
@@ -49,5 +51,5 @@ module _ (R : Sentence → Type 0) (q : Asked) (lines : List Line) (each : (topi
   of-all : All R (sentences_of q lines)
   of-all = both _ _ (both _ _ (both _ _ (of-parts opening) (of-parts (falls White))) (of-parts (falls Black))) (of-parts closing)
 
-pub all-sentences : (R : Sentence → Type 0) (q : Asked) (lines : List Line) → ((topic : Topic) (x : Line) → Contains lines x → All R (line_sentences topic q lines x)) → ((group : Group) → All R (group_sentences group q lines)) → All R (sentences_of q lines)
-all-sentences R q lines each grouped = of-all R q lines each grouped
+pub all-sentences : (R : Sentence → Type 0) (q : Asked) (lines : List Line) → ((topic : Topic) (x : Line) → Contains lines x → All R (line_sentences topic q lines x)) → ((c : Colour) → All R (captured_sentences c q lines)) → ((group : Group) → All R (group_sentences group q lines)) → All R (sentences_of q lines)
+all-sentences R q lines each pawns grouped = of-all R q lines each pawns grouped

@@ -23,7 +23,7 @@ use Rattle.ledger_lines.specs.declared.lines.Manner.TheVariants.{Anyhow, AsPawn,
 use Rattle.ledger_lines.specs.declared.lines.Taker.{Taker}
 use Rattle.ledger_lines.specs.declared.lines.Taker.TheVariants.{Anyone, Pawn as ByPawn, Officer}
 use Rattle.ledger_prose.specs.Saying.{NeverLeft, SaidOf, SentenceSays, TookAll}
-use Rattle.ledger_prose.specs.Sentences.{alone, are_all_taken, group_lines, group_sentences, has_taken_all, is_alone, is_at_home, is_change, is_lacking, is_of_group, is_officer_fall, is_origin, is_pawn_fall, is_promotion, is_taken, lacks, line_sentences, names_square, needed, number_named, same_manner, same_taker, sentences_of, together, told_taker, took}
+use Rattle.ledger_prose.specs.Sentences.{alone, are_all_taken, are_untold, captured, captured_sentences, group_lines, group_sentences, has_taken_all, is_alone, is_at_home, is_change, is_lacking, is_of_group, is_officer_fall, is_origin, is_pawn_fall, is_promotion, is_taken, lacks, line_sentences, names_square, needed, number_named, same_manner, same_taker, sentences_of, together, told_taker, took}
 use Rattle.ledger_prose.specs.declared.parts.Group.{Group}
 use Rattle.ledger_prose.specs.declared.parts.Group.TheVariants.{Captors, Pawns, Officers, AtHome, Promoted, Original, Unmoved}
 use Rattle.ledger_prose.specs.declared.parts.Topic.{Topic}
@@ -218,6 +218,11 @@ module _ (q : Asked) (lines : List Line) (g : List Move) where
     line-says Changed x here = all-one (SentenceSays q g) (is_change x) (alone x) (λ due. is-so x here)
     line-says Origins x here = all-one (SentenceSays q g) (is_origin x) (alone x) (λ due. is-so x here)
 
+    pawns-say : (c : Colour) → All (SentenceSays q g) (captured_sentences c q lines)
+    pawns-say c =
+        let ways : List Line = group_lines (Captors c) q lines in
+        all-one (SentenceSays q g) (are_untold c lines ways) (captured c ways) (λ due. All-filter (is_of_group (Captors c) q lines) Is lines so)
+
     group-says : (group : Group) → All (SentenceSays q g) (group_sentences group q lines)
     group-says group =
         all-one (SentenceSays q g) (nat_lt 0 (number_named q (group_lines group q lines))) (together group (group_lines group q lines)) (λ due s low named.
@@ -226,7 +231,7 @@ module _ (q : Asked) (lines : List Line) (g : List Move) where
         said-of group s low one.0 kept.1 one.2 (is-so one.0 kept.0))
 
 pub all-said : (q : Asked) (lines : List Line) (g : List Move) → All (λ x. LineSays x q.odds g) lines → All (SentenceSays q g) (sentences_of q lines)
-all-said q lines g so = all-sentences (SentenceSays q g) q lines (line-says q lines g so) (group-says q lines g so)
+all-said q lines g so = all-sentences (SentenceSays q g) q lines (line-says q lines g so) (pawns-say q lines g so) (group-says q lines g so)
 
 pub all-reached : (q : Asked) (lines : List Line) → All (λ x. (g : List Move) → Reaches g q → LineSays x q.odds g) lines → (g : List Move) → Reaches g q → All (SentenceSays q g) (sentences_of q lines)
 all-reached q lines so g reaches =

@@ -15,7 +15,7 @@ use Rattle.ledger_lines.specs.Lines.{LineSays, OfManner, OfTaker}
 use Rattle.ledger_lines.specs.declared.facts.Fact.TheVariants.{Original as BeganOriginal, Fell as WasTaken, Became as WasPromoted, AtLeast}
 use Rattle.ledger_lines.specs.declared.lines.Line.{Line}
 use Rattle.ledger_lines.specs.declared.lines.Line.TheVariants as line
-use Rattle.ledger_prose.specs.Sentences.{Sentence, alone, is_named, lacks, needed, together, took}
+use Rattle.ledger_prose.specs.Sentences.{Sentence, alone, captured, is_named, lacks, needed, together, took}
 use Rattle.ledger_prose.specs.declared.parts.Group.{Group}
 use Rattle.ledger_prose.specs.declared.parts.Group.TheVariants.{Captors, Pawns, Officers, AtHome, Promoted, Original, Unmoved}
 
@@ -47,6 +47,7 @@ TookAll c _ o g = ⊥
 abbrev pub SentenceSays : Asked → List Move → Sentence → Type 0
 SentenceSays q g (lacks x) = LineSays x q.odds g
 SentenceSays q g (took x ways) = LineSays x q.odds g × All (λ way. LineSays way q.odds g) ways
+SentenceSays q g (captured c ways) = All (λ way. LineSays way q.odds g) ways
 SentenceSays q g (needed x others) = TookAll White x q.odds g × ((y : Line) × Contains others y × TookAll Black y q.odds g)
 SentenceSays q g (alone x) = LineSays x q.odds g
 SentenceSays q g (together group xs) = (s : ℕ) → s < 64 → IsTrue (is_named q xs s) → SaidOf group q.odds g s

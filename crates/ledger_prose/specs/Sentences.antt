@@ -1,5 +1,5 @@
 -- The sentences of a ledger's paragraph, and the lines on which each rests.
-use Rattle.std.specs.Prelude.{ℕ, ◌==◌, ◌&&◌, ◌||◌, Bool, true, false, cond, not, List, [], ◌∷◌, ◌++◌, nat_le, nat_lt, Some, None}
+use Rattle.std.specs.Prelude.{ℕ, ◌==◌, ◌&&◌, ◌||◌, Bool, true, false, cond, not, List, [], ◌∷◌, ◌++◌, length, nat_le, nat_lt, Some, None}
 use Rattle.std.specs.Bool.{beq}
 use Rattle.std.specs.List.{All, Contains, count_by, filter, flat_map, list_all, list_any, range_with_len}
 use Rattle.board_base.specs.Board.{array_of, at, is_a, is_in, is_of, is_the, opponent, same_colour}
@@ -20,15 +20,17 @@ use Rattle.ledger_lines.specs.declared.lines.Manner.TheVariants.{Anyhow, AsPawn,
 use Rattle.ledger_prose.specs.declared.parts.Group.{Group}
 use Rattle.ledger_prose.specs.declared.parts.Group.TheVariants.{Captors, Pawns, Officers, AtHome, Promoted, Original, Unmoved}
 use Rattle.ledger_prose.specs.declared.parts.Part.{Part}
-use Rattle.ledger_prose.specs.declared.parts.Part.TheVariants.{Each, Together}
+use Rattle.ledger_prose.specs.declared.parts.Part.TheVariants.{Captured, Each, Together}
 use Rattle.ledger_prose.specs.declared.parts.Topic.{Topic}
 use Rattle.ledger_prose.specs.declared.parts.Topic.TheVariants.{Lacking, Taken, Spare, Changed, Origins}
 
 -- What a sentence tells: whom a side lacks; how many of them the other side's pawns took, and which of these pawns captured, each by its line;
--- that no capture is to spare, by two lines of captures; what a line says of a man or of some men; what several lines say of all their men.
+-- which of a side's pawns captured, each by its line; that no capture is to spare, by two lines of captures; what a line says of a man or of some
+-- men; what several lines say of all their men.
 pub data Sentence : Type 0 where
   lacks : Line → Sentence
   took : Line → List Line → Sentence
+  captured : Colour → List Line → Sentence
   needed : Line → List Line → Sentence
   alone : Line → Sentence
   together : Group → List Line → Sentence
@@ -37,6 +39,7 @@ pub data Sentence : Type 0 where
 abbrev pub lines_of : Sentence → List Line
 lines_of (lacks x) = x ∷ []
 lines_of (took x ways) = x ∷ ways
+lines_of (captured c ways) = ways
 lines_of (needed x others) = x ∷ others
 lines_of (alone x) = x ∷ []
 lines_of (together group xs) = xs
@@ -209,6 +212,18 @@ line_sentences Spare q lines x = one_if (are_all_taken White x && has_taken_all 
 line_sentences Changed q lines x = one_if (is_change x) (alone x)
 line_sentences Origins q lines x = one_if (is_origin x) (alone x)
 
+-- there are such lines of a side's pawns, and no line says how many men that side's pawns took
+abbrev pub are_untold : Colour → List Line → List Line → Bool
+are_untold c lines ways = nat_lt 0 (length ways) && not (list_any (is_taken c) lines)
+
+-- the sentence of these lines of a side's pawns, if no other sentence tells of them
+abbrev pub untold_sentences : Colour → List Line → List Line → List Sentence
+untold_sentences c lines ways = one_if (are_untold c lines ways) (captured c ways)
+
+-- the sentence of a side's pawns who captured, if there are any, and no other sentence tells of them
+abbrev pub captured_sentences : Colour → Asked → List Line → List Sentence
+captured_sentences c q lines = untold_sentences c lines (group_lines (Captors c) q lines)
+
 -- those of all lines, in their order
 unfoldable pub topic_sentences : Topic → Asked → List Line → List Sentence
 topic_sentences topic q lines = flat_map (line_sentences topic q lines) lines
@@ -216,6 +231,7 @@ topic_sentences topic q lines = flat_map (line_sentences topic q lines) lines
 -- the sentences of a part of the paragraph
 abbrev pub part_sentences : Part → Asked → List Line → List Sentence
 part_sentences (Each topic) q lines = topic_sentences topic q lines
+part_sentences (Captured c) q lines = captured_sentences c q lines
 part_sentences (Together group) q lines = group_sentences group q lines
 
 -- the groups of a side's men who fell
@@ -223,10 +239,10 @@ abbrev pub falls : Colour → List Part
 falls c =
     Together (Pawns c Anyone AsPawn) ∷ Together (Pawns c ByPawn AsPawn) ∷ Together (Pawns c Officer AsPawn) ∷ Together (Pawns c Anyone AsPromoted) ∷ Together (Pawns c ByPawn AsPromoted) ∷ Together (Pawns c Officer AsPromoted) ∷ Together (Pawns c Anyone Anyhow) ∷ Together (Pawns c ByPawn Anyhow) ∷ Together (Pawns c Officer Anyhow) ∷ Together (Officers c Anyone) ∷ Together (Officers c ByPawn) ∷ Together (Officers c Officer) ∷ Together (AtHome c Anyone) ∷ Together (AtHome c ByPawn) ∷ Together (AtHome c Officer) ∷ []
 
--- The parts of the paragraph, in order: whom White lacks and whom of them Black's pawns took, the same of Black, whether a capture is to spare,
--- who fell and how, who was promoted, who wasn't, whose homes are known, and who never moved.
+-- The parts of the paragraph, in order: whom White lacks, whom of them Black's pawns took and which of these captured, the same of Black, whether a
+-- capture is to spare, who fell and how, who was promoted, who wasn't, whose homes are known, and who never moved.
 abbrev pub opening : List Part
-opening = Each (Lacking White) ∷ Each (Taken Black) ∷ Each (Lacking Black) ∷ Each (Taken White) ∷ Each Spare ∷ []
+opening = Each (Lacking White) ∷ Each (Taken Black) ∷ Captured Black ∷ Each (Lacking Black) ∷ Each (Taken White) ∷ Captured White ∷ Each Spare ∷ []
 
 -- the parts after those who fell: promoted pawns, promoted men, men who weren't promoted, where men began, men who never moved
 abbrev pub closing : List Part

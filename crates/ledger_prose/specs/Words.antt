@@ -20,7 +20,7 @@ use Rattle.ledger_lines.specs.declared.lines.Manner.{Manner}
 use Rattle.ledger_lines.specs.declared.lines.Manner.TheVariants.{Anyhow, AsPawn, AsPromoted}
 use Rattle.ledger_lines.specs.declared.losses.Losses.{Losses}
 use Rattle.ledger_prose.specs.Numbers.{number_words}
-use Rattle.ledger_prose.specs.Sentences.{Sentence, alone, is_named, lacks, needed, number_named, together, took}
+use Rattle.ledger_prose.specs.Sentences.{Sentence, alone, captured, is_named, lacks, needed, number_named, together, took}
 use Rattle.ledger_prose.specs.declared.names.Joint.{Joint}
 use Rattle.ledger_prose.specs.declared.names.Joint.TheVariants.{Slash, And, AndThe, Or}
 use Rattle.ledger_prose.specs.declared.names.Style.{Style}
@@ -287,6 +287,14 @@ abbrev pub took_words : Asked → Line → List Line → List ℕ
 took_words q (line.Captures side x) ways = side_took side q x ways
 took_words q _ ways = []
 
+-- what stands before the captures of a side's pawns: that they made one, or more
+abbrev pub made_words : Bool → List ℕ
+made_words more = cond more (codes "'s pawns made at least these captures: ") (codes "'s pawns made at least one capture: ")
+
+-- that this side's pawns made the captures of several lines
+abbrev pub captured_words : Colour → Bool → Asked → List Line → List ℕ
+captured_words c more q ways = side_word c ++ made_words more ++ parted (codes ", ") (map (way_words q (not more)) ways)
+
 -- the lines name one square
 abbrev pub is_single : Asked → List Line → Bool
 is_single q xs = number_named q xs == 1
@@ -295,9 +303,17 @@ is_single q xs = number_named q xs == 1
 abbrev pub of_men : Asked → List Line → List ℕ → List ℕ → List ℕ
 of_men q xs one several = cond (is_single q xs) (codes "The " ++ names_words And Standing q xs ++ one) (codes "The men on " ++ names_words And Squares q xs ++ several)
 
+-- all pawns of a side
+abbrev pub all_pawns_of : Colour → List ℕ
+all_pawns_of c = codes "All of " ++ side_word c ++ codes "'s pawns were "
+
 -- pawns of a side by their files
-abbrev pub pawns_of : Colour → Asked → List Line → List ℕ
-pawns_of c q xs = side_word c ++ codes "'s " ++ names_words And Files q xs ++ cond (is_single q xs) (codes "pawn was ") (codes "pawns were ")
+abbrev pub some_pawns_of : Colour → Asked → List Line → List ℕ
+some_pawns_of c q xs = side_word c ++ codes "'s " ++ names_words And Files q xs ++ cond (is_single q xs) (codes "pawn was ") (codes "pawns were ")
+
+-- the same of eight pawns, who are all
+unfoldable pub pawns_of : Colour → Asked → List Line → List ℕ
+pawns_of c q xs = cond (number_named q xs == 8) (all_pawns_of c) (some_pawns_of c q xs)
 
 -- as what one or several were taken
 abbrev pub manner_words : Bool → Manner → List ℕ
@@ -349,6 +365,7 @@ line_words q _ = []
 abbrev pub words_of : Asked → Sentence → List ℕ
 words_of q (lacks x) = lacks_words q x ++ codes "."
 words_of q (took x ways) = took_words q x ways ++ codes "."
+words_of q (captured c ways) = captured_words c (are_more 1 ways) q ways ++ codes "."
 words_of q (needed x others) = codes "No capture is to spare."
 words_of q (alone x) = line_words q x ++ codes "."
 words_of q (together group xs) = group_words group q xs ++ codes "."

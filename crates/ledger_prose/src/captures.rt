@@ -1,10 +1,10 @@
 //! Sentences about the captures by a side's pawns.
 
-ghost use Rattle.std.specs.Prelude.{◌≡◌, ◌==◌, ◌++◌, [], IfOk, codes, cond, map};
+ghost use Rattle.std.specs.Prelude.{◌≡◌, ◌==◌, ◌++◌, [], IfOk, codes, cond, map, not};
 ghost use Rattle.std.specs.List.{list_any};
 ghost use Rattle.ledger_lines.specs.Slants.{tells_way, way_words as slants_words};
 ghost use Rattle.proof_story.specs.Rendering.{parted};
-ghost use Rattle.ledger_prose.specs.Words.{all_words, are_more, both_words, few_words, gone_words, is_open, it_words, least_words, limit_words, number_left, number_taken, number_told, of_them, part_words, rest_words, share_words, side_took, taken_by, taken_words, took_words, way_words, ways_sign, ways_words};
+ghost use Rattle.ledger_prose.specs.Words.{all_words, are_more, both_words, captured_words, few_words, gone_words, is_open, it_words, least_words, limit_words, made_words, number_left, number_taken, number_told, of_them, part_words, rest_words, share_words, side_took, taken_by, taken_words, took_words, way_words, ways_sign, ways_words};
 
 use crate::leftovers::push_left;
 use crate::names::{Joint, Style, push_names};
@@ -352,4 +352,42 @@ pub(crate) fn push_took(
         Line::Captures(side, x) => push_side_took(side, query, &x, ways, out),
         _ => Ok(()),
     }
+}
+
+/// What stands before the captures of a side's pawns: that they made one, or more.
+fn made_words(more: bool) -> &'static [u8]
+    ensures { result.now ≡ made_words more }
+{
+    if more {
+        b"'s pawns made at least these captures: "
+    } else {
+        b"'s pawns made at least one capture: "
+    }
+}
+
+/// Adds that a side's pawns made the captures of several lines.
+fn push_made(
+    side: Colour,
+    more: bool,
+    query: &Query,
+    ways: &[Line],
+    out: &mut Vec<u8>,
+) -> Result<(), AllocError>
+    ensures { IfOk result (λ _. out.new.items ≡ out.old.items ++ captured_words side more query.now ways.now) }
+{
+    say(side_word(side), out)?;
+    say(made_words(more), out)?;
+    push_list(query, !more, ways, out)
+}
+
+/// The same, with the words for one capture or for more.
+pub(crate) fn push_captured(
+    side: Colour,
+    query: &Query,
+    ways: &[Line],
+    out: &mut Vec<u8>,
+) -> Result<(), AllocError>
+    ensures { IfOk result (λ _. out.new.items ≡ out.old.items ++ captured_words side (are_more 1 ways.now) query.now ways.now) }
+{
+    push_made(side, are_more(1, ways), query, ways, out)
 }

@@ -1,9 +1,9 @@
 //! Which lines are told, and which squares a sentence names.
 
-ghost use Rattle.std.specs.Prelude.{◌≡◌, ◌≤◌, ◌+◌, ◌<◌, ◌==◌, ◌&&◌, IfOk, cond, not};
+ghost use Rattle.std.specs.Prelude.{◌≡◌, ◌≤◌, ◌+◌, ◌<◌, ◌==◌, ◌&&◌, IfOk, cond, length, nat_lt, not};
 ghost use Rattle.board_base.specs.Board.{is_in};
 ghost use Rattle.std.specs.List.{list_any};
-ghost use Rattle.ledger_prose.specs.Sentences.{are_all_taken, fell_to, group_lines, has_taken_all, is_alone, is_at_home, is_captor, is_change, is_given, is_home_of, is_lacking, is_later_fall, is_named, is_no_pawn, is_of_group, is_officer_fall, is_origin, is_original, is_pawn_fall, is_promotion, is_taken, is_unmoved, names_square, number_named, same_manner, same_taker, told_taker};
+ghost use Rattle.ledger_prose.specs.Sentences.{are_all_taken, are_untold, fell_to, group_lines, has_taken_all, is_alone, is_at_home, is_captor, is_change, is_given, is_home_of, is_lacking, is_later_fall, is_named, is_no_pawn, is_of_group, is_officer_fall, is_origin, is_original, is_pawn_fall, is_promotion, is_taken, is_unmoved, names_square, number_named, same_manner, same_taker, told_taker};
 ghost use Rattle.ledger_prose.specs.Words.{is_any_from};
 
 use crate::parts::Group;
@@ -37,7 +37,24 @@ pub(crate) fn is_taken(side: Colour, line: &Line) -> bool
     }
 }
 
-/// It says that they took all whom the other side lacks.
+/// One of the lines says that.
+fn has_taken(side: Colour, lines: &[Line]) -> bool
+    ensures { result ≡ list_any (is_taken side) lines.now }
+{
+    match lines {
+        [] => false,
+        [line, others @ ..] => is_taken(side, line) || has_taken(side, others),
+    }
+}
+
+/// Whether there are such lines of a side's pawns, and none says how many men that side's pawns took.
+pub(crate) fn are_untold(side: Colour, lines: &[Line], ways: &[Line]) -> bool
+    ensures { result ≡ are_untold side lines.now ways.now }
+{
+    ways.len() > 0 && !has_taken(side, lines)
+}
+
+/// The line says that this side's pawns took all whom the other side lacks.
 pub(crate) fn are_all_taken(side: Colour, line: &Line) -> bool
     ensures { result ≡ are_all_taken side line.now }
 {

@@ -2,7 +2,7 @@
 
 ghost use Rattle.std.specs.Prelude.{◌≡◌, ◌++◌, IfOk, cond};
 ghost use Rattle.ledger_lines.specs.declared.lines.Line.TheVariants.{Among, Man, Promoted};
-ghost use Rattle.ledger_prose.specs.Words.{among_words, group_words, is_single, line_words, manner_words, officers_words, pawn_was, pawn_words, pawns_of, taker_words};
+ghost use Rattle.ledger_prose.specs.Words.{all_pawns_of, among_words, group_words, is_single, line_words, manner_words, officers_words, pawn_was, pawn_words, pawns_of, some_pawns_of, taker_words};
 ghost use Rattle.ledger_prose.specs.declared.parts.Group.TheVariants.{Pawns};
 
 use crate::due::number_named;
@@ -29,7 +29,33 @@ fn chosen(first: bool, one: &'static [u8], other: &'static [u8]) -> &'static [u8
     if first { one } else { other }
 }
 
+/// Adds all pawns of a side.
+fn push_all_pawns_of(side: Colour, out: &mut Vec<u8>) -> Result<(), AllocError>
+    ensures { IfOk result (λ _. out.new.items ≡ out.old.items ++ all_pawns_of side) }
+{
+    say(b"All of ", out)?;
+    say(side_word(side), out)?;
+    say(b"'s pawns were ", out)
+}
+
 /// Adds pawns of a side by their files.
+fn push_some_pawns_of(
+    side: Colour,
+    query: &Query,
+    lines: &[Line],
+    out: &mut Vec<u8>,
+) -> Result<(), AllocError>
+    ensures { IfOk result (λ _. out.new.items ≡ out.old.items ++ some_pawns_of side query.now lines.now) }
+{
+    let ending = chosen(is_single(query, lines), b"pawn was ", b"pawns were ");
+    say(side_word(side), out)?;
+    say(b"'s ", out)?;
+    push_names(Joint::And, Style::Files, query, lines, out)?;
+    say(ending, out)
+}
+
+/// Adds them so, or all if they are eight.
+#[tactic(auto, unfolding(crate::specs::Words::pawns_of))]
 fn push_pawns_of(
     side: Colour,
     query: &Query,
@@ -38,11 +64,11 @@ fn push_pawns_of(
 ) -> Result<(), AllocError>
     ensures { IfOk result (λ _. out.new.items ≡ out.old.items ++ pawns_of side query.now lines.now) }
 {
-    let ending = chosen(is_single(query, lines), b"pawn was ", b"pawns were ");
-    say(side_word(side), out)?;
-    say(b"'s ", out)?;
-    push_names(Joint::And, Style::Files, query, lines, out)?;
-    say(ending, out)
+    if number_named(query, lines) == 8 {
+        push_all_pawns_of(side, out)
+    } else {
+        push_some_pawns_of(side, query, lines, out)
+    }
 }
 
 /// As what one or several were taken.

@@ -40,6 +40,8 @@ pub enum Group {
 pub enum Part {
     /// A sentence for each line of this topic.
     Each(Topic),
+    /// Which pawns of this side captured, if it isn't told how many men they took.
+    Captured(Colour),
     /// One sentence of this group.
     Together(Group),
 }

@@ -1,14 +1,14 @@
 ghost use Rattle.std.specs.Prelude.{◌≡◌, ◌++◌, ◌&&◌, IfOk, OnOk, codes, nat_lt};
 ghost use Rattle.board_base.specs.declared.men.Colour.TheVariants.{Black, White};
-ghost use Rattle.ledger_prose.specs.Sentences.{alone, are_all_taken, closing, falls, group_lines, group_sentences, has_taken_all, is_lacking, lacks, line_sentences, named_sentences, number_named, one_if, opening, part_sentences, sentences_in, sentences_of, together, took, topic_sentences};
+ghost use Rattle.ledger_prose.specs.Sentences.{alone, are_all_taken, captured, captured_sentences, closing, falls, group_lines, group_sentences, has_taken_all, is_lacking, lacks, line_sentences, named_sentences, number_named, one_if, opening, part_sentences, sentences_in, sentences_of, together, took, topic_sentences, untold_sentences};
 ghost use Rattle.ledger_prose.specs.Words.{paragraph_of, prose_text, spaced_words, words_of};
 ghost use Rattle.ledger_prose.specs.declared.parts.Group.TheVariants.{Captors};
 ghost use Rattle.ledger_prose.specs.declared.parts.Topic.TheVariants.{Spare, Taken};
 
-use crate::captures::push_took;
+use crate::captures::{push_captured, push_took};
 use crate::due::{
-    are_all_taken, group_lines, has_taken_all, is_change, is_lacking, is_origin, is_taken,
-    number_named,
+    are_all_taken, are_untold, group_lines, has_taken_all, is_change, is_lacking, is_origin,
+    is_taken, number_named,
 };
 use crate::losses::push_lacks;
 use crate::men::{push_group_words, push_line_words};
@@ -88,6 +88,50 @@ fn push_captures(
         return Ok(());
     }
     push_took_line(alloc, side, query, lines, line, out)
+}
+
+/// Adds the sentence of the lines of a side's pawns who captured.
+fn push_captured_sentence(
+    side: Colour,
+    query: &Query,
+    ways: &[Line],
+    out: &mut Vec<u8>,
+) -> Result<(), AllocError>
+    ensures { IfOk result (λ _. out.new.items ≡ out.old.items ++ (codes " " ++ words_of query.now (captured side ways.now))) }
+{
+    say(b" ", out)?;
+    push_captured(side, query, ways, out)?;
+    say(b".", out)
+}
+
+/// Adds it if there are any, and no other sentence tells of them.
+fn push_untold(
+    side: Colour,
+    query: &Query,
+    lines: &[Line],
+    ways: &[Line],
+    out: &mut Vec<u8>,
+) -> Result<(), AllocError>
+    ensures { IfOk result (λ _. out.new.items ≡ out.old.items ++ spaced_words query.now (untold_sentences side lines.now ways.now)) }
+{
+    if !are_untold(side, lines, ways) {
+        return Ok(());
+    }
+    push_captured_sentence(side, query, ways, out)
+}
+
+/// Adds the sentence of a side's pawns who captured, if there is one.
+fn push_captors(
+    alloc: Global,
+    side: Colour,
+    query: &Query,
+    lines: &[Line],
+    out: &mut Vec<u8>,
+) -> Result<(), AllocError>
+    ensures { IfOk result (λ _. out.new.items ≡ out.old.items ++ spaced_words query.now (captured_sentences side query.now lines.now)) }
+{
+    let ways = group_lines(alloc, Group::Captors(side), query, lines)?;
+    push_untold(side, query, lines, ways.as_slice(), out)
 }
 
 /// No capture is to spare, if the line and another say so.
@@ -229,6 +273,7 @@ fn push_part(
 {
     match part {
         Part::Each(topic) => push_topic(alloc, topic, query, lines, out),
+        Part::Captured(side) => push_captors(alloc, side, query, lines, out),
         Part::Together(group) => push_group(alloc, group, query, lines, out),
     }
 }
@@ -250,14 +295,16 @@ fn push_parts(
 }
 
 /// Of whom each side lacks and whom pawns took.
-fn opening() -> [Part; 5]
+fn opening() -> [Part; 7]
     ensures { result ≡ opening }
 {
     [
         Part::Each(Topic::Lacking(Colour::White)),
         Part::Each(Topic::Taken(Colour::Black)),
+        Part::Captured(Colour::Black),
         Part::Each(Topic::Lacking(Colour::Black)),
         Part::Each(Topic::Taken(Colour::White)),
+        Part::Captured(Colour::White),
         Part::Each(Topic::Spare),
     ]
 }

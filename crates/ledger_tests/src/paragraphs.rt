@@ -24,6 +24,35 @@ const OPEN_TOLD: &str = "\
 Black's pawns took all six; among these captures: b7/c7-b3 at least one.
 ";
 
+const DOUBLED: &str = "r1b1k2r/1pp2ppp/p1p5/4p3/4P3/5N2/PPP2PPP/R1B1K2R w - -";
+
+/// Of a pawn whose capture is known, with no number of captures.
+const DOUBLED_TOLD: &str = "\
+White lacks the queen, the light bishop, a knight and a pawn. Black's pawns made at least one
+    capture: d7xc6. Black lacks the queen, the dark bishop and both knights.
+";
+
+const ONE_OF_TWO: &str = "4k3/p1p1p1p1/8/8/8/1P6/1P1PPPPP/RNBQKBNR w - -";
+
+/// The same of a pawn with two homes, behind pawns who fell.
+const ONE_OF_TWO_TOLD: &str = "\
+White lacks a pawn. Black lacks eleven men. White's pawns made at least one capture: a2/c2-b3.
+    Black's d-, f- and h-pawns were taken as pawns. The bishop of f8 was taken at home, but not by a
+    pawn. The rook on h1 is not a promoted pawn. The men on c1 and f1 never moved.
+";
+
+const TWO_WAYS: &str = "4k3/8/2p5/8/4p3/8/8/4K3 w - -";
+
+/// Of two pawns whose captures are known.
+const TWO_TOLD: &str = "\
+Black's pawns made at least these captures: d7xc6, g7-e4 at least two.
+";
+
+/// Of all pawns of a side.
+const EIGHT_TOLD: &str = "\
+All of Black's pawns were taken as pawns.
+";
+
 /// Both castlings are held, so that nothing is said of the king's and the rooks' never having moved.
 const SAMPLE: &str = "r3k2r/2pppp2/1p4p1/5N2/1pP2Q2/2pPPP2/1b2KPP1/8 w kq -";
 
@@ -85,6 +114,10 @@ fn fell(name: &str, taker: Taker, manner: Manner, within: Option<&str>) -> Optio
     Some(Line::Fell(square(name)?, taker, manner, squares))
 }
 
+fn fell_as_pawn(name: &str) -> Option<Line> {
+    fell(name, Taker::Anyone, Manner::AsPawn, None)
+}
+
 fn dawson() -> Option<[Line; 9]> {
     Some([
         Line::Unmoved(squares(Some("e2 a7 f7 g7"))?),
@@ -103,6 +136,68 @@ fn open_way() -> Option<[Line; 2]> {
     Some([
         captures(Colour::Black, 6, 6, 6),
         pawn("b3", "b7 c7", 1, false)?,
+    ])
+}
+
+fn doubled() -> Option<[Line; 6]> {
+    Some([
+        Line::Unmoved(squares(Some("a2 b2 c2 f2 g2 h2 b7 c7 f7 g7 h7"))?),
+        Line::Lacks(
+            Colour::White,
+            Losses {
+                queens: 1,
+                rooks: 0,
+                dark_bishops: 0,
+                light_bishops: 1,
+                knights: 1,
+                pawns: 1,
+            },
+        ),
+        Line::Lacks(Colour::Black, losses(1, 0, 1, 2, 0)),
+        pawn("e5", "e7", 0, false)?,
+        pawn("c6", "d7", 1, true)?,
+        Line::Ahead(squares(Some("a6"))?),
+    ])
+}
+
+fn one_of_two() -> Option<[Line; 9]> {
+    Some([
+        Line::Unmoved(squares(Some("c1 f1 b2 d2 e2 f2 g2 h2 a7 c7 e7 g7"))?),
+        Line::Lacks(Colour::White, losses(0, 0, 0, 0, 1)),
+        Line::Lacks(
+            Colour::Black,
+            Losses {
+                queens: 1,
+                rooks: 2,
+                dark_bishops: 1,
+                light_bishops: 1,
+                knights: 2,
+                pawns: 4,
+            },
+        ),
+        pawn("b3", "a2 c2", 1, true)?,
+        Line::Original(squares(Some("h1"))?),
+        fell_as_pawn("d7")?,
+        fell_as_pawn("f7")?,
+        fell_as_pawn("h7")?,
+        fell("f8", Taker::Officer, Manner::Anyhow, Some("f8"))?,
+    ])
+}
+
+fn two_ways() -> Option<[Line; 2]> {
+    Some([pawn("c6", "d7", 1, true)?, pawn("e4", "g7", 2, false)?])
+}
+
+fn eight() -> Option<[Line; 8]> {
+    Some([
+        fell_as_pawn("a7")?,
+        fell_as_pawn("b7")?,
+        fell_as_pawn("c7")?,
+        fell_as_pawn("d7")?,
+        fell_as_pawn("e7")?,
+        fell_as_pawn("f7")?,
+        fell_as_pawn("g7")?,
+        fell_as_pawn("h7")?,
     ])
 }
 
@@ -158,6 +253,29 @@ fn tells_of_pawns_who_may_have_captured_more(rt: HostRuntime) {
         None => assert!(rt; false),
         Some(lines) => {
             assert!(rt; is_told(rt.alloc(), DAWSON, &lines, OPEN_TOLD) == Ok(true));
+        }
+    }
+}
+
+#[test]
+fn tells_of_pawns_without_a_number_of_captures(rt: HostRuntime) {
+    match (doubled(), one_of_two(), two_ways()) {
+        (Some(doubled), Some(one_of_two), Some(two_ways)) => {
+            let alloc = rt.alloc();
+            assert!(rt; is_told(alloc, DOUBLED, &doubled, DOUBLED_TOLD) == Ok(true));
+            assert!(rt; is_told(alloc, ONE_OF_TWO, &one_of_two, ONE_OF_TWO_TOLD) == Ok(true));
+            assert!(rt; is_told(alloc, TWO_WAYS, &two_ways, TWO_TOLD) == Ok(true));
+        }
+        _ => assert!(rt; false),
+    }
+}
+
+#[test]
+fn tells_of_all_pawns_of_a_side(rt: HostRuntime) {
+    match eight() {
+        None => assert!(rt; false),
+        Some(lines) => {
+            assert!(rt; is_told(rt.alloc(), DOUBLED, &lines, EIGHT_TOLD) == Ok(true));
         }
     }
 }

@@ -1,17 +1,19 @@
 -- What is told of the last moves.
-use Rattle.std.proofs.Common.{◌≡◌, ℕ, true, List, ◌++◌, length, refl, sym, ap, ◌∙◌, inl, inr, append_assoc, arith, subst}
-use Rattle.std.specs.Prelude.{IfSome, None, Option, Some}
+use Rattle.std.proofs.Common.{◌≡◌, ℕ, Bool, true, List, [], ◌∷◌, ◌++◌, length, refl, sym, ap, ◌∙◌, inl, inr, append_assoc, arith, subst}
+use Rattle.std.specs.Prelude.{◌&&◌, IfSome, IsSome, IsTrue, None, Option, Some, SomeIff, slice_get}
 use Rattle.std.specs.List.{All}
+use Rattle.std.proofs.lemmas.List.Elements.{All-head, All-same}
 use Rattle.std.proofs.lemmas.Bool.{cases_lt}
 use Rattle.board_base.specs.declared.unmoves.Unmove.{Unmove}
 use Rattle.query_base.specs.Asked.{Asked}
+use Rattle.line_claims.specs.Lines.{HasLine, has_text}
 use Rattle.line_claims.specs.declared.claims.LineClaim.{LineClaim}
 use Rattle.line_claims.specs.declared.claims.LineClaim.TheVariants.{Line}
 use Rattle.unmove_gen.specs.Listed.{unmoves}
 use Rattle.diagram_study.specs.declared.findings.Found.{Found}
 use Rattle.verdict_prose.specs.LastMoves.{EndsWithOneOf, IsEnd, WereLast}
 use Rattle.verdict_prose.specs.Moves.{last_text, left_text, line_text}
-use Rattle.position_report.specs.LastMoves.{CanBeNamed, TellsLast, possible_text, proved_steps, steps_in}
+use Rattle.position_report.specs.LastMoves.{CanBeNamed, HasLone, IsLone, TellsLast, possible_text, proved_steps, steps_in}
 use Rattle.position_report.specs.Told.{HaveEnds, IsLineTold}
 use Rattle.position_report.proofs.Saying.{ends-so}
 
@@ -51,3 +53,25 @@ many-told q f n old new none among all many same e = (
   inr (inr (record { none = none; many = many; so = record { number = refl; whole = sym all; among = among }; text_is = refl })),
   e ∙ ap (λ (m : ℕ). old ++ left_text m f.all) same,
 )
+
+-- the first of a list of one
+pub lone-first : (q : Asked) (left : List Unmove) → IsLone q left → HasLone q left (slice_get left 0)
+lone-first q [] is = absurd (omega (arith, is.one))
+lone-first q (u ∷ []) is = (is, refl)
+lone-first q (u ∷ v ∷ us) is = absurd (omega (arith, is.one))
+
+-- it has a text, as all that are left have
+pub lone-text : (q : Asked) (left : List Unmove) (lone : Option Unmove) → HasLone q left lone → All (λ u. IsTrue (has_text u)) left → IfSome lone (λ u. IsTrue (has_text u))
+lone-text q left None has all = tt
+lone-text q left (Some u) has all =
+    All-head (λ (v : Unmove). IsTrue (has_text v)) u [] (All-same (λ (v : Unmove). IsTrue (has_text v)) (u ∷ []) left (sym has.1) all)
+
+-- a list that can be made is made
+pub list-given : (r : Option (List Unmove)) (P : Type 0) (v : List Unmove) → SomeIff r P v → P → IsSome r
+list-given None P v none is = absurd (none is)
+list-given (Some us) P v some is = refl
+
+-- the claim of one step has a line
+pub one-line : (u : Unmove) (claim : LineClaim) → claim ≡ Line (u ∷ []) → IsTrue (has_text u) → HasLine claim
+one-line u claim is text =
+    subst HasLine (sym is) (record { some = omega arith; few = omega arith; texts = ap (λ (b : Bool). b && true) text })

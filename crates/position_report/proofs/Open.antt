@@ -49,11 +49,10 @@ more-told {X} q f xs i x a b d o m n inside here so_far more =
     flat_map_more f [] (take i xs) x ∙ ap (λ (l : List X). flat_map f l) (sym (up_to xs i x inside here)) in
     subst (λ (cs : List OpenClaim). AreTold q cs a d o n) grown (both-told q (flat_map f (take i xs)) (f x) a b d o m n so_far more)
 
--- three lists of them, from the beginning, and what is said of the run behind them
-pub all-told : (q : Asked) (xs ys zs : List OpenClaim) (a b d : Run) (o m n p r : List ℕ) → o ≡ [] → AreTold q xs Empty a o m → AreTold q ys a b m n → AreTold q zs b d n p → r ≡ p ++ run_text d → r ≡ open_text q Empty ((xs ++ ys) ++ zs)
-all-told q xs ys zs a b d o m n p r none first second third last =
-    let whole : AreTold q ((xs ++ ys) ++ zs) Empty d o p = both-told q (xs ++ ys) zs Empty b d o n p (both-told q xs ys Empty a b o m n first second) third in
+-- two lists of them, from the beginning, and what is said of the run behind them
+pub all-told : (q : Asked) (xs ys : List OpenClaim) (a b : Run) (o m n r : List ℕ) → o ≡ [] → AreTold q xs Empty a o m → AreTold q ys a b m n → r ≡ n ++ run_text b → r ≡ open_text q Empty (xs ++ ys)
+all-told q xs ys a b o m n r none first second last =
     last
-    ∙ whole []
-    ∙ ap (λ (cs : List OpenClaim). o ++ open_text q Empty cs) (append-nil ((xs ++ ys) ++ zs))
-    ∙ ap (λ (l : List ℕ). l ++ open_text q Empty ((xs ++ ys) ++ zs)) none
+    ∙ both-told q xs ys Empty a b o m n first second []
+    ∙ ap (λ (cs : List OpenClaim). o ++ open_text q Empty cs) (append-nil (xs ++ ys))
+    ∙ ap (λ (l : List ℕ). l ++ open_text q Empty (xs ++ ys)) none

@@ -4,6 +4,7 @@ use Rattle.std.specs.Prelude.{Option, codes}
 use Rattle.std.specs.List.{All}
 use Rattle.std.proofs.lemmas.List.Elements.{All-weaker}
 use Rattle.board_base.specs.declared.moves.Move.{Move}
+use Rattle.board_base.specs.declared.unmoves.Unmove.{Unmove}
 use Rattle.query_base.specs.Asked.{Asked}
 use Rattle.query_base.specs.Reach.{Holds, Reaches}
 use Rattle.query_base.specs.declared.claims.Claim.TheVariants.{Illegal}
@@ -25,13 +26,13 @@ use Rattle.diagram_study.specs.Held.{IsHeldFound}
 use Rattle.diagram_study.specs.declared.held.HeldFound.{HeldFound}
 use Rattle.position_report.specs.Asking.{last_ask, plain_ask}
 use Rattle.position_report.specs.Held.{IsIfSo, held_prose, if_lines}
-use Rattle.position_report.specs.LastMoves.{TellsLast, proved_steps}
+use Rattle.position_report.specs.LastMoves.{HasLone, TellsLast, proved_steps}
 use Rattle.position_report.specs.Lengths.{TellsGame, TellsOther, is_other_told, length_text}
 use Rattle.position_report.specs.Open.{all_open}
 use Rattle.position_report.specs.Parts.{part_text, parts_text}
 use Rattle.position_report.specs.Proofs.{TellsProofs, line_help}
 use Rattle.position_report.specs.Reports.{IsPlainFound, IsReport, PlainIsFound, TellsFindings, TellsFound, TellsImpossible, verdicts_text}
-use Rattle.position_report.specs.Sayings.{impossible_of, shown_of}
+use Rattle.position_report.specs.Sayings.{impossible_of, shown_of, unsettled_text}
 use Rattle.position_report.specs.Shown.{illegal_shown, shown_claims}
 use Rattle.position_report.proofs.Joining.{eight-parts, five-parts, from-text}
 use Rattle.position_report.proofs.Saying.{impossible-so, length-so, shown-so}
@@ -76,12 +77,12 @@ NewsHold =
 
 -- the parts of a position that isn't proved to be illegal, each as it is told
 pub record AreParts (q : Asked) (depth nodes : ℕ) (by : List (List Move)) (f : Found) (said ledger held proofs ask line unsettled ends : List ℕ) : Type 0 where
-  pub said_told : (last : List ℕ) × TellsLast q f last × (said ≡ verdicts_text q (shown_of q f) ++ last)
+  pub said_told : (last : List ℕ) × TellsLast q f last × (said ≡ unsettled_text f.illegal.finding ++ verdicts_text q (shown_of q f) ++ last)
   pub ledger_told : ledger ≡ prose_text q (sentences_of q f.ledger.items)
   pub held_told : held ≡ held_prose q f.ledger.items f.held.items
   pub proofs_told : TellsProofs depth nodes 1 (shown_claims q f) proofs
   pub ask_told : ask ≡ last_ask q depth nodes
-  pub line_told : line ≡ line_help depth nodes q (proved_steps f.steps)
+  pub line_told : (lone : Option Unmove) × HasLone q f.left lone × (line ≡ line_help depth nodes q (proved_steps f.steps) lone)
   pub unsettled_told : unsettled ≡ all_open q f
   pub ends_told : (game : List ℕ) × TellsGame q [] by game × (ends ≡ length_text q f.length ++ game)
 
@@ -107,10 +108,12 @@ parts-told q depth nodes by f said ledger held proofs ask line unsettled ends li
       if_so = if-so sentences news q f.ledger.items f.held.items found.held.each;
       proofs = proofs;
       proofs_told = are.proofs_told;
+      lone = are.line_told.0;
+      lone_is = are.line_told.1;
       long = length-so q f.length found.games;
       game = are.ends_told.0;
       game_told = are.ends_told.1;
-      text_is = same-parts said ledger held proofs ask line unsettled ends _ _ _ _ _ _ _ are.said_told.2 are.ledger_told are.held_told are.ask_told are.line_told are.unsettled_told are.ends_told.2;
+      text_is = same-parts said ledger held proofs ask line unsettled ends _ _ _ _ _ _ _ are.said_told.2 are.ledger_told are.held_told are.ask_told are.line_told.2 are.unsettled_told are.ends_told.2;
     }
 
 pub found-told : (q : Asked) (depth nodes : ℕ) (by : List (List Move)) (f : Found) (said ledger held proofs ask line unsettled ends o p1 p2 p3 p4 p5 p6 p7 p8 : List ℕ) → LinesHold → SentencesHold → NewsHold → AreFindings q depth nodes by f → AreParts q depth nodes by f said ledger held proofs ask line unsettled ends → p1 ≡ o ++ part_text said → p2 ≡ p1 ++ part_text ledger → p3 ≡ p2 ++ part_text held → p4 ≡ p3 ++ part_text proofs → p5 ≡ p4 ++ part_text ask → p6 ≡ p5 ++ part_text line → p7 ≡ p6 ++ part_text unsettled → p8 ≡ p7 ++ part_text ends → (own : List ℕ) × TellsFound q depth nodes by f own × (p8 ≡ o ++ own)

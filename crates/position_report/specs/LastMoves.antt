@@ -1,5 +1,5 @@
 -- What a report says of the last moves.
-use Rattle.std.specs.Prelude.{ℕ, ◌≡◌, ◌≤◌, ◌⊎◌, cond, IfSome, List, [], ◌++◌, length, Option, Some, None}
+use Rattle.std.specs.Prelude.{ℕ, ◌≡◌, ◌≤◌, ◌⊎◌, false, cond, IfSome, MatchOption, List, [], ◌∷◌, ◌++◌, length, Option, Some, None}
 use Rattle.std.specs.List.{All}
 use Rattle.board_base.specs.declared.unmoves.Unmove.{Unmove}
 use Rattle.query_base.specs.Asked.{Asked}
@@ -11,6 +11,7 @@ use Rattle.diagram_study.specs.declared.findings.Found.{Found}
 use Rattle.diagram_study.specs.declared.forced.StepsFound.{StepsFound}
 use Rattle.verdict_prose.specs.LastMoves.{IsEnd, Remain, WasOneOf, WereLast}
 use Rattle.verdict_prose.specs.Moves.{ends_text, last_text, left_text, line_text}
+use Rattle.position_report.specs.Sayings.{has_last}
 
 -- the steps of a claim, if it is one about the last moves
 abbrev pub steps_in : LineClaim → Option (List Unmove)
@@ -39,6 +40,16 @@ pub record CanBeNamed (q : Asked) (left : List Unmove) : Type 0 where
   pub some : 1 ≤ length left
   pub few : length left ≤ 24
   pub elsewhere : Reaches [] q → ⊥
+
+-- One retraction alone is left, it can be named, and no last move is given.
+pub record IsLone (q : Asked) (left : List Unmove) : Type 0 where
+  pub one : length left ≡ 1
+  pub named : CanBeNamed q left
+  pub free : has_last q ≡ false
+
+-- it is this retraction, or it isn't so
+abbrev pub HasLone : Asked → List Unmove → Option Unmove → Type 0
+HasLone q left lone = MatchOption lone (IsLone q left → ⊥) (λ u. IsLone q left × (left ≡ u ∷ []))
 
 -- None are, and those left can be named: the last move of each game is one of them, and with some of them games end, if that was asked.
 pub record TellsFew (q : Asked) (f : Found) (text : List ℕ) : Type 0 where

@@ -4,7 +4,6 @@ use Rattle.std.specs.List.{flat_map}
 use Rattle.board_base.specs.declared.unmoves.Unmove.{Unmove}
 use Rattle.query_base.specs.Asked.{Asked}
 use Rattle.query_base.specs.Targets.{target}
-use Rattle.query_base.specs.declared.claims.Claim.TheVariants.{Illegal}
 use Rattle.line_claims.specs.Due.{with_both}
 use Rattle.unmove_gen.specs.Predecessor.{left_by}
 use Rattle.codex_verdict.specs.Rights.{claim_of}
@@ -79,10 +78,6 @@ open_text q run (c ∷ cs) = claim_text q run c ++ open_text q (run_behind (is_l
 abbrev pub if_open : Finding → OpenClaim → List OpenClaim
 if_open found c = cond (is_open found) (c ∷ []) []
 
--- the claim that the position is illegal, if it isn't settled; where the search gets stuck isn't told
-abbrev pub open_illegal : Asked → Finding → List OpenClaim
-open_illegal q found = if_open found (open_as (Unsettled Illegal) q None)
-
 -- a right that isn't settled
 abbrev pub open_right : Asked → RightFound → List OpenClaim
 open_right q f =
@@ -93,10 +88,9 @@ abbrev pub open_pair : Asked → PairFound → List OpenClaim
 open_pair q f =
     if_open f.finding (open_as (UnsettledBoth f.first f.second) (with_both q f.first f.second) f.stuck)
 
--- all that isn't settled, in the order of a study
+-- the rights that aren't settled, in the order of a study
 unfoldable pub open_claims : Asked → Found → List OpenClaim
-open_claims q f =
-    open_illegal q f.illegal.finding ++ flat_map (open_right q) f.rights.items ++ flat_map (open_pair q) f.pairs.items
+open_claims q f = flat_map (open_right q) f.rights.items ++ flat_map (open_pair q) f.pairs.items
 
 -- the same in sentences
 abbrev pub all_open : Asked → Found → List ℕ

@@ -1,6 +1,7 @@
 -- Proofs of what a report shows.
 use Rattle.std.specs.Prelude.{ℕ, ◌≡◌, ◌+◌, ◌<◌, ◌≤◌, ◌⊎◌, Bool, true, false, cond, List, [], ◌∷◌, ◌++◌, codes, nat_lt, Option, Some, None, is_some}
 use Rattle.std.specs.Fmt.{decimal}
+use Rattle.board_base.specs.declared.men.Kind.{Kind}
 use Rattle.board_base.specs.declared.unmoves.Unmove.{Unmove}
 use Rattle.query_base.specs.Asked.{Asked}
 use Rattle.query_base.specs.Targets.{target}
@@ -56,15 +57,26 @@ input_text depth nodes s =
 abbrev pub check_text : ℕ → ℕ → Shown → List ℕ
 check_text depth nodes s = cond (promotes_well s.claim) (input_text depth nodes s) []
 
--- how a proof of several last moves is to be had: `dossier` writes it, and `explain` checks it
-unfoldable pub line_input : ℕ → ℕ → Asked → LineClaim → List ℕ
-line_input depth nodes q claim =
-    call_text (codes "For a proof of the last moves:\nretractor dossier ") depth nodes (codes " << END | retractor explain\n") ++ ended (line_claim_text claim) ++ position_lines q ++ codes "END\n"
+-- how a proof of last moves is to be had, behind these words: `dossier` writes it, and `explain` checks it
+unfoldable pub line_input : List ℕ → ℕ → ℕ → Asked → LineClaim → List ℕ
+line_input words depth nodes q claim =
+    call_text words depth nodes (codes " << END | retractor explain\n") ++ ended (line_claim_text claim) ++ position_lines q ++ codes "END\n"
 
--- the same, if they are proved
-abbrev pub line_help : ℕ → ℕ → Asked → Option (List Unmove) → List ℕ
-line_help depth nodes q None = []
-line_help depth nodes q (Some steps) = line_input depth nodes q (Line steps)
+-- what stands before a call that proves what a last move captured
+abbrev pub lone_words : Option Kind → List ℕ
+lone_words None = codes "For a proof of the last move, and that it captured nothing:\nretractor dossier "
+lone_words (Some k) = codes "For a proof of the last move, with what it captured:\nretractor dossier "
+
+-- such a call, if there is one retraction of which to ask
+abbrev pub lone_help : ℕ → ℕ → Asked → Option Unmove → List ℕ
+lone_help depth nodes q None = []
+lone_help depth nodes q (Some u) = line_input (lone_words u.captured) depth nodes q (Line (u ∷ []))
+
+-- how a proof of several last moves is to be had, if they are proved; otherwise of the one, if there is such a retraction
+abbrev pub line_help : ℕ → ℕ → Asked → Option (List Unmove) → Option Unmove → List ℕ
+line_help depth nodes q None last = lone_help depth nodes q last
+line_help depth nodes q (Some steps) last =
+    line_input (codes "For a proof of the last moves:\nretractor dossier ") depth nodes q (Line steps)
 
 -- what stands before a proof: its number, and an empty line before each but the first
 abbrev pub title_text : ℕ → List ℕ

@@ -2,6 +2,7 @@
 use Rattle.std.specs.Prelude.{ℕ, ◌≡◌, codes, false, IfSome, IsTrue, List, ◌++◌, ◌∷◌, [], Option, Some, None}
 use Rattle.std.specs.List.{All, flat_map}
 use Rattle.board_base.specs.declared.moves.Move.{Move}
+use Rattle.board_base.specs.declared.unmoves.Unmove.{Unmove}
 use Rattle.query_base.specs.Asked.{Asked}
 use Rattle.query_base.specs.Reach.{Reaches}
 use Rattle.ledger_prose.specs.Saying.{SentenceSays}
@@ -21,22 +22,23 @@ use Rattle.verdict_prose.specs.declared.verdicts.Verdict.{Verdict}
 use Rattle.verdict_prose.specs.declared.verdicts.Verdict.TheVariants.{AtLeast}
 use Rattle.position_report.specs.Asking.{last_ask, plain_ask}
 use Rattle.position_report.specs.Held.{IsIfSo, held_prose}
-use Rattle.position_report.specs.LastMoves.{TellsLast, proved_steps}
+use Rattle.position_report.specs.LastMoves.{HasLone, TellsLast, proved_steps}
 use Rattle.position_report.specs.Lengths.{TellsGame, TellsOther, is_other_told, length_text}
 use Rattle.position_report.specs.Open.{all_open}
 use Rattle.position_report.specs.Parts.{parts_text}
 use Rattle.position_report.specs.Proofs.{TellsProofs, line_help}
-use Rattle.position_report.specs.Sayings.{impossible_of, shown_of}
+use Rattle.position_report.specs.Sayings.{impossible_of, shown_of, unsettled_text}
 use Rattle.position_report.specs.Shown.{illegal_shown, shown_claims}
 
 -- the sentences of these verdicts
 unfoldable pub verdicts_text : Asked → List Verdict → List ℕ
 verdicts_text q verdicts = flat_map (verdict_text q) verdicts
 
--- What is told of a position that isn't proved to be illegal: what is proved and what games show, a sentence each, and each is so; the last
--- moves; the paragraph of the ledger, whose lines are true of every game that reaches the position, and so is what its sentences say; those of
--- what it says only if a right is held; the proofs; how to ask without a last move that is given; how a proof of several last moves is to be
--- had; what isn't settled; how long games are, and a game.
+-- What is told of a position that isn't proved to be illegal: that it isn't settled whether a game leads there, if it isn't; what is proved
+-- and what games show, a sentence each, and each is so; the last moves; the paragraph of the ledger, whose lines are true of every game
+-- that reaches the position, and so is what its sentences say; those of what it says only if a right is held; the proofs; how to ask
+-- without a last move that is given; how a proof of several last moves is to be had, or of what the last one captured if it alone is left;
+-- which rights aren't settled; how long games are, and a game.
 pub record TellsFound (q : Asked) (depth nodes : ℕ) (by : List (List Move)) (f : Found) (text : List ℕ) : Type 0 where
   pub so : All (IsSo q) (shown_of q f)
   pub last : List ℕ
@@ -46,10 +48,12 @@ pub record TellsFound (q : Asked) (depth nodes : ℕ) (by : List (List Move)) (f
   pub if_so : All (IsIfSo q f.ledger.items) f.held.items
   pub proofs : List ℕ
   pub proofs_told : TellsProofs depth nodes 1 (shown_claims q f) proofs
+  pub lone : Option Unmove
+  pub lone_is : HasLone q f.left lone
   pub long : IfSome f.length (λ n. IsSo q (AtLeast n))
   pub game : List ℕ
   pub game_told : TellsGame q [] by game
-  pub text_is : text ≡ parts_text ((verdicts_text q (shown_of q f) ++ last) ∷ prose_text q (sentences_of q f.ledger.items) ∷ held_prose q f.ledger.items f.held.items ∷ proofs ∷ last_ask q depth nodes ∷ line_help depth nodes q (proved_steps f.steps) ∷ all_open q f ∷ (length_text q f.length ++ game) ∷ [])
+  pub text_is : text ≡ parts_text ((unsettled_text f.illegal.finding ++ verdicts_text q (shown_of q f) ++ last) ∷ prose_text q (sentences_of q f.ledger.items) ∷ held_prose q f.ledger.items f.held.items ∷ proofs ∷ last_ask q depth nodes ∷ line_help depth nodes q (proved_steps f.steps) lone ∷ all_open q f ∷ (length_text q f.length ++ game) ∷ [])
 
 -- What was found of the position without its demands, as by a study: of the claim that it is illegal, and a game that leads there.
 pub record PlainIsFound (q : Asked) (depth nodes : ℕ) (plain : Finding) (game : List ℕ) : Type 0 where

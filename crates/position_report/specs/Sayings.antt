@@ -1,5 +1,5 @@
 -- Which verdicts a report tells.
-use Rattle.std.specs.Prelude.{Bool, true, false, not, cond, is_some, List, [], ◌∷◌, ◌++◌, Option, Some, None}
+use Rattle.std.specs.Prelude.{ℕ, Bool, true, false, not, cond, codes, is_some, List, [], ◌∷◌, ◌++◌, Option, Some, None}
 use Rattle.std.specs.List.{flat_map}
 use Rattle.query_base.specs.Asked.{Asked}
 use Rattle.query_base.specs.declared.claims.Claim.{Claim}
@@ -10,6 +10,7 @@ use Rattle.codex_verdict.specs.declared.kinds.Right.TheVariants.{Castling, EnPas
 use Rattle.diagram_study.specs.ClaimFindings.{is_proved}
 use Rattle.diagram_study.specs.Finding.{Finding}
 use Rattle.diagram_study.specs.Finding.TheVariants as finding
+use Rattle.diagram_study.specs.Held.{is_open}
 use Rattle.diagram_study.specs.declared.findings.Found.{Found}
 use Rattle.diagram_study.specs.declared.pairs.PairFound.{PairFound}
 use Rattle.diagram_study.specs.declared.rights.RightFound.{RightFound}
@@ -46,6 +47,11 @@ right_verdicts castlings given f = cond (is_asked castlings f.right) (settled_of
 -- that two castlings aren't both kept, if it is proved
 abbrev pub pair_verdicts : PairFound → List Verdict
 pair_verdicts f = cond (is_proved f.finding) (NotBoth f.first f.second ∷ []) []
+
+-- that it isn't settled whether a game leads to the position, by what was found of the claim that none does
+abbrev pub unsettled_text : Finding → List ℕ
+unsettled_text f =
+    cond (is_open f) (codes "Whether a game leads here isn't settled; what is said here holds of every game that does.\n") []
 
 -- what is proved, and what games show, in the order of a study
 unfoldable pub shown_of : Asked → Found → List Verdict

@@ -4,10 +4,11 @@ ghost use Rattle.std.specs.Prelude.{List, ℕ, ◌≡◌, ◌↔◌, ◌++◌, I
 ghost use Rattle.board_base.specs.declared.unmoves.Unmove.{Unmove as AnUnmove};
 ghost use Rattle.unmove_gen.specs.Listed.{unmoves};
 ghost use Rattle.verdict_prose.specs.LastMoves.{EndsWithOneOf, WereLast};
-ghost use Rattle.position_report.specs.LastMoves.{CanBeNamed, TellsLast, possible_text, proved_steps, steps_in};
+ghost use Rattle.position_report.specs.LastMoves.{CanBeNamed, HasLone, IsLone, TellsLast, possible_text, proved_steps, steps_in};
 ghost use Rattle.position_report.specs.Told.{HaveEnds, IsLineTold};
 
-use board_base::UnmoveList;
+use crate::sayings::has_last;
+use board_base::{Unmove, UnmoveList};
 use diagram_study::{Found, StepsFound};
 use line_claims::LineClaim;
 use query_base::{Query, is_array};
@@ -59,6 +60,24 @@ fn can_be_named(query: &Query, left: &UnmoveList) -> bool
     ensures { IsTrue result ↔ CanBeNamed query.now left.now }
 {
     left.len() > 0 && left.len() <= MOST_NAMED && !is_array(query)
+}
+
+/// One retraction alone is left, it can be named, and no last move is given.
+fn is_lone(query: &Query, left: &UnmoveList) -> bool
+    ensures { IsTrue result ↔ IsLone query.now left.now }
+{
+    left.len() == 1 && can_be_named(query, left) && !has_last(query)
+}
+
+/// The retraction that alone is left, if it can be named, and no last move is given.
+pub(crate) fn lone_step(query: &Query, left: &UnmoveList) -> Option<Unmove>
+    ensures { HasLone query.now left.now result }
+{
+    if is_lone(query, left) {
+        left.get(0)
+    } else {
+        None
+    }
 }
 
 /// Adds with which of so many retractions games end, if it is known.

@@ -1,6 +1,6 @@
 //! A report.
 
-ghost use Rattle.std.specs.Prelude.{List, ℕ, ◌≡◌, ◌++◌, [], IfOk, None, Some, length};
+ghost use Rattle.std.specs.Prelude.{List, ℕ, ◌≡◌, ◌++◌, [], IfOk, None, Option, Some, length};
 ghost use Rattle.std.specs.List.{All};
 ghost use Rattle.board_base.specs.declared.unmoves.Unmove.{Unmove as AnUnmove};
 ghost use Rattle.query_base.specs.Reach.{Holds};
@@ -12,21 +12,21 @@ ghost use Rattle.diagram_study.specs.ClaimFindings.{IsFound};
 ghost use Rattle.diagram_study.specs.Findings.{AreFindings, CanBeWritten, HasTexts, IsFoundOf, other_side};
 ghost use Rattle.verdict_prose.specs.LastMoves.{EndsWithOneOf, WereLast};
 ghost use Rattle.position_report.specs.Held.{held_prose};
-ghost use Rattle.position_report.specs.LastMoves.{TellsLast, proved_steps};
+ghost use Rattle.position_report.specs.LastMoves.{HasLone, TellsLast, proved_steps};
 ghost use Rattle.position_report.specs.Lengths.{TellsGame, length_text};
 ghost use Rattle.position_report.specs.Proofs.{TellsProofs, line_help};
 ghost use Rattle.position_report.specs.Reports.{IsPlainFound, IsReport, PlainIsFound, TellsFindings, TellsFound, TellsImpossible, verdicts_text};
-ghost use Rattle.position_report.specs.Sayings.{impossible_of, shown_of};
+ghost use Rattle.position_report.specs.Sayings.{impossible_of, shown_of, unsettled_text};
 ghost use Rattle.position_report.specs.Told.{HaveEnds};
 
 use crate::asking::{last_part, plain_part};
 use crate::games::{other_part, push_first, push_length};
 use crate::held::push_each_held;
-use crate::last_moves::push_last;
+use crate::last_moves::{lone_step, push_last};
 use crate::line_help::push_line_help;
 use crate::parts::push_part;
 use crate::proofs::push_proofs;
-use crate::sayings::{impossible_of, shown_of};
+use crate::sayings::{impossible_of, push_unsettled, shown_of};
 use crate::shown::{Shown, illegal_shown, shown_claims};
 use crate::unsettled::open_part;
 use board_base::MoveList;
@@ -62,10 +62,11 @@ fn said_part(alloc: Global, query: &Query, found: &Found) -> Result<Vec<u8>, All
     requires among { EndsWithOneOf query.now found.now.left }
     requires all { found.now.all ≡ length (unmoves query.now) }
     requires ends { HaveEnds query.now found.now.left found.now.ends }
-    ensures { IfOk result (λ part. (last : List ℕ) × TellsLast query.now found.now last × (part.items ≡ verdicts_text query.now (shown_of query.now found.now) ++ last)) }
+    ensures { IfOk result (λ part. (last : List ℕ) × TellsLast query.now found.now last × (part.items ≡ unsettled_text found.now.illegal.finding ++ verdicts_text query.now (shown_of query.now found.now) ++ last)) }
 {
     let verdicts = shown_of(alloc, query, found)?;
     let mut part = Vec::new(alloc);
+    push_unsettled(found.illegal.finding, &mut part)?;
     push_verdicts(alloc, query, verdicts.as_slice(), &mut part)?;
     push_last(alloc, query, found, &mut part)?;
     Ok(part)
@@ -100,7 +101,7 @@ fn proofs_part(alloc: Global, limits: Limits, all: &[Shown]) -> Result<Vec<u8>, 
     Ok(part)
 }
 
-/// How a proof of several last moves is to be had, if they are proved.
+/// How a proof of several last moves is to be had, if they are proved; otherwise of the one, if one retraction alone is left.
 fn line_part(
     alloc: Global,
     query: &Query,
@@ -109,10 +110,11 @@ fn line_part(
 ) -> Result<Vec<u8>, AllocError>
     requires plain { query.now.barred ≡ None }
     requires texts { HasTexts found.now }
-    ensures { IfOk result (λ part. part.items ≡ line_help limits.depth limits.nodes query.now (proved_steps found.now.steps)) }
+    ensures { IfOk result (λ part. (lone : Option AnUnmove) × HasLone query.now found.now.left lone × (part.items ≡ line_help limits.depth limits.nodes query.now (proved_steps found.now.steps) lone)) }
 {
     let mut part = Vec::new(alloc);
-    push_line_help(query, limits, &found.steps, &mut part)?;
+    let lone = lone_step(query, &found.left);
+    push_line_help(query, limits, &found.steps, lone, &mut part)?;
     Ok(part)
 }
 
@@ -268,10 +270,11 @@ fn push_findings(
     }
 }
 
-/// The report of the position, in parts with an empty line between them: the diagram and what is given; what is proved and what games show;
-/// the ledger in a paragraph; what it says besides if a right to castle is held; the proofs, numbered; how to ask without a last move that is
-/// given; how to get a proof of several last moves; what is open, and where the search gets stuck; and how long games are at least, with a game that was found. It says no more than
-/// `study` does within the same limits.
+/// The report of the position, in parts with an empty line between them: the diagram and what is given; what is proved and what games show,
+/// behind the sentence that it isn't settled whether a game leads there, if it isn't; the ledger in a paragraph; what it says besides if a
+/// right to castle is held; the proofs, numbered; how to ask without a last move that is given; how to get a proof of several last moves,
+/// or of what the last one captured; which rights are open, and where the search gets stuck; and how long games are at least, with a game
+/// that was found. It says no more than `study` does within the same limits.
 pub fn report(alloc: Global, query: &Query, limits: Limits) -> Result<Vec<u8>, AllocError>
     requires { query.now.barred ≡ None }
     ensures { IfOk result (λ text. IsReport query.now limits.depth limits.nodes text.items) }

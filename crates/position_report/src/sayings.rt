@@ -4,11 +4,12 @@ ghost use Rattle.std.specs.Prelude.{◌≡◌, ◌∷◌, ◌++◌, [], IfOk, co
 ghost use Rattle.std.specs.List.{flat_map};
 ghost use Rattle.query_base.specs.declared.claims.Claim.TheVariants.{Ep, Illegal};
 ghost use Rattle.verdict_prose.specs.declared.verdicts.Verdict.TheVariants.{GivenPassing, GivenShown, Shown as IsShown};
-ghost use Rattle.position_report.specs.Sayings.{has_last, impossible_of, is_asked, other_of, pair_verdicts, plain_of, proved_of, right_verdicts, settled_of, shown_of};
+ghost use Rattle.position_report.specs.Sayings.{has_last, impossible_of, is_asked, other_of, pair_verdicts, plain_of, proved_of, right_verdicts, settled_of, shown_of, unsettled_text};
 
 use board_base::Move;
 use codex_verdict::{Right, claim_of};
-use diagram_study::{Finding, Found, PairFound, RightFound};
+use diagram_study::{Finding, Found, PairFound, RightFound, is_open};
+use prose_words::say;
 use query_base::{Claim, Query};
 use std::alloc::{AllocError, Global};
 use verdict_prose::Verdict;
@@ -122,6 +123,20 @@ fn add_pairs(pairs: &[PairFound], verdicts: &mut Vec<Verdict>) -> Result<(), All
         add_pair(pair, verdicts)?;
     }
     Ok(())
+}
+
+/// Adds that it isn't settled whether a game leads to the position, by what was found of the claim that none does.
+pub(crate) fn push_unsettled(finding: Finding, out: &mut Vec<u8>) -> Result<(), AllocError>
+    ensures { IfOk result (λ _. out.new.items ≡ out.old.items ++ unsettled_text finding) }
+{
+    if is_open(finding) {
+        say(
+            b"Whether a game leads here isn't settled; what is said here holds of every game that does.\n",
+            out,
+        )
+    } else {
+        Ok(())
+    }
 }
 
 /// What is proved, and what games show, in the order of a study.

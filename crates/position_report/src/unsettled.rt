@@ -1,4 +1,4 @@
-//! What is open, and where the search gets stuck.
+//! Which rights are open, and where the search gets stuck.
 
 ghost use Rattle.std.specs.Prelude.{◌≡◌, ◌∷◌, ◌++◌, [], IfOk, IfSome, None};
 ghost use Rattle.std.specs.List.{All, flat_map};
@@ -7,7 +7,7 @@ ghost use Rattle.line_claims.specs.Due.{with_both};
 ghost use Rattle.line_claims.specs.Listing.{AreListed};
 ghost use Rattle.unmove_gen.specs.Predecessor.{left_by};
 ghost use Rattle.codex_verdict.specs.Rights.{claim_of};
-ghost use Rattle.position_report.specs.Open.{all_open, front_text, if_open, is_lost, open_as, open_illegal, open_pair, open_right, stuck_text};
+ghost use Rattle.position_report.specs.Open.{all_open, front_text, if_open, is_lost, open_as, open_pair, open_right, stuck_text};
 ghost use Rattle.position_report.specs.Told.{AreTold};
 
 use crate::runs::{Run, push_run, push_run_before, run_behind};
@@ -15,7 +15,7 @@ use board_base::{Unmove, UnmoveList};
 use codex_verdict::claim_of;
 use diagram_study::{Finding, Found, PairFound, RightFound, is_open, with_both};
 use proof_prose::draw;
-use query_base::{Claim, Query, target};
+use query_base::{Query, target};
 use std::alloc::{AllocError, Global};
 use unmove_gen::pred;
 use verdict_prose::{Verdict, tell_open_line, tell_verdict};
@@ -130,20 +130,6 @@ fn push_open(
     push_claim(alloc, query, said, at_target, stuck, run, out)
 }
 
-/// Adds whether the position is illegal, if that isn't settled. The run behind it.
-fn push_illegal(
-    alloc: Global,
-    query: &Query,
-    finding: Finding,
-    run: Run,
-    out: &mut Vec<u8>,
-) -> Result<Run, AllocError>
-    ensures { IfOk result (λ behind. AreTold query.now (open_illegal query.now finding) run behind out.old.items out.new.items) }
-{
-    let said = Verdict::Unsettled(Claim::Illegal);
-    push_open(alloc, query, &said, query, finding, &None, run, out)
-}
-
 /// Adds a right that isn't settled. The run behind it.
 fn push_right(
     alloc: Global,
@@ -231,7 +217,7 @@ fn push_pairs(
     Ok(run)
 }
 
-/// What isn't settled, in the order of a study.
+/// The rights that aren't settled, in the order of a study.
 pub(crate) fn open_part(alloc: Global, query: &Query, found: &Found) -> Result<Vec<u8>, AllocError>
     requires plain { query.now.barred ≡ None }
     requires rights { All (λ f. IfSome f.stuck (AreListed (target query.now (claim_of f.right)))) found.now.rights.items }
@@ -239,9 +225,8 @@ pub(crate) fn open_part(alloc: Global, query: &Query, found: &Found) -> Result<V
     ensures { IfOk result (λ part. part.items ≡ all_open query.now found.now) }
 {
     let mut part = Vec::new(alloc);
-    let first = push_illegal(alloc, query, found.illegal.finding, Run::Empty, &mut part)?;
-    let second = push_rights(alloc, query, found.rights.as_slice(), first, &mut part)?;
-    let last = push_pairs(alloc, query, found.pairs.as_slice(), second, &mut part)?;
+    let first = push_rights(alloc, query, found.rights.as_slice(), Run::Empty, &mut part)?;
+    let last = push_pairs(alloc, query, found.pairs.as_slice(), first, &mut part)?;
     push_run(last, &mut part)?;
     Ok(part)
 }

@@ -147,10 +147,19 @@ ways_words q c files = flat_map (nth_way q c files) (range_with_len 0 (length (p
 abbrev pub at_time : Bool → Colour → List ℕ → List ℕ → List ℕ
 at_time first c now before = cond first [] (codes "Before this move ") ++ side_word c ++ cond first now before
 
+-- that a side has so many promoted men too, and began with so many pawns
+abbrev pub promoted_words : ℕ → ℕ → List ℕ
+promoted_words promoted began =
+    codes " and at least " ++ counted promoted (codes " promoted man") (codes " promoted men") ++ codes ", but began with " ++ counted began (codes " pawn") (codes " pawns")
+
+-- the same behind the number of its pawns, where promoted men are named only if there are any
+abbrev pub began_words : ℕ → ℕ → List ℕ
+began_words promoted began = cond (promoted == 0) (codes ", but began with " ++ decimal began) (promoted_words promoted began)
+
 -- that a side has pawns and promoted men, and began with so many pawns
 abbrev pub count_words : Bool → Colour → ℕ → ℕ → ℕ → List ℕ
 count_words first c pawns promoted began =
-    at_time first c (codes " has ") (codes " had ") ++ counted pawns (codes " pawn") (codes " pawns") ++ codes " and at least " ++ counted promoted (codes " promoted man") (codes " promoted men") ++ codes ", but began with " ++ counted began (codes " pawn") (codes " pawns") ++ codes "."
+    at_time first c (codes " has ") (codes " had ") ++ counted pawns (codes " pawn") (codes " pawns") ++ began_words promoted began ++ codes "."
 
 -- that a pawn stands on a square
 abbrev pub end_words : ℕ → List ℕ
@@ -212,23 +221,39 @@ abbrev pub some_words : Asked → Colour → ℕ → List ℕ → List ℕ
 some_words q c captures files =
     codes "'s pawns have made at least " ++ counted captures (codes " capture") (codes " captures") ++ codes ". A cheapest way:" ++ drop 1 (ways_words q c files) ++ codes ". "
 
+-- that the side's pawns can have come without a capture
+abbrev pub no_captures : List ℕ
+no_captures = codes "'s pawns needn't have made any captures. "
+
+-- how many captures, one or more, the side's pawns made at least
+abbrev pub more_words : ℕ → List ℕ
+more_words captures = codes "'s pawns have made at least " ++ counted captures (codes " capture") (codes " captures") ++ codes ". "
+
 -- how many captures the side's pawns made at least
 abbrev pub least_words : ℕ → List ℕ
-least_words captures = codes "'s pawns have made at least " ++ counted captures (codes " capture") (codes " captures") ++ codes ". "
+least_words captures = cond (captures == 0) no_captures (more_words captures)
 
 -- with how many captures the side's pawns came, where the least number is this one, and where they began on these files
 abbrev pub captures_words : Asked → Colour → ℕ → List ℕ → List ℕ
 captures_words q c captures files =
-    cond (captures == 0) (codes "'s pawns have made at least 0 captures. ") (cond (nat_lt captures 64) (some_words q c captures files) (codes "'s pawns can't have come there from different files, however much they captured. "))
+    cond (captures == 0) no_captures (cond (nat_lt captures 64) (some_words q c captures files) (codes "'s pawns can't have come to these squares from different files, however much they captured."))
+
+-- the side has at most eight pawns, who can have come to their squares from different files
+abbrev pub can_come : Asked → Colour → Bool
+can_come q c = nat_le (length (pawn_squares c q.board)) 8 && nat_lt (least_cost 8 (pawn_costs q.odds c q.board)) 64
 
 -- how many men a side lacks
 abbrev pub missing_words : Bool → Colour → ℕ → List ℕ
-missing_words first c missing = at_time first c (codes " lacks ") (codes " lacked ") ++ cond (missing == 0) (codes "nobody") (counted missing (codes " man") (codes " men"))
+missing_words first c missing = at_time first c (codes " lacks ") (codes " lacked ") ++ cond (missing == 0) (codes "no men") (counted missing (codes " man") (codes " men"))
 
 -- how many men a side lacks, and whom no pawn took
 abbrev pub lacks_words : Bool → Asked → Colour → List Bool → ℕ → List ℕ
 lacks_words first q c set missing =
     missing_words first c missing ++ around (codes ", but no pawn can have taken whoever began on") (squares_words (is_safe q c set)) [] ++ codes "."
+
+-- the same, if it matters: if the enemy's pawns can have come at all
+abbrev pub missed_words : Bool → Asked → Colour → List Bool → ℕ → List ℕ
+missed_words first q c set missing = cond (can_come q (opponent c)) (lacks_words first q c set missing) []
 
 -- what men pay more than they earn, or the other way round
 abbrev pub difference_words : ℕ → ℕ → List ℕ
@@ -279,7 +304,7 @@ pawn_fact_words (Gone c set) q = gone_words q c set
 pawn_fact_words (Promoted c set pawns began first) q = count_words first c pawns (began + 1 - pawns) began
 pawn_fact_words (Way c captures files) q = side_word c ++ captures_words q c captures files.items
 pawn_fact_words (AtLeast c set captures) q = side_word c ++ least_words captures
-pawn_fact_words (Lacks c set missing first) q = lacks_words first q c set missing
+pawn_fact_words (Lacks c set missing first) q = missed_words first q c set missing
 
 -- the words of what is said of a balance
 unfoldable pub balance_fact_words : BalanceFact → Asked → List ℕ

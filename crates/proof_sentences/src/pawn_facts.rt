@@ -4,7 +4,7 @@ ghost use Rattle.std.specs.Prelude.{◌≡◌, ◌++◌, ◌-◌, ◌<◌, ◌�
 ghost use Rattle.std.specs.Fmt.{decimal};
 ghost use Rattle.assignment.specs.Assignments.{IsInjection};
 ghost use Rattle.pawn_assign.specs.PawnCosts.{pawn_costs, pawn_home, pawn_squares};
-ghost use Rattle.proof_sentences.specs.Sentences.{PawnsSay, at_time, captures_words, count_words, counted, gone_words, is_gone, is_safe, lacks_words, least_words, missing_words, pawn_fact_words, pawn_words, some_words, way_words, ways_words};
+ghost use Rattle.proof_sentences.specs.Sentences.{PawnsSay, at_time, began_words, can_come, captures_words, count_words, counted, gone_words, is_gone, is_safe, lacks_words, least_words, missed_words, missing_words, more_words, no_captures, pawn_fact_words, pawn_words, promoted_words, some_words, way_words, ways_words};
 ghost use Rattle.prose_words.specs.Words.{side_word, squares_words};
 
 use crate::pawns::pawn_squares;
@@ -13,7 +13,7 @@ use crate::sentences::PawnFact;
 use balance_prose::{push_around, rest_of};
 use board_base::{Colour, Square, SquareSet, array_of, is_of};
 use cage_rules::{is_dead, is_officer_home, is_shielded};
-use pawn_assign::{Costs, costs};
+use pawn_assign::{Costs, costs, least};
 use prose_words::{push_number, push_square, push_square_if, say, side_word};
 use query_base::Query;
 use std::alloc::{AllocError, Global};
@@ -92,6 +92,37 @@ fn less(n: u16, m: u8) -> u16
     n.saturating_sub(m as u16)
 }
 
+/// How many promoted men a side has too, and with how many pawns it began.
+fn push_promoted(promoted: u16, began: u8, out: &mut Vec<u8>) -> Result<(), AllocError>
+    ensures { IfOk result (λ _. out.new.items ≡ out.old.items ++ promoted_words promoted began) }
+{
+    say(b" and at least ", out)?;
+    push_counted(promoted as usize, b" promoted man", b" promoted men", out)?;
+    say(b", but began with ", out)?;
+    push_counted(began as usize, b" pawn", b" pawns", out)?;
+    Ok(())
+}
+
+/// With how many pawns a side began that has more of them.
+fn push_fewer(began: u8, out: &mut Vec<u8>) -> Result<(), AllocError>
+    ensures { IfOk result (λ _. out.new.items ≡ out.old.items ++ (codes ", but began with " ++ decimal began)) }
+{
+    say(b", but began with ", out)?;
+    push_number(began as usize, out)?;
+    Ok(())
+}
+
+/// How many promoted men a side has, if it has any, and with how many pawns it began.
+fn push_began(promoted: u16, began: u8, out: &mut Vec<u8>) -> Result<(), AllocError>
+    ensures { IfOk result (λ _. out.new.items ≡ out.old.items ++ began_words promoted began) }
+{
+    if promoted == 0 {
+        push_fewer(began, out)
+    } else {
+        push_promoted(promoted, began, out)
+    }
+}
+
 /// How many pawns and promoted men a side has, and with how many pawns it began.
 fn push_count(
     first: bool,
@@ -105,10 +136,7 @@ fn push_count(
 {
     push_at_time(first, side, b" has ", b" had ", out)?;
     push_counted(pawns as usize, b" pawn", b" pawns", out)?;
-    say(b" and at least ", out)?;
-    push_counted(promoted as usize, b" promoted man", b" promoted men", out)?;
-    say(b", but began with ", out)?;
-    push_counted(began as usize, b" pawn", b" pawns", out)?;
+    push_began(promoted, began, out)?;
     say(b".", out)?;
     Ok(())
 }
@@ -212,6 +240,13 @@ fn push_few(
     Ok(())
 }
 
+/// That the side's pawns can have come without a capture.
+fn push_no_captures(out: &mut Vec<u8>) -> Result<(), AllocError>
+    ensures { IfOk result (λ _. out.new.items ≡ out.old.items ++ no_captures) }
+{
+    say(b"'s pawns needn't have made any captures. ", out)
+}
+
 /// With how many captures the side's pawns came.
 fn push_captures(
     alloc: Global,
@@ -226,12 +261,12 @@ fn push_captures(
     ensures { IfOk result (λ _. out.new.items ≡ out.old.items ++ captures_words query.now side captures files.now) }
 {
     if captures == 0 {
-        say(b"'s pawns have made at least 0 captures. ", out)
+        push_no_captures(out)
     } else if captures < 64 {
         push_few(alloc, query, side, captures, files, out)
     } else {
         say(
-            b"'s pawns can't have come there from different files, however much they captured. ",
+            b"'s pawns can't have come to these squares from different files, however much they captured.",
             out,
         )
     }
@@ -254,15 +289,33 @@ fn push_pawns_came(
     push_captures(alloc, query, side, captures, files, out)
 }
 
-/// How many captures the side's pawns made at least.
-fn push_at_least(side: Colour, captures: u16, out: &mut Vec<u8>) -> Result<(), AllocError>
-    ensures { IfOk result (λ _. out.new.items ≡ out.old.items ++ (side_word side ++ least_words captures)) }
+/// How many captures, one or more, the side's pawns made at least.
+fn push_more(captures: u16, out: &mut Vec<u8>) -> Result<(), AllocError>
+    ensures { IfOk result (λ _. out.new.items ≡ out.old.items ++ more_words captures) }
 {
-    say(side_word(side), out)?;
     say(b"'s pawns have made at least ", out)?;
     push_counted(captures as usize, b" capture", b" captures", out)?;
     say(b". ", out)?;
     Ok(())
+}
+
+/// How many captures the side's pawns made at least.
+fn push_least(captures: u16, out: &mut Vec<u8>) -> Result<(), AllocError>
+    ensures { IfOk result (λ _. out.new.items ≡ out.old.items ++ least_words captures) }
+{
+    if captures == 0 {
+        push_no_captures(out)
+    } else {
+        push_more(captures, out)
+    }
+}
+
+/// The same of a side that is named.
+fn push_at_least(side: Colour, captures: u16, out: &mut Vec<u8>) -> Result<(), AllocError>
+    ensures { IfOk result (λ _. out.new.items ≡ out.old.items ++ (side_word side ++ least_words captures)) }
+{
+    say(side_word(side), out)?;
+    push_least(captures, out)
 }
 
 /// Whose officers were captured while the set stood: those of these homes.
@@ -284,12 +337,12 @@ fn push_gone(
     )
 }
 
-/// A number of men, or nobody.
+/// A number of men, in words if there are none.
 fn push_men(n: u8, out: &mut Vec<u8>) -> Result<(), AllocError>
-    ensures { IfOk result (λ _. out.new.items ≡ out.old.items ++ cond (n == 0) (codes "nobody") (counted n (codes " man") (codes " men"))) }
+    ensures { IfOk result (λ _. out.new.items ≡ out.old.items ++ cond (n == 0) (codes "no men") (counted n (codes " man") (codes " men"))) }
 {
     if n == 0 {
-        say(b"nobody", out)
+        say(b"no men", out)
     } else {
         push_counted(n as usize, b" man", b" men", out)
     }
@@ -324,6 +377,35 @@ fn push_lacks(
         out,
     )?;
     say(b".", out)
+}
+
+/// Whether the side has at most eight pawns, who can have come to their squares from different files.
+fn can_come(query: &Query, side: Colour) -> bool
+    ensures { result ≡ can_come query.now side }
+{
+    match costs(&query.board, side, query.odds) {
+        Some(costs) => least(&costs).cost < 64,
+        None => false,
+    }
+}
+
+/// How many men a side lacks, if the enemy's pawns can have come at all.
+fn push_missed(
+    alloc: Global,
+    query: &Query,
+    first: bool,
+    side: Colour,
+    set: SquareSet,
+    missing: u8,
+    out: &mut Vec<u8>,
+) -> Result<(), AllocError>
+    ensures { IfOk result (λ _. out.new.items ≡ out.old.items ++ missed_words first query.now side set missing) }
+{
+    if can_come(query, side.other()) {
+        push_lacks(alloc, query, first, side, set, missing, out)
+    } else {
+        Ok(())
+    }
 }
 
 /// The words of what is said of pawns, which holds of a query.
@@ -374,6 +456,6 @@ pub(crate) fn push_pawn_fact(
             set,
             missing,
             first,
-        } => push_lacks(alloc, query, *first, *side, *set, *missing, out),
+        } => push_missed(alloc, query, *first, *side, *set, *missing, out),
     }
 }

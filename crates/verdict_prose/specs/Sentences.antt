@@ -110,7 +110,7 @@ end_words n = side_word (mover_at n) ++ codes "'s " ++ ordinal ((n + 1) / 2) ++ 
 
 -- that each game is so long, one half-move at least
 abbrev pub length_words : ℕ → List ℕ
-length_words n = codes "No game is shorter than " ++ half_moves n ++ codes ": each ends with " ++ end_words n
+length_words n = codes "No game leads here in fewer than " ++ half_moves n ++ codes ": each ends with " ++ end_words n
 
 -- what is said of the position with the other side to move
 abbrev pub turned_words : Asked → List ℕ → List ℕ

@@ -88,7 +88,7 @@ fn push_end(n: u16, out: &mut Vec<u8>) -> Result<(), AllocError>
 pub(crate) fn push_length(n: u16, out: &mut Vec<u8>) -> Result<(), AllocError>
     ensures { IfOk result (λ _. out.new.items ≡ out.old.items ++ length_words n) }
 {
-    say(b"No game is shorter than ", out)?;
+    say(b"No game leads here in fewer than ", out)?;
     push_half_moves(n, out)?;
     say(b": each ends with ", out)?;
     push_end(n, out)

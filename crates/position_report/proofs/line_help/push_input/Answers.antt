@@ -10,7 +10,7 @@ pub returns : goal.returns
 unfolding line_input
 returns c =
     let o = c.args.out.now.items in
-    let call = call_text (codes "For a proof of the last moves:\nretractor dossier ") c.args.limits.depth c.args.limits.nodes (codes " << END | retractor explain\n") in
+    let call = call_text c.args.words.now c.args.limits.depth c.args.limits.nodes (codes " << END | retractor explain\n") in
     let claim = ended (line_claim_text c.args.claim.now) in
     let position = position_lines c.args.query.now in
     let h1 = thence o _ _ call claim c.in_ok-push_call.ensures c.in_ok-push_claim.ensures in

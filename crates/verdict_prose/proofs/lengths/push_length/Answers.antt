@@ -9,6 +9,6 @@ pub returns : goal.returns
 returns c =
     let o = c.args.out.now.items in
     let half = half_moves c.args.n in
-    let h1 = thence o _ _ (codes "No game is shorter than ") half c.in_ok-say.ensures c.in_ok-push_half_moves.ensures in
-    let h2 = thence o _ _ (codes "No game is shorter than " ++ half) (codes ": each ends with ") h1 c.in_ok-say-2.ensures in
-    behind c.push_end.result o _ _ (codes "No game is shorter than " ++ half ++ codes ": each ends with ") (end_words c.args.n) h2 c.push_end.ensures
+    let h1 = thence o _ _ (codes "No game leads here in fewer than ") half c.in_ok-say.ensures c.in_ok-push_half_moves.ensures in
+    let h2 = thence o _ _ (codes "No game leads here in fewer than " ++ half) (codes ": each ends with ") h1 c.in_ok-say-2.ensures in
+    behind c.push_end.result o _ _ (codes "No game leads here in fewer than " ++ half ++ codes ": each ends with ") (end_words c.args.n) h2 c.push_end.ensures

@@ -6,7 +6,7 @@ use Rattle.ledger_prose.specs.Words.{names_words}
 use Rattle.ledger_prose.specs.declared.names.Joint.TheVariants.{And}
 use Rattle.ledger_prose.specs.declared.names.Style.TheVariants.{Files}
 use Rattle.ledger_prose.proofs.Spacing.{four-pieces}
-use Rattle.ledger_prose.proofs.men.push_pawns_of.Goals as goal
+use Rattle.ledger_prose.proofs.men.push_some_pawns_of.Goals as goal
 
 pub returns : goal.returns
 returns c =
