@@ -1,5 +1,5 @@
 pub mod Must
-mod Rays
+pub mod Rays
 pub mod Entries
 pub mod PawnEntries
 pub mod Arrivals
@@ -11,8 +11,8 @@ pub mod Tested
 pub mod Filling
 pub mod SetAlgebra
 mod Shifts
-mod Near
-mod Adjacent
+pub mod Near
+pub mod Adjacent
 mod Loose
 mod Sorting
 pub mod Greatest

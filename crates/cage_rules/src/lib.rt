@@ -20,3 +20,4 @@ pub use laws::{
 };
 pub use refutations::{captures_refute, promotions_refute};
 pub use roaming::{exposed, is_dead, is_officer_home, is_shielded, region, region_from};
+pub use steps::{ahead, pawn_steps, piece_steps};

@@ -61,7 +61,7 @@ fn along(set: SquareSet, ranks: u8) -> SquareSet
 }
 
 /// The squares a rank ahead of those of the set, as pawns of this colour go.
-fn ahead(colour: Colour, set: SquareSet) -> SquareSet
+pub fn ahead(colour: Colour, set: SquareSet) -> SquareSet
     ensures { result ≡ near (is_ahead colour) set }
 {
     match colour {
@@ -92,7 +92,7 @@ pub(crate) fn knight_steps(set: SquareSet) -> SquareSet
 }
 
 /// The squares that have one of the set behind them or diagonally behind them, as pawns of this colour go.
-pub(crate) fn pawn_steps(colour: Colour, set: SquareSet) -> SquareSet
+pub fn pawn_steps(colour: Colour, set: SquareSet) -> SquareSet
     ensures { result ≡ near (is_behind colour) set }
 {
     ahead(colour, either(set, across(set, 1)))
@@ -107,7 +107,7 @@ pub(crate) fn pawn_strikes(colour: Colour, set: SquareSet) -> SquareSet
 
 /// The squares one step from those of the set, as the moves of this piece are made of steps. A pawn has none.
 #[tactic(auto, unfolding(crate::specs::Steps::is_step))]
-pub(crate) fn piece_steps(kind: Kind, set: SquareSet) -> SquareSet
+pub fn piece_steps(kind: Kind, set: SquareSet) -> SquareSet
     ensures { result ≡ near (is_step kind) set }
 {
     match kind {

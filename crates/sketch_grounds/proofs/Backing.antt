@@ -24,7 +24,7 @@ use Rattle.past_account.specs.Ways.{is_pawn_step}
 use Rattle.figures.specs.Figures.{Figure}
 use Rattle.sketch_grounds.specs.Backed.{is_backed, is_from}
 use Rattle.past_account.specs.Zones.{IsZone, goes_on, may_hold}
-use Rattle.sketch_grounds.proofs.Near.{near-tells, near-told}
+use Rattle.cage_rules.proofs.Near.{near-tells, near-told}
 
 pub ends-is : (s : ℕ) → s < 64 → is_in (squares_of 18374686479671623935) s ≡ is_end s
 unfolding squares_of

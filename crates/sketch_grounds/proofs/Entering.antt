@@ -19,7 +19,7 @@ use Rattle.cage_rules.specs.Sets.{squares_that, union}
 use Rattle.cage_rules.specs.Steps.{is_ahead, is_near, is_step, near}
 use Rattle.cage_rules.proofs.Entries.{knight-back}
 use Rattle.cage_rules.proofs.Filling.{none-in-zero}
-use Rattle.sketch_grounds.proofs.Near.{is_in-near, length-near, near-tells, near-told}
+use Rattle.cage_rules.proofs.Near.{is_in-near, length-near, near-tells, near-told}
 use Rattle.cage_rules.proofs.SetAlgebra.{same-that, that-is, union-that}
 use Rattle.sketch_grounds.specs.Entries.{pawn_enters}
 use Rattle.past_account.specs.Frozen.{enters_as}

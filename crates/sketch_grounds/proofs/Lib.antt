@@ -1,7 +1,3 @@
-mod Rays
-mod Near
-mod Shifts
-mod Adjacent
 mod Entering
 mod Pacing
 mod Pruning

@@ -22,11 +22,11 @@ use Rattle.play_rules.specs.Reach.{IsWithin}
 use Rattle.cage_rules.specs.Frozen.{is_next}
 use Rattle.cage_rules.specs.Regions.{may_roam, wall, walls}
 use Rattle.cage_rules.specs.Steps.{is_diagonal_step, is_line_step, is_near, is_step}
-use Rattle.sketch_grounds.proofs.Adjacent.{next-step}
+use Rattle.cage_rules.proofs.Adjacent.{next-step}
 use Rattle.cage_rules.proofs.Entries.{knight-back}
 use Rattle.cage_rules.proofs.Filling.{in-that, is_in-that, length-that}
-use Rattle.sketch_grounds.proofs.Near.{Source, near-tells, near-told}
-use Rattle.sketch_grounds.proofs.Rays.{diagonal-end, diagonal-step, line-end, line-step, no-steps}
+use Rattle.cage_rules.proofs.Near.{Source, near-tells, near-told}
+use Rattle.cage_rules.proofs.Rays.{diagonal-end, diagonal-step, line-end, line-step, no-steps}
 use Rattle.cage_rules.proofs.SetAlgebra.{same-set}
 use Rattle.cage_rules.proofs.Tested.{all_board, at_board, member-inside}
 use Rattle.cage_rules.proofs.Walls.{at-walls}

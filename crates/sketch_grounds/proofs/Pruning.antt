@@ -13,7 +13,7 @@ use Rattle.cage_rules.proofs.SetAlgebra.{is_in-both, is_in-outside, is_in-union,
 use Rattle.sketch_grounds.specs.LeastZones.{is_only}
 use Rattle.sketch_grounds.specs.Paces.{is_barred, is_pace, is_paced, paced}
 use Rattle.sketch_grounds.specs.Wide.{AreWide}
-use Rattle.sketch_grounds.proofs.Near.{is_in-near, near-tells, near-told}
+use Rattle.cage_rules.proofs.Near.{is_in-near, near-tells, near-told}
 use Rattle.board_base.specs.Squares.{squares_of}
 use Rattle.sketch_grounds.proofs.Entering.{member-there, only-member}
 use Rattle.sketch_grounds.proofs.Pacing.{only-tells, only-told, some-zone}

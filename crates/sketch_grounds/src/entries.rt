@@ -9,8 +9,8 @@ ghost use Rattle.past_account.specs.Frozen.{enters_as};
 ghost use Rattle.sketch_grounds.specs.Entries.{pawn_enters};
 
 use crate::sets::none;
-use crate::steps::{ahead, pawn_steps, piece_steps};
 use board_base::{Colour, Kind, Square, SquareSet, last_rank};
+use cage_rules::{ahead, pawn_steps, piece_steps};
 use figures::either;
 
 /// Whether a pawn of this colour on `s` has moved, and is not to be promoted there.

@@ -10,7 +10,6 @@ mod frozen;
 mod pawn_zones;
 mod rooms;
 mod sets;
-mod steps;
 mod zones;
 
 pub use begun::are_begun;

@@ -9,8 +9,8 @@ ghost use Rattle.past_account.specs.Zones.{reached_from, roams_past};
 use crate::entries::steps_to;
 use crate::pawn_zones::{Zone, Zones};
 use crate::sets::{both, none, outside};
-use crate::steps::piece_steps;
 use board_base::{Kind, Man, Square, SquareSet};
+use cage_rules::piece_steps;
 use figures::{either, is_same};
 
 /// The squares that with `u` are all that the zone has.

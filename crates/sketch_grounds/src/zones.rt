@@ -10,9 +10,9 @@ ghost use Rattle.sketch_grounds.specs.LeastZones.{has_pair, is_pair, least_zone,
 
 use crate::pawn_zones::{Zone, Zones};
 use crate::sets::{both, none, outside};
-use crate::steps::{ahead, pawn_steps};
 use arrayvec::ArrayVec;
 use board_base::{Kind, SquareSet};
+use cage_rules::{ahead, pawn_steps};
 use figures::{Figure, Sketch, either, is_same, is_whole};
 
 /// The squares of ranks 1 and 8, on which no pawn stands.
