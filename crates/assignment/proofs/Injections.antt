@@ -9,7 +9,7 @@ use Rattle.general_lemmas.proofs.Lists.{contains-cases, contains-filter, contain
 use Rattle.general_lemmas.proofs.Ranges.{contains-range, range-contains}
 use Rattle.assignment.specs.Assignments.{IsInjection, assignment_cost, injections, is_among, least_cost, least_of}
 
-other_column : (j : ℕ) (columns : List ℕ) → ((k : ℕ) → k < length columns → slice_index columns k ≡ j → ⊥) → is_among j columns ≡ false
+pub other_column : (j : ℕ) (columns : List ℕ) → ((k : ℕ) → k < length columns → slice_index columns k ≡ j → ⊥) → is_among j columns ≡ false
 other_column j [] none = refl
 other_column j (i ∷ columns) none =
     let here : i ≡ j → ⊥ = none 0 (omega arith) in

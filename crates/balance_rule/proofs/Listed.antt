@@ -97,7 +97,7 @@ least-below (y ∷ xs) x h = elim (contains-cases y xs x h) [
   | inr there ↦ let rest = least-below xs x there in omega arith
 ]
 
-least-found : (xs : List ℕ) → least xs < never → Contains xs (least xs)
+pub least-found : (xs : List ℕ) → least xs < never → Contains xs (least xs)
 least-found [] low = absurd (omega arith)
 least-found (y ∷ xs) low = elim (cases_lt y (least xs)) [
   | inl less ↦ let e : y ≡ least (y ∷ xs) = omega arith in subst (Contains (y ∷ xs)) e (contains-first y xs)

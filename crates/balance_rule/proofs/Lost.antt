@@ -24,7 +24,7 @@ use Rattle.balance_rule.proofs.Priced.{earned-small}
 use Rattle.balance_rule.proofs.Reaching.{fee-least, toll-least}
 use Rattle.balance_rule.proofs.Seen.{end-inside, seen-inside, seen-seen, way-ahead}
 
-most-small : (p : PriceList) (set : List Bool) (c : Colour) (among : ℕ → Bool) → IsTrue (are_prices p) → most_earned p set c among ≤ 96
+pub most-small : (p : PriceList) (set : List Bool) (c : Colour) (among : ℕ → Bool) → IsTrue (are_prices p) → most_earned p set c among ≤ 96
 most-small p set c among known = elim (cases_lt 0 (most_earned p set c among)) [
   | inl some ↦
       let had = (greatest-listed among (earned p set c)).found some in
@@ -34,14 +34,14 @@ most-small p set c among known = elim (cases_lt 0 (most_earned p set c among)) [
 ]
 
 -- what comes of promotions on t
-or-none : (a b d e : Bool) → (a || (b || (d || (e || false)))) ≡ (((a || b) || d) || e)
+pub or-none : (a b d e : Bool) → (a || (b || (d || (e || false)))) ≡ (((a || b) || d) || e)
 or-none true b d e = refl
 or-none false true d e = refl
 or-none false false true e = refl
 or-none false false false true = refl
 or-none false false false false = refl
 
-promoted-is : (set : List Bool) (c : Colour) (h t : ℕ) (way : List ℕ) (s : ℕ) → way_end h way ≡ t → (rank t == last_rank c) ≡ true → brings_officer set c h way s ≡ comes_promoted set c t s
+pub promoted-is : (set : List Bool) (c : Colour) (h t : ℕ) (way : List ℕ) (s : ℕ) → way_end h way ≡ t → (rank t == last_rank c) ≡ true → brings_officer set c h way s ≡ comes_promoted set c t s
 promoted-is set c h t way s ends last =
     ap (λ (b : Bool). (b && true && is_in (region_from set (man c Knight) (way_end h way)) s) || ((b && true && is_in (region_from set (man c Bishop) (way_end h way)) s) || ((b && true && is_in (region_from set (man c Rook) (way_end h way)) s) || ((b && true && is_in (region_from set (man c Queen) (way_end h way)) s) || false)))) (ap (λ (u : ℕ). rank u == last_rank c) ends ∙ last)
     ∙ or-none (is_in (region_from set (man c Knight) (way_end h way)) s) (is_in (region_from set (man c Bishop) (way_end h way)) s) (is_in (region_from set (man c Rook) (way_end h way)) s) (is_in (region_from set (man c Queen) (way_end h way)) s)

@@ -17,7 +17,7 @@ use Rattle.balance_rule.specs.declared.tariffs.Tariff.{Tariff}
 use Rattle.balance_rule.proofs.Gates.{gate-small}
 use Rattle.balance_rule.proofs.Seen.{seen-inside}
 
-low-index : (xs : List ℕ) (k : ℕ) → list_all is_low xs ≡ true → slice_index xs k ≤ 96
+pub low-index : (xs : List ℕ) (k : ℕ) → list_all is_low xs ≡ true → slice_index xs k ≤ 96
 low-index [] k h = omega arith
 low-index (x ∷ xs) zero h = leb-true x 96 (and_parts (is_low x) (list_all is_low xs) h).0
 low-index (x ∷ xs) (suc k) h = low-index xs k (and_parts (is_low x) (list_all is_low xs) h).1

@@ -116,7 +116,7 @@ within-side c (h ∷ hs) small zero d inside = small h (inl refl)
 within-side c (h ∷ hs) small (suc k) d inside = within-side c hs (λ z there. small z (inr there)) k d (omega arith)
 
 -- rows that tell at each home what f tells
-rows-sum : (c : Colour) (row : ℕ → List ℕ) (to f : ℕ → ℕ) (squares : List ℕ) → ((s : ℕ) → Has squares s → slice_index (row s) (column c (to s)) ≡ f (to s)) → assignment_cost (map row squares) (map (column c) (map to squares)) ≡ sum_by f (map to squares)
+pub rows-sum : (c : Colour) (row : ℕ → List ℕ) (to f : ℕ → ℕ) (squares : List ℕ) → ((s : ℕ) → Has squares s → slice_index (row s) (column c (to s)) ≡ f (to s)) → assignment_cost (map row squares) (map (column c) (map to squares)) ≡ sum_by f (map to squares)
 rows-sum c row to f [] tells = refl
 rows-sum c row to f (s ∷ squares) tells = omega (arith, tells s (inl refl), rows-sum c row to f squares (λ t there. tells t (inr there)), sum_by-cons f (to s) (map to squares))
 

@@ -1,6 +1,5 @@
 -- The lines of a sketch in memory, one after another.
-use Rattle.std.proofs.Common.{◌≡◌, ℕ, ◌+◌, ◌<◌, ◌≤◌, ◌&&◌, Bool, true, List, [], ◌∷◌, ◌++◌, drop, get_or, length, map, refl, sym, ap, ◌∙◌, subst}
-use Rattle.std.proofs.lemmas.List.{drop_all, drop_more}
+use Rattle.std.proofs.Common.{◌≡◌, ℕ, ◌+◌, ◌&&◌, true, List, [], ◌∷◌, ◌++◌, length, map, refl, sym, ◌∙◌, subst}
 use Rattle.std.specs.Prelude.{Option, Some, None}
 use Rattle.std.specs.List.{list_all}
 use Rattle.capture_prices.specs.Prices.{PriceList}
@@ -9,10 +8,8 @@ use Rattle.sketch_text.specs.Trees.{Line}
 use Rattle.sketch_text.specs.Heads.{is_head}
 use Rattle.sketch_body.specs.Bodies.{Body, Item, head_of, items_of, of_line, of_prices}
 use Rattle.sketch_body.specs.Due.{Due, next}
-use Rattle.sketch_body.specs.Seen.{line_of}
 use Rattle.sketch_body.specs.Texts.{is_item}
-use Rattle.sketch_body.specs.Whole.{is_body, on_next, runs_out}
-use Rattle.sketch_body.specs.declared.lines.SketchLine.{SketchLine}
+use Rattle.sketch_body.specs.Whole.{is_body, runs_out}
 use Rattle.std.proofs.lemmas.Bool.{and_parts}
 use Rattle.sketch_checker.specs.Proofs.{Setting}
 use Rattle.sketch_checker.specs.DueNodes.{first_due}
@@ -23,6 +20,7 @@ use Rattle.sketch_checker.specs.Walks.{Frame, Opened}
 use Rattle.sketch_checker.proofs.Settling.{stays}
 use Rattle.cert_checker.specs.SketchLines.{AreDue, StandsAt}
 use Rattle.cert_checker.proofs.SketchPlaces.{due-comes, due-next, over-ends, stands-first}
+use Rattle.sketch_body.proofs.Readings.{on_parts}
 
 -- what is due next, and after it
 record IsDueLine (o : Option Opened) (fs : List Frame) (l : Line) (rest : List Line) : Type 0 where
@@ -32,13 +30,9 @@ record IsDueLine (o : Option Opened) (fs : List Frame) (l : Line) (rest : List L
   on : next now (of_line l) ≡ Some later
   out : runs_out later (map (λ k. of_line k) rest) ≡ true
 
-some-next : (o : Option Due) (go : Due → Bool) → on_next o go ≡ true → (e : Due) × (o ≡ Some e) × (go e ≡ true)
-some-next None go e = absurd cc
-some-next (Some d) go e = (d, refl, e)
-
 due-line : (o : Option Opened) (fs : List Frame) (l : Line) (rest : List Line) → AreDue o fs (l ∷ rest) → IsDueLine o fs l rest
 due-line o fs l rest (d, stands, out) =
-    let it = some-next (next d (of_line l)) (λ e. runs_out e (map (λ k. of_line k) rest)) out in
+    let it = on_parts (next d (of_line l)) (λ e. runs_out e (map (λ k. of_line k) rest)) out in
     record { now = d; later = it.0; stands = stands; on = it.1; out = it.2 }
 
 pub line-comes : (o : Option Opened) (fs : List Frame) (l : Line) (rest : List Line) → AreDue o fs (l ∷ rest) → may_come o fs l ≡ true
@@ -64,13 +58,6 @@ body-due b S known =
     (record { prices = P; wanted = 0; marks = 0; nodes = 1 ∷ [] }, stands-first P S, sym (prices-out b.prices P (1 ∷ []) (map (λ l. of_line l) b.lines)) ∙ out)
 
 -- LINES IN MEMORY
-
--- what is left from line i on begins with it
-pub line-left : (all : List SketchLine) (i : ℕ) (x : SketchLine) → i < length all → x ≡ get_or all i x → map line_of (drop i all) ≡ line_of x ∷ map line_of (drop (i + 1) all)
-line-left all i x low is = ap (λ (l : List SketchLine). map line_of l) (drop_more all i x low) ∙ ap (λ (y : SketchLine). line_of y ∷ map line_of (drop (i + 1) all)) (sym is)
-
-pub none-left : (all : List SketchLine) (i : ℕ) → length all ≤ i → map line_of (drop i all) ≡ []
-none-left all i past = ap (λ (l : List SketchLine). map line_of l) (drop_all i all past)
 
 -- what the walk over these lines comes to is what it comes to over all
 abbrev pub LeadsOn : Setting → Walking → ℕ → List Line → Walking → ℕ → List Line → Type 0

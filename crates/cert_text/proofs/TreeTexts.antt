@@ -67,7 +67,7 @@ said_whole P (text ∷ texts) (i ∷ items) low said =
     let is = says_is P text i said.0 in
     (record { text = text; line_is = refl; free = subst (Free 10) (sym is.text_is) (item_free P i low is.known) }, said_whole P texts items low said.1)
 
-body_head : (b : Body) → is_body b ≡ true → is_head (head_of b) ≡ true
+pub body_head : (b : Body) → is_body b ≡ true → is_head (head_of b) ≡ true
 body_head b known = (and_parts (is_head (head_of b)) _ known).0
 
 -- the lines below a node

@@ -7,9 +7,8 @@ use Rattle.std.proofs.lemmas.List.{append_assoc}
 use Rattle.std.proofs.lemmas.List.Folds.{concat-append}
 use Rattle.std.proofs.lemmas.Option.{some_pair_parts}
 use Rattle.board_base.specs.declared.unmoves.Unmove.{Unmove}
-use Rattle.sketch_text.specs.Heads.{Head, are_files, is_head}
-use Rattle.sketch_body.specs.Bodies.{Body, head_of}
-use Rattle.sketch_body.specs.Whole.{is_body}
+use Rattle.sketch_text.specs.Heads.{Head, are_files}
+use Rattle.sketch_body.specs.Bodies.{head_of}
 use Rattle.cert_text.specs.Tree.{Tree, Forest, rule, back, expand, sketch, none, more, count, kid_at}
 use Rattle.cert_text.specs.Sizes.{rest_of}
 use Rattle.cert_text.specs.Lines.{ended}
@@ -23,6 +22,7 @@ use Rattle.cert_text.specs.declared.node_lines.NodeLine.{NodeLine}
 use Rattle.cert_text.proofs.Forests.{rest-more}
 use Rattle.cert_text.proofs.SpelledLines.{kid_text_read, root_text_read}
 use Rattle.board_base.proofs.TextLemmas.{mapped_some}
+use Rattle.cert_text.proofs.TreeTexts.{body_head}
 
 -- a child that the grammar admits
 pub record IsAdmitted (depth : ℕ) (label : Unmove) (t : Tree) : Type 0 where
@@ -83,9 +83,6 @@ few_children (expand kids) depth n fit e =
     let few = and_parts ((count kids == 0) || nat_lt depth 255) (nat_le (count kids) 999999) own.0 in
     let same : count kids ≡ n = cc in
     omega (arith, leb-true (count kids) 999999 few.1)
-
-body_head : (b : Body) → is_body b ≡ true → is_head (head_of b) ≡ true
-body_head b known = (and_parts (is_head (head_of b)) _ known).0
 
 -- the sketch of a tree that the grammar admits has few lines of prices
 pub few_prices : (t : Tree) (depth : ℕ) (h : Head) → fits depth t ≡ true → body_of t ≡ Sketch h → h.prices ≤ 64

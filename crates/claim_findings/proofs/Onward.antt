@@ -1,12 +1,12 @@
 -- A game to what is before a listed unmove goes on by its move, which takes back what the unmove says.
 use Rattle.std.proofs.Common.{◌≡◌, ◌+◌, ◌<◌, Bool, true, false, cond, List, [], ◌∷◌, ◌++◌, length, refl, ap, sym, subst, ◌∙◌, arith}
 use Rattle.std.proofs.lemmas.Bool.{and_parts, both_ways, cond-false}
-use Rattle.std.specs.Prelude.{◌&&◌, Option, Some, None, IfSome, IsTrue}
+use Rattle.std.specs.Prelude.{◌&&◌, Option, Some, None}
 use Rattle.std.specs.Bool.{beq}
 use Rattle.std.specs.List.{Contains}
 use Rattle.general_lemmas.proofs.Filtered.{passes-filter}
 use Rattle.general_lemmas.proofs.Truth.{same_truth}
-use Rattle.board_base.specs.Board.{Places, at, is_a, is_of, same_kind}
+use Rattle.board_base.specs.Board.{Places, at, is_of, same_kind}
 use Rattle.board_base.specs.Game.{board_after, last_move, turn_after}
 use Rattle.board_base.specs.Legal.{pawn_captures_en_passant}
 use Rattle.board_base.specs.Play.{en_passant_victim}
@@ -23,9 +23,10 @@ use Rattle.query_base.specs.Reach.{Reaches}
 use Rattle.unmove_gen.specs.Listed.{answered, before, candidates, every_right, has_left, is_listed, mover, took_pawn, unmoves}
 use Rattle.unmove_gen.specs.Predecessor.{is_en_passant_after, predecessor, unmove_after}
 use Rattle.unmove_gen.specs.TakenBack.{capture_square, captured_by, kind_of}
-use Rattle.unmove_gen.proofs.Marks.{captures, goes-same, none-answers}
+use Rattle.unmove_gen.proofs.Marks.{captures, goes-same}
 use Rattle.unmove_gen.proofs.Members.{at-capture, length-back}
 use Rattle.unmove_gen.proofs.Parts.{Parts, legality_of, parts}
+use Rattle.unmove_gen.proofs.Onward.{passes-last}
 
 -- the man that one of this side captured is of the kind that was given
 kind-captured : (place : Option Man) (c : Colour) (k : Option Kind) → is_of c place ≡ true → kind_of (captured_by place k) ≡ k
@@ -54,11 +55,6 @@ captured-here q u false whole p plain =
     let small : u.mv.to < 64 = (legality_of q u p).on_board in
     let there : at (before q u) u.mv.to ≡ captured_by (at q.board u.mv.to) u.captured = ap (at (before q u)) (sym square) ∙ at-capture q.board u (omega (arith, square, whole, small)) in
     ap kind_of there ∙ kind-captured (at q.board u.mv.to) (mover q) u.captured p.target
-
--- a capture en passant of the demanded last move is one of the last move
-passes-last : (board : Places) (c : Colour) (last o : Option Move) (m : Move) → IfSome o (λ d. (last ≡ Some d) × IsTrue (is_a Pawn (at board d.to))) → pawn_captures_en_passant board c o m ≡ true → pawn_captures_en_passant board c last m ≡ true
-passes-last board c last None m only h = absurd (both_ways _ (none-answers board c m) h)
-passes-last board c last (Some d) m only h = subst (λ (l : Option Move). pawn_captures_en_passant board c l m ≡ true) (sym only.0) h
 
 -- after a game that reaches the predecessor of a listed unmove, that is what its move takes back
 same-unmove : (g : List Move) (u : Unmove) (q : Asked) → Parts q u → Reaches g (predecessor q u) → unmove_after q.odds g u.mv ≡ u

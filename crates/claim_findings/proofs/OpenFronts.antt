@@ -15,11 +15,7 @@ use Rattle.line_claims.specs.Listing.{AreListed}
 use Rattle.retro_search.specs.Unsettled.{IsOpenLine}
 use Rattle.claim_findings.specs.Ends.{IsCut, IsTellingAt, is_telling}
 use Rattle.claim_findings.proofs.Steps.{at_place}
-
--- what one retraction more leaves
-left_more : (q : Asked) (us : List Unmove) (u : Unmove) → left_by q (us ++ u ∷ []) ≡ predecessor (left_by q us) u
-left_more q [] u = refl
-left_more q (v ∷ us) u = left_more (predecessor q v) us u
+use Rattle.line_claims.proofs.Listings.{left-push}
 
 -- one step more in front
 pub listed_more : (q : Asked) (u : Unmove) (us : List Unmove) → Contains (unmoves q) u → AreListed (predecessor q u) us → AreListed q (u ∷ us)
@@ -82,7 +78,7 @@ telling_here q here line i u b is there telling = λ v found.
 
 next_here : (q here next : Asked) (line : List Unmove) (i : ℕ) (u : Unmove) → here ≡ left_by q (take i line) → slice_get line i ≡ Some u → next ≡ predecessor here u → next ≡ left_by q (take (i + 1) line)
 next_here q here next line i u is there moved =
-    moved ∙ ap (λ (a : Asked). predecessor a u) is ∙ sym (left_more q (take i line) u) ∙ ap (left_by q) (sym (take_next line i u there))
+    moved ∙ ap (λ (a : Asked). predecessor a u) is ∙ sym (left-push q (take i line) u) ∙ ap (left_by q) (sym (take_next line i u there))
 
 -- one that is telling
 pub cut_told : (q here next : Asked) (line : List Unmove) (i number new : ℕ) (u : Unmove) → CutSoFar q line i number here → slice_get line i ≡ Some u → is_telling here u ≡ true → new ≡ i + 1 → next ≡ predecessor here u → CutSoFar q line (i + 1) new next

@@ -7,20 +7,15 @@ use Rattle.std.proofs.lemmas.List.{append_cancel_left, append_cancel_right, leng
 use Rattle.general_lemmas.proofs.Lists.{same_first, same_rest}
 use Rattle.cert_text.specs.Lines.{cut}
 use Rattle.cert_text.proofs.CertTexts.{concat_cut}
-use Rattle.cert_text.proofs.TreeTexts.{cut_line}
 use Rattle.dossier_text.specs.Dossiers.{BeginsWithPart, HasNoPart, count_line}
-use Rattle.dossier_text.proofs.CountTexts.{count_free, one_count}
-
--- the line that counts its bytes comes first
-part_line : (bytes part rest : List ℕ) → BeginsWithPart bytes part rest → cut bytes ≡ count_line (length part) ∷ cut (part ++ rest)
-part_line bytes part rest p =
-    ap cut (p.parts ∙ append_assoc (count_line (length part)) part rest) ∙ cut_line (codes "part " ++ decimal (length part)) (part ++ rest) (count_free (length part) p.few)
+use Rattle.dossier_text.proofs.CountTexts.{one_count}
+use Rattle.dossier_text.proofs.PartTexts.{first_line}
 
 pub no_lines : (bytes : List ℕ) → cut bytes ≡ [] → HasNoPart bytes
-no_lines bytes none part rest p = let e = sym none ∙ part_line bytes part rest p in absurd cc
+no_lines bytes none part rest p = let e = sym none ∙ first_line bytes part rest p in absurd cc
 
 pub no_count : (bytes line others : List ℕ) → cut bytes ≡ line ∷ cut others → ((n : ℕ) → 1 ≤ n → n ≤ 67108864 → line ≡ count_line n → ⊥) → HasNoPart bytes
-no_count bytes line others is none part rest p = none (length part) p.some p.few (same_first (sym is ∙ part_line bytes part rest p))
+no_count bytes line others is none part rest p = none (length part) p.some p.few (same_first (sym is ∙ first_line bytes part rest p))
 
 -- bytes are their lines
 joined : (a b : List ℕ) → cut a ≡ cut b → a ≡ b
@@ -34,7 +29,7 @@ one_line m n few fewer e =
 -- fewer bytes follow than are counted
 pub too_few : (bytes line others : List ℕ) (n : ℕ) → cut bytes ≡ line ∷ cut others → line ≡ count_line n → n ≤ 67108864 → length others < n → HasNoPart bytes
 too_few bytes line others n is counts few short part rest p =
-    let both = sym is ∙ part_line bytes part rest p in
+    let both = sym is ∙ first_line bytes part rest p in
     let size : n ≡ length part = one_line n (length part) few p.few (sym counts ∙ same_first both) in
     let whole : others ≡ part ++ rest = joined others (part ++ rest) (same_rest both) in
     omega (arith, short, size, ap length whole, length-append part rest)

@@ -22,7 +22,7 @@ same_parts (x ∷ a) (y ∷ b) r s size e =
 sized : (bytes part rest : List ℕ) → BeginsWithPart bytes part rest → bytes ≡ count_line (length part) ++ (part ++ rest)
 sized bytes part rest p = p.parts ∙ append_assoc (count_line (length part)) part rest
 
-first_line : (bytes part rest : List ℕ) → BeginsWithPart bytes part rest → cut bytes ≡ count_line (length part) ∷ cut (part ++ rest)
+pub first_line : (bytes part rest : List ℕ) → BeginsWithPart bytes part rest → cut bytes ≡ count_line (length part) ∷ cut (part ++ rest)
 first_line bytes part rest p = ap cut (sized bytes part rest p) ∙ cut_line (codes "part " ++ decimal (length part)) (part ++ rest) (count_free (length part) p.few)
 
 same_size : (bytes a b r s : List ℕ) → BeginsWithPart bytes a r → BeginsWithPart bytes b s → length a ≡ length b

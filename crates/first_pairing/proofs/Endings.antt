@@ -4,7 +4,6 @@ use Rattle.std.proofs.Math.Seq.{drop-cons}
 use Rattle.std.proofs.lemmas.Bool.{both_ways, cases_eq, cond-false, cond-true, eqb-true, ne_eqb, not-true}
 use Rattle.std.proofs.lemmas.Grind.{flat_map-append}
 use Rattle.std.proofs.lemmas.Int.{ints}
-use Rattle.std.proofs.lemmas.Bool.Decides.{nat_tests}
 use Rattle.std.proofs.lemmas.List.{append_assoc, get_or-append-add, get_or-take, get_or_append_left, length-append, length-take-le}
 use Rattle.std.proofs.lemmas.List.Concat.{flat_map_single}
 use Rattle.std.specs.Prelude.{ℤ, ◌<ℤ◌, IsSome, Option, Some, None}
@@ -15,7 +14,7 @@ use Rattle.arrayvec.specs.ArrayVec.{ArrayVec}
 use Rattle.assignment.specs.Tables.{cost_at}
 use Rattle.assignment.specs.Assignments.{IsBounded, IsInjection, assignment_cost, injections, is_among, least_cost, total}
 use Rattle.assignment.proofs.Duality.{sums-along, total-le_along, total-set}
-use Rattle.assignment.proofs.Injections.{IsInjection-range, injections-complete, injections-sound, least_cost-is, least_cost-le}
+use Rattle.assignment.proofs.Injections.{IsInjection-range, injections-complete, injections-sound, least_cost-is, least_cost-le, other_column}
 use Rattle.first_pairing.specs.Endings.{CostAtLeast, injections_ending, items_found}
 use Rattle.first_pairing.specs.FirstPairings.{IsFirstPairing}
 use Rattle.first_pairing.proofs.Finding.{found-first, found-later, found-stands, none-found, nothing-found}
@@ -233,13 +232,6 @@ find-dear table least width more j rest columns rows h low free bound dear = non
     let told = ap (assignment_cost table) parts.2 in
     omega (arith, least_front, whole, first, last, same, told))
 
-none-among : (j : ℕ) (columns : List ℕ) → ((k : ℕ) → k < length columns → slice_index columns k ≡ j → ⊥) → is_among j columns ≡ false
-none-among j [] none = refl
-none-among j (i ∷ columns) none =
-    let here : i ≡ j → ⊥ = none 0 (omega arith) in
-    let rest = none-among j columns (λ k lt is. none (suc k) (omega arith) is) in
-    grind (arith, nat_tests)
-
 -- rows of the same costs in these columns cost the same
 cost-same : (a b : List (List ℕ)) (columns : List ℕ) → length a ≡ length b → ((k : ℕ) → k < length a → cost_at a k (slice_index columns k) ≡ cost_at b k (slice_index columns k)) → assignment_cost a columns ≡ assignment_cost b columns
 cost-same [] [] columns e same = refl
@@ -253,7 +245,7 @@ cost-same (row ∷ a) (other ∷ b) (j ∷ columns) e same =
 
 -- the columns in front are other ones
 front-free : (width left : ℕ) (front columns : List ℕ) → length front ≡ left → IsInjection width (left + length columns) (front ++ columns) → (k : ℕ) → k < left → is_among (slice_index front k) columns ≡ false
-front-free width left front columns size h k low = none-among (slice_index front k) columns (λ i lt is.
+front-free width left front columns size h k low = other_column (slice_index front k) columns (λ i lt is.
     let first = get_or_append_left front columns 0 k (omega arith) in
     let last = get_or-append-add front columns i 0 in
     let same = h.apart (length front + i) k (omega (arith, h.size)) (omega (arith, h.size)) (last ∙ is ∙ sym first) in

@@ -1,38 +1,17 @@
 -- The ledger and the gates added up over the homes of both sides, where men may earn other prices than pawns pay.
-use Rattle.std.proofs.Common.{◌≡◌, ◌≢◌, ℕ, ◌+◌, ◌*◌, ◌≤◌, Bool, true, List, [], ◌∷◌, length, arith}
-use Rattle.std.proofs.lemmas.Bool.{and_parts}
-use Rattle.std.proofs.lemmas.List.Sums.{sum_by-cons}
+use Rattle.std.proofs.Common.{◌≡◌, ◌≢◌, ℕ, ◌+◌, ◌*◌, ◌≤◌, Bool, true, List, length, arith}
 use Rattle.std.specs.List.{AllPairs, Contains, range_with_len, sum_by}
-use Rattle.board_base.specs.Board.{array_of, at, is_of, is_a, is_the, opponent}
+use Rattle.board_base.specs.Board.{array_of, at, is_of, opponent}
 use Rattle.board_base.specs.Game.{IsGame}
 use Rattle.board_base.specs.declared.men.Colour.{Colour}
 use Rattle.board_base.specs.declared.men.Colour.TheVariants.{White, Black}
-use Rattle.board_base.specs.declared.men.Kind.TheVariants.{Pawn}
 use Rattle.board_base.specs.declared.moves.Move.{Move}
-use Rattle.general_lemmas.proofs.Lists.{contains-first, contains-later}
-use Rattle.general_lemmas.proofs.SumsAmong.{sum-both}
 use Rattle.men_fates.specs.Deeds.{strikes}
 use Rattle.men_ledger.specs.Files.{gates_passed}
 use Rattle.men_ledger.specs.Ledger.{earned, paid, turnover}
 use Rattle.men_ledger.proofs.Balance.{paid-in-all, earned-in-all}
 use Rattle.men_ledger.proofs.Gates.{gates-most}
-
--- what is no more for each number is no more in all
-pub sum-each : (f g : ℕ → ℕ) (xs : List ℕ) → ((x : ℕ) → Contains xs x → f x ≤ g x) → sum_by f xs ≤ sum_by g xs
-sum-each f g [] each = omega arith
-sum-each f g (x ∷ xs) each = omega (arith, sum_by-cons f x xs, sum_by-cons g x xs, each x (contains-first x xs), sum-each f g xs (λ y there. each y (contains-later x xs y there)))
-
-sum-base : (base : ℕ) (f : ℕ → ℕ) (xs : List ℕ) → sum_by (λ x. base + f x) xs ≡ base * length xs + sum_by f xs
-sum-base base f [] = omega arith
-sum-base base f (x ∷ xs) = omega (arith, sum_by-cons (λ y. base + f y) x xs, sum_by-cons f x xs, sum-base base f xs)
-
--- one side's homes
-side-sum : (base : ℕ) (cost pays gates earns : ℕ → ℕ) (xs : List ℕ) → ((x : ℕ) → Contains xs x → cost x + earns x ≤ base + (pays x + gates x)) → sum_by cost xs + sum_by earns xs ≤ base * length xs + (sum_by pays xs + sum_by gates xs)
-side-sum base cost pays gates earns xs each =
-    omega (arith, sum-each (λ x. cost x + earns x) (λ x. base + (pays x + gates x)) xs each, sum-both cost earns xs, sum-base base (λ x. pays x + gates x) xs, sum-both pays gates xs)
-
-pub pawn-of : (c : Colour) (o : List Bool) (h : ℕ) → is_the c Pawn (at (array_of o) h) ≡ true → is_of c (at (array_of o) h) ≡ true
-pawn-of c o h pawn = (and_parts (is_of c (at (array_of o) h)) (is_a Pawn (at (array_of o) h)) pawn).0
+use Rattle.men_ledger.proofs.Closing.{pawn-of, side-sum}
 
 added : (w b ew eb pw pb gw gb basew baseb most tw tb sw sb : ℕ) → w + ew ≤ basew + (pw + gw) → b + eb ≤ baseb + (pb + gb) → pw ≡ tw → eb ≡ sw → pb ≡ tb → ew ≡ sb → gw + gb ≤ most → w + b + (sw + sb) ≤ basew + baseb + most + (tw + tb)
 added w b ew eb pw pb gw gb basew baseb most tw tb sw sb white black one other two another gates = omega arith

@@ -24,11 +24,11 @@ use Rattle.balance_rule.proofs.TrueHomes.{fewer, home-listed, squares-differ}
 use Rattle.ledger_facts.specs.Lines.{FellToPawn}
 use Rattle.ledger_facts.specs.Supposed.{captures}
 use Rattle.ledger_facts.specs.declared.suppositions.Squares.TheVariants.{All}
-use Rattle.ledger_facts.proofs.Apart.{pawn-of, sum-each}
 use Rattle.ledger_facts.proofs.Raised.{counted}
+use Rattle.men_ledger.proofs.Closing.{pawn-of, sum-each}
 
 -- all captures count
-all-counted : (all : List Strike) → counted All all ≡ length all
+pub all-counted : (all : List Strike) → counted All all ≡ length all
 all-counted [] = refl
 all-counted (x ∷ all) = omega (arith, all-counted all)
 

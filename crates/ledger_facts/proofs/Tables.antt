@@ -1,10 +1,10 @@
 -- The men of a side began on different homes; those gone on the others. So each row of a table of costs, whatever its costs are, has a
 -- home of its own, and the least cost is no more than what the men's fates cost.
-use Rattle.std.proofs.Common.{◌≡◌, ℕ, ◌+◌, ◌-◌, ◌≤◌, inl, inr, Bool, true, false, not, List, [], ◌∷◌, ◌++◌, length, map, replicate, slice_index, refl, ap, sym, ◌∙◌, subst, arith}
+use Rattle.std.proofs.Common.{◌≡◌, ℕ, ◌+◌, ◌-◌, ◌≤◌, inl, inr, Bool, true, false, not, List, ◌++◌, length, map, replicate, refl, ap, sym, ◌∙◌, subst, arith}
 use Rattle.std.proofs.lemmas.Bool.{both_ways, not-true}
 use Rattle.std.proofs.lemmas.List.{length-append, length-map, length-replicate, map-append}
 use Rattle.std.proofs.lemmas.List.Filters.{length-filter_both}
-use Rattle.std.proofs.lemmas.List.Sums.{sum_by-append, sum_by-cons}
+use Rattle.std.proofs.lemmas.List.Sums.{sum_by-append}
 use Rattle.std.specs.Prelude.{Option, Some, None, is_none}
 use Rattle.std.specs.List.{filter, range_with_len, sum_by}
 use Rattle.general_lemmas.proofs.Differing.{Differ, Has, contains-has, differ-apart, differ-append, differ-filter, differ-map, has-contains, has-either, has-filter, has-map}
@@ -24,7 +24,7 @@ use Rattle.men_account.proofs.PawnLaws.{man-of}
 use Rattle.men_fates.proofs.Strikes.{side-of}
 use Rattle.balance_rule.specs.Balance.{men_on}
 use Rattle.balance_rule.proofs.OnBoard.{labelled-inside}
-use Rattle.balance_rule.proofs.TrueHomes.{alike-sum, column, column-is, cost-append, fate, fewer, home-listed, listed-home, missing, on-square, place_of, placed, row-at, square-listed, squares-differ, standing, twice, within-side}
+use Rattle.balance_rule.proofs.TrueHomes.{alike-sum, column, column-is, cost-append, fate, fewer, home-listed, listed-home, missing, on-square, place_of, placed, row-at, rows-sum, square-listed, squares-differ, standing, twice, within-side}
 
 -- what became of the man of h costs this: that he stands on s, or that he is gone
 abbrev pub cost_of : (ℕ → ℕ → ℕ) → (ℕ → ℕ) → ℕ → Option ℕ → ℕ
@@ -35,11 +35,6 @@ cost_of stand away h (Some s) = stand h s
 abbrev home_at : Option ℕ → ℕ
 home_at None = 0
 home_at (Some h) = h
-
--- rows that tell at each home what f tells
-rows-sum : (c : Colour) (row : ℕ → List ℕ) (to f : ℕ → ℕ) (squares : List ℕ) → ((s : ℕ) → Has squares s → slice_index (row s) (column c (to s)) ≡ f (to s)) → assignment_cost (map row squares) (map (column c) (map to squares)) ≡ sum_by f (map to squares)
-rows-sum c row to f [] tells = refl
-rows-sum c row to f (s ∷ squares) tells = omega (arith, tells s (inl refl), rows-sum c row to f squares (λ t there. tells t (inr there)), sum_by-cons f (to s) (map to squares))
 
 module _ (o : List Bool) (g : List Move) (c : Colour) (stand : ℕ → ℕ → ℕ) (away : ℕ → ℕ) where
   abbrev pub cost : ℕ → ℕ

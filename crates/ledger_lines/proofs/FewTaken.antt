@@ -1,5 +1,5 @@
 -- A side's pawns took no more men than the other side lacks.
-use Rattle.std.proofs.Common.{◌≡◌, ℕ, ◌≤◌, Bool, true, false, List, [], ◌∷◌, length, refl, ap, sym, ◌∙◌, arith}
+use Rattle.std.proofs.Common.{◌≡◌, ℕ, ◌≤◌, Bool, true, false, List, length, refl, ap, sym, ◌∙◌, arith}
 use Rattle.std.proofs.lemmas.Bool.{both_ways, leb-true}
 use Rattle.std.proofs.lemmas.List.{length-map}
 use Rattle.std.proofs.lemmas.List.Sums.{count_by-le-length, length-filter}
@@ -20,10 +20,7 @@ use Rattle.ledger_facts.specs.declared.suppositions.Squares.{Squares}
 use Rattle.ledger_facts.specs.declared.suppositions.Squares.TheVariants.{All}
 use Rattle.ledger_facts.proofs.Raised.{counted}
 use Rattle.ledger_lines.specs.Known.{are_lacking, lacking}
-
-all-counted : (all : List Strike) → counted All all ≡ length all
-all-counted [] = refl
-all-counted (x ∷ all) = omega (arith, all-counted all)
+use Rattle.ledger_facts.proofs.Counts.{all-counted}
 
 taken-are : (q : Asked) (c : Colour) (g : List Move) → LeadsTo q.odds g q → length (captured_by_pawns q.odds g c) ≡ captures q.odds g c All
 taken-are q c g leads =

@@ -3,14 +3,12 @@ use Rattle.std.proofs.Common.{◌≡◌, ℕ, ◌+◌, ◌<◌, ◌≤◌, ◌==
 use Rattle.std.specs.Prelude.{◌&&◌, IsTrue, Option, None, Some, is_none, nat_le, nat_lt, slice_index_or}
 use Rattle.std.specs.Bool.{beq}
 use Rattle.std.proofs.lemmas.Bool.{and_from, and_parts, both_ways, cases_Bool, eq-eqb, leb-true, ltb-false, ltb-true, or_cases}
-use Rattle.std.proofs.lemmas.List.{get_or-set_same}
 use Rattle.std.specs.List.{filter, range_with_len}
 use Rattle.general_lemmas.proofs.Differing.{differ-filter, differ-range, has-filter, range-has}
 use Rattle.general_lemmas.proofs.Ranges.{all_in_range, any-found}
 use Rattle.board_base.proofs.KindsOfMen.{colour_is}
 use Rattle.board_base.specs.Board.{Places, array_of, at, is_a, is_empty, is_in, is_of, is_the, same_colour}
 use Rattle.board_base.specs.Game.{board_after}
-use Rattle.board_base.specs.SquareNumbers.{length-squares_of}
 use Rattle.board_base.specs.declared.men.Colour.{Colour}
 use Rattle.board_base.specs.declared.men.Colour.TheVariants.{White, Black}
 use Rattle.board_base.specs.declared.men.Kind.TheVariants.{Pawn}
@@ -60,17 +58,11 @@ use Rattle.ledger_lines.proofs.Shares.{IsShare, home_on, label-there, shares-add
 use Rattle.ledger_lines.proofs.Slanting.{slant-captured}
 use Rattle.ledger_lines.specs.declared.facts.Fact.{Fact}
 use Rattle.ledger_lines.specs.declared.facts.Fact.TheVariants.{Began, Original, Promoted, Captured, Took, TookAtMost, Slanted, Straight, Fell, FellToPawn, EscapedPawns, Became, NeverBecame, Stayed, AtLeast, AtMost, Lacks, Among}
+use Rattle.ledger_search.proofs.Closing.{in-only, man-on}
 
 pawn-man : (place : Option Man) → is_a Pawn place ≡ true → is_man place ≡ true
 pawn-man None h = absurd (both_ways false refl h)
 pawn-man (Some m) h = refl
-
-man-on : (place : Option Man) → is_man place ≡ true → (m : Man) × (place ≡ Some m)
-man-on None h = absurd (both_ways false refl h)
-man-on (Some m) h = (m, refl)
-
-in-only : (h : ℕ) → h < 64 → is_in (only h) h ≡ true
-in-only h inside = get_or-set_same _ h true false (omega (arith, inside, length-squares_of 0))
 
 colour-self : (c : Colour) → same_colour c c ≡ true
 colour-self White = refl

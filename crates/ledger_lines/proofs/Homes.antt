@@ -5,7 +5,7 @@ use Rattle.std.specs.List.{list_any, range_with_len}
 use Rattle.board_base.specs.Board.{is_in}
 use Rattle.ledger_lines.specs.LineTexts.{home_word}
 
-or-assoc : (a b c : Bool) → (a || (b || c)) ≡ ((a || b) || c)
+pub or-assoc : (a b c : Bool) → (a || (b || c)) ≡ ((a || b) || c)
 or-assoc true b c = refl
 or-assoc false b c = refl
 
@@ -13,7 +13,7 @@ or-last : (a : Bool) → (a || false) ≡ a
 or-last true = refl
 or-last false = refl
 
-any-end : (p : ℕ → Bool) (n k : ℕ) → list_any p (range_with_len k (suc n)) ≡ (list_any p (range_with_len k n) || p (k + n))
+pub any-end : (p : ℕ → Bool) (n k : ℕ) → list_any p (range_with_len k (suc n)) ≡ (list_any p (range_with_len k n) || p (k + n))
 any-end p zero k = let e : k ≡ k + 0 = omega arith in or-last (p k) ∙ ap p e
 any-end p (suc n) k =
     let e : (k + 1) + n ≡ k + suc n = omega arith in

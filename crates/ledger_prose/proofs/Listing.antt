@@ -1,5 +1,5 @@
 -- Squares that are named one behind the other, and lines that are looked through.
-use Rattle.std.proofs.Common.{◌≡◌, ℕ, ◌+◌, ◌<◌, zero, suc, Bool, true, false, List, ◌++◌, length, get_or, take, refl, ap, sym, ◌∙◌, arith}
+use Rattle.std.proofs.Common.{◌≡◌, ℕ, ◌+◌, ◌<◌, Bool, true, false, List, ◌++◌, length, get_or, take, refl, ap, sym, ◌∙◌}
 use Rattle.std.specs.Prelude.{◌||◌}
 use Rattle.std.specs.List.{list_any, range_with_len}
 use Rattle.std.proofs.lemmas.List.Folds.{list_any_more}
@@ -9,27 +9,11 @@ use Rattle.ledger_prose.specs.Sentences.{is_named}
 use Rattle.ledger_prose.specs.Words.{given_words, is_any_from, name_at, square_words}
 use Rattle.ledger_prose.specs.declared.names.Joint.{Joint}
 use Rattle.ledger_prose.specs.declared.names.Style.{Style}
-
-or-assoc : (a b c : Bool) → (a || (b || c)) ≡ ((a || b) || c)
-or-assoc true b c = refl
-or-assoc false b c = refl
+use Rattle.ledger_lines.proofs.Homes.{any-more}
 
 or-last : (a : Bool) → (a || false) ≡ a
 or-last true = refl
 or-last false = refl
-
-any-end : (p : ℕ → Bool) (n k : ℕ) → list_any p (range_with_len k (suc n)) ≡ (list_any p (range_with_len k n) || p (k + n))
-any-end p zero k = let e : k ≡ k + 0 = omega arith in or-last (p k) ∙ ap p e
-any-end p (suc n) k =
-    let e : (k + 1) + n ≡ k + suc n = omega arith in
-    ap (λ (b : Bool). p k || b) (any-end p n (k + 1) ∙ ap (λ (m : ℕ). list_any p (range_with_len (k + 1) n) || p m) e) ∙ or-assoc (p k) (list_any p (range_with_len (k + 1) n)) (p (k + suc n))
-
--- whether one of the first numbers passes, with one number more
-pub any-next : (p : ℕ → Bool) (n s : ℕ) (before here after : Bool) → before ≡ list_any p (range_with_len 0 n) → s ≡ n → here ≡ p s → after ≡ (before || here) → after ≡ list_any p (range_with_len 0 (n + 1))
-any-next p n s before here after first at_n test last =
-    let z : n ≡ 0 + n = omega arith in
-    let one : suc n ≡ n + 1 = omega arith in
-    last ∙ ap (λ (b : Bool). b || here) first ∙ ap (λ (b : Bool). list_any p (range_with_len 0 n) || b) (test ∙ ap p (at_n ∙ z)) ∙ sym (any-end p n 0) ∙ ap (λ (m : ℕ). list_any p (range_with_len 0 m)) one
 
 -- the text of one square
 pub name-told : (joint : Joint) (style : Style) (q : Asked) (xs : List Line) (n s : ℕ) (given several more : Bool) (old new : List ℕ) → s ≡ n → given ≡ is_named q xs s → several ≡ list_any (is_named q xs) (range_with_len 0 n) → more ≡ is_any_from (is_named q xs) (n + 1) → new ≡ old ++ given_words joint given several more (square_words style q s) → new ≡ old ++ name_at joint style q xs n

@@ -29,6 +29,7 @@ use Rattle.ledger_prose.specs.declared.parts.Group.TheVariants.{Captors, Pawns, 
 use Rattle.ledger_prose.specs.declared.parts.Topic.{Topic}
 use Rattle.ledger_prose.specs.declared.parts.Topic.TheVariants.{Lacking, Taken, Spare, Changed, Origins}
 use Rattle.ledger_prose.proofs.EachSentence.{all-one, all-sentences}
+use Rattle.men_account.proofs.SideHomes.{tested-home}
 
 -- a line that passes, if one does
 found : (p : Line → Bool) (xs : List Line) → list_any p xs ≡ true → (x : Line) × Contains xs x × (p x ≡ true)
@@ -70,11 +71,6 @@ told-so P h all Officer so = so
 of-taker : (P : Fact → Type 0) (h : ℕ) (all : Bool) (told taker : Taker) → same_taker told (told_taker all taker) ≡ true → OfTaker P h taker → OfTaker P h told
 of-taker P h all told taker same so = subst (OfTaker P h) (same-taker told (told_taker all taker) same) (told-so P h all taker so)
 
-not-both : (a b : Bool) → not (a && not b) ≡ true → a ≡ true → b ≡ true
-not-both true true h so = refl
-not-both true false h so = absurd (both_ways false refl h)
-not-both false b h so = absurd (both_ways false refl so)
-
 both-so : (b : Bool) → beq true b ≡ true → b ≡ true
 both-so true h = refl
 both-so false h = absurd (both_ways false refl h)
@@ -83,7 +79,7 @@ both-so false h = absurd (both_ways false refl h)
 in-alone : (h : ℕ) (set : List Bool) (s : ℕ) → is_alone h set ≡ true → s < 64 → is_in set s ≡ true → s ≡ h
 unfolding is_alone
 in-alone h set s none low there =
-    eqb-true s h (not-both (is_in set s) (s == h) (all_in_range (λ t. not (is_in set t && not (t == h))) 0 64 s none (omega arith) (omega arith)) there)
+    eqb-true s h (tested-home (is_in set s) (s == h) (all_in_range (λ t. not (is_in set t && not (t == h))) 0 64 s none (omega arith) (omega arith)) there)
 
 module _ (q : Asked) (lines : List Line) (g : List Move) where
   abbrev Is : Line → Type 0

@@ -6,12 +6,10 @@ use Rattle.std.specs.Bool.{beq}
 use Rattle.std.specs.List.{list_any, range_with_len}
 use Rattle.general_lemmas.proofs.Ranges.{any-found}
 use Rattle.general_lemmas.proofs.Truth.{same_truth}
-use Rattle.board_base.specs.Board.{array_of, at, is_in, man, rank, same_colour}
+use Rattle.board_base.specs.Board.{array_of, at, is_in, rank, same_colour}
 use Rattle.board_base.specs.Legal.{last_rank}
 use Rattle.board_base.specs.declared.men.Colour.{Colour}
-use Rattle.board_base.specs.declared.men.Kind.TheVariants.{Knight, Bishop, Rook, Queen}
 use Rattle.board_base.specs.declared.men.Man.{Man}
-use Rattle.cage_rules.specs.Regions.{region_from}
 use Rattle.cage_rules.specs.Sets.{squares_that}
 use Rattle.cage_rules.proofs.Filling.{is_in-that}
 use Rattle.cage_rules.proofs.Tested.{any-told}
@@ -27,6 +25,7 @@ use Rattle.balance_rule.proofs.Brought.{last-rank, short-of}
 use Rattle.balance_rule.proofs.Seen.{seen-inside}
 use Rattle.ledger_facts.specs.Supposed.{is_last}
 use Rattle.ledger_facts.specs.Accounts.{goes, goes_as, is_lost_by, lost, lost_as, may_be_struck, may_fall_on}
+use Rattle.balance_rule.proofs.Lost.{promoted-is}
 
 pub beq-true : (b : Bool) → beq true b ≡ b
 beq-true true = refl
@@ -54,20 +53,6 @@ meets-made a b from n at_from none found =
       | inl below ↦ absurd (both_ways _ (none x.0 below) (at_from x.0 inside ∙ x.2))
       | inr past ↦ lt-ltb n 64 (omega arith)
     ])
-
--- what comes of promotions on t
-or-none : (a b d e : Bool) → (a || (b || (d || (e || false)))) ≡ (((a || b) || d) || e)
-or-none true b d e = refl
-or-none false true d e = refl
-or-none false false true e = refl
-or-none false false false true = refl
-or-none false false false false = refl
-
-promoted-is : (set : List Bool) (c : Colour) (h t : ℕ) (way : List ℕ) (s : ℕ) → way_end h way ≡ t → (rank t == last_rank c) ≡ true → brings_officer set c h way s ≡ comes_promoted set c t s
-promoted-is set c h t way s ends last =
-    ap (λ (b : Bool). (b && true && is_in (region_from set (man c Knight) (way_end h way)) s) || ((b && true && is_in (region_from set (man c Bishop) (way_end h way)) s) || ((b && true && is_in (region_from set (man c Rook) (way_end h way)) s) || ((b && true && is_in (region_from set (man c Queen) (way_end h way)) s) || false)))) (ap (λ (u : ℕ). rank u == last_rank c) ends ∙ last)
-    ∙ or-none (is_in (region_from set (man c Knight) (way_end h way)) s) (is_in (region_from set (man c Bishop) (way_end h way)) s) (is_in (region_from set (man c Rook) (way_end h way)) s) (is_in (region_from set (man c Queen) (way_end h way)) s)
-    ∙ ap (λ (u : ℕ). comes_promoted set c u s) ends
 
 module _ (set exposed : List Bool) (c : Colour) (falls : exposed ≡ squares_that (may_fall set c)) where
   exposed-at : (s : ℕ) → s < 64 → is_in exposed s ≡ may_fall set c s

@@ -32,7 +32,7 @@ use Rattle.ledger_search.specs.declared.counts.Range.{Range}
 use Rattle.ledger_search.specs.declared.ledgers.Ledger.{Ledger}
 use Rattle.ledger_search.specs.declared.questions.Question.TheVariants.{Home}
 
-man-on : (place : Option Man) → is_man place ≡ true → (m : Man) × (place ≡ Some m)
+pub man-on : (place : Option Man) → is_man place ≡ true → (m : Man) × (place ≡ Some m)
 man-on None h = absurd (both_ways false refl h)
 man-on (Some m) h = (m, refl)
 
@@ -44,7 +44,7 @@ colour-self : (c : Colour) → same_colour c c ≡ true
 colour-self White = refl
 colour-self Black = refl
 
-in-only : (h : ℕ) → h < 64 → is_in (only h) h ≡ true
+pub in-only : (h : ℕ) → h < 64 → is_in (only h) h ≡ true
 in-only h inside = get_or-set_same _ h true false (omega (arith, inside, length-squares_of 0))
 
 module _ (q : Asked) (g : List Move) (leads : LeadsTo q.odds g q) where

@@ -15,7 +15,7 @@ use Rattle.line_claims.proofs.LastItems.{same_end, same_front}
 pub left-none : (q : Asked) → q ≡ left_by q []
 left-none q = refl
 
-left-push : (q : Asked) (us : List Unmove) (u : Unmove) → left_by q (us ++ u ∷ []) ≡ predecessor (left_by q us) u
+pub left-push : (q : Asked) (us : List Unmove) (u : Unmove) → left_by q (us ++ u ∷ []) ≡ predecessor (left_by q us) u
 left-push q us u = fold_push predecessor q us u
 
 pub listed-none : (q : Asked) → AreListed q []

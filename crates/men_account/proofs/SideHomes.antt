@@ -17,7 +17,7 @@ homes-black : list_all (λ s. not (is_of Black (at initial_array s) && not (nat_
 unfolding initial_array
 homes-black = refl
 
-tested-home : (a b : Bool) → not (a && not b) ≡ true → a ≡ true → b ≡ true
+pub tested-home : (a b : Bool) → not (a && not b) ≡ true → a ≡ true → b ≡ true
 tested-home a true tested here = refl
 tested-home a false tested here = absurd (both_ways _ (not-true _ tested) (and_from a true here refl))
 

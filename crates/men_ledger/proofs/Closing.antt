@@ -18,20 +18,20 @@ use Rattle.men_ledger.proofs.Balance.{paid-in-all, earned-in-all}
 use Rattle.men_ledger.proofs.Gates.{gates-most}
 
 -- what is no more for each number is no more in all
-sum-each : (f g : ℕ → ℕ) (xs : List ℕ) → ((x : ℕ) → Contains xs x → f x ≤ g x) → sum_by f xs ≤ sum_by g xs
+pub sum-each : (f g : ℕ → ℕ) (xs : List ℕ) → ((x : ℕ) → Contains xs x → f x ≤ g x) → sum_by f xs ≤ sum_by g xs
 sum-each f g [] each = omega arith
 sum-each f g (x ∷ xs) each = omega (arith, sum_by-cons f x xs, sum_by-cons g x xs, each x (contains-first x xs), sum-each f g xs (λ y there. each y (contains-later x xs y there)))
 
-sum-base : (base : ℕ) (f : ℕ → ℕ) (xs : List ℕ) → sum_by (λ x. base + f x) xs ≡ base * length xs + sum_by f xs
+pub sum-base : (base : ℕ) (f : ℕ → ℕ) (xs : List ℕ) → sum_by (λ x. base + f x) xs ≡ base * length xs + sum_by f xs
 sum-base base f [] = omega arith
 sum-base base f (x ∷ xs) = omega (arith, sum_by-cons (λ y. base + f y) x xs, sum_by-cons f x xs, sum-base base f xs)
 
 -- one side's homes
-side-sum : (base : ℕ) (cost pays gates earns : ℕ → ℕ) (xs : List ℕ) → ((x : ℕ) → Contains xs x → cost x + earns x ≤ base + (pays x + gates x)) → sum_by cost xs + sum_by earns xs ≤ base * length xs + (sum_by pays xs + sum_by gates xs)
+pub side-sum : (base : ℕ) (cost pays gates earns : ℕ → ℕ) (xs : List ℕ) → ((x : ℕ) → Contains xs x → cost x + earns x ≤ base + (pays x + gates x)) → sum_by cost xs + sum_by earns xs ≤ base * length xs + (sum_by pays xs + sum_by gates xs)
 side-sum base cost pays gates earns xs each =
     omega (arith, sum-each (λ x. cost x + earns x) (λ x. base + (pays x + gates x)) xs each, sum-both cost earns xs, sum-base base (λ x. pays x + gates x) xs, sum-both pays gates xs)
 
-pawn-of : (c : Colour) (o : List Bool) (h : ℕ) → is_the c Pawn (at (array_of o) h) ≡ true → is_of c (at (array_of o) h) ≡ true
+pub pawn-of : (c : Colour) (o : List Bool) (h : ℕ) → is_the c Pawn (at (array_of o) h) ≡ true → is_of c (at (array_of o) h) ≡ true
 pawn-of c o h pawn = (and_parts (is_of c (at (array_of o) h)) (is_a Pawn (at (array_of o) h)) pawn).0
 
 added : (w b ew eb pw pb gw gb basew baseb most tw tb : ℕ) → w + ew ≤ basew + (pw + gw) → b + eb ≤ baseb + (pb + gb) → pw ≡ tw → eb ≡ tw → pb ≡ tb → ew ≡ tb → gw + gb ≤ most → w + b ≤ basew + baseb + most

@@ -60,7 +60,7 @@ rows-step story ps i p out line out2 line2 o lt is step so_far =
 pub rows-whole : (story ps : List Paragraph) (i : ℕ) (out line o : List ℕ) → length ps ≤ i → out ++ rows_from story line (drop i ps) ≡ o → out ++ rows_of line ≡ o
 rows-whole story ps i out line o past so_far = ap (λ (l : List Paragraph). out ++ rows_from story line l) (sym (drop_all i ps past)) ∙ so_far
 
-kinds-apart : (a b c d : List ℕ) → ((a ++ b) ++ c) ++ d ≡ a ++ ((b ++ c) ++ d)
+pub kinds-apart : (a b c d : List ℕ) → ((a ++ b) ++ c) ++ d ≡ a ++ ((b ++ c) ++ d)
 kinds-apart a b c d = simp append_assoc
 
 -- one kind more

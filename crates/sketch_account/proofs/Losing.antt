@@ -1,6 +1,6 @@
 -- What it costs at least that a pawn is gone.
 use Rattle.std.proofs.Common.{◌≡◌, ℕ, ◌+◌, ◌-◌, ◌<◌, ◌≤◌, inl, inr, Bool, true, false, ◌&&◌, ◌||◌, ◌==◌, min, List, refl, ap, sym, ◌∙◌, arith}
-use Rattle.std.proofs.lemmas.Bool.{cases_eq, cases_lt, cond-true, cond-false, eq-eqb, eqb-true, lt-ltb, ltb-true}
+use Rattle.std.proofs.lemmas.Bool.{cases_eq, cond-true, cond-false, eq-eqb, eqb-true, lt-ltb, ltb-true}
 use Rattle.std.specs.Prelude.{IsTrue, nat_lt}
 use Rattle.board_base.specs.Board.{man, rank}
 use Rattle.board_base.specs.Legal.{last_rank}
@@ -16,29 +16,12 @@ use Rattle.balance_rule.specs.LeastWays.{AreLeastTo, IsLeast, ends_on, fee_of, s
 use Rattle.balance_rule.proofs.Brought.{last-rank, short-of}
 use Rattle.balance_rule.proofs.Earned.{greatest-same}
 use Rattle.balance_rule.proofs.Gates.{gate-small}
-use Rattle.balance_rule.proofs.Greatests.{greatest-listed}
 use Rattle.balance_rule.proofs.Leasts.{least-either, least-like, least-none, least-plus, only-least}
 use Rattle.balance_rule.proofs.Listed.{least-listed-all}
 use Rattle.balance_rule.proofs.Priced.{earned-small}
 use Rattle.balance_rule.proofs.Reaching.{fee-least, toll-least}
 use Rattle.balance_rule.proofs.Seen.{end-inside, seen-inside, seen-seen, way-ahead}
-
-most-small : (p : PriceList) (set : List Bool) (c : Colour) (among : ℕ → Bool) → IsTrue (are_prices p) → most_earned p set c among ≤ 96
-most-small p set c among known = elim (cases_lt 0 (most_earned p set c among)) [
-  | inl some ↦
-      let had = (greatest-listed among (earned p set c)).found some in
-      let e : earned p set c had.0 ≡ most_earned p set c among = had.3 in
-      omega (arith, earned-small p set c had.0 known)
-  | inr none ↦ omega arith
-]
-
--- what comes of promotions on t
-or-none : (a b d e : Bool) → (a || (b || (d || (e || false)))) ≡ (((a || b) || d) || e)
-or-none true b d e = refl
-or-none false true d e = refl
-or-none false false true e = refl
-or-none false false false true = refl
-or-none false false false false = refl
+use Rattle.balance_rule.proofs.Lost.{most-small, or-none}
 
 promoted-is : (R : Room) (c : Colour) (h t : ℕ) (way : List ℕ) (s : ℕ) → way_end h way ≡ t → (rank t == last_rank c) ≡ true → brings_some R c h way s ≡ comes_promoted R c t s
 promoted-is R c h t way s ends last =

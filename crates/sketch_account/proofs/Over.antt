@@ -8,23 +8,13 @@ use Rattle.board_base.specs.Board.{is_in, same_kind}
 use Rattle.board_base.specs.declared.men.Kind.{Kind}
 use Rattle.board_base.proofs.KindsOfMen.{kind_is, same_kind-self}
 use Rattle.balance_rule.specs.Costs.{least, never}
-use Rattle.balance_rule.proofs.Listed.{least-below}
+use Rattle.balance_rule.proofs.Listed.{least-below, least-found}
 use Rattle.figures.specs.Figures.{Figure, may_be}
 use Rattle.sketch_account.specs.Over.{IsLeastOver}
 
 least-most : (xs : List ℕ) → least xs ≤ never
 least-most [] = omega arith
 least-most (x ∷ xs) = omega (arith, least-most xs)
-
-least-found : (xs : List ℕ) → least xs < never → Contains xs (least xs)
-least-found [] low = absurd (omega arith)
-least-found (y ∷ xs) low = elim (cases_lt y (least xs)) [
-  | inl less ↦ let e : y ≡ least (y ∷ xs) = omega arith in subst (Contains (y ∷ xs)) e (contains-first y xs)
-  | inr no_less ↦
-      let e : least xs ≡ least (y ∷ xs) = omega arith in
-      let rest : Contains xs (least xs) = least-found xs (omega arith) in
-      subst (Contains (y ∷ xs)) e (contains-later y xs (least xs) rest)
-]
 
 kind-in : (kinds : List Kind) (k : Kind) → list_any (λ j. same_kind j k) kinds ≡ true → Contains kinds k
 kind-in [] k h = absurd (both_ways false refl h)

@@ -5,8 +5,7 @@ use Rattle.std.specs.Prelude.{Option, Some, None, nat_lt}
 use Rattle.std.specs.List.{list_any, range_with_len}
 use Rattle.general_lemmas.proofs.Ranges.{any-found}
 use Rattle.general_lemmas.proofs.Truth.{same_truth}
-use Rattle.board_base.specs.Board.{is_in, man, same_colour, same_kind}
-use Rattle.board_base.specs.Legal.{is_officer}
+use Rattle.board_base.specs.Board.{is_in, man, same_colour}
 use Rattle.board_base.specs.declared.men.Colour.{Colour}
 use Rattle.board_base.specs.declared.men.Kind.{Kind}
 use Rattle.board_base.specs.declared.men.Kind.TheVariants.{Pawn, Knight, Bishop, Rook, Queen, King}
@@ -38,15 +37,6 @@ some-square free n test all none found = same_truth (nat_lt n 64) (list_any (λ 
       | inl below ↦ absurd (both_ways _ (none x.0 below) (and_parts (is_in free x.0) (test x.0) x.2).0)
       | inr past ↦ lt-ltb n 64 (omega arith)
     ])
-
--- a piece who is no king is an officer
-pub officer-else : (k : Kind) → same_kind k Pawn ≡ false → same_kind k King ≡ false → is_officer k ≡ true
-officer-else Pawn a b = absurd (both_ways _ a refl)
-officer-else Knight a b = refl
-officer-else Bishop a b = refl
-officer-else Rook a b = refl
-officer-else Queen a b = refl
-officer-else King a b = absurd (both_ways _ b refl)
 
 pub same-man : (m : Man) (c : Colour) (k : Kind) → m.colour ≡ c → m.kind ≡ k → Some m ≡ man c k
 same-man m c k ec ek = ap (λ (x : Colour). man x m.kind) ec ∙ ap (man c) ek

@@ -298,7 +298,7 @@ stops r text over =
 
 -- which sketches have texts
 
-on_parts : (o : Option Due) (go : Due → Bool) → on_next o go ≡ true → (e : Due) × (o ≡ Some e) × (go e ≡ true)
+pub on_parts : (o : Option Due) (go : Due → Bool) → on_next o go ≡ true → (e : Due) × (o ≡ Some e) × (go e ≡ true)
 on_parts None go so = absurd cc
 on_parts (Some e) go so = (e, refl, so)
 

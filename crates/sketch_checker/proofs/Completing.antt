@@ -21,7 +21,7 @@ opened k n e S = record { line = k; marks = n; end = e; sketch = S }
 node-lines : (y : SketchNode) (marks below each rest : List Line) → ((of_node y ∷ (marks ++ below)) ++ each) ++ rest ≡ of_node y ∷ (marks ++ (below ++ (each ++ rest)))
 node-lines y marks below each rest = ap (λ (l : List Line). of_node y ∷ l) (append_assoc (marks ++ below) each rest ∙ append_assoc marks below (each ++ rest))
 
-same-node : (x y : SketchNode) → of_node x ≡ of_node y → x ≡ y
+pub same-node : (x y : SketchNode) → of_node x ≡ of_node y → x ≡ y
 same-node x y e = cc
 
 same-marks : (x y : Marks) → of_marks x ≡ of_marks y → x ≡ y

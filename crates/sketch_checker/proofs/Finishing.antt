@@ -14,10 +14,10 @@ use Rattle.sketch_body.specs.declared.lines.SketchLine.{SketchLine}
 use Rattle.sketch_checker.proofs.Settling.{stays}
 
 -- what is left from line i on begins with it
-next-line : (all : List SketchLine) (i : ℕ) (x : SketchLine) → i < length all → x ≡ get_or all i x → map line_of (drop i all) ≡ line_of x ∷ map line_of (drop (i + 1) all)
+pub next-line : (all : List SketchLine) (i : ℕ) (x : SketchLine) → i < length all → x ≡ get_or all i x → map line_of (drop i all) ≡ line_of x ∷ map line_of (drop (i + 1) all)
 next-line all i x low is = ap (λ (l : List SketchLine). map line_of l) (drop_more all i x low) ∙ ap (λ (y : SketchLine). line_of y ∷ map line_of (drop (i + 1) all)) (sym is)
 
-no-line-left : (all : List SketchLine) (i : ℕ) → length all ≤ i → map line_of (drop i all) ≡ []
+pub no-line-left : (all : List SketchLine) (i : ℕ) → length all ≤ i → map line_of (drop i all) ≡ []
 no-line-left all i past = ap (λ (l : List SketchLine). map line_of l) (drop_all i all past)
 
 module _ (start w next : Walk) (all : List SketchLine) (i : ℕ) (x : SketchLine) (low : i < length all) (is : x ≡ get_or all i x) where

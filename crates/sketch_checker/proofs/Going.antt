@@ -185,11 +185,11 @@ earlier_by T f y = record { step = y; sketch = sketch_before T f y }
 
 -- EACH FIGURE HAS A SQUARE
 
-first-false : (a b : Bool) → (a || b) ≡ false → a ≡ false
+pub first-false : (a b : Bool) → (a || b) ≡ false → a ≡ false
 first-false true b h = h
 first-false false b h = refl
 
-sound-somewhere : (S : Sketch) → is_clash S ≡ false → list_any is_nowhere S ≡ false
+pub sound-somewhere : (S : Sketch) → is_clash S ≡ false → list_any is_nowhere S ≡ false
 unfolding is_clash
 sound-somewhere S apart = first-false (list_any is_nowhere S) _ apart
 

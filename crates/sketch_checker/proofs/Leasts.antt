@@ -198,7 +198,7 @@ both-false : (a b : Bool) → (a || b) ≡ false → (a ≡ false) × (b ≡ fal
 both-false true b e = cc
 both-false false b e = (refl, e)
 
-none-or : (a b : Bool) → a ≡ false → b ≡ false → (a || b) ≡ false
+pub none-or : (a b : Bool) → a ≡ false → b ≡ false → (a || b) ≡ false
 none-or true b e f = e
 none-or false b e f = f
 

@@ -3,10 +3,8 @@ use Rattle.std.proofs.Common.{◌≡◌, ℕ, List, [], ◌∷◌, ◌++◌, app
 use Rattle.general_lemmas.proofs.Lists.{same_first, same_rest}
 use Rattle.sketch_text.specs.Marks.{Marks}
 use Rattle.sketch_text.specs.declared.nodes.SketchNode.{SketchNode}
-use Rattle.sketch_text.specs.Trees.{Line, Node, Nodes, Reason, closed, count, end_of, lines_below, lines_each, lines_of, more, node, none, of_marks, of_node, split, steps, void}
-
-same-node : (x y : SketchNode) → of_node x ≡ of_node y → x ≡ y
-same-node x y e = cc
+use Rattle.sketch_text.specs.Trees.{Line, Node, Nodes, Reason, closed, count, end_of, lines_below, lines_each, lines_of, more, node, none, of_marks, split, steps, void}
+use Rattle.sketch_checker.proofs.Completing.{same-node}
 
 same-marks : (l m : Marks) → of_marks l ≡ of_marks m → l ≡ m
 same-marks l m e = cc

@@ -1,5 +1,5 @@
 -- A walk can begin with the sketch of a root.
-use Rattle.std.proofs.Common.{◌≡◌, ℕ, zero, suc, ◌+◌, ◌<◌, ◌≤◌, Bool, true, false, cond, ◌&&◌, ◌||◌, not, List, [], ◌∷◌, ◌++◌, refl, ap, sym, ◌∙◌, arith}
+use Rattle.std.proofs.Common.{◌≡◌, ℕ, zero, suc, ◌+◌, ◌<◌, ◌≤◌, Bool, true, false, cond, ◌&&◌, not, List, [], ◌∷◌, ◌++◌, refl, ap, sym, ◌∙◌, arith}
 use Rattle.std.proofs.lemmas.Bool.{and_from, and_parts, both_ways, false_from_ne_true, lt-ltb, not-true}
 use Rattle.std.proofs.lemmas.List.Sums.{sum_by-cons}
 use Rattle.std.specs.Prelude.{Some, None, count_by}
@@ -18,6 +18,7 @@ use Rattle.sketch_steps.specs.Places.{has_low_place}
 use Rattle.sketch_checker.specs.Beginning.{CanBegin}
 use Rattle.sketch_checker.specs.Roots.{IsRoot}
 use Rattle.sketch_checker.proofs.Sides.{begun, few-tells, one, side, side-cons}
+use Rattle.sketch_checker.proofs.Leasts.{none-or}
 
 -- the figures of the men on n squares from k on
 abbrev figures : Places → ℕ → ℕ → Sketch
@@ -25,10 +26,6 @@ figures board k n = flat_map (λ s. figure_of s (at board s)) (range_with_len k 
 
 abbrev fixed_figure : ℕ → Man → Figure
 fixed_figure s m = record { colour = m.colour; kinds = m.kind ∷ []; squares = only_on s; marked = false; place = rank s }
-
-or-none : (a b : Bool) → a ≡ false → b ≡ false → (a || b) ≡ false
-or-none true b e f = e
-or-none false b e f = f
 
 and-all : (b : Bool) → (b && true) ≡ b
 and-all true = refl
@@ -42,7 +39,7 @@ any-none p board (suc n) k each =
     let rest : list_any p (figures board (k + 1) n) ≡ false = any-none p board n (k + 1) (λ s m low high. each s m (omega (arith, low)) (omega (arith, high))) in
     elim (at board k) as (λ place. list_any p (figure_of k place ++ figures board (k + 1) n) ≡ false) [
       | None ↦ rest
-      | Some m ↦ or-none (p (fixed_figure k m)) (list_any p (figures board (k + 1) n)) (each k m (omega arith) (omega arith)) rest
+      | Some m ↦ none-or (p (fixed_figure k m)) (list_any p (figures board (k + 1) n)) (each k m (omega arith) (omega arith)) rest
     ]
 
 all-each : (p : Figure → Bool) (board : Places) (n k : ℕ) → ((s : ℕ) (m : Man) → k ≤ s → s < k + n → p (fixed_figure s m) ≡ true) → list_all p (figures board k n) ≡ true
@@ -65,7 +62,7 @@ two-none board s (suc n) k =
     let rest : do_two (is_fixed_on s) (figures board (k + 1) n) ≡ false = two-none board s n (k + 1) in
     elim (at board k) as (λ place. do_two (is_fixed_on s) (figure_of k place ++ figures board (k + 1) n) ≡ false) [
       | None ↦ rest
-      | Some m ↦ or-none (is_fixed_on s (fixed_figure k m) && list_any (is_fixed_on s) (figures board (k + 1) n)) (do_two (is_fixed_on s) (figures board (k + 1) n))
+      | Some m ↦ none-or (is_fixed_on s (fixed_figure k m) && list_any (is_fixed_on s) (figures board (k + 1) n)) (do_two (is_fixed_on s) (figures board (k + 1) n))
           (false_from_ne_true _ (λ both.
           let parts = and_parts (is_fixed_on s (fixed_figure k m)) (list_any (is_fixed_on s) (figures board (k + 1) n)) both in
           let here : s ≡ k = on-own s k m parts.0 in
@@ -85,7 +82,7 @@ board-somewhere board = any-none is_nowhere board 64 0 (λ s m low high. here-so
 apart : (board : Places) → is_clash (sketch_of board) ≡ false
 unfolding is_clash sketch_of
 apart board =
-    or-none (list_any is_nowhere (figures board 0 64)) (list_any (λ s. do_two (is_fixed_on s) (figures board 0 64)) (range_with_len 0 64))
+    none-or (list_any is_nowhere (figures board 0 64)) (list_any (λ s. do_two (is_fixed_on s) (figures board 0 64)) (range_with_len 0 64))
     (board-somewhere board)
     (false_from_ne_true _ (λ some. let x = any-told (λ s. do_two (is_fixed_on s) (figures board 0 64)) 0 64 some in both_ways _ (two-none board x.0 64 0) x.2))
 

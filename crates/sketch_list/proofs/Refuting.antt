@@ -1,5 +1,5 @@
 -- A closed sketch that can't be the array is refuted if the sketch before each of its open steps is.
-use Rattle.std.proofs.Common.{◌≡◌, ℕ, zero, suc, ◌+◌, ◌*◌, ◌<◌, ◌==◌, ◌⊎◌, inl, inr, Bool, true, false, cond, List, [], ◌∷◌, length, refl, ap, sym, ◌∙◌, subst, arith}
+use Rattle.std.proofs.Common.{◌≡◌, ℕ, zero, suc, ◌+◌, ◌*◌, ◌==◌, ◌⊎◌, inl, inr, Bool, true, false, cond, List, [], ◌∷◌, length, refl, ap, sym, ◌∙◌, subst, arith}
 use Rattle.std.proofs.lemmas.Bool.{and_from, both_ways, cases_Bool, false_from_ne_true, lt-ltb, ltb-false, not_from_false, or_left}
 use Rattle.std.proofs.lemmas.List.Sums.{sum_by-cons}
 use Rattle.std.proofs.lemmas.Option.{same_Some}
@@ -31,6 +31,7 @@ use Rattle.sketch_list.proofs.Before.{before-respelled}
 use Rattle.sketch_list.proofs.Listing.{Gone, Made, above-due, by-told, inside-told, listed, step-listed, victim_for, way-in}
 use Rattle.sketch_list.proofs.Narrowed.{HaveKinds, check-too, trims-narrow}
 use Rattle.sketch_list.proofs.Respelled.{respelled-rearranged}
+use Rattle.sketch_steps.proofs.Rearranging.{low-at}
 
 trims-refuted : (o : List Bool) (held : Rights) (n : ℕ) (S : Sketch) → Refuted o held (trims n S) → Refuted o held S
 trims-refuted o held zero S r = r
@@ -123,11 +124,6 @@ back-crowd o T x f found full =
     (taken-crowd o T f x x.passing x.taken _ (count-changed (opponent f.colour) (changed_by f.colour x) 0 T (λ i h. by-colour f.colour x (i == x.by) h)) full)
 
 -- THE LIST
-
-low-at : (T : Sketch) (j : ℕ) (g : Figure) → figure_at T j ≡ Some g → j < length T
-low-at [] j g e = cc
-low-at (h ∷ T) zero g e = omega arith
-low-at (h ∷ T) (suc j) g e = let l : j < length T = low-at T j g e in omega (arith, l)
 
 rounds_by : Sketch → Option Figure → Step → ℕ
 rounds_by T None x = 0

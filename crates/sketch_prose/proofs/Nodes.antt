@@ -15,14 +15,12 @@ use Rattle.sketch_prose.specs.Leaves.{leaf_of, own_line}
 use Rattle.sketch_text.specs.Marks.{Marks}
 use Rattle.sketch_text.specs.Trees.{Line, Node, Nodes, lines_each, lines_of, more, node, none, of_marks, of_node}
 use Rattle.sketch_text.specs.declared.nodes.SketchNode.{SketchNode}
+use Rattle.sketch_checker.proofs.Completing.{same-node}
 
 abbrev pub level : Spot → ℕ → ℕ → List Due → Level
 level at n c ds = record { spot = at; number = n; count = c; due = ds }
 
 -- A NODE THAT IS DUE
-
-pub same-node : (x y : SketchNode) → of_node x ≡ of_node y → x ≡ y
-same-node x y e = cc
 
 own-first : (y : Node) (x : SketchNode) (lines rest : List Line) → of_node x ∷ lines ≡ lines_of y ++ rest → (x ≡ own_line y) × (lines ≡ map (λ m. of_marks m) (marks_of y) ++ (lines_under y ++ rest))
 own-first (node label marks reason) x lines rest e = (

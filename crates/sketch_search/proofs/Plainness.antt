@@ -1,10 +1,8 @@
 -- Which sketches one node doesn't refute without exact files, prices and marks.
-use Rattle.std.proofs.Common.{◌≡◌, Bool, true, false, true≢false, inl, inr, List, [], ◌∷◌, refl, ap, sym, subst, ◌∙◌}
-use Rattle.std.specs.Prelude.{IfOk, IsTrue, MatchOption, Ok, Err, Option, Result, ◌||◌}
-use Rattle.std.specs.List.{list_any}
+use Rattle.std.proofs.Common.{◌≡◌, Bool, true, false, true≢false, inl, inr, List, [], ◌∷◌, ap, sym, subst, ◌∙◌}
+use Rattle.std.specs.Prelude.{IfOk, IsTrue, MatchOption, Ok, Err, Option, Result}
 use Rattle.std.proofs.lemmas.Bool.{both_ways}
 use Rattle.board_base.specs.Rights.{Rights}
-use Rattle.figures.specs.Clashes.{is_clash, is_nowhere}
 use Rattle.figures.specs.Homes.{may_be_array}
 use Rattle.past_sketches.specs.Figures.{Sketch}
 use Rattle.sketch_node.specs.Nodes.{IsLeastAbove, IsVoid}
@@ -13,14 +11,7 @@ use Rattle.sketch_checker.specs.Beginning.{CanBegin}
 use Rattle.sketch_checker.specs.Listed.{Earlier, earlier}
 use Rattle.sketch_found.specs.Plain.{IsPlain, IsPlainNode, IsStepless, no_files}
 use Rattle.sketch_found.specs.declared.found.FoundSketch.{FoundSketch}
-
-first-false : (a b : Bool) → (a || b) ≡ false → a ≡ false
-first-false true b h = h
-first-false false b h = refl
-
-somewhere : (S : Sketch) → is_clash S ≡ false → list_any is_nowhere S ≡ false
-unfolding is_clash
-somewhere S apart = first-false (list_any is_nowhere S) _ apart
+use Rattle.sketch_checker.proofs.Going.{sound-somewhere}
 
 abbrev has_first : List Earlier → Bool
 has_first [] = false
@@ -31,7 +22,7 @@ pub has-step : (l m : List Earlier) (e : Earlier) → l ≡ e ∷ m → l ≡ []
 has-step l m e is none = true≢false (ap has_first (sym is ∙ none))
 
 one-wide : (o : List Bool) (held : Rights) (S T : Sketch) → CanBegin o S → IsLeastAbove held no_files S T → (stepless : IsStepless o held S) → stepless.wide ≡ T
-one-wide o held S T can least stepless = least-one held no_files S stepless.wide T (somewhere S can.apart) stepless.least least
+one-wide o held S T can least stepless = least-one held no_files S stepless.wide T (sound-somewhere S can.apart) stepless.least least
 
 pub array-unplain : (o : List Bool) (held : Rights) (S T : Sketch) → CanBegin o S → (IsVoid o held S → ⊥) → IsLeastAbove held no_files S T → IsTrue (may_be_array o T) → IsPlain o held S → ⊥
 array-unplain o held S T can undead least array (inl void) = undead void

@@ -77,7 +77,7 @@ module _ (figures : List Figure) (i : ℕ) (f : Figure) (low : i < length figure
       let here : do_two (is_fixed_on t) figures ≡ true = sym (before.each t on) ∙ opened t (is_in seen t) ∙ two-twice (is_in seen t) (is_fixed_on t f) (list_any (is_fixed_on t) (drop (i + 1) figures)) (do_two (is_fixed_on t) (drop (i + 1) figures)) old fixed in
       sym (any-found (is_twice figures) 0 64 t (omega arith) on here)
 
-drop-all : (l : List Figure) (i : ℕ) → length l ≤ i → drop i l ≡ []
+pub drop-all : (l : List Figure) (i : ℕ) → length l ≤ i → drop i l ≡ []
 drop-all [] zero past = refl
 drop-all [] (suc i) past = refl
 drop-all (f ∷ l) zero past = absurd (omega arith)

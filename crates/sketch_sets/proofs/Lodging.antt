@@ -14,7 +14,7 @@ use Rattle.sketch_sets.specs.Homes.{has_like, home_count, homes_on, lives_in, su
 use Rattle.sketch_sets.specs.Remade.{with_set}
 use Rattle.sketch_sets.proofs.Sets.{all-same, inside-told}
 
-count-same : (p r : ℕ → Bool) (k n : ℕ) → ((q : ℕ) → q < k + n → p q ≡ r q) → count_by p (range_with_len k n) ≡ count_by r (range_with_len k n)
+pub count-same : (p r : ℕ → Bool) (k n : ℕ) → ((q : ℕ) → q < k + n → p q ≡ r q) → count_by p (range_with_len k n) ≡ count_by r (range_with_len k n)
 count-same p r k zero same = refl
 count-same p r k (suc n) same =
     sum_by-cons (λ x. cond (p x) 1 0) k (range_with_len (k + 1) n)

@@ -48,7 +48,7 @@ front-back [] f g j e = cc
 front-back (h ∷ T) f g zero e = e
 front-back (h ∷ T) f g (suc j) e = front-back T f g j e
 
-low-at : (T : Sketch) (j : ℕ) (g : Figure) → figure_at T j ≡ Some g → j < length T
+pub low-at : (T : Sketch) (j : ℕ) (g : Figure) → figure_at T j ≡ Some g → j < length T
 low-at [] j g e = cc
 low-at (h ∷ T) zero g e = omega arith
 low-at (h ∷ T) (suc j) g e = let l : j < length T = low-at T j g e in omega arith

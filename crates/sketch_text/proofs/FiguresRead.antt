@@ -13,7 +13,7 @@ pub record FiguresSoFar (text : List ℕ) (n least : ℕ) (rest : Option (Bor (L
   pub low : least ≤ 33
   pub read : figures_from 32 1 (words text) ≡ option_map (λ (others : List ℕ). figures ++ others) (figures_from (32 - n) least (left rest))
 
-no_more : (o : Option (List ℕ)) → o ≡ option_map (λ (others : List ℕ). [] ++ others) o
+pub no_more : (o : Option (List ℕ)) → o ≡ option_map (λ (others : List ℕ). [] ++ others) o
 no_more None = refl
 no_more (Some figures) = refl
 

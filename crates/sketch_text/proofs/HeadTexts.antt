@@ -15,6 +15,7 @@ use Rattle.fen_text.proofs.PartLemmas.{parted_end, parted_known, parted_next}
 use Rattle.sketch_text.specs.Heads.{Head, are_files, files_of, files_text, head_line, head_of, head_text, head_with, is_head, letters_from, some_letters}
 use Rattle.sketch_text.specs.Nodes.{number_within}
 use Rattle.sketch_text.proofs.InRange.{Only, decimal_free, within_back, within_read}
+use Rattle.sketch_text.proofs.FiguresRead.{no_more}
 
 abbrev letters : List ℕ → List ℕ
 letters files = map (λ x. 97 + x) files
@@ -146,10 +147,6 @@ pub record LettersSoFar (text : List ℕ) (i least : ℕ) (files : List ℕ) : T
   pub few : length files + 97 ≤ least
   pub low : least ≤ 105
   pub read : letters_from 97 text ≡ option_map (λ (others : List ℕ). files ++ others) (letters_from least (drop i text))
-
-no_more : (o : Option (List ℕ)) → o ≡ option_map (λ (others : List ℕ). [] ++ others) o
-no_more None = refl
-no_more (Some files) = refl
 
 pub letters_begun : (text : List ℕ) → LettersSoFar text 0 97 []
 letters_begun text = record { few = omega arith; low = omega arith; read = no_more (letters_from 97 text) }

@@ -1,8 +1,9 @@
 -- The lowest place above some figures, figure by figure.
-use Rattle.std.proofs.Common.{◌≡◌, ℕ, zero, suc, ◌+◌, ◌<◌, ◌≤◌, max, Bool, true, false, cond, List, [], ◌∷◌, length, get_or, drop, refl, ap, sym, ◌∙◌, arith}
+use Rattle.std.proofs.Common.{◌≡◌, ℕ, ◌+◌, ◌<◌, ◌≤◌, max, Bool, true, false, cond, [], ◌∷◌, length, get_or, drop, refl, ap, sym, ◌∙◌, arith}
 use Rattle.std.proofs.lemmas.List.{drop_more}
 use Rattle.figures.specs.Figures.{Figure, Sketch}
 use Rattle.sketch_list.specs.Listed.{next_above}
+use Rattle.sketch_sets.proofs.Clashing.{drop-all}
 
 next-cons : (p : Figure → Bool) (f : Figure) (T : Sketch) → next_above p (f ∷ T) ≡ max (cond (p f) (f.place + 1) 0) (next_above p T)
 unfolding next_above
@@ -11,12 +12,6 @@ next-cons p f T = refl
 next-none : (p : Figure → Bool) → next_above p [] ≡ 0
 unfolding next_above
 next-none p = refl
-
-drop-all : (l : List Figure) (i : ℕ) → length l ≤ i → drop i l ≡ []
-drop-all [] zero past = refl
-drop-all [] (suc i) past = refl
-drop-all (f ∷ l) zero past = absurd (omega arith)
-drop-all (f ∷ l) (suc i) past = drop-all l i (omega arith)
 
 pub raised-start : (p : Figure → Bool) (T : Sketch) → max 0 (next_above p (drop 0 T)) ≡ next_above p T
 raised-start p T = omega arith

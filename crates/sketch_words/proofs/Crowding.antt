@@ -1,5 +1,5 @@
 -- Figures for whom there are too few homes.
-use Rattle.std.proofs.Common.{◌≡◌, ℕ, zero, suc, ◌+◌, ◌<◌, ◌≤◌, ◌==◌, Bool, true, false, cond, ◌&&◌, ◌||◌, not, List, [], ◌∷◌, ◌++◌, drop, length, refl, ap, sym, ◌∙◌, arith}
+use Rattle.std.proofs.Common.{◌≡◌, ℕ, zero, suc, ◌+◌, ◌≤◌, ◌==◌, Bool, true, false, cond, ◌&&◌, ◌||◌, not, List, [], ◌∷◌, ◌++◌, drop, length, refl, ap, sym, ◌∙◌, arith}
 use Rattle.std.specs.Prelude.{None, Option, Some, count_by, nat_lt}
 use Rattle.std.proofs.lemmas.List.{drop_all}
 use Rattle.std.proofs.lemmas.List.Sums.{sum_by-cons}
@@ -16,6 +16,7 @@ use Rattle.sketch_words.specs.Lodging.{lacks_on, lives_on, lodges_on}
 use Rattle.sketch_words.specs.Words.{set_words}
 use Rattle.sketch_words.specs.declared.crowds.Lack.{Lack}
 use Rattle.sketch_words.specs.declared.crowds.Lack.TheVariants.{Home, Room}
+use Rattle.sketch_sets.proofs.Lodging.{count-same}
 
 -- HOMES
 
@@ -35,14 +36,6 @@ lodges-told o f first homes (Some g) same is =
     ap (λ (l : List Bool). lives_on first l g) is ∙ ap (λ (b : Places). lives_on b (homes_on b f) g) same ∙ lives-told o f g
 
 -- COUNTS
-
-count-same : (p r : ℕ → Bool) (k n : ℕ) → ((q : ℕ) → q < k + n → p q ≡ r q) → count_by p (range_with_len k n) ≡ count_by r (range_with_len k n)
-count-same p r k zero same = refl
-count-same p r k (suc n) same =
-    sum_by-cons (λ x. cond (p x) 1 0) k (range_with_len (k + 1) n)
-    ∙ ap (λ (b : Bool). cond b 1 0 + count_by p (range_with_len (k + 1) n)) (same k (omega arith))
-    ∙ ap (λ (m : ℕ). cond (r k) 1 0 + m) (count-same p r (k + 1) n (λ q low. same q (omega arith)))
-    ∙ sym (sum_by-cons (λ x. cond (r x) 1 0) k (range_with_len (k + 1) n))
 
 count-each : (p r : Figure → Bool) (l : List Figure) → ((x : Figure) → p x ≡ r x) → count_by p l ≡ count_by r l
 count-each p r [] same = refl

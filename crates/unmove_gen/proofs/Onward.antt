@@ -49,7 +49,7 @@ castled-played board c rights m x inside e may =
     subst (λ (o : Option Castle). castling_back (played_as board m o) m ≡ Some x) (sym e) (castled board c rights m x inside e may)
 
 -- a capture en passant of the demanded last move is one of the last move
-passes-last : (board : Places) (c : Colour) (last o : Option Move) (m : Move) → IfSome o (λ d. (last ≡ Some d) × IsTrue (is_a Pawn (at board d.to))) → pawn_captures_en_passant board c o m ≡ true → pawn_captures_en_passant board c last m ≡ true
+pub passes-last : (board : Places) (c : Colour) (last o : Option Move) (m : Move) → IfSome o (λ d. (last ≡ Some d) × IsTrue (is_a Pawn (at board d.to))) → pawn_captures_en_passant board c o m ≡ true → pawn_captures_en_passant board c last m ≡ true
 passes-last board c last None m only h = absurd (both_ways _ (none-answers board c m) h)
 passes-last board c last (Some d) m only h = subst (λ (l : Option Move). pawn_captures_en_passant board c l m ≡ true) (sym only.0) h
 

@@ -2,14 +2,12 @@
 use Rattle.std.proofs.Common.{◌≡◌, ℕ, ◌+◌, ◌-◌, ◌≤◌, ◌==◌, Bool, false, List, ◌∷◌, ◌++◌, length, drop, sym, ap, ◌∙◌, arith}
 use Rattle.std.specs.Prelude.{Some, slice_get}
 use Rattle.std.proofs.lemmas.Bool.{ne_eqb}
-use Rattle.std.proofs.lemmas.List.{append_assoc, append-nil, drop_all, drop_more, length-drop}
+use Rattle.std.proofs.lemmas.List.{append-nil, drop_all, drop_more, length-drop}
 use Rattle.std.proofs.lemmas.Option.{get_or_from_slice_get, slice_get_within}
 use Rattle.board_base.specs.Board.{Places}
 use Rattle.board_base.specs.declared.unmoves.Unmove.{Unmove}
 use Rattle.verdict_prose.specs.Moves.{choice_from, choice_sign, step_words}
-
-apart : (a b c d : List ℕ) → ((a ++ b) ++ c) ++ d ≡ a ++ ((b ++ c) ++ d)
-apart a b c d = simp append_assoc
+use Rattle.proof_story.proofs.Parts.{kinds-apart}
 
 -- one move more
 pub choice-step : (word : List ℕ) (board : Places) (us : List Unmove) (n i : ℕ) (u : Unmove) (done mid new o : List ℕ) → n ≡ length us → slice_get us i ≡ Some u → mid ≡ done ++ choice_sign word (i == 0) (n - 1 - i) → new ≡ mid ++ step_words board u → done ++ choice_from word (i == 0) board (drop i us) ≡ o → new ++ choice_from word (i + 1 == 0) board (drop (i + 1) us) ≡ o
@@ -22,7 +20,7 @@ choice-step word board us n i u done mid new o many here first second so_far =
     second ∙ ap (λ (l : List ℕ). l ++ step_words board u) (first ∙ ap (λ (k : ℕ). done ++ choice_sign word (i == 0) k) (sym after)) in
     ap (λ (l : List ℕ). l ++ choice_from word (i + 1 == 0) board rest) now
     ∙ ap (λ (b : Bool). ((done ++ choice_sign word (i == 0) (length rest)) ++ step_words board u) ++ choice_from word b board rest) past
-    ∙ apart done (choice_sign word (i == 0) (length rest)) (step_words board u) (choice_from word false board rest)
+    ∙ kinds-apart done (choice_sign word (i == 0) (length rest)) (step_words board u) (choice_from word false board rest)
     ∙ ap (λ (l : List Unmove). done ++ choice_from word (i == 0) board l) (sym left)
     ∙ so_far
 

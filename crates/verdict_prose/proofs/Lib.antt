@@ -1,2 +1,2 @@
-mod Behind
+pub mod Behind
 mod Choices

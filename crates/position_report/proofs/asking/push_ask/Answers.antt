@@ -2,8 +2,8 @@ use Rattle.std.proofs.Common.{◌++◌}
 use Rattle.std.specs.Prelude.{codes}
 use Rattle.prose_words.proofs.Squares.{thence}
 use Rattle.position_report.specs.Proofs.{call_text, position_lines}
-use Rattle.position_report.proofs.Playing.{behind}
 use Rattle.position_report.proofs.asking.push_ask.Goals as goal
+use Rattle.verdict_prose.proofs.Behind.{behind}
 
 pub returns : goal.returns
 returns c =

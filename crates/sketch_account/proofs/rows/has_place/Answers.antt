@@ -6,8 +6,9 @@ use Rattle.board_base.specs.Legal.{is_officer}
 use Rattle.board_base.specs.declared.men.Kind.TheVariants.{King}
 use Rattle.balance_rule.specs.LeastWays.{seen_by}
 use Rattle.sketch_account.proofs.Aiming.{any-board}
-use Rattle.sketch_account.proofs.RowsMade.{officer-else, some-square}
+use Rattle.sketch_account.proofs.RowsMade.{some-square}
 use Rattle.sketch_account.proofs.rows.has_place.Goals as goal
+use Rattle.balance_rule.proofs.StandingMen.{is-officer}
 
 pub returns-then-eq : goal.returns-then-eq
 returns-then-eq c = λ o p R m ground there kind piece.
@@ -17,7 +18,7 @@ returns-then-eq c = λ o p R m ground there kind piece.
 pub returns-else-eq : goal.returns-else-eq
 returns-else-eq c = λ o p R m ground there kind piece.
     let no_king : same_kind c.args.first King ≡ false = search rules in
-    let officer : is_officer m.kind ≡ true = ap is_officer kind ∙ officer-else c.args.first piece no_king in
+    let officer : is_officer m.kind ≡ true = ap is_officer kind ∙ is-officer c.args.first piece no_king in
     let room : List Bool = get_or c.args.ground.now.rooms c.args.f c.index-ground-f.result in
     c.meets.ensures
     ∙ any-board (λ s. is_in c.args.free s && is_in room s) (λ s. is_in c.args.free s && (same_kind c.args.first King || R (Some m) (seen_by c.args.ground.now.base.side c.args.f) s)) (λ s inside.
