@@ -10,7 +10,7 @@ pub mod WalledGames
 pub mod Tested
 pub mod Filling
 pub mod SetAlgebra
-mod Shifts
+pub mod Shifts
 pub mod Near
 pub mod Adjacent
 mod Loose
@@ -20,7 +20,7 @@ pub mod Existing
 pub mod Beginners
 pub mod Regions
 pub mod Walls
-mod Spread
+pub mod Spread
 mod Struck
 pub mod Goings
 pub mod Roamers

@@ -13,13 +13,13 @@ use Rattle.cage_rules.specs.Steps.{down, left, right, up}
 use Rattle.cage_rules.proofs.SetAlgebra.{bit-and, that-is}
 
 -- the bits of a number that is shifted to the left, and to the right
-shifted-left : (n k s : ℕ) → k ≤ s → s < 64 → bit_at (n * 2 ^ k % 2 ^ 64) s ≡ bit_at n (s - k)
+pub shifted-left : (n k s : ℕ) → k ≤ s → s < 64 → bit_at (n * 2 ^ k % 2 ^ 64) s ≡ bit_at n (s - k)
 shifted-left n k s low high =
     let m : ℕ = n * 2 ^ k in
     let whole : m / 2 ^ 64 * 2 ^ 64 + m % 2 ^ 64 ≡ m + 0 = omega arith in
     sym (bit_at_cat_low (m / 2 ^ 64) 64 (m % 2 ^ 64) s high) ∙ ap (λ (x : ℕ). bit_at x s) whole ∙ bit_at_cat_high n k 0 s (pow_pos k) low
 
-shifted-right : (n k s : ℕ) → bit_at (n / 2 ^ k) s ≡ bit_at n (s + k)
+pub shifted-right : (n k s : ℕ) → bit_at (n / 2 ^ k) s ≡ bit_at n (s + k)
 shifted-right n k s =
     let sum : k + s ≡ s + k = omega arith in
     ap (λ (x : ℕ). x % 2) (div-div-eq-div-mul n (2 ^ k) (2 ^ s) ∙ ap (λ (x : ℕ). n / x) (sym (pow-add 2 k s) ∙ ap (λ (x : ℕ). 2 ^ x) sum))
@@ -42,7 +42,7 @@ left-masked n s few inside =
     (agree_below_at (λ k. agree_below (λ i. bit_at (left-mask k) i == 1) (λ i. nat_lt (file i + k) 8) 64) (λ k. true) 8 n refl few) inside
 
 -- where the first of two tests decides, the second counts only there
-guarded : (a b g c : Bool) → b ≡ g → (g ≡ true → a ≡ c) → (a && b) ≡ (g && c)
+pub guarded : (a b g c : Bool) → b ≡ g → (g ≡ true → a ≡ c) → (a && b) ≡ (g && c)
 guarded true b true c e h = e ∙ h refl
 guarded false b true c e h = h refl
 guarded a b false c e h = and_right a b e

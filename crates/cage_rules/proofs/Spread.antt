@@ -102,7 +102,7 @@ next-other : (s t : ℕ) → is_next s t ≡ true → not (t == s) ≡ true
 unfolding king_distance distance
 next-other s t next = not_from_false _ (ne_eqb t s (λ same. let one : king_distance s t ≡ 1 = eqb-true _ 1 next in let same_file : file t ≡ file s = ap file same in let same_rank : rank t ≡ rank s = ap rank same in omega arith))
 
-step-goes : (board : Places) (c : Colour) (k : Kind) (s t : ℕ) → is_officer k ≡ true → is_step k s t ≡ true → kind_attacks board c k t s ≡ true
+pub step-goes : (board : Places) (c : Colour) (k : Kind) (s t : ℕ) → is_officer k ≡ true → is_step k s t ≡ true → kind_attacks board c k t s ≡ true
 unfolding kind_attacks is_step
 step-goes board c Pawn s t officer h = absurd (both_ways false refl officer)
 step-goes board c King s t officer h = absurd (both_ways false refl officer)

@@ -114,7 +114,7 @@ pub record LeastAbove (T : Sketch) (passes : ℕ → Bool) : Type 0 where
   pub next : is_next_place T number ≡ true
   pub least : (b : ℕ) → ((i : ℕ) (f : Figure) → figure_at T i ≡ Some f → passes i ≡ true → f.place < b) → number ≤ b
 
-next-rest : (f : Figure) (T : Sketch) (n : ℕ) → is_next_place T n ≡ true → is_next_place (f ∷ T) n ≡ true
+pub next-rest : (f : Figure) (T : Sketch) (n : ℕ) → is_next_place T n ≡ true → is_next_place (f ∷ T) n ≡ true
 next-rest f T n h = elim (or_cases (n == 0) (list_any (λ g. n == g.place + 1) T) h) [
   | inl none ↦ or_left _ _ none
   | inr some ↦ or_right (n == 0) _ (or_right (n == f.place + 1) _ some)

@@ -74,7 +74,7 @@ record Bounds (T : Sketch) (x : Step) : Type 0 where
   taken : x.taken ≡ Some King → ⊥
   place : Contains (all_places T) x.place
 
-squares-within : (T : Sketch) (f : Figure) (x : Step) → has_squares T f x ≡ true → (x.to < 64) × (x.from < 64)
+pub squares-within : (T : Sketch) (f : Figure) (x : Step) → has_squares T f x ≡ true → (x.to < 64) × (x.from < 64)
 squares-within T f x h =
     let p3 = and_parts _ _ h in
     let p2 = and_parts _ _ p3.0 in

@@ -1,15 +1,15 @@
 -- What officers reach past zones by single steps is what they reach by moves.
 use Rattle.std.proofs.Common.{◌≡◌, ℕ, zero, suc, ◌+◌, ◌-◌, ◌<◌, ◌≤◌, ◌==◌, ◌⊎◌, inl, inr, Bool, true, false, ◌&&◌, ◌||◌, not, List, [], ◌∷◌, length, set, refl, ap, sym, ◌∙◌, subst, arith}
-use Rattle.std.proofs.lemmas.Bool.{and_parts, and_from, or_cases, or_left, or_right, cases_Bool, cases_eq, eqb-true, eq-eqb, ne_eqb, not-true, not_from_false, both_ways, false_from_ne_true}
+use Rattle.std.proofs.lemmas.Bool.{and_parts, and_from, or_cases, or_left, or_right, cases_Bool, cases_eq, eqb-true, eq-eqb, not-true, not_from_false, both_ways, false_from_ne_true}
 use Rattle.std.proofs.lemmas.List.{length-set}
 use Rattle.std.specs.Prelude.{Some}
-use Rattle.std.specs.List.{Contains, list_all, list_any, range_with_len}
+use Rattle.std.specs.List.{Contains, list_any, range_with_len}
 use Rattle.general_lemmas.proofs.Lists.{contains-first, contains-later}
 use Rattle.general_lemmas.proofs.Ranges.{all_in_range, any-found}
 use Rattle.general_lemmas.proofs.Rounds.{count, count-le, fewer}
 use Rattle.general_lemmas.proofs.Truth.{same_truth}
-use Rattle.board_base.specs.Board.{Places, at, file, is_empty, is_in, rank, same_kind}
-use Rattle.board_base.specs.Attacks.{distance, is_open, kind_attacks, king_distance, on_one_diagonal, on_one_line, on_the_way}
+use Rattle.board_base.specs.Board.{at, is_empty, is_in, same_kind}
+use Rattle.board_base.specs.Attacks.{is_open, kind_attacks, king_distance, on_one_diagonal, on_one_line, on_the_way}
 use Rattle.board_base.specs.Legal.{is_officer}
 use Rattle.board_base.specs.Squares.{squares_of}
 use Rattle.board_base.specs.SquareNumbers.{length-squares_of}
@@ -17,12 +17,11 @@ use Rattle.board_base.specs.declared.men.Colour.{Colour}
 use Rattle.board_base.specs.declared.men.Kind.{Kind}
 use Rattle.board_base.specs.declared.men.Kind.TheVariants.{Pawn, Knight, Bishop, Rook, Queen, King}
 use Rattle.board_base.specs.declared.men.Man.{Man}
-use Rattle.board_base.proofs.Ways.{diagonal-back, king_distance-sym, line-back}
+use Rattle.board_base.proofs.Ways.{king_distance-sym}
 use Rattle.play_rules.specs.Reach.{IsWithin}
 use Rattle.cage_rules.specs.Frozen.{is_next}
 use Rattle.cage_rules.specs.Regions.{may_roam, wall, walls}
 use Rattle.cage_rules.specs.Steps.{is_diagonal_step, is_line_step, is_near, is_step}
-use Rattle.cage_rules.proofs.Adjacent.{next-step}
 use Rattle.cage_rules.proofs.Entries.{knight-back}
 use Rattle.cage_rules.proofs.Filling.{in-that, is_in-that, length-that}
 use Rattle.cage_rules.proofs.Near.{Source, near-tells, near-told}
@@ -35,6 +34,7 @@ use Rattle.sketch_grounds.specs.Paces.{is_barred, is_pace, is_paced, paced}
 use Rattle.past_account.specs.Zones.{is_trodden, reached_from, roams_past, treads_all}
 use Rattle.sketch_grounds.proofs.Entering.{only-member, member-there}
 use Rattle.past_account.proofs.Reached.{reached-goes, reached-home, reached-least}
+use Rattle.cage_rules.proofs.Spread.{step-goes}
 
 -- some zone of the list passes
 pub some-zone : (p : List Bool → Bool) (zones : List (List Bool)) → list_any p zones ≡ true → (zone : List Bool) × Contains zones zone × (p zone ≡ true)
@@ -173,35 +173,6 @@ officer-goes c Queen frozen zones within t u officer ti ui stepped h leaves out 
       | inl line ↦ line-goes Queen frozen zones within stepped t u leaves refl (λ a b step. (and_parts _ _ step).0) ti ui line parts.1 out member
       | inr diagonal ↦ diagonal-goes Queen frozen zones within stepped t u leaves refl (λ a b step. (and_parts _ _ step).0) ti ui diagonal parts.1 out member
     ]
-
--- a single step is a move
-next-open : (board : Places) (s t : ℕ) → is_next s t ≡ true → is_open board t s ≡ true
-next-open board s t next =
-    let one : king_distance t s ≡ 1 = king_distance-sym t s ∙ eqb-true _ 1 next in
-    ap (λ (n : ℕ). list_all (λ k. is_empty (at board (on_the_way t s k))) (range_with_len 1 (n - 1))) one
-
-next-other : (s t : ℕ) → is_next s t ≡ true → not (t == s) ≡ true
-unfolding king_distance distance
-next-other s t next = not_from_false _ (ne_eqb t s (λ same. let one : king_distance s t ≡ 1 = eqb-true _ 1 next in let same_file : file t ≡ file s = ap file same in let same_rank : rank t ≡ rank s = ap rank same in omega arith))
-
-step-goes : (board : Places) (c : Colour) (k : Kind) (s t : ℕ) → is_officer k ≡ true → is_step k s t ≡ true → kind_attacks board c k t s ≡ true
-unfolding kind_attacks is_step
-step-goes board c Pawn s t officer h = absurd (both_ways false refl officer)
-step-goes board c King s t officer h = absurd (both_ways false refl officer)
-step-goes board c Knight s t officer h = ap (λ (n : ℕ). n == 2) (sym (knight-back s t)) ∙ h
-step-goes board c Bishop s t officer h =
-    let parts = and_parts (is_next s t) (on_one_diagonal s t) h in
-    and_from _ _ (and_from _ _ (next-other s t parts.0) (diagonal-back s t parts.1)) (next-open board s t parts.0)
-step-goes board c Rook s t officer h =
-    let parts = and_parts (is_next s t) (on_one_line s t) h in
-    and_from _ _ (and_from _ _ (next-other s t parts.0) (line-back s t parts.1)) (next-open board s t parts.0)
-step-goes board c Queen s t officer h =
-    let way : (is_line_step s t || is_diagonal_step s t) ≡ true = next-step s t ∙ h in
-    let on : (on_one_line t s || on_one_diagonal t s) ≡ true = elim (or_cases (is_line_step s t) (is_diagonal_step s t) way) [
-      | inl line ↦ or_left (on_one_line t s) (on_one_diagonal t s) (line-back s t (and_parts (is_next s t) (on_one_line s t) line).1)
-      | inr diagonal ↦ or_right (on_one_line t s) (on_one_diagonal t s) (diagonal-back s t (and_parts (is_next s t) (on_one_diagonal s t) diagonal).1)
-    ] in
-    and_from _ _ (and_from _ _ (next-other s t h) on) (next-open board s t h)
 
 -- a step goes over no square
 none-crossed : (k : Kind) (s t z : ℕ) → is_next s t ≡ true → list_any (λ j. on_the_way t s j == z) (range_with_len 1 (king_distance t s - 1)) ≡ false

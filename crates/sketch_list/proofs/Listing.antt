@@ -27,6 +27,7 @@ use Rattle.sketch_list.specs.declared.steps.Victim.{Victim}
 use Rattle.sketch_list.specs.declared.steps.Victim.TheVariants.{Nobody, TakenPawn, TakenBishop, TakenOther, PassedPawn}
 use Rattle.sketch_list.proofs.Narrowed.{HaveKinds, pawn-may}
 use Rattle.sketch_list.proofs.Placing.{count-fewer, next-place, place-over, place-under}
+use Rattle.past_sketches.proofs.Listed.{squares-within}
 
 unfoldable pub victim_for : Bool → Option Kind → Victim
 victim_for true o = PassedPawn
@@ -293,16 +294,9 @@ unfolding distance
 origin-double White s t si ti level home apart = let a = eqb-true _ _ level in let b = eqb-true _ _ home in let d = eqb-true _ _ apart in at-second _ _ _ _ s (omega (arith, a, b, d, si, ti))
 origin-double Black s t si ti level home apart = let a = eqb-true _ _ level in let b = eqb-true _ _ home in let d = eqb-true _ _ apart in at-second _ _ _ _ s (omega (arith, a, b, d, si, ti))
 
-squares-inside : (T : Sketch) (f : Figure) (x : Step) → has_squares T f x ≡ true → (x.to < 64) × (x.from < 64)
-squares-inside T f x h =
-    let p3 = and_parts _ _ h in
-    let p2 = and_parts _ _ p3.0 in
-    let p1 = and_parts _ _ p2.0 in
-    (ltb-true _ _ (and_parts _ _ p1.0).1, ltb-true _ _ p1.1)
-
 pub inside-told : (exact : List Bool) (T : Sketch) (f : Figure) (x : Step) → Made T f x ⊎ Gone exact T f x → (x.to < 64) × (x.from < 64)
-inside-told exact T f x (inl m) = squares-inside T f x m.squares
-inside-told exact T f x (inr g) = squares-inside T f x g.squares
+inside-told exact T f x (inl m) = squares-within T f x m.squares
+inside-told exact T f x (inr g) = squares-within T f x g.squares
 
 origin-in : (exact : List Bool) (T : Sketch) (f : Figure) (x : Step) → Made T f x ⊎ Gone exact T f x → Contains (origins f.colour x.to) x.from
 origin-in exact T f x (inl m) = elim (turns f.colour x.from x.to x.passing x.taken m.deed) [
@@ -311,7 +305,7 @@ origin-in exact T f x (inl m) = elim (turns f.colour x.from x.to x.passing x.tak
 ]
 origin-in exact T f x (inr g) =
     let parts = and_parts (file x.from == file x.to) _ g.straight in
-    let on = squares-inside T f x g.squares in
+    let on = squares-within T f x g.squares in
     elim (or_cases (one_ahead f.colour x.from x.to) _ parts.1) [
       | inl up ↦ origin-straight f.colour x.from x.to up parts.0
       | inr two ↦ let both = and_parts (rank x.from == pawn_rank f.colour) (ranks_apart x.from x.to == 2) two in origin-double f.colour x.from x.to on.1 on.0 parts.0 both.0 both.1

@@ -1,13 +1,13 @@
 -- The place that so many pawns above leave to a figure is as good as the one that he had.
 use Rattle.std.proofs.Common.{◌≡◌, ℕ, zero, suc, ◌+◌, ◌<◌, ◌≤◌, ◌==◌, max, inl, inr, Bool, true, false, cond, ◌&&◌, not, [], ◌∷◌, refl, ap, sym, ◌∙◌, subst, arith}
-use Rattle.std.proofs.lemmas.Bool.{and_from, and_parts, and_right, cases_Bool, cases_lt, cond-false, cond-true, eq-eqb, le-ltb, lt-ltb, ltb-false, ltb-true, not-true, not_from_false, not_from_true, or_cases, or_left, or_right}
+use Rattle.std.proofs.lemmas.Bool.{and_from, and_parts, and_right, cases_Bool, cases_lt, cond-false, cond-true, eq-eqb, le-ltb, lt-ltb, ltb-false, ltb-true, not-true, not_from_false, not_from_true, or_left, or_right}
 use Rattle.std.proofs.lemmas.Option.{same_Some}
 use Rattle.std.specs.Prelude.{Some, nat_lt}
-use Rattle.std.specs.List.{list_any}
 use Rattle.past_account.specs.Figures.{Figure, Sketch, figure_at}
 use Rattle.past_account.specs.Steps.{is_next_place}
 use Rattle.sketch_steps.proofs.Rearranging.{count-above, count-more}
 use Rattle.sketch_list.specs.Listed.{count_from, is_from, is_on_file, is_under, next_above}
+use Rattle.past_sketches.proofs.Changed.{next-rest}
 
 -- the lowest place above those that pass
 pub next-over : (p : Figure → Bool) (T : Sketch) (i : ℕ) (h : Figure) → figure_at T i ≡ Some h → p h ≡ true → h.place < next_above p T
@@ -28,12 +28,6 @@ next-least p (g ∷ T) b all =
       | inl pass ↦ let here : cond (p g) (g.place + 1) 0 ≡ g.place + 1 = cond-true (p g) (g.place + 1) 0 pass in let low = all 0 g refl pass in omega (arith, here, low, rest)
       | inr out ↦ let here : cond (p g) (g.place + 1) 0 ≡ 0 = cond-false (p g) (g.place + 1) 0 out in omega (arith, here, rest)
     ]
-
-next-rest : (f : Figure) (T : Sketch) (n : ℕ) → is_next_place T n ≡ true → is_next_place (f ∷ T) n ≡ true
-next-rest f T n h = elim (or_cases (n == 0) (list_any (λ g. n == g.place + 1) T) h) [
-  | inl none ↦ or_left _ _ none
-  | inr some ↦ or_right (n == 0) _ (or_right (n == f.place + 1) _ some)
-]
 
 pub next-place : (p : Figure → Bool) (T : Sketch) → is_next_place T (next_above p T) ≡ true
 unfolding next_above

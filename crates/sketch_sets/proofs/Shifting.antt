@@ -1,9 +1,7 @@
 -- Steps of whole sets of squares, square by square.
-use Rattle.std.proofs.Common.{◌≡◌, ℕ, zero, suc, ◌+◌, ◌-◌, ◌*◌, ◌/◌, ◌%◌, ◌^◌, ◌<◌, ◌≤◌, ◌==◌, inl, inr, Bool, true, false, ◌&&◌, ◌||◌, not, List, refl, ap, sym, ◌∙◌, arith, bit_and}
-use Rattle.std.proofs.Math.Nat.{div-div-eq-div-mul}
-use Rattle.std.proofs.lemmas.Nat.{pow-add, pow_pos}
-use Rattle.std.proofs.lemmas.Bool.{agree_below_at, and_from, and_left, and_parts, and_right, both_ways, cases_Bool, cases_lt, eq-eqb, eqb-true, le-ltb, lt-ltb, ltb-true, or_cases, or_left, or_right}
-use Rattle.std.proofs.lemmas.Nat.Bits.{bit_at_above, bit_at_cat_high, bit_at_cat_low, bit_at-zero}
+use Rattle.std.proofs.Common.{◌≡◌, ℕ, zero, suc, ◌+◌, ◌-◌, ◌*◌, ◌/◌, ◌%◌, ◌^◌, ◌<◌, ◌==◌, inl, inr, Bool, true, false, ◌&&◌, ◌||◌, not, List, refl, ap, sym, ◌∙◌, arith, bit_and}
+use Rattle.std.proofs.lemmas.Bool.{agree_below_at, and_from, and_left, and_parts, both_ways, cases_Bool, cases_lt, eq-eqb, eqb-true, le-ltb, lt-ltb, ltb-true, or_cases, or_left, or_right}
+use Rattle.std.proofs.lemmas.Nat.Bits.{bit_at_above, bit_at_cat_low, bit_at-zero}
 use Rattle.std.specs.Int.{bit_at}
 use Rattle.std.specs.Prelude.{nat_lt}
 use Rattle.std.specs.List.{list_any, range_with_len}
@@ -22,30 +20,14 @@ use Rattle.sketch_sets.specs.Shifts.{comes, comes_by, file_comes, has_step, land
 use Rattle.sketch_sets.specs.Tests.{some_that}
 use Rattle.sketch_sets.proofs.Rays.{changed-low, next-square}
 use Rattle.sketch_sets.proofs.Sets.{any-same}
-
--- the bits of a number that is shifted to the left, and to the right
-shifted-left : (n k s : ℕ) → k ≤ s → s < 64 → bit_at (n * 2 ^ k % 2 ^ 64) s ≡ bit_at n (s - k)
-shifted-left n k s low high =
-    let m : ℕ = n * 2 ^ k in
-    let whole : m / 2 ^ 64 * 2 ^ 64 + m % 2 ^ 64 ≡ m + 0 = omega arith in
-    sym (bit_at_cat_low (m / 2 ^ 64) 64 (m % 2 ^ 64) s high) ∙ ap (λ (x : ℕ). bit_at x s) whole ∙ bit_at_cat_high n k 0 s (pow_pos k) low
+use Rattle.cage_rules.proofs.Rays.{file-of, rank-of}
+use Rattle.cage_rules.proofs.Shifts.{guarded, shifted-left, shifted-right}
 
 shifted-none : (n k s : ℕ) → s < k → s < 64 → bit_at (n * 2 ^ k % 2 ^ 64) s ≡ 0
 shifted-none n k s low high =
     let m : ℕ = n * 2 ^ k in
     let whole : m / 2 ^ 64 * 2 ^ 64 + m % 2 ^ 64 ≡ m + 0 = omega arith in
     sym (bit_at_cat_low (m / 2 ^ 64) 64 (m % 2 ^ 64) s high) ∙ ap (λ (x : ℕ). bit_at x s) whole ∙ bit_at_cat_low n k 0 s low ∙ bit_at-zero s
-
-shifted-right : (n k s : ℕ) → bit_at (n / 2 ^ k) s ≡ bit_at n (s + k)
-shifted-right n k s =
-    let sum : k + s ≡ s + k = omega arith in
-    ap (λ (x : ℕ). x % 2) (div-div-eq-div-mul n (2 ^ k) (2 ^ s) ∙ ap (λ (x : ℕ). n / x) (sym (pow-add 2 k s) ∙ ap (λ (x : ℕ). 2 ^ x) sum))
-
--- where the first of two tests decides, the second counts only there
-guarded : (a b g c : Bool) → b ≡ g → (g ≡ true → a ≡ c) → (a && b) ≡ (g && c)
-guarded true b true c e h = e ∙ h refl
-guarded false b true c e h = h refl
-guarded a b false c e h = and_right a b e
 
 past-a : (e : ℕ) → e < 64 → (bit_at 18374403900871474942 e == 1) ≡ nat_lt 0 (file e)
 past-a e low = agree_below_at (λ i. bit_at 18374403900871474942 i == 1) (λ i. nat_lt 0 (file i)) 64 e refl low
@@ -99,13 +81,6 @@ ranks-rise bits e fits low = is_in-squares_of (bits / 2 ^ 8) e low ∙ ap (λ (b
 pub ranks-stay : (set : List Bool) (e : ℕ) → is_in set e ≡ rank_comes Stays set e
 unfolding rank_comes
 ranks-stay set e = ap (is_in set) (let same : e ≡ 8 * rank e + file e = omega arith in same)
-
--- a step by ranks and one by files
-file-of : (r f : ℕ) → f < 8 → file (8 * r + f) ≡ f
-file-of r f low = omega arith
-
-rank-of : (r f : ℕ) → f < 8 → rank (8 * r + f) ≡ r
-rank-of r f low = omega arith
 
 joined : (a b c : Bool) → (a && (b && c)) ≡ ((a && b) && c)
 joined true b c = refl
