@@ -5,11 +5,11 @@ Usage: tools/believed.py [--repo DIR] [--all] [CRATE ...]
   --all   also list what stands in the files that say so
 
 A definition is to be believed if a public clause cites it, directly or through other definitions. All others serve inner
-functions or proofs: they stand in files of their own, whose first line is INNER below, and which specs/Lib.antt lists last. There
-is a line for each file of which this isn't so, and exit status 1. The clauses of all crates count; naming crates limits what is printed.
+functions or proofs: they stand in files of their own, whose first line is INNER below, and which specs/Lib.antt lists last. It prints
+each file of which this isn't so, and then ends with status 1. The clauses of all crates count; naming crates limits what is printed.
 
 Public are the clauses of what lib.rt re-exports or declares: functions, methods, traits and what fulfils them. So is the value as
-which a type is seen; its view and its invariant only where its fields are public. Of a program every clause in main.rt counts. A
+which a type is seen; its view and its invariant only if its fields are public. Of a program every clause in main.rt counts. A
 variable that has the name of a definition in scope counts as citing it. Reads files only.
 """
 import argparse

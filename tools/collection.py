@@ -6,7 +6,7 @@ collection.py FILE.. [--program PATH] [--jobs N] [--depth N] [--nodes N] [--seco
                      [--certificates FOLDER] [--study-alone] [--resume]
 
 A FILE is an .olv file, as Debian's package pychess has them, or a list of FEN or EPD lines. The side to move is that of the stipulation:
-White in `#n`, `s#n`, `r#n`, `hs#n`, series but `ser-h#n`, `+` and `=`; Black in `h#n` and `ser-h#n`; the other one if a half move
+White in `#n`, `s#n`, `r#n`, `hs#n`, `+`, `=` and series other than `ser-h#n`; Black in `h#n` and `ser-h#n`; the other one if a half move
 is added (`h#2.5`) or Black is named; both in a duplex and if the stipulation doesn't say. Each diagram is studied with no right
 demanded, unless a FEN line demands one; what `study` leaves open is put to `settle`, which looks for a game against it too. The table has
 Markdown, or CSV if its name ends with .csv.
@@ -171,7 +171,7 @@ def learn(row, fact, answer, why):
 
 
 def rows_of(tasks, journal, args, program):
-    """The rows of all diagrams: each is studied, what stays open is settled, and where a castling or a capture en passant of the solution
+    """The rows of all diagrams: each is studied, what stays open is settled, and if a castling or a capture en passant of the solution
     still isn't, the diagram is studied again deeper."""
     settle = lambda some: None if args.study_alone else settle_all(some, journal, args, program)
     rows = study_all(tasks, args.depth, args.nodes, journal, args, program)

@@ -107,6 +107,8 @@ def files(usage):
 
 def main():
     words = sys.argv[1:]
+    if words == ["--help"]:
+        return print(__doc__)
     if words not in ([], ["--check"]):
         sys.exit(__doc__)
     differ = False

@@ -78,6 +78,8 @@ def package(program, folder):
 
 def main():
     words = sys.argv[1:]
+    if words == ["--help"]:
+        return print(__doc__)
     if not 1 <= len(words) <= 2:
         sys.exit(__doc__)
     print(package(pathlib.Path(words[0]).resolve(), pathlib.Path(words[1] if len(words) == 2 else ".").resolve()))

@@ -78,6 +78,8 @@ def main():
     words = sys.argv[1:]
     write = "--write" in words
     words = [word for word in words if word != "--write"]
+    if words == ["--help"]:
+        return print(__doc__)
     if len(words) != 1:
         sys.exit(__doc__)
     counts = {"commands": 0, "differ": 0}

@@ -9,8 +9,8 @@ both the list begins behind the line MARK, and what stands before it is written 
 cites it, directly or through other definitions, as tools/believed.py finds it. The clauses stand in the order of HEADLINES, then in
 that of `run`, each with the number of the definitions that it reaches, and with those that no clause before it reaches. The cases of
 a data type stand in the entry of the type. The definitions of the headline stand in the order of READING, each behind those that it
-uses; the others by crate, lowest first. There is a line for each definition that has no comment or stands before one that it uses, for
-each entry that is missing, old or too many, and if the page of the headline is longer than MOST_BYTES: then the exit status is 1.
+uses; the others by crate, lowest first. It prints each definition that has no comment or stands before one that it uses, each entry that
+is missing, old or too many, and the page of the headline if it is longer than MOST_BYTES; if there is any, it ends with status 1.
 """
 import argparse
 import itertools
