@@ -1,2 +1,2 @@
 pub mod Behind
-mod Choices
+mod OneAfterAnother

@@ -1,5 +1,5 @@
 -- Moves that are taken back, and the sentences that tell which the last ones were.
-use Rattle.std.specs.Prelude.{ℕ, ◌==◌, Bool, true, false, cond, codes, List, [], ◌∷◌, ◌++◌, length, Option, Some, None, is_some}
+use Rattle.std.specs.Prelude.{ℕ, ◌==◌, Bool, ◌&&◌, not, cond, codes, List, [], ◌∷◌, ◌++◌, length, Option, Some, None, is_some}
 use Rattle.std.specs.Fmt.{decimal}
 use Rattle.board_base.specs.Board.{Places, at}
 use Rattle.board_base.specs.Texts.{square_text}
@@ -25,16 +25,16 @@ castling_sign BlackLong = codes "O-O-O"
 abbrev pub taking_sign : Unmove → List ℕ
 taking_sign u = cond (is_some u.captured) (codes "x") (codes "-")
 
--- a man who was captured
+-- a man who was captured, in a parenthesis that is still open
 abbrev pub victim_words : Bool → Kind → List ℕ
-victim_words passing k = cond passing (codes " en passant") (codes " (a " ++ kind_word k ++ codes ")")
+victim_words passing k = cond passing (codes " en passant") (codes " (a " ++ kind_word k)
 
 -- the man who was captured, if one was
 abbrev pub taken_words : Option Kind → Bool → List ℕ
 taken_words None passing = []
 taken_words (Some k) passing = victim_words passing k
 
--- a move that is no castling, as in `c6xb5 (a knight)`
+-- a move that is no castling, as in `c6xb5 (a knight`
 abbrev pub goes_words : Places → Unmove → List ℕ
 goes_words board u =
     mover_initial (at board u.mv.to) u.mv.promo ++ square_text u.mv.from ++ taking_sign u ++ square_text u.mv.to ++ became u.mv.promo ++ taken_words u.captured u.ep
@@ -44,9 +44,17 @@ abbrev pub named_words : Option Castle → Places → Unmove → List ℕ
 named_words None board u = goes_words board u
 named_words (Some x) board u = castling_sign x
 
--- the move that led to this board
+-- somebody was captured on the target
+abbrev pub has_victim : Unmove → Bool
+has_victim u = is_some u.captured && not u.ep
+
+-- what closes the parenthesis, if one is open
+abbrev pub closing_sign : Unmove → List ℕ
+closing_sign u = cond (has_victim u) (codes ")") []
+
+-- the move that led to this board, as in `c6xb5 (a knight)`
 abbrev pub step_words : Places → Unmove → List ℕ
-step_words board u = named_words (castling_back board u.mv) board u
+step_words board u = named_words (castling_back board u.mv) board u ++ closing_sign u
 
 -- the move that led to this board behind those before it, in the order of play; those before it are given the last one first
 abbrev pub played_words : Places → Unmove → List Unmove → List ℕ
@@ -74,41 +82,6 @@ open_line_words board steps = codes "A line that ends with " ++ moves_words boar
 -- the same before the diagram of what was before them
 abbrev pub open_line_text : Asked → List Unmove → List ℕ
 open_line_text q steps = rows_of (open_line_words q.board steps)
-
--- what stands before a move behind which so many others follow, with this before the last one
-abbrev pub choice_sign : List ℕ → Bool → ℕ → List ℕ
-choice_sign word true after = []
-choice_sign word false after = cond (after == 0) word (codes ", ")
-
--- moves that led to this board, with this before the last one
-abbrev pub choice_from : List ℕ → Bool → Places → List Unmove → List ℕ
-choice_from word first board [] = []
-choice_from word first board (u ∷ us) = choice_sign word first (length us) ++ step_words board u ++ choice_from word false board us
-
--- that the last move was one of these
-unfoldable pub last_words : Places → List Unmove → List ℕ
-last_words board left = codes "The last move was " ++ choice_from (codes " or ") true board left ++ codes "."
-
--- the same in rows
-abbrev pub last_text : Asked → List Unmove → List ℕ
-last_text q left = rows_of (last_words q.board left)
-
--- that games end with all of so many moves
-abbrev pub each_words : ℕ → List ℕ
-each_words n = cond (n == 1) (codes "There is a game that ends with it") (codes "There are games that end with each of them")
-
--- that games end with so many of them
-abbrev pub some_words : ℕ → List ℕ
-some_words n = cond (n == 1) (codes "There is a game that ends with ") (codes "There are games that end with ")
-
--- with which of so many moves games end
-abbrev pub ends_words : Places → List Unmove → ℕ → List ℕ
-ends_words board ends left =
-    cond (length ends == left) (each_words left) (some_words (length ends) ++ choice_from (codes " and ") true board ends)
-
--- the same as a sentence, if there are any
-abbrev pub ends_text : Asked → List Unmove → ℕ → List ℕ
-ends_text q ends left = cond (length ends == 0) [] (rows_of (ends_words q.board ends left ++ codes "."))
 
 -- so many remain
 abbrev pub remain_word : ℕ → List ℕ

@@ -1,10 +1,10 @@
 //! Which the last moves were, or can have been.
 
-ghost use Rattle.std.specs.Prelude.{◌≡◌, ◌++◌, IfOk, true};
-ghost use Rattle.verdict_prose.specs.Moves.{all_left_words, choice_from, choice_sign, each_words, ends_text, ends_words, last_text, last_words, left_text, left_words, line_text, moves_words, open_line_text, open_line_words, remain_word, some_left_words, some_words, were_words};
+ghost use Rattle.std.specs.Prelude.{◌≡◌, ◌++◌, IfOk};
+ghost use Rattle.verdict_prose.specs.Moves.{all_left_words, left_text, left_words, line_text, moves_words, open_line_text, open_line_words, remain_word, some_left_words, were_words};
 
 use crate::steps::{push_played, push_step};
-use board_base::{Board, Unmove, UnmoveList};
+use board_base::{Board, Unmove};
 use proof_story::push_wrapped;
 use prose_words::{push_number, say};
 use query_base::Query;
@@ -74,114 +74,6 @@ pub fn tell_open_line(
 {
     let mut line = Vec::new(alloc);
     push_open_line(&query.board, steps, &mut line)?;
-    push_wrapped(line.as_slice(), out)
-}
-
-/// What stands before a move behind which so many others follow, with this before the last one.
-fn choice_sign(word: &'static [u8], first: bool, after: usize) -> &'static [u8]
-    ensures { result.now ≡ choice_sign word.now first after }
-{
-    if first {
-        b""
-    } else if after == 0 {
-        word
-    } else {
-        b", "
-    }
-}
-
-/// Adds moves that led to this board, with this before the last one.
-fn push_choice(
-    word: &'static [u8],
-    board: &Board,
-    moves: &UnmoveList,
-    out: &mut Vec<u8>,
-) -> Result<(), AllocError>
-    ensures { IfOk result (λ _. out.new.items ≡ out.old.items ++ choice_from word.now true board.now moves.now) }
-{
-    for i in 0..moves.len() {
-        let u = moves.get(i).unwrap();
-        say(choice_sign(word, i == 0, moves.len() - 1 - i), out)?;
-        push_step(board, &u, out)?;
-    }
-    Ok(())
-}
-
-#[tactic(auto, unfolding(crate::specs::Moves::last_words))]
-fn push_last_words(board: &Board, left: &UnmoveList, out: &mut Vec<u8>) -> Result<(), AllocError>
-    ensures { IfOk result (λ _. out.new.items ≡ out.old.items ++ last_words board.now left.now) }
-{
-    say(b"The last move was ", out)?;
-    push_choice(b" or ", board, left, out)?;
-    say(b".", out)
-}
-
-/// Adds that the last move was one of these. It is true if each game that reaches the query has a last move, and it is one of them.
-pub fn tell_last(
-    alloc: Global,
-    query: &Query,
-    left: &UnmoveList,
-    out: &mut Vec<u8>,
-) -> Result<(), AllocError>
-    ensures { IfOk result (λ _. out.new.items ≡ out.old.items ++ last_text query.now left.now) }
-{
-    let mut line = Vec::new(alloc);
-    push_last_words(&query.board, left, &mut line)?;
-    push_wrapped(line.as_slice(), out)
-}
-
-fn each_words(n: usize) -> &'static [u8]
-    ensures { result.now ≡ each_words n }
-{
-    if n == 1 {
-        b"There is a game that ends with it"
-    } else {
-        b"There are games that end with each of them"
-    }
-}
-
-fn some_words(n: usize) -> &'static [u8]
-    ensures { result.now ≡ some_words n }
-{
-    if n == 1 {
-        b"There is a game that ends with "
-    } else {
-        b"There are games that end with "
-    }
-}
-
-fn push_ends(
-    board: &Board,
-    ends: &UnmoveList,
-    left: usize,
-    out: &mut Vec<u8>,
-) -> Result<(), AllocError>
-    ensures { IfOk result (λ _. out.new.items ≡ out.old.items ++ ends_words board.now ends.now left) }
-{
-    if ends.len() == left {
-        return say(each_words(left), out);
-    }
-    say(some_words(ends.len()), out)?;
-    push_choice(b" and ", board, ends, out)
-}
-
-/// Adds with which of so many retractions that are left games end, if there are any. It is true if some game that reaches the query ends
-/// with each.
-pub fn tell_ends(
-    alloc: Global,
-    query: &Query,
-    ends: &UnmoveList,
-    left: usize,
-    out: &mut Vec<u8>,
-) -> Result<(), AllocError>
-    ensures { IfOk result (λ _. out.new.items ≡ out.old.items ++ ends_text query.now ends.now left) }
-{
-    if ends.len() == 0 {
-        return Ok(());
-    }
-    let mut line = Vec::new(alloc);
-    push_ends(&query.board, ends, left, &mut line)?;
-    say(b".", &mut line)?;
     push_wrapped(line.as_slice(), out)
 }
 

@@ -1,7 +1,7 @@
 //! Moves that are taken back, in words.
 
 ghost use Rattle.std.specs.Prelude.{◌≡◌, ◌++◌, IfOk};
-ghost use Rattle.verdict_prose.specs.Moves.{castling_sign, goes_words, named_words, played_words, step_words, taken_words, taking_sign, victim_words};
+ghost use Rattle.verdict_prose.specs.Moves.{castling_sign, closing_sign, goes_words, has_victim, named_words, played_words, step_words, taken_words, taking_sign, victim_words};
 
 use board_base::{Board, Castle, Kind, Unmove};
 use castle_history::castle_of;
@@ -27,7 +27,7 @@ fn taking_sign(u: &Unmove) -> &'static [u8]
     if u.captured.is_some() { b"x" } else { b"-" }
 }
 
-/// Adds a man who was captured.
+/// Adds a man who was captured, in a parenthesis that is still open.
 fn push_victim(passing: bool, kind: Kind, out: &mut Vec<u8>) -> Result<(), AllocError>
     ensures { IfOk result (λ _. out.new.items ≡ out.old.items ++ victim_words passing kind) }
 {
@@ -35,8 +35,7 @@ fn push_victim(passing: bool, kind: Kind, out: &mut Vec<u8>) -> Result<(), Alloc
         return say(b" en passant", out);
     }
     say(b" (a ", out)?;
-    say(kind_word(kind), out)?;
-    say(b")", out)
+    say(kind_word(kind), out)
 }
 
 /// Adds the man who was captured, if one was.
@@ -61,7 +60,8 @@ fn push_goes(board: &Board, u: &Unmove, out: &mut Vec<u8>) -> Result<(), AllocEr
     push_taken(u.captured, u.ep, out)
 }
 
-fn push_named(
+/// Adds the castling, if the move was one, or the move. A parenthesis with whom it captured is still open.
+pub(crate) fn push_named(
     castle: Option<Castle>,
     board: &Board,
     u: &Unmove,
@@ -75,11 +75,26 @@ fn push_named(
     }
 }
 
+/// Whether somebody was captured on the target.
+pub(crate) fn has_victim(u: &Unmove) -> bool
+    ensures { result ≡ has_victim u.now }
+{
+    u.captured.is_some() && !u.ep
+}
+
+/// What closes the parenthesis, if one is open.
+pub(crate) fn closing_sign(u: &Unmove) -> &'static [u8]
+    ensures { result.now ≡ closing_sign u.now }
+{
+    if has_victim(u) { b")" } else { b"" }
+}
+
 /// Adds the move that led to this board.
 pub(crate) fn push_step(board: &Board, u: &Unmove, out: &mut Vec<u8>) -> Result<(), AllocError>
     ensures { IfOk result (λ _. out.new.items ≡ out.old.items ++ step_words board.now u.now) }
 {
-    push_named(castle_of(u, board), board, u, out)
+    push_named(castle_of(u, board), board, u, out)?;
+    say(closing_sign(u), out)
 }
 
 /// Adds the move that led to this board behind those before it, in the order of play.
