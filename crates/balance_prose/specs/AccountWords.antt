@@ -69,7 +69,7 @@ all_missing q p = cond (is_counted p.black) (missing q White) 0 + cond (is_count
 
 -- a number of men
 abbrev pub number_of_men : ℕ → List ℕ
-number_of_men n = cond (n == 0) (codes "nobody") (decimal n ++ cond (n == 1) (codes " man") (codes " men"))
+number_of_men n = cond (n == 0) (codes "no") (decimal n) ++ cond (n == 1) (codes " man") (codes " men")
 
 -- how many men a side lacks, or lacked before the move that leads to a query that isn't the first
 abbrev pub side_lacks : Bool → Colour → ℕ → List ℕ

@@ -5,7 +5,6 @@ ghost use Rattle.std.specs.List.{All, flat_map};
 ghost use Rattle.std.specs.Fmt.{decimal};
 ghost use Rattle.balance_prose.specs.Accounts.{CountTooMany, all_counted, all_made_up};
 ghost use Rattle.balance_prose.specs.Pricing.{around};
-ghost use Rattle.balance_prose.specs.declared.numbers.Numbers.TheVariants.{Exact, Enough};
 ghost use Rattle.capture_prices.specs.Prices.{all_gates};
 ghost use Rattle.balance_prose.specs.AccountWords.{best_words, counted_words, either_words, end_words, gate_alone, gate_too, made_up_words, makers_words, ways_words, whom_words};
 
@@ -81,8 +80,7 @@ fn push_gate_too(gate: &Gate, out: &mut Vec<u8>) -> Result<(), AllocError>
     say(b", and ", out)?;
     push_square(Square::known(gate.square), out)?;
     say(b" for ", out)?;
-    push_number(gate.toll as usize, out)?;
-    Ok(())
+    push_number(gate.toll as usize, out)
 }
 
 /// The same of each gate.
@@ -105,8 +103,7 @@ fn push_gate_alone(gate: &Gate, out: &mut Vec<u8>) -> Result<(), AllocError>
     say(b", ", out)?;
     push_square(Square::known(gate.square), out)?;
     say(b" makes up for ", out)?;
-    push_number(gate.toll as usize, out)?;
-    Ok(())
+    push_number(gate.toll as usize, out)
 }
 
 /// The same of each gate.
@@ -196,8 +193,7 @@ fn push_gone(
     let too = gates_too(alloc, gates)?;
     push_whom(n, idle, out)?;
     push_made_up(men, idle, n, out)?;
-    say(too.as_slice(), out)?;
-    Ok(())
+    say(too.as_slice(), out)
 }
 
 /// What gates alone make up for.
@@ -244,34 +240,21 @@ fn push_end(
     say(b".", out)
 }
 
-/// What the men count at least with these homes.
-fn push_best(n: u32, ways: &[u8], out: &mut Vec<u8>) -> Result<(), AllocError>
-    ensures { IfOk result (λ _. out.new.items ≡ out.old.items ++ (codes "That makes at least " ++ decimal n ++ codes ":" ++ drop 1 ways.now)) }
+/// That the men count at least so many captures.
+fn push_at_least(n: u32, out: &mut Vec<u8>) -> Result<(), AllocError>
+    ensures { IfOk result (λ _. out.new.items ≡ out.old.items ++ (codes "That makes at least " ++ decimal n)) }
 {
     say(b"That makes at least ", out)?;
-    push_number(n as usize, out)?;
-    say(b":", out)?;
-    say(rest_of(ways), out)?;
-    Ok(())
+    push_number(n as usize, out)
 }
 
 /// The same, with the ways of the men who count.
-fn push_exactly(
-    alloc: Global,
-    query: &Query,
-    prices: &Prices,
-    set: SquareSet,
-    white: &[u8],
-    black: &[u8],
-    out: &mut Vec<u8>,
-) -> Result<(), AllocError>
-    requires { CountTooMany query.now prices.now set white.now black.now }
-    ensures { IfOk result (λ _. out.new.items ≡ out.old.items ++ counted_words Exact query.now prices.now set white.now black.now) }
+fn push_best(n: u32, ways: &[u8], out: &mut Vec<u8>) -> Result<(), AllocError>
+    ensures { IfOk result (λ _. out.new.items ≡ out.old.items ++ (codes "That makes at least " ++ decimal n ++ codes ":" ++ drop 1 ways.now)) }
 {
-    let tally = tally_of(query, prices, set, white, black);
-    let ways = ways_of(alloc, query, prices, set, white, black)?;
-    push_best(tally.counted, ways.as_slice(), out)?;
-    Ok(())
+    push_at_least(n, out)?;
+    say(b":", out)?;
+    say(rest_of(ways), out)
 }
 
 /// One more than men and gates make up for.
@@ -280,24 +263,6 @@ fn enough_of(tally: Tally, gates: u32) -> u32
     ensures { result ≡ tally.made_up + gates + 1 }
 {
     tally.made_up + gates + 1
-}
-
-/// A number of captures that is at most what the men count, and more than is made up for.
-fn push_enough(
-    query: &Query,
-    prices: &Prices,
-    set: SquareSet,
-    white: &[u8],
-    black: &[u8],
-    out: &mut Vec<u8>,
-) -> Result<(), AllocError>
-    requires { CountTooMany query.now prices.now set white.now black.now }
-    ensures { IfOk result (λ _. out.new.items ≡ out.old.items ++ counted_words Enough query.now prices.now set white.now black.now) }
-{
-    let tally = tally_of(query, prices, set, white, black);
-    say(b"That makes at least ", out)?;
-    push_number(enough_of(tally, all_gates(prices)) as usize, out)?;
-    Ok(())
 }
 
 /// What the men count at least.
@@ -314,9 +279,13 @@ fn push_counted(
     requires { CountTooMany query.now prices.now set white.now black.now }
     ensures { IfOk result (λ _. out.new.items ≡ out.old.items ++ counted_words numbers query.now prices.now set white.now black.now) }
 {
+    let tally = tally_of(query, prices, set, white, black);
     match numbers {
-        Numbers::Exact => push_exactly(alloc, query, prices, set, white, black, out),
-        Numbers::Enough => push_enough(query, prices, set, white, black, out),
+        Numbers::Exact => {
+            let ways = ways_of(alloc, query, prices, set, white, black)?;
+            push_best(tally.counted, ways.as_slice(), out)
+        }
+        Numbers::Enough => push_at_least(enough_of(tally, all_gates(prices)), out),
     }
 }
 
@@ -355,6 +324,5 @@ pub fn push_account(
         tally.made_up,
         prices.gates(),
         out,
-    )?;
-    Ok(())
+    )
 }

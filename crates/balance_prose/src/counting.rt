@@ -103,8 +103,7 @@ fn push_side(side: Colour, on: &[u8], out: &mut Vec<u8>) -> Result<(), AllocErro
 {
     say(side_word(side), out)?;
     say(b"'s pawns", out)?;
-    say(on, out)?;
-    Ok(())
+    say(on, out)
 }
 
 /// Two texts.
@@ -120,8 +119,7 @@ fn push_each(white: &[u8], black: &[u8], out: &mut Vec<u8>) -> Result<(), AllocE
     ensures { IfOk result (λ _. out.new.items ≡ out.old.items ++ ((codes "White's pawns" ++ white.now) ++ (codes ", and by Black's" ++ black.now))) }
 {
     push_two(b"White's pawns", white, out)?;
-    push_two(b", and by Black's", black, out)?;
-    Ok(())
+    push_two(b", and by Black's", black, out)
 }
 
 /// The captures of both sides' pawns that count.
@@ -175,8 +173,7 @@ fn push_who(
         of_white.as_slice(),
         of_black.as_slice(),
         out,
-    )?;
-    Ok(())
+    )
 }
 
 /// What stands before the file on which the side's captures count twice.
@@ -236,8 +233,7 @@ fn push_gate(gate: &Gate, out: &mut Vec<u8>) -> Result<(), AllocError>
     push_square(Square::known(8 + s.file()), out)?;
     say(b" and ", out)?;
     push_square(Square::known(48 + s.file()), out)?;
-    say(b" only one can have. ", out)?;
-    Ok(())
+    say(b" only one can have. ", out)
 }
 
 /// The same for each gate.
@@ -264,6 +260,5 @@ pub fn push_counts(alloc: Global, prices: &Prices, out: &mut Vec<u8>) -> Result<
     say(b". ", out)?;
     push_twice(alloc, Colour::White, white, out)?;
     push_twice(alloc, Colour::Black, black, out)?;
-    say(gates.as_slice(), out)?;
-    Ok(())
+    say(gates.as_slice(), out)
 }

@@ -109,8 +109,7 @@ fn push_side_idle(
         return Ok(());
     }
     let gone = gone_row(&ground_of(query, set, prices, side));
-    push_idle(side, &gone, behind(homes, standing(query, side)), list)?;
-    Ok(())
+    push_idle(side, &gone, behind(homes, standing(query, side)), list)
 }
 
 /// Those of both sides.
@@ -134,23 +133,23 @@ pub(crate) fn idle_of(
     Ok(list)
 }
 
-/// A number of men that is not 0.
-fn push_some_men(n: usize, out: &mut Vec<u8>) -> Result<(), AllocError>
-    ensures { IfOk result (λ _. out.new.items ≡ out.old.items ++ (decimal n ++ cond (n == 1) (codes " man") (codes " men"))) }
+/// A number in decimal digits, but `no` for 0.
+fn push_how_many(n: usize, out: &mut Vec<u8>) -> Result<(), AllocError>
+    ensures { IfOk result (λ _. out.new.items ≡ out.old.items ++ cond (n == 0) (codes "no") (decimal n)) }
 {
-    push_number(n, out)?;
-    either(n == 1, b" man", b" men", out)
+    if n == 0 {
+        say(b"no", out)
+    } else {
+        push_number(n, out)
+    }
 }
 
 /// A number of men.
 fn push_number_of_men(n: usize, out: &mut Vec<u8>) -> Result<(), AllocError>
     ensures { IfOk result (λ _. out.new.items ≡ out.old.items ++ number_of_men n) }
 {
-    if n == 0 {
-        say(b"nobody", out)
-    } else {
-        push_some_men(n, out)
-    }
+    push_how_many(n, out)?;
+    either(n == 1, b" man", b" men", out)
 }
 
 /// How many men a side lacks.
@@ -159,8 +158,7 @@ fn push_side_lacks(first: bool, side: Colour, n: usize, out: &mut Vec<u8>) -> Re
 {
     say(side_word(side), out)?;
     either(first, b" lacks ", b" lacked ", out)?;
-    push_number_of_men(n, out)?;
-    Ok(())
+    push_number_of_men(n, out)
 }
 
 /// How many men White lacks, and Black.
@@ -174,8 +172,7 @@ fn push_both_lack(
 {
     push_side_lacks(first, Colour::White, white, out)?;
     say(b" and ", out)?;
-    push_side_lacks(first, Colour::Black, black, out)?;
-    Ok(())
+    push_side_lacks(first, Colour::Black, black, out)
 }
 
 /// How many men each side lacks whose enemy's captures count.

@@ -50,8 +50,7 @@ fn push_moved(
 {
     push_home(home, s, out)?;
     say(place_initial(place), out)?;
-    push_square(s, out)?;
-    Ok(())
+    push_square(s, out)
 }
 
 /// After a comma, the way of a man with what it counts.
@@ -67,8 +66,7 @@ fn push_counted(
     say(b", ", out)?;
     push_moved(home, place, s, out)?;
     say(b" ", out)?;
-    push_number(n as usize, out)?;
-    Ok(())
+    push_number(n as usize, out)
 }
 
 /// The same, if it counts.

@@ -118,8 +118,7 @@ fn unusual_prices(alloc: Global, prices: &[u8; 16], usual: u8) -> Result<Vec<u8>
 {
     let dark = shade_prices(alloc, prices, 0, usual)?;
     let light = shade_prices(alloc, prices, 1, usual)?;
-    let list = both_shades(alloc, dark.as_slice(), light.as_slice())?;
-    Ok(list)
+    both_shades(alloc, dark.as_slice(), light.as_slice())
 }
 
 /// What a side's pawns pay for a capture.
@@ -130,8 +129,7 @@ fn push_prices(alloc: Global, prices: &[u8; 16], out: &mut Vec<u8>) -> Result<()
     let list = unusual_prices(alloc, prices, usual)?;
     say(b" ", out)?;
     push_number(usual as usize, out)?;
-    push_around(b" (", list.as_slice(), b")", out)?;
-    Ok(())
+    push_around(b" (", list.as_slice(), b")", out)
 }
 
 /// After a comma, the toll of a gate and its square.
@@ -192,8 +190,7 @@ fn push_gates(alloc: Global, prices: &Prices, out: &mut Vec<u8>) -> Result<(), A
         rest_of(list.as_slice()),
         end.as_slice(),
         out,
-    )?;
-    Ok(())
+    )
 }
 
 /// What captures cost.
@@ -208,6 +205,5 @@ pub fn push_priced(alloc: Global, prices: &Prices, out: &mut Vec<u8>) -> Result<
         b": the side that captures pays it, and the man who is taken earns it. ",
         out,
     )?;
-    push_gates(alloc, prices, out)?;
-    Ok(())
+    push_gates(alloc, prices, out)
 }

@@ -1,4 +1,5 @@
-use Rattle.std.proofs.Common.{◌++◌, ◌+◌}
+use Rattle.std.proofs.Common.{◌++◌, refl}
+use Rattle.std.proofs.lemmas.Result.{IfOk-equal}
 use Rattle.std.specs.Prelude.{codes}
 use Rattle.std.specs.Fmt.{decimal}
 use Rattle.prose_words.proofs.Squares.{thence}
@@ -7,8 +8,8 @@ use Rattle.balance_prose.proofs.accounting.push_gate_alone.Goals as goal
 
 pub returns : goal.returns
 returns c =
-    let h0 = c.in_ok-say.ensures in
-    let h1 = thence c.args.out.now.items _ _ (codes ", ") (square_text c.args.gate.now.square) h0 (rw c.known.ensures at c.in_ok-push_square.ensures) in
-    let h2 = thence c.args.out.now.items _ _ ((codes ", ") ++ (square_text c.args.gate.now.square)) (codes " makes up for ") h1 c.in_ok-say-2.ensures in
-    let h3 = thence c.args.out.now.items _ _ (((codes ", ") ++ (square_text c.args.gate.now.square)) ++ (codes " makes up for ")) (decimal c.args.gate.now.toll) h2 c.in_ok-push_number.ensures in
-    h3
+    let square = square_text c.args.gate.now.square in
+    let h1 = thence c.args.out.now.items _ _ (codes ", ") square c.in_ok-say.ensures (rw c.known.ensures at c.in_ok-push_square.ensures) in
+    let h2 = thence c.args.out.now.items _ _ (codes ", " ++ square) (codes " makes up for ") h1 c.in_ok-say-2.ensures in
+    IfOk-equal c.push_number.result c.push_number.new.out.items _ _ c.push_number.ensures
+    (thence c.args.out.now.items _ _ (codes ", " ++ square ++ codes " makes up for ") (decimal c.args.gate.now.toll) h2 refl)

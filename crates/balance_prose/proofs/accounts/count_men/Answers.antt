@@ -1,4 +1,4 @@
-use Rattle.std.proofs.Common.{◌-◌, arith}
+use Rattle.std.proofs.Common.{arith}
 use Rattle.balance_prose.specs.Accounts.{counted_of, made_up}
 use Rattle.balance_prose.proofs.Sums.{sum_on-next, sum_on-past}
 use Rattle.balance_prose.proofs.accounts.count_men.Goals as goal
