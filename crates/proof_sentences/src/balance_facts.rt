@@ -21,8 +21,7 @@ fn push_paid(n: u32, out: &mut Vec<u8>) -> Result<(), AllocError>
 {
     say(b"'s men pay at least ", out)?;
     push_number(n as usize, out)?;
-    say(b" more than they earn", out)?;
-    Ok(())
+    say(b" more than they earn", out)
 }
 
 /// By how much more it earns at most than it pays.
@@ -31,8 +30,7 @@ fn push_earned(n: u32, out: &mut Vec<u8>) -> Result<(), AllocError>
 {
     say(b"'s men earn at most ", out)?;
     push_number(n as usize, out)?;
-    say(b" more than they pay", out)?;
-    Ok(())
+    say(b" more than they pay", out)
 }
 
 /// What is paid more than earned, or the other way round.
@@ -62,8 +60,7 @@ fn push_homeless(side: Colour, out: &mut Vec<u8>) -> Result<(), AllocError>
     say(
         b"'s men, with those who are gone, can't all have begun on homes of their own.",
         out,
-    )?;
-    Ok(())
+    )
 }
 
 /// Why the men of both sides pay no more than they earn, but for what they pay for squares.
@@ -75,8 +72,7 @@ fn push_gates_most(gates: u32, out: &mut Vec<u8>) -> Result<(), AllocError>
         out,
     )?;
     push_number(gates as usize, out)?;
-    say(b" is paid.", out)?;
-    Ok(())
+    say(b" is paid.", out)
 }
 
 /// Why the men can't pay more than they earn, or only what they pay for squares.
@@ -103,8 +99,7 @@ fn push_each(
     push_net(Colour::White, white, begun_with(Colour::White, odds), out)?;
     say(b", and ", out)?;
     push_net(Colour::Black, black, begun_with(Colour::Black, odds), out)?;
-    push_most(gates, out)?;
-    Ok(())
+    push_most(gates, out)
 }
 
 /// That the men of both sides cost too much together, with so much paid for squares at most.
@@ -114,8 +109,7 @@ fn push_together(gates: u32, out: &mut Vec<u8>) -> Result<(), AllocError>
     say(b"All men together pay at least ", out)?;
     push_number(gates as usize + 1, out)?;
     say(b" more than they earn", out)?;
-    push_most(gates, out)?;
-    Ok(())
+    push_most(gates, out)
 }
 
 /// What the men of both sides cost, who have homes: those of each side, or a number that is enough for both.

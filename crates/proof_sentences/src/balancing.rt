@@ -58,8 +58,7 @@ fn push_homeless(
 {
     push_sentence(alloc, query, &Sentence::Settled(set), out)?;
     let homeless = Sentence::OnBalance(BalanceFact::Homeless(side, set));
-    push_sentence(alloc, query, &homeless, out)?;
-    Ok(())
+    push_sentence(alloc, query, &homeless, out)
 }
 
 /// Whether captures are counted at these prices, and they support the query.
@@ -97,8 +96,7 @@ fn push_counted(
     });
     push_sentence(alloc, query, &Sentence::Settled(set), out)?;
     push_sentence(alloc, query, &counted, out)?;
-    push_sentence(alloc, query, &best, out)?;
-    Ok(())
+    push_sentence(alloc, query, &best, out)
 }
 
 /// Who never moved, what captures cost, and what the men of both sides cost.
@@ -125,8 +123,7 @@ fn push_priced(
     });
     push_sentence(alloc, query, &Sentence::Settled(set), out)?;
     push_sentence(alloc, query, &priced, out)?;
-    push_sentence(alloc, query, &balanced, out)?;
-    Ok(())
+    push_sentence(alloc, query, &balanced, out)
 }
 
 /// The same if all men have homes: by what is counted, or else by prices.
@@ -144,11 +141,10 @@ fn push_by_prices(
 {
     let plain = lowered(prices);
     if counts_for(query, set, &plain) {
-        push_counted(alloc, query, numbers, first, set, &plain, out)?;
-        return Ok(());
+        push_counted(alloc, query, numbers, first, set, &plain, out)
+    } else {
+        push_priced(alloc, query, numbers, set, prices, out)
     }
-    push_priced(alloc, query, numbers, set, prices, out)?;
-    Ok(())
 }
 
 /// Why a balance of captures supports the query.
@@ -164,10 +160,8 @@ pub(crate) fn push_balance(
     requires { BalanceSupports query.now set prices.now }
     ensures { IfOk result (λ _. TellsBy numbers (homeless_side query.now set) first query.now set prices.now out.old.items out.new.items) }
 {
-    if let Some(side) = homeless_side(query, set) {
-        push_homeless(alloc, query, set, prices, side, out)?;
-        return Ok(());
+    match homeless_side(query, set) {
+        Some(side) => push_homeless(alloc, query, set, prices, side, out),
+        None => push_by_prices(alloc, query, numbers, first, set, prices, out),
     }
-    push_by_prices(alloc, query, numbers, first, set, prices, out)?;
-    Ok(())
 }

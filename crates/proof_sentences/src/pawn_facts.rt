@@ -1,10 +1,10 @@
 //! Words for what is said of pawns.
 
-ghost use Rattle.std.specs.Prelude.{◌≡◌, ◌++◌, ◌-◌, ◌<◌, ◌≤◌, IfOk, codes, cond, length, ◌==◌};
+ghost use Rattle.std.specs.Prelude.{◌≡◌, ◌++◌, ◌-◌, ◌<◌, ◌≤◌, IfOk, codes, cond, drop, length, ◌==◌};
 ghost use Rattle.std.specs.Fmt.{decimal};
 ghost use Rattle.assignment.specs.Assignments.{IsInjection};
 ghost use Rattle.pawn_assign.specs.PawnCosts.{pawn_costs, pawn_home, pawn_squares};
-ghost use Rattle.proof_sentences.specs.Sentences.{PawnsSay, at_time, began_words, can_come, captures_words, count_words, counted, gone_words, is_gone, is_safe, lacks_words, least_words, missed_words, missing_words, more_words, no_captures, pawn_fact_words, pawn_words, promoted_words, some_words, way_words, ways_words};
+ghost use Rattle.proof_sentences.specs.Sentences.{PawnsSay, at_time, began_words, can_come, captures_words, count_words, counted, gone_words, is_gone, is_safe, lacks_words, least_words, missed_words, missing_words, no_captures, pawn_fact_words, pawn_words, promoted_words, way_words, ways_words};
 ghost use Rattle.prose_words.specs.Words.{side_word, squares_words};
 
 use crate::pawns::pawn_squares;
@@ -81,8 +81,7 @@ fn push_at_time(
 {
     push_either(first, b"", b"Before this move ", out)?;
     say(side_word(side), out)?;
-    push_either(first, now, before, out)?;
-    Ok(())
+    push_either(first, now, before, out)
 }
 
 /// How many more the first is.
@@ -99,8 +98,7 @@ fn push_promoted(promoted: u16, began: u8, out: &mut Vec<u8>) -> Result<(), Allo
     say(b" and at least ", out)?;
     push_counted(promoted as usize, b" promoted man", b" promoted men", out)?;
     say(b", but began with ", out)?;
-    push_counted(began as usize, b" pawn", b" pawns", out)?;
-    Ok(())
+    push_counted(began as usize, b" pawn", b" pawns", out)
 }
 
 /// With how many pawns a side began that has more of them.
@@ -108,8 +106,7 @@ fn push_fewer(began: u8, out: &mut Vec<u8>) -> Result<(), AllocError>
     ensures { IfOk result (λ _. out.new.items ≡ out.old.items ++ (codes ", but began with " ++ decimal began)) }
 {
     say(b", but began with ", out)?;
-    push_number(began as usize, out)?;
-    Ok(())
+    push_number(began as usize, out)
 }
 
 /// How many promoted men a side has, if it has any, and with how many pawns it began.
@@ -137,8 +134,7 @@ fn push_count(
     push_at_time(first, side, b" has ", b" had ", out)?;
     push_counted(pawns as usize, b" pawn", b" pawns", out)?;
     push_began(promoted, began, out)?;
-    say(b".", out)?;
-    Ok(())
+    say(b".", out)
 }
 
 /// Where a pawn came from, if it moved, and where it stands.
@@ -218,26 +214,22 @@ fn ways_of(alloc: Global, query: &Query, side: Colour, files: &[u8]) -> Result<V
     Ok(list)
 }
 
-/// How many captures the side's pawns made at least, with a way to it.
-fn push_few(
-    alloc: Global,
-    query: &Query,
-    side: Colour,
-    captures: u16,
-    files: &[u8],
-    out: &mut Vec<u8>,
-) -> Result<(), AllocError>
-    requires few { length (pawn_squares side query.now.board) ≤ 8 }
-    requires files { IsInjection 8 (length (pawn_squares side query.now.board)) files.now }
-    ensures { IfOk result (λ _. out.new.items ≡ out.old.items ++ some_words query.now side captures files.now) }
+/// How many captures, one or more, the side's pawns made at least, and what is said behind that.
+fn push_made(captures: u16, behind: &[u8], out: &mut Vec<u8>) -> Result<(), AllocError>
+    ensures { IfOk result (λ _. out.new.items ≡ out.old.items ++ (codes "'s pawns have made at least " ++ counted captures (codes " capture") (codes " captures") ++ behind.now)) }
 {
-    let list = ways_of(alloc, query, side, files)?;
     say(b"'s pawns have made at least ", out)?;
     push_counted(captures as usize, b" capture", b" captures", out)?;
-    say(b". A cheapest way:", out)?;
-    say(rest_of(list.as_slice()), out)?;
-    say(b". ", out)?;
-    Ok(())
+    say(behind, out)
+}
+
+/// The same, with a way to it: the ways of the pawns who captured, each after a comma.
+fn push_few(captures: u16, ways: &[u8], out: &mut Vec<u8>) -> Result<(), AllocError>
+    ensures { IfOk result (λ _. out.new.items ≡ out.old.items ++ (codes "'s pawns have made at least " ++ counted captures (codes " capture") (codes " captures") ++ codes ". A cheapest way:" ++ drop 1 ways.now ++ codes ". ")) }
+{
+    push_made(captures, b". A cheapest way:", out)?;
+    say(rest_of(ways), out)?;
+    say(b". ", out)
 }
 
 /// That the side's pawns can have come without a capture.
@@ -247,33 +239,8 @@ fn push_no_captures(out: &mut Vec<u8>) -> Result<(), AllocError>
     say(b"'s pawns needn't have made any captures. ", out)
 }
 
-/// With how many captures the side's pawns came.
+/// With how many captures the side's pawns came, if they can have come.
 fn push_captures(
-    alloc: Global,
-    query: &Query,
-    side: Colour,
-    captures: u16,
-    files: &[u8],
-    out: &mut Vec<u8>,
-) -> Result<(), AllocError>
-    requires few { length (pawn_squares side query.now.board) ≤ 8 }
-    requires files { IsInjection 8 (length (pawn_squares side query.now.board)) files.now }
-    ensures { IfOk result (λ _. out.new.items ≡ out.old.items ++ captures_words query.now side captures files.now) }
-{
-    if captures == 0 {
-        push_no_captures(out)
-    } else if captures < 64 {
-        push_few(alloc, query, side, captures, files, out)
-    } else {
-        say(
-            b"'s pawns can't have come to these squares from different files, however much they captured.",
-            out,
-        )
-    }
-}
-
-/// The same of a side that is named.
-fn push_pawns_came(
     alloc: Global,
     query: &Query,
     side: Colour,
@@ -286,17 +253,17 @@ fn push_pawns_came(
     ensures { IfOk result (λ _. out.new.items ≡ out.old.items ++ (side_word side ++ captures_words query.now side captures files.now)) }
 {
     say(side_word(side), out)?;
-    push_captures(alloc, query, side, captures, files, out)
-}
-
-/// How many captures, one or more, the side's pawns made at least.
-fn push_more(captures: u16, out: &mut Vec<u8>) -> Result<(), AllocError>
-    ensures { IfOk result (λ _. out.new.items ≡ out.old.items ++ more_words captures) }
-{
-    say(b"'s pawns have made at least ", out)?;
-    push_counted(captures as usize, b" capture", b" captures", out)?;
-    say(b". ", out)?;
-    Ok(())
+    if captures == 0 {
+        push_no_captures(out)
+    } else if captures < 64 {
+        let ways = ways_of(alloc, query, side, files)?;
+        push_few(captures, ways.as_slice(), out)
+    } else {
+        say(
+            b"'s pawns can't have come to these squares from different files, however much they captured.",
+            out,
+        )
+    }
 }
 
 /// How many captures the side's pawns made at least.
@@ -306,7 +273,7 @@ fn push_least(captures: u16, out: &mut Vec<u8>) -> Result<(), AllocError>
     if captures == 0 {
         push_no_captures(out)
     } else {
-        push_more(captures, out)
+        push_made(captures, b". ", out)
     }
 }
 
@@ -445,7 +412,7 @@ pub(crate) fn push_pawn_fact(
             side,
             captures,
             files,
-        } => push_pawns_came(alloc, query, *side, *captures, files.as_slice(), out),
+        } => push_captures(alloc, query, *side, *captures, files.as_slice(), out),
         PawnFact::AtLeast {
             side,
             set: _,

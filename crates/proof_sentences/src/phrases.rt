@@ -49,8 +49,7 @@ fn push_stayed(king: Square, rook: Square, out: &mut Vec<u8>) -> Result<(), Allo
     push_square(king, out)?;
     say(b" and the rook of ", out)?;
     push_square(rook, out)?;
-    say(b" never moved, and the rook was never taken", out)?;
-    Ok(())
+    say(b" never moved, and the rook was never taken", out)
 }
 
 /// Adds that the king and the rook of a castling are what they were.

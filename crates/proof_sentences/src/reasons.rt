@@ -138,8 +138,7 @@ fn push_frozen(
 {
     let odd = changed_square(query, set).unwrap();
     push_sentence(alloc, query, &Sentence::Caged(set), out)?;
-    push_sentence(alloc, query, &Sentence::Changed(set, odd), out)?;
-    Ok(())
+    push_sentence(alloc, query, &Sentence::Changed(set, odd), out)
 }
 
 /// Who never moved, whose officers were captured meanwhile, and how many men were promoted.
@@ -166,8 +165,7 @@ fn push_promo(
     });
     push_sentence(alloc, query, &Sentence::Settled(set), out)?;
     push_sentence(alloc, query, &gone, out)?;
-    push_sentence(alloc, query, &promoted, out)?;
-    Ok(())
+    push_sentence(alloc, query, &promoted, out)
 }
 
 /// Who never moved, how many captures the side's pawns made, and how many men the other side lacks.
@@ -195,8 +193,7 @@ fn push_caps(
     });
     push_sentence(alloc, query, &Sentence::Settled(set), out)?;
     push_sentence(alloc, query, &way, out)?;
-    push_sentence(alloc, query, &lacks, out)?;
-    Ok(())
+    push_sentence(alloc, query, &lacks, out)
 }
 
 /// Adds the words of a sentence that holds of the query.
@@ -209,8 +206,7 @@ pub fn push_one(
     requires { Says sentence.now query.now }
     ensures { IfOk result (λ _. Adds query.now (sentence.now ∷ []) out.old.items out.new.items) }
 {
-    push_sentence(alloc, query, sentence, out)?;
-    Ok(())
+    push_sentence(alloc, query, sentence, out)
 }
 
 /// How many pawns and promoted men the side has, and with how many pawns it began.
@@ -234,8 +230,7 @@ fn push_side(
         began: allowed.pawns,
         first,
     });
-    push_sentence(alloc, query, &count, out)?;
-    Ok(())
+    push_sentence(alloc, query, &count, out)
 }
 
 /// Where a pawn stands that can't stand there.
@@ -244,8 +239,7 @@ fn push_ranks(alloc: Global, query: &Query, out: &mut Vec<u8>) -> Result<(), All
     ensures { IfOk result (λ _. TellsRule Exact true query.now RuleLine.Ranks out.old.items out.new.items) }
 {
     let s = pawn_on_end(&query.board).unwrap();
-    push_sentence(alloc, query, &Sentence::Ranks(s), out)?;
-    Ok(())
+    push_sentence(alloc, query, &Sentence::Ranks(s), out)
 }
 
 /// Which king stands in check.
@@ -255,8 +249,7 @@ fn push_attacked(alloc: Global, query: &Query, out: &mut Vec<u8>) -> Result<(), 
 {
     let side = query.turn.other();
     let s = king_in_check(&query.board, side).unwrap();
-    push_sentence(alloc, query, &Sentence::Check(side, s), out)?;
-    Ok(())
+    push_sentence(alloc, query, &Sentence::Check(side, s), out)
 }
 
 /// Which right to castle can't have been kept.
@@ -265,8 +258,7 @@ fn push_rights(alloc: Global, query: &Query, out: &mut Vec<u8>) -> Result<(), Al
     ensures { IfOk result (λ _. TellsRule Exact true query.now RuleLine.Rights out.old.items out.new.items) }
 {
     let castle = astray_right(query).unwrap();
-    push_sentence(alloc, query, &Sentence::Rights(castle), out)?;
-    Ok(())
+    push_sentence(alloc, query, &Sentence::Rights(castle), out)
 }
 
 /// Why the rule line supports the query.
@@ -329,6 +321,5 @@ pub fn push_reason(
     ensures { IfOk result (λ _. AddsReason numbers first query.now reason.now out.old.items out.new.items) }
 {
     let least = lessened(query, reason);
-    push_supported(alloc, query, numbers, first, &least, out)?;
-    Ok(())
+    push_supported(alloc, query, numbers, first, &least, out)
 }

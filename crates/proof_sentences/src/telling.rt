@@ -23,8 +23,7 @@ fn push_stood(odds: Odds, s: Square, out: &mut Vec<u8>) -> Result<(), AllocError
     push_man(array_of(odds).at(s), out)?;
     say(b" stood on ", out)?;
     push_square(s, out)?;
-    say(b".", out)?;
-    Ok(())
+    say(b".", out)
 }
 
 /// On which square of rank 1 or 8 a pawn stands.
@@ -33,8 +32,7 @@ fn push_end(s: Square, out: &mut Vec<u8>) -> Result<(), AllocError>
 {
     say(b"A pawn stands on ", out)?;
     push_square(s, out)?;
-    say(b".", out)?;
-    Ok(())
+    say(b".", out)
 }
 
 /// That the side's king stands in check on a square, with the other side to move.
@@ -46,8 +44,7 @@ fn push_check(side: Colour, s: Square, out: &mut Vec<u8>) -> Result<(), AllocErr
     push_square(s, out)?;
     say(b" stands in check with ", out)?;
     say(side_word(side.other()), out)?;
-    say(b" to move.", out)?;
-    Ok(())
+    say(b" to move.", out)
 }
 
 /// Why the king and the rook of a castling can't have stayed.
@@ -61,8 +58,7 @@ fn push_astray(odds: Odds, castle: Castle, out: &mut Vec<u8>) -> Result<(), Allo
         b": the game began without the rook.",
         b": they don't both stand there.",
         out,
-    )?;
-    Ok(())
+    )
 }
 
 /// That the position stands so many half-moves later again.
@@ -74,8 +70,7 @@ fn push_back(steps: u8, out: &mut Vec<u8>) -> Result<(), AllocError>
     say(
         b" later, with no more demands; a shortest game doesn't come to it twice.",
         out,
-    )?;
-    Ok(())
+    )
 }
 
 /// That nobody of this side can have moved last.

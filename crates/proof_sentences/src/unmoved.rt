@@ -46,8 +46,7 @@ fn push_one_shut(list: &[u8], kept: &[u8], out: &mut Vec<u8>) -> Result<(), Allo
     say(list, out)?;
     say(b" can't have come there", out)?;
     push_by_right(kept, out)?;
-    say(b". So he stood there from the beginning. ", out)?;
-    Ok(())
+    say(b". So he stood there from the beginning. ", out)
 }
 
 /// That the men on several squares shut each other in.
@@ -61,8 +60,7 @@ fn push_many_shut(list: &[u8], kept: &[u8], out: &mut Vec<u8>) -> Result<(), All
         out,
     )?;
     push_by_right(kept, out)?;
-    say(b". So they stood there from the beginning. ", out)?;
-    Ok(())
+    say(b". So they stood there from the beginning. ", out)
 }
 
 /// That these men shut each other in, or the one is shut in, and for which of them this is by a right to castle.

@@ -1,3 +1,4 @@
+use Rattle.std.proofs.lemmas.Result.{IfOk-weaker}
 use Rattle.balance_prose.specs.Accounts.{CountTooMany}
 use Rattle.proof_sentences.specs.Sentences.{NeverMoved}
 use Rattle.proof_sentences.specs.declared.sentences.BalanceFact.TheVariants.{Best, Counted}
@@ -16,11 +17,12 @@ pub returns : goal.returns
 returns c =
     let never : NeverMoved c.args.query.now c.args.set = (c.requires.1.settled.frozen, c.requires.1.settled.as_array) in
     let best : CountTooMany c.args.query.now c.args.prices.now c.args.set c.least_homes-white.result.items c.least_homes-black.result.items =
-    c.balance_counts_too_many.ensures c.args.query.now c.args.set c.args.prices.now c.least_homes-white.result.items c.least_homes-black.result.items c.requires.1 c.least_homes-white.ensures.least c.least_homes-black.ensures.least in (
+    c.balance_counts_too_many.ensures c.args.query.now c.args.set c.args.prices.now c.least_homes-white.result.items c.least_homes-black.result.items c.requires.1 c.least_homes-white.ensures.least c.least_homes-black.ensures.least in
+    IfOk-weaker c.push_sentence-3.result _ _ (λ done words. (
       c.least_homes-white.result,
       c.least_homes-black.result,
       c.least_homes-white.ensures.first,
       c.least_homes-black.ensures.first,
       adds-three c.args.query.now (Settled c.args.set) (OnBalance (Counted c.args.set c.args.prices.now)) (OnBalance (Best c.args.set c.args.prices.now c.least_homes-white.result c.least_homes-black.result c.args.first c.args.numbers)) c.args.out.now.items _ _ _ never
-          (never, c.requires.0, c.one_treads.ensures c.args.query.now.odds) (never, best) c.in_ok-push_sentence.ensures c.in_ok-push_sentence-2.ensures c.in_ok-push_sentence-3.ensures,
-    )
+          (never, c.requires.0, c.one_treads.ensures c.args.query.now.odds) (never, best) c.in_ok-push_sentence.ensures c.in_ok-push_sentence-2.ensures words,
+    )) c.push_sentence-3.ensures

@@ -1,3 +1,4 @@
+use Rattle.std.proofs.lemmas.Result.{IfOk-weaker}
 use Rattle.proof_sentences.specs.Sentences.{NeverMoved}
 use Rattle.proof_sentences.specs.declared.sentences.BalanceFact.TheVariants.{Homeless}
 use Rattle.proof_sentences.specs.declared.sentences.Sentence.TheVariants.{OnBalance, Settled}
@@ -11,5 +12,7 @@ push_sentence-requires-2 c = homeless-says c.args.query.now c.args.set c.args.pr
 pub returns : goal.returns
 returns c =
     let never : NeverMoved c.args.query.now c.args.set = (c.requires.supports.settled.frozen, c.requires.supports.settled.as_array) in
-    adds-two c.args.query.now (Settled c.args.set) (OnBalance (Homeless c.args.side c.args.set)) c.args.out.now.items _ _ never
-    (homeless-says c.args.query.now c.args.set c.args.prices.now c.args.side c.requires.supports c.requires.homeless) c.in_ok-push_sentence.ensures c.in_ok-push_sentence-2.ensures
+    IfOk-weaker c.push_sentence-2.result _ _
+    (λ done words. adds-two c.args.query.now (Settled c.args.set) (OnBalance (Homeless c.args.side c.args.set)) c.args.out.now.items _ _ never
+    (homeless-says c.args.query.now c.args.set c.args.prices.now c.args.side c.requires.supports c.requires.homeless) c.in_ok-push_sentence.ensures words)
+    c.push_sentence-2.ensures

@@ -1,4 +1,5 @@
 use Rattle.std.proofs.Common.{◌≡◌, ◌∙◌, ap}
+use Rattle.std.proofs.lemmas.Result.{IfOk-weaker}
 use Rattle.board_base.specs.Board.{array_of}
 use Rattle.board_base.specs.declared.men.Kind.TheVariants.{Pawn}
 use Rattle.men_account.specs.Account.{is_any, men}
@@ -25,10 +26,11 @@ returns c =
     let pawns : c.counts-pawns.result.pawns ≡ men c.args.side Pawn is_any c.args.query.now.board =
     ap (λ (n : Counts). n.pawns) c.counts-pawns.ensures ∙ ap (λ (q : Asked). men c.args.side Pawn is_any q.board) c.query.view_is in
     let began : c.allowance-began.result.pawns ≡ men c.args.side Pawn is_any (array_of c.args.query.now.odds) =
-    ap (λ (n : Allowance). n.pawns) c.allowance-began.ensures ∙ ap (λ (q : Asked). men c.args.side Pawn is_any (array_of q.odds)) c.query.view_is in (
+    ap (λ (n : Allowance). n.pawns) c.allowance-began.ensures ∙ ap (λ (q : Asked). men c.args.side Pawn is_any (array_of q.odds)) c.query.view_is in
+    IfOk-weaker c.push_sentence-3.result _ _ (λ done words. (
       c.counts-pawns.result.pawns,
       c.allowance-began.result.pawns,
       adds-three c.args.query.now (Settled c.args.set) (OnPawns (Gone c.args.side c.args.set)) (OnPawns (Promoted c.args.side c.args.set c.counts-pawns.result.pawns c.allowance-began.result.pawns c.args.first)) c.args.out.now.items _ _ _ never never
           (pawns, began, c.requires.more)
-          c.in_ok-push_sentence.ensures c.in_ok-push_sentence-2.ensures c.in_ok-push_sentence-3.ensures,
-    )
+          c.in_ok-push_sentence.ensures c.in_ok-push_sentence-2.ensures words,
+    )) c.push_sentence-3.ensures

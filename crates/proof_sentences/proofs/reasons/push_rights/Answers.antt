@@ -1,4 +1,5 @@
 use Rattle.std.proofs.Common.{sym}
+use Rattle.std.proofs.lemmas.Result.{IfOk-weaker}
 use Rattle.proof_sentences.specs.declared.sentences.Sentence.TheVariants.{Rights}
 use Rattle.proof_sentences.proofs.Adding.{adds-one}
 use Rattle.proof_sentences.proofs.Astray.{found-astray}
@@ -13,4 +14,4 @@ pub returns : goal.returns
 returns c =
     let first = rw c.unwrap-castle.ensures at c.astray_right.ensures.first in
     let says = found-astray c.args.query.now c.unwrap-castle.result (sym first) in
-    (c.unwrap-castle.result, sym first, adds-one c.args.query.now (Rights c.unwrap-castle.result) c.args.out.now.items _ says c.in_ok-push_sentence.ensures)
+    IfOk-weaker c.push_sentence.result _ _ (λ done words. (c.unwrap-castle.result, sym first, adds-one c.args.query.now (Rights c.unwrap-castle.result) c.args.out.now.items _ says words)) c.push_sentence.ensures

@@ -1,7 +1,0 @@
-use Rattle.std.specs.Prelude.{codes}
-use Rattle.std.specs.Fmt.{decimal}
-use Rattle.prose_words.proofs.Squares.{thence}
-use Rattle.proof_sentences.proofs.pawn_facts.push_fewer.Goals as goal
-
-pub returns : goal.returns
-returns c = thence c.args.out.now.items _ _ (codes ", but began with ") (decimal c.args.began) c.in_ok-say.ensures c.in_ok-push_number.ensures
