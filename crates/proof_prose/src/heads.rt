@@ -80,8 +80,7 @@ fn push_diagram(board: &Board, turn: Colour, out: &mut Vec<u8>) -> Result<(), Al
 {
     say(b"  a b c d e f g h\n", out)?;
     push_upper(board, out)?;
-    push_lower(board, turn, out)?;
-    Ok(())
+    push_lower(board, turn, out)
 }
 
 /// That the men of these squares were left out, or the man of one.
@@ -91,8 +90,7 @@ fn push_left_out(list: &[u8], out: &mut Vec<u8>) -> Result<(), AllocError>
     say(b"The game began without the ", out)?;
     push_either(list.len() == 3, b"man of", b"men of", out)?;
     say(list, out)?;
-    say(b".\n", out)?;
-    Ok(())
+    say(b".\n", out)
 }
 
 /// The squares whose men were left out.
@@ -120,8 +118,7 @@ fn push_odds(alloc: Global, odds: Odds, out: &mut Vec<u8>) -> Result<(), AllocEr
     if odds.is_none() {
         return Ok(());
     }
-    push_odds_words(alloc, odds, out)?;
-    Ok(())
+    push_odds_words(alloc, odds, out)
 }
 
 /// What the half-move clock is.
@@ -133,8 +130,7 @@ fn push_clock_words(n: u16, out: &mut Vec<u8>) -> Result<(), AllocError>
         out,
     )?;
     push_number(n as usize, out)?;
-    say(b".\n", out)?;
-    Ok(())
+    say(b".\n", out)
 }
 
 /// The same, if it is given.
@@ -155,8 +151,7 @@ fn push_last_words(m: &Move, out: &mut Vec<u8>) -> Result<(), AllocError>
     push_square(m.from, out)?;
     say(b"-", out)?;
     push_square(m.to, out)?;
-    say(b".\n", out)?;
-    Ok(())
+    say(b".\n", out)
 }
 
 /// The same, if it is given.
@@ -175,8 +170,7 @@ fn push_right_words(castle: Castle, out: &mut Vec<u8>) -> Result<(), AllocError>
 {
     say(b"It is given that ", out)?;
     push_unmoved(castle, out)?;
-    say(b".\n", out)?;
-    Ok(())
+    say(b".\n", out)
 }
 
 /// The same, if it is given.
@@ -206,8 +200,7 @@ fn push_both_stayed(
     push_square(long, out)?;
     say(b" and ", out)?;
     push_square(short, out)?;
-    say(b" never moved, and neither rook was taken.\n", out)?;
-    Ok(())
+    say(b" never moved, and neither rook was taken.\n", out)
 }
 
 /// That both rights to castle of a side are given.
@@ -256,8 +249,7 @@ fn push_givens(alloc: Global, query: &Query, out: &mut Vec<u8>) -> Result<(), Al
     push_clock(query.clock, out)?;
     push_only(&query.only, out)?;
     push_rights(query.held, Castle::WhiteShort, Castle::WhiteLong, out)?;
-    push_rights(query.held, Castle::BlackShort, Castle::BlackLong, out)?;
-    Ok(())
+    push_rights(query.held, Castle::BlackShort, Castle::BlackLong, out)
 }
 
 /// Whether some castling is held.
@@ -316,8 +308,7 @@ pub(crate) fn push_move(
     push_square(m.from, out)?;
     out.push(sign)?;
     push_square(m.to, out)?;
-    push_became(m.promo, out)?;
-    Ok(())
+    push_became(m.promo, out)
 }
 
 /// What a pawn becomes.
@@ -325,8 +316,7 @@ fn push_becoming(kind: Kind, out: &mut Vec<u8>) -> Result<(), AllocError>
     ensures { IfOk result (λ _. out.new.items ≡ out.old.items ++ (codes ", becoming a " ++ kind_word kind)) }
 {
     say(b", becoming a ", out)?;
-    say(kind_word(kind), out)?;
-    Ok(())
+    say(kind_word(kind), out)
 }
 
 /// The same, if it is promoted.
@@ -348,8 +338,7 @@ fn push_going(m: &Move, out: &mut Vec<u8>) -> Result<(), AllocError>
     say(b" to ", out)?;
     push_square(m.to, out)?;
     push_promotion(m.promo, out)?;
-    say(b", capturing or not", out)?;
-    Ok(())
+    say(b", capturing or not", out)
 }
 
 /// How the last move went.
@@ -357,8 +346,7 @@ fn push_last(m: &Move, out: &mut Vec<u8>) -> Result<(), AllocError>
     ensures { IfOk result (λ _. out.new.items ≡ out.old.items ++ (codes "the last move " ++ going_words m.now)) }
 {
     say(b"the last move ", out)?;
-    push_going(m, out)?;
-    Ok(())
+    push_going(m, out)
 }
 
 /// That no game leads to the diagram.
@@ -366,8 +354,7 @@ fn push_illegal(query: &Query, out: &mut Vec<u8>) -> Result<(), AllocError>
     ensures { IfOk result (λ _. out.new.items ≡ out.old.items ++ (codes "no game leads to this diagram" ++ given_words query.now)) }
 {
     say(b"no game leads to this diagram", out)?;
-    push_given(query, out)?;
-    Ok(())
+    push_given(query, out)
 }
 
 /// That a right to castle is lost.
@@ -377,8 +364,7 @@ fn push_lost(castle: Castle, out: &mut Vec<u8>) -> Result<(), AllocError>
     say(side_word(castle.side()), out)?;
     say(b" has lost the right to castle on the ", out)?;
     say(wing_word(castle), out)?;
-    say(b" side", out)?;
-    Ok(())
+    say(b" side", out)
 }
 
 /// That a capture en passant is legal.
@@ -411,8 +397,7 @@ fn push_not(d: &Move, out: &mut Vec<u8>) -> Result<(), AllocError>
     say(b"the last move was not ", out)?;
     push_square(d.from, out)?;
     say(b"-", out)?;
-    push_square(d.to, out)?;
-    Ok(())
+    push_square(d.to, out)
 }
 
 /// That some game leads to the diagram, with what is given.
@@ -420,8 +405,7 @@ fn push_reached(query: &Query, out: &mut Vec<u8>) -> Result<(), AllocError>
     ensures { IfOk result (λ _. out.new.items ≡ out.old.items ++ reached_words query.now) }
 {
     say(b"a game leads to this diagram", out)?;
-    push_given(query, out)?;
-    Ok(())
+    push_given(query, out)
 }
 
 /// That the king and the rook of a castling are what they were.
@@ -432,8 +416,7 @@ fn push_kept(castle: Castle, out: &mut Vec<u8>) -> Result<(), AllocError>
     say(
         b" still has the right: king and rook never moved, and the rook was never taken",
         out,
-    )?;
-    Ok(())
+    )
 }
 
 /// That the last move wasn't this double step; if there is none, that some game leads to the diagram.
@@ -481,8 +464,7 @@ pub fn draw(alloc: Global, query: &Query, out: &mut Vec<u8>) -> Result<(), Alloc
     ensures { IfOk result (λ _. out.new.items ≡ out.old.items ++ drawn_text query.now) }
 {
     push_position(query, out)?;
-    push_givens(alloc, query, out)?;
-    Ok(())
+    push_givens(alloc, query, out)
 }
 
 /// The claim, and what is supposed.
@@ -498,8 +480,7 @@ pub(crate) fn push_supposition(
     say(b".\n", out)?;
     say(b"Suppose that ", out)?;
     push_supposed(claim, query, out)?;
-    say(b".\n", out)?;
-    Ok(())
+    say(b".\n", out)
 }
 
 /// The last line, which states the claim again.
@@ -512,6 +493,5 @@ pub(crate) fn push_closing(
 {
     say(b"So ", out)?;
     push_claim(claim, query, out)?;
-    say(b". QED\n", out)?;
-    Ok(())
+    say(b". QED\n", out)
 }

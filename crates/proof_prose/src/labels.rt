@@ -26,8 +26,7 @@ fn push_capturing(kind: Kind, out: &mut Vec<u8>) -> Result<(), AllocError>
     ensures { IfOk result (λ _. out.new.items ≡ out.old.items ++ capturing kind) }
 {
     say(b", capturing a ", out)?;
-    say(kind_word(kind), out)?;
-    Ok(())
+    say(kind_word(kind), out)
 }
 
 /// The same, if somebody was.

@@ -185,8 +185,7 @@ fn push_move_words(
     say(b" ", out)?;
     push_label(whence, label, out)?;
     push_kinds(others, out)?;
-    say(b". ", out)?;
-    Ok(())
+    say(b". ", out)
 }
 
 /// What stands before what is said of a node and of those that are told with it.
@@ -241,12 +240,10 @@ fn push_first(said: &[Said], body: &[u8], out: &mut Vec<u8>) -> Result<(), Alloc
 {
     for k in 0..said.len() {
         if are_same(said[k].body.text(), body) {
-            push_as_in(said[k].name.text(), out)?;
-            return Ok(());
+            return push_as_in(said[k].name.text(), out);
         }
     }
-    say(body, out)?;
-    Ok(())
+    say(body, out)
 }
 
 /// What is said, or that it is as in an earlier paragraph, if it is long and the same.
@@ -275,8 +272,7 @@ fn push_rows(
     let mut line = Vec::new(alloc);
     push_heading(&first.node, others, own.name.text(), &mut line)?;
     push_body(said, own.body.text(), &mut line)?;
-    push_wrapped(line.as_slice(), out)?;
-    Ok(())
+    push_wrapped(line.as_slice(), out)
 }
 
 /// The paragraph that begins with the first of the nodes; the answer is how many of the others it tells.

@@ -1,4 +1,5 @@
-use Rattle.std.proofs.Common.{◌++◌, ◌∷◌, []}
+use Rattle.std.proofs.Common.{◌++◌, ◌∷◌, [], refl}
+use Rattle.std.proofs.lemmas.Result.{IfOk-equal}
 use Rattle.std.specs.Prelude.{codes}
 use Rattle.prose_words.proofs.Squares.{thence}
 use Rattle.board_base.specs.Texts.{square_text}
@@ -18,4 +19,5 @@ returns c =
     let h3 = thence o _ _ (first ++ king ++ codes " and the rooks of ") long h2 c.in_ok-push_square-2.ensures in
     let h4 = thence o _ _ (first ++ king ++ codes " and the rooks of " ++ long) (codes " and ") h3 c.in_ok-say-3.ensures in
     let h5 = thence o _ _ (first ++ king ++ codes " and the rooks of " ++ long ++ codes " and ") short h4 c.in_ok-push_square-3.ensures in
-    thence o _ _ (first ++ king ++ codes " and the rooks of " ++ long ++ codes " and " ++ short) (codes " never moved, and neither rook was taken." ++ 10 ∷ []) h5 c.in_ok-say-4.ensures
+    IfOk-equal c.say-4.result c.say-4.new.out.items _ _ c.say-4.ensures
+    (thence o _ _ (first ++ king ++ codes " and the rooks of " ++ long ++ codes " and " ++ short) (codes " never moved, and neither rook was taken." ++ 10 ∷ []) h5 refl)

@@ -1,4 +1,5 @@
-use Rattle.std.proofs.Common.{◌++◌, sym}
+use Rattle.std.proofs.Common.{◌++◌, refl, sym}
+use Rattle.std.proofs.lemmas.Result.{IfOk-equal}
 use Rattle.prose_words.proofs.Squares.{thence}
 use Rattle.proof_prose.specs.Heads.{both_given, clock_given, odds_given, only_given}
 use Rattle.board_base.specs.Rights.{holds}
@@ -16,5 +17,5 @@ returns c =
     let h1 = thence o _ _ odds clock c.in_ok-push_odds.ensures c.in_ok-push_clock.ensures in
     let h2 = thence o _ _ (odds ++ clock) only h1 c.in_ok-push_only.ensures in
     let h3 = thence o _ _ (odds ++ clock ++ only) white h2 c.in_ok-push_rights.ensures in
-    let h4 = thence o _ _ (odds ++ clock ++ only ++ white) black h3 c.in_ok-push_rights-2.ensures in
-    rw (sym c.query.view_is) h4
+    IfOk-equal c.push_rights-2.result c.push_rights-2.new.out.items _ _ c.push_rights-2.ensures
+    (rw (sym c.query.view_is) (thence o _ _ (odds ++ clock ++ only ++ white) black h3 refl))

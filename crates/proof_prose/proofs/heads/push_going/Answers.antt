@@ -1,4 +1,5 @@
-use Rattle.std.proofs.Common.{◌++◌}
+use Rattle.std.proofs.Common.{◌++◌, refl}
+use Rattle.std.proofs.lemmas.Result.{IfOk-equal}
 use Rattle.std.specs.Prelude.{codes}
 use Rattle.prose_words.proofs.Squares.{thence}
 use Rattle.board_base.specs.Texts.{square_text}
@@ -12,5 +13,4 @@ returns c =
     let h2 = thence c.args.out.now.items _ _ ((codes "went from ") ++ (square_text c.args.m.now.from)) (codes " to ") h1 (c.in_ok-say-2.ensures) in
     let h3 = thence c.args.out.now.items _ _ (((codes "went from ") ++ (square_text c.args.m.now.from)) ++ (codes " to ")) (square_text c.args.m.now.to) h2 (c.in_ok-push_square-2.ensures) in
     let h4 = thence c.args.out.now.items _ _ ((((codes "went from ") ++ (square_text c.args.m.now.from)) ++ (codes " to ")) ++ (square_text c.args.m.now.to)) (promotion_words c.args.m.now.promo) h3 (c.in_ok-push_promotion.ensures) in
-    let h5 = thence c.args.out.now.items _ _ (((((codes "went from ") ++ (square_text c.args.m.now.from)) ++ (codes " to ")) ++ (square_text c.args.m.now.to)) ++ (promotion_words c.args.m.now.promo)) (codes ", capturing or not") h4 (c.in_ok-say-3.ensures) in
-    h5
+    IfOk-equal c.say-3.result c.say-3.new.out.items _ _ (c.say-3.ensures) (thence c.args.out.now.items _ _ (((((codes "went from ") ++ (square_text c.args.m.now.from)) ++ (codes " to ")) ++ (square_text c.args.m.now.to)) ++ (promotion_words c.args.m.now.promo)) (codes ", capturing or not") h4 refl)

@@ -1,5 +1,6 @@
-use Rattle.std.proofs.Common.{◌≡◌, ◌≢◌, Bool, ℕ, List, [], ◌++◌, inl, inr, sym, ap, ◌∙◌}
+use Rattle.std.proofs.Common.{◌≡◌, ◌≢◌, Bool, ℕ, List, [], ◌++◌, inl, inr, sym, ap}
 use Rattle.std.proofs.lemmas.Bool.{both_ways, cases_Bool, cond-false}
+use Rattle.std.proofs.lemmas.Result.{IfOk-equal}
 use Rattle.board_base.specs.Board.{no_odds}
 use Rattle.board_base.specs.SameSets.{sets_decide}
 use Rattle.fen_text.specs.OddsLines.{is_no_odds}
@@ -15,4 +16,5 @@ some-words odds some = elim (cases_Bool (is_no_odds odds)) [
 pub returns : goal.returns
 returns c =
     let some : c.args.odds ≢ no_odds = λ none. both_ways c.is_none.result c.if-is_none.false (c.is_none.ensures.1 none) in
-    c.in_ok-push_odds_words.ensures ∙ ap (λ (l : List ℕ). c.args.out.now.items ++ l) (sym (some-words c.args.odds some))
+    IfOk-equal c.push_odds_words.result c.push_odds_words.new.out.items _ _ c.push_odds_words.ensures
+    (ap (λ (l : List ℕ). c.args.out.now.items ++ l) (sym (some-words c.args.odds some)))

@@ -1,3 +1,5 @@
+use Rattle.std.proofs.Common.{refl}
+use Rattle.std.proofs.lemmas.Result.{IfOk-equal}
 use Rattle.std.specs.Prelude.{codes}
 use Rattle.prose_words.proofs.Squares.{thence}
 use Rattle.proof_prose.specs.Heads.{given_words}
@@ -6,5 +8,4 @@ use Rattle.proof_prose.proofs.heads.push_reached.Goals as goal
 pub returns : goal.returns
 returns c =
     let h0 = c.in_ok-say.ensures in
-    let h1 = thence c.args.out.now.items _ _ (codes "a game leads to this diagram") (given_words c.args.query.now) h0 (c.in_ok-push_given.ensures) in
-    h1
+    IfOk-equal c.push_given.result c.push_given.new.out.items _ _ (c.push_given.ensures) (thence c.args.out.now.items _ _ (codes "a game leads to this diagram") (given_words c.args.query.now) h0 refl)

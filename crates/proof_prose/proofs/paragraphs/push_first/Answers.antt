@@ -2,6 +2,7 @@ use Rattle.std.proofs.Common.{◌≡◌, ℕ, Bool, true, false, List, ◌++◌,
 use Rattle.std.specs.Prelude.{Option, Some, None}
 use Rattle.std.specs.Str.{bytes_eq}
 use Rattle.std.proofs.lemmas.List.{get_or_default}
+use Rattle.std.proofs.lemmas.Result.{IfOk-equal}
 use Rattle.proof_prose.specs.Paragraphs.{as_in, first_saying, said_or}
 use Rattle.proof_prose.specs.declared.paragraphs.Said.{Said}
 use Rattle.proof_prose.proofs.Runs.{found-here, found-later, found-nowhere}
@@ -19,10 +20,10 @@ returns-then-are_same c =
     let one : first_saying c.args.body.now c.args.said.now ≡ Some here =
     sym c.loop-k.invariant.found ∙ found-here test c.args.said.now c.loop-k.k here c.loop-k-test.true hit ∙ ap (λ (s : Said). Some s) (sym c.index-said-k.is) in
     let name : c.text-then-are_same.result.now ≡ here.name = c.text-then-are_same.ensures ∙ ap (λ (s : Said). s.name) (sym c.index-said-k-then-are_same.is ∙ sym again) in
-    c.in_ok-push_as_in.ensures
-    ∙ ap (λ (l : List ℕ). l ++ as_in c.text-then-are_same.result.now) c.loop-k.invariant.same
+    IfOk-equal c.push_as_in.result c.push_as_in.new.out.items _ _ c.push_as_in.ensures
+    (ap (λ (l : List ℕ). l ++ as_in c.text-then-are_same.result.now) c.loop-k.invariant.same
     ∙ ap (λ (l : List ℕ). c.args.out.now.items ++ as_in l) name
-    ∙ ap (λ (o : Option Said). c.args.out.now.items ++ said_or c.args.body.now o) (sym one)
+    ∙ ap (λ (o : Option Said). c.args.out.now.items ++ said_or c.args.body.now o) (sym one))
 
 pub loop-k-preserved : goal.loop-k-preserved
 loop-k-preserved c =
@@ -40,6 +41,6 @@ returns c =
     let test : Said → Bool = λ s. bytes_eq s.body c.args.body.now in
     let none : first_saying c.args.body.now c.args.said.now ≡ None =
     sym c.loop-k.invariant.found ∙ found-nowhere test c.args.said.now c.loop-k.k c.loop-k-test.false in
-    c.in_ok-say.ensures
-    ∙ ap (λ (l : List ℕ). l ++ c.args.body.now) c.loop-k.invariant.same
-    ∙ ap (λ (o : Option Said). c.args.out.now.items ++ said_or c.args.body.now o) (sym none)
+    IfOk-equal c.say.result c.say.new.out.items _ _ c.say.ensures
+    (ap (λ (l : List ℕ). l ++ c.args.body.now) c.loop-k.invariant.same
+    ∙ ap (λ (o : Option Said). c.args.out.now.items ++ said_or c.args.body.now o) (sym none))
