@@ -46,10 +46,7 @@ fn push_void(base: &Base, sketch: &Sketch, out: &mut Vec<u8>) -> Result<(), Allo
 {
     let set = greatest_frozen(sketch, base.held);
     match first_foreign(sketch, set, base.odds) {
-        Some(s) => {
-            push_foreign(base.odds, s, out)?;
-            Ok(())
-        }
+        Some(s) => push_foreign(base.odds, s, out),
         None => Ok(()),
     }
 }
@@ -70,8 +67,7 @@ fn push_before(
     push_stepped(alloc, first, &base.exact, why.as_slice(), count, out)?;
     let still = without(fixed_squares(wide), greatest_frozen(sketch, base.held));
     let list = list_of(alloc, still)?;
-    push_settled(list.as_slice(), count, out)?;
-    Ok(())
+    push_settled(list.as_slice(), count, out)
 }
 
 /// Which of the nodes that are due, so many, can't have been.
@@ -87,8 +83,7 @@ fn push_denied_of(
     ensures { IfOk result (λ _. (prices : List PriceList) (ns : Nodes) (rest : List ALine) → count_nodes ns ≡ count → map line_of lines.now ≡ lines_each ns ++ rest → AreDue ns (setting_with base.now prices) (due_by due) → AddsDenials ns (setting_with base.now prices) spot.now (due_by due) out.old.items out.new.items) }
 {
     let children = children_of(alloc, base, due, count, lines)?;
-    push_denials(base.odds, spot, children.as_slice(), out)?;
-    Ok(())
+    push_denials(base.odds, spot, children.as_slice(), out)
 }
 
 /// The same, and the level of its steps.

@@ -78,10 +78,7 @@ fn push_levels(levels: &mut Levels, next: Level, below: Option<Level>) -> Result
 {
     levels.push(next)?;
     match below {
-        Some(level) => {
-            levels.push(level)?;
-            Ok(())
-        }
+        Some(level) => levels.push(level),
         None => Ok(()),
     }
 }
@@ -112,8 +109,7 @@ fn push_node(
     };
     let below = push_sibling(alloc, base, prices, &spot, number, sketch, node, lines, out)?;
     let next = behind(spot, number, count, left, leaf_of(node));
-    push_levels(levels, next, below)?;
-    Ok(())
+    push_levels(levels, next, below)
 }
 
 /// The next node, if this is its line, which comes before these; the answer is how many of them are its marks.

@@ -96,6 +96,5 @@ pub fn push_sketch(
         exact: exact_files(body.files()),
         diagram,
     };
-    push_all(alloc, &base, body.prices(), &mut levels, body.lines(), out)?;
-    Ok(())
+    push_all(alloc, &base, body.prices(), &mut levels, body.lines(), out)
 }
