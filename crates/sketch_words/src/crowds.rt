@@ -7,7 +7,7 @@ ghost use Rattle.sketch_words.specs.Crowds.{came_words, first_crowded, first_hom
 ghost use Rattle.sketch_words.specs.Lodging.{lacks_on, lives_on, lodges_on};
 ghost use Rattle.sketch_words.specs.declared.crowds.Lack.TheVariants.{Home, Room};
 
-use crate::names::{push_called, push_figure};
+use crate::names::{push_called, push_figure, push_pair};
 use crate::sets::list_of;
 use board_base::{Board, Odds, Square, SquareSet, array_of, is_the};
 use figures::{Figure, Sketch, both, outside};
@@ -210,19 +210,11 @@ fn lodgers_list(
     Ok(list)
 }
 
-/// One text after another.
-fn push_two(a: &[u8], b: &[u8], out: &mut Vec<u8>) -> Result<(), AllocError>
-    ensures { IfOk result (λ _. out.new.items ≡ out.old.items ++ (a.now ++ b.now)) }
-{
-    say(a, out)?;
-    say(b, out)
-}
-
-/// The same of three texts.
+/// Three texts, one after another.
 fn push_three(a: &[u8], b: &[u8], c: &[u8], out: &mut Vec<u8>) -> Result<(), AllocError>
     ensures { IfOk result (λ _. out.new.items ≡ out.old.items ++ (a.now ++ b.now ++ c.now)) }
 {
-    push_two(a, b, out)?;
+    push_pair(a, b, out)?;
     say(c, out)
 }
 
@@ -230,7 +222,7 @@ fn push_three(a: &[u8], b: &[u8], c: &[u8], out: &mut Vec<u8>) -> Result<(), All
 fn push_four(a: &[u8], b: &[u8], c: &[u8], d: &[u8], out: &mut Vec<u8>) -> Result<(), AllocError>
     ensures { IfOk result (λ _. out.new.items ≡ out.old.items ++ (a.now ++ b.now ++ c.now ++ d.now)) }
 {
-    push_two(a, b, out)?;
+    push_pair(a, b, out)?;
     say(c, out)?;
     say(d, out)
 }
@@ -321,8 +313,7 @@ fn push_crowd(
         home_list.as_slice(),
         squares.as_slice(),
         out,
-    )?;
-    Ok(())
+    )
 }
 
 /// The same of the figure with this number, if there is one.

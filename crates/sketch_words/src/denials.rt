@@ -121,8 +121,7 @@ fn push_foreign_cause(odds: Odds, s: Square, out: &mut Vec<u8>) -> Result<(), Al
     push_square(s, out)?;
     say(b" never moved, but ", out)?;
     push_man(array_of(odds).at(s), out)?;
-    say(b" began there.", out)?;
-    Ok(())
+    say(b" began there.", out)
 }
 
 /// Why they can't have been.

@@ -104,7 +104,7 @@ fn push_later(alloc: Global, figure: Option<Figure>, out: &mut Vec<u8>) -> Resul
 }
 
 /// One text after another.
-fn push_pair(a: &[u8], b: &[u8], out: &mut Vec<u8>) -> Result<(), AllocError>
+pub(crate) fn push_pair(a: &[u8], b: &[u8], out: &mut Vec<u8>) -> Result<(), AllocError>
     ensures { IfOk result (λ _. out.new.items ≡ out.old.items ++ (a.now ++ b.now)) }
 {
     say(a, out)?;

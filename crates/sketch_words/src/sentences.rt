@@ -96,8 +96,7 @@ fn push_kept(kept: &[u8], others: &[u8], out: &mut Vec<u8>) -> Result<(), AllocE
     push_men(kept, out)?;
     say(b" never moved", out)?;
     push_neither(others, out)?;
-    say(b".", out)?;
-    Ok(())
+    say(b".", out)
 }
 
 /// That men never moved: first those who have a right to castle, if there are any, and then the others.
@@ -151,8 +150,7 @@ pub fn push_marked(officers: &[u8], pawns: &[u8], out: &mut Vec<u8>) -> Result<(
 {
     push_said_of(officers, b" These officers aren't promoted pawns:", out)?;
     push_said_of(pawns, b" These pawns never captured:", out)?;
-    say(b" Otherwise the captures by pawns wouldn't balance.", out)?;
-    Ok(())
+    say(b" Otherwise the captures by pawns wouldn't balance.", out)
 }
 
 /// The letter of a file after a space, if it is exact.
@@ -184,8 +182,7 @@ fn push_or_moves(files: &[u8], out: &mut Vec<u8>) -> Result<(), AllocError>
 {
     say(b", or a move of a pawn on file", out)?;
     say(files, out)?;
-    say(b",", out)?;
-    Ok(())
+    say(b",", out)
 }
 
 /// A move of a pawn on one of these files, if there are any.
@@ -204,8 +201,7 @@ fn push_deed(alloc: Global, exact: &[bool; 8], out: &mut Vec<u8>) -> Result<(), 
 {
     let files = files_list(alloc, exact)?;
     say(b"capture by a pawn or promotion", out)?;
-    push_or(files.as_slice(), out)?;
-    Ok(())
+    push_or(files.as_slice(), out)
 }
 
 /// Who can't have moved since the last step, if there are any steps.
@@ -223,8 +219,7 @@ fn push_without_a(alloc: Global, exact: &[bool; 8], out: &mut Vec<u8>) -> Result
     ensures { IfOk result (λ _. out.new.items ≡ out.old.items ++ (codes " Without a " ++ deed_words exact.now)) }
 {
     say(b" Without a ", out)?;
-    push_deed(alloc, exact, out)?;
-    Ok(())
+    push_deed(alloc, exact, out)
 }
 
 /// Without a step, or, below the first node, without another one.
@@ -262,8 +257,7 @@ pub fn push_stepped(
         b". But no such move can have been last.",
         b". So there was such a move. Consider the last one.",
         out,
-    )?;
-    Ok(())
+    )
 }
 
 /// Of whom it isn't known what he was.
@@ -283,6 +277,5 @@ pub fn push_foreign(odds: Odds, s: Square, out: &mut Vec<u8>) -> Result<(), Allo
     push_man(array_of(odds).at(s), out)?;
     say(b" stood on ", out)?;
     push_square(s, out)?;
-    say(b".", out)?;
-    Ok(())
+    say(b".", out)
 }

@@ -68,8 +68,7 @@ fn push_pawns_above(above: u8, out: &mut Vec<u8>) -> Result<(), AllocError>
 {
     say(b" with ", out)?;
     push_number(usize::from(above), out)?;
-    say(b" other pawns above it on its file", out)?;
-    Ok(())
+    say(b" other pawns above it on its file", out)
 }
 
 /// How many other pawns of the file that a pawn left stood above it, if any did.

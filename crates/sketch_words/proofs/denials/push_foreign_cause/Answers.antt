@@ -1,6 +1,7 @@
 use Rattle.std.proofs.Common.{◌++◌}
 use Rattle.std.specs.Prelude.{codes}
 use Rattle.prose_words.proofs.Squares.{thence}
+use Rattle.sketch_words.proofs.Behind.{behind}
 use Rattle.board_base.specs.Board.{array_of, at}
 use Rattle.board_base.specs.Texts.{square_text}
 use Rattle.prose_words.specs.Words.{man_words}
@@ -12,5 +13,4 @@ returns c =
     let h1 = thence c.args.out.now.items _ _ (codes ": then the man on ") (square_text c.args.s) h0 (c.in_ok-push_square.ensures) in
     let h2 = thence c.args.out.now.items _ _ ((codes ": then the man on ") ++ (square_text c.args.s)) (codes " never moved, but ") h1 (c.in_ok-say-2.ensures) in
     let h3 = thence c.args.out.now.items _ _ (((codes ": then the man on ") ++ (square_text c.args.s)) ++ (codes " never moved, but ")) (man_words (at (array_of c.args.odds) c.args.s)) h2 (rw (c.at.ensures.man, c.array_of.ensures) at c.in_ok-push_man.ensures) in
-    let h4 = thence c.args.out.now.items _ _ ((((codes ": then the man on ") ++ (square_text c.args.s)) ++ (codes " never moved, but ")) ++ (man_words (at (array_of c.args.odds) c.args.s))) (codes " began there.") h3 (c.in_ok-say-3.ensures) in
-    h4
+    behind c.say-3.result c.args.out.now.items _ _ ((((codes ": then the man on ") ++ (square_text c.args.s)) ++ (codes " never moved, but ")) ++ (man_words (at (array_of c.args.odds) c.args.s))) (codes " began there.") h3 (c.say-3.ensures)
