@@ -24,19 +24,24 @@ squares_words m = codes "from " ++ square_text m.from ++ codes " to " ++ square_
 abbrev pub going_words : List ℕ → Move → List ℕ
 going_words move m = move ++ codes " went " ++ squares_words m ++ codes "."
 
--- whom a move to this square captured there
-abbrev pub victim_words : ℕ → Option Man → List ℕ
-victim_words s None = codes "nobody on " ++ square_text s
-victim_words s (Some man) = codes "a " ++ kind_word man.kind
+-- what a move captured that found this on its target
+abbrev pub victim_words : Option Man → List ℕ
+victim_words None = codes "nothing"
+victim_words (Some man) = codes "a " ++ kind_word man.kind
 
--- that what stands on this place of the square to which the move went would have stood there before it
-abbrev pub other_words : Move → Option Man → List ℕ
-other_words m place = codes "had the move " ++ squares_words m ++ codes " captured " ++ victim_words m.to place ++ codes ", it would have left this:"
+-- the same; en passant, if the move answered a double step
+abbrev pub taken_words : Option Move → Option Man → List ℕ
+taken_words None place = victim_words place
+taken_words (Some double) place = codes "en passant"
+
+-- what the move would have left if it had captured otherwise: with this on its target, after this double step if one is given
+abbrev pub other_words : Move → Option Move → Option Man → List ℕ
+other_words m double place = codes "had the move " ++ squares_words m ++ codes " captured " ++ taken_words double place ++ codes ", it would have left this:"
 
 -- what a part shows that excludes a retraction of the named move: what that would have left
 abbrev pub excluded_words : Option Move → Asked → List ℕ
 excluded_words None part = codes "what can't have stood before:"
-excluded_words (Some m) part = other_words m (at part.board m.to)
+excluded_words (Some m) part = other_words m part.only (at part.board m.to)
 
 -- what a part shows about a last move: this is the last, or the one before the named one
 abbrev pub last_words : Option Move → Move → List ℕ

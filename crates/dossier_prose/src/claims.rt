@@ -22,8 +22,7 @@ fn push_right(castle: Castle, out: &mut Vec<u8>) -> Result<(), AllocError>
     say(side_word(castle.side()), out)?;
     say(b"'s on the ", out)?;
     say(wing_word(castle), out)?;
-    say(b" side", out)?;
-    Ok(())
+    say(b" side", out)
 }
 
 /// That one of two rights to castle is lost.
@@ -33,8 +32,7 @@ fn push_rights(first: Castle, second: Castle, out: &mut Vec<u8>) -> Result<(), A
     say(b"at least one of these two rights to castle is lost: ", out)?;
     push_right(first, out)?;
     say(b", ", out)?;
-    push_right(second, out)?;
-    Ok(())
+    push_right(second, out)
 }
 
 /// What stands between a move and the one before it.
@@ -49,8 +47,7 @@ fn push_step(first: bool, query: &Query, step: &Unmove, out: &mut Vec<u8>) -> Re
     ensures { IfOk result (λ _. out.new.items ≡ out.old.items ++ step_words first query.now step.now) }
 {
     say(separator(first), out)?;
-    push_label(query, step, out)?;
-    Ok(())
+    push_label(query, step, out)
 }
 
 /// The moves of the steps, the last move first.
@@ -124,8 +121,7 @@ fn push_claim_rows(
     say(before, &mut line)?;
     push_claim(claim, query, &mut line)?;
     say(after, &mut line)?;
-    push_wrapped(line.as_slice(), out)?;
-    Ok(())
+    push_wrapped(line.as_slice(), out)
 }
 
 /// The diagram, what is given beside it, and the claim.
@@ -139,8 +135,7 @@ pub(crate) fn push_opening(
     ensures { IfOk result (λ _. out.new.items ≡ out.old.items ++ opening_text claim.now query.now) }
 {
     draw(alloc, query, out)?;
-    push_claim_rows(alloc, b"Claim: ", claim, query, b".", out)?;
-    Ok(())
+    push_claim_rows(alloc, b"Claim: ", claim, query, b".", out)
 }
 
 /// The claim again, after an empty row.
@@ -154,6 +149,5 @@ pub(crate) fn push_closing(
     ensures { IfOk result (λ _. out.new.items ≡ out.old.items ++ closing_text claim.now query.now) }
 {
     say(b"\n", out)?;
-    push_claim_rows(alloc, b"So ", claim, query, b". QED", out)?;
-    Ok(())
+    push_claim_rows(alloc, b"So ", claim, query, b". QED", out)
 }

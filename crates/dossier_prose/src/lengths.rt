@@ -49,8 +49,7 @@ fn push_from(cost: u8, home: Square, out: &mut Vec<u8>) -> Result<(), AllocError
     push_square(home, out)?;
     say(b" ", out)?;
     push_number(cost as usize, out)?;
-    say(b", ", out)?;
-    Ok(())
+    say(b", ", out)
 }
 
 /// The same; 64 is more than any man needs.
@@ -188,8 +187,7 @@ fn push_counted(count: u16, kind: &[u8], out: &mut Vec<u8>) -> Result<(), AllocE
     push_number(count as usize, out)?;
     say(b" ", out)?;
     say(kind, out)?;
-    say(plural(count), out)?;
-    Ok(())
+    say(plural(count), out)
 }
 
 /// What castling may have saved of so many moves, if there are any.
@@ -225,8 +223,7 @@ fn push_line(
     say(saved_words(keeps_some(query, side), sum), out)?;
     say(b". So each game has at least ", out)?;
     push_counted(half_moves, b"half-move", out)?;
-    say(b".", out)?;
-    Ok(())
+    say(b".", out)
 }
 
 /// What each man of a side with at most sixteen men needs from each of its homes.
@@ -260,8 +257,7 @@ fn push_shown(
         half_moves,
         &mut line,
     )?;
-    push_wrapped(line.as_slice(), out)?;
-    Ok(())
+    push_wrapped(line.as_slice(), out)
 }
 
 /// How many half-moves each game has at least, as the men of a side show it. None exactly if the side has more than sixteen men.
@@ -312,8 +308,7 @@ fn push_claim(half_moves: u16, out: &mut Vec<u8>) -> Result<(), AllocError>
     say(
         b".\nThe moves that each man needs, alone on an empty board, from homes that make their sum least:\n",
         out,
-    )?;
-    Ok(())
+    )
 }
 
 /// The claim again.

@@ -3,13 +3,12 @@
 ghost use Rattle.std.specs.Prelude.{◌≡◌, ◌↔◌, ◌++◌, ℕ, IfOk, IsTrue, List, None, codes, length, map};
 ghost use Rattle.std.specs.Fmt.{decimal};
 ghost use Rattle.std.specs.List.{All};
-ghost use Rattle.board_base.specs.Texts.{square_text};
 ghost use Rattle.cert_checker.specs.Proving.{ProvesClaim};
 ghost use Rattle.cert_text.specs.SeenCert.{cert_of};
-ghost use Rattle.dossier_prose.specs.Parts.{IsDrawn, TellParts, TellsPart, excluded_words, going_words, heading, last_words, named_by, other_words, part_words, squares_words, step_words, victim_words};
+ghost use Rattle.dossier_prose.specs.Parts.{IsDrawn, TellParts, TellsPart, excluded_words, going_words, heading, last_words, named_by, other_words, part_words, squares_words, step_words, taken_words, victim_words};
 ghost use Rattle.prose_words.specs.Words.{kind_word};
 
-use board_base::{Kind, Man, Move, Square};
+use board_base::{Kind, Man, Move};
 use cert_text::Cert;
 use line_claims::LineClaim;
 use proof_prose::{draw, retell};
@@ -24,8 +23,7 @@ fn push_squares(m: &Move, out: &mut Vec<u8>) -> Result<(), AllocError>
     say(b"from ", out)?;
     push_square(m.from, out)?;
     say(b" to ", out)?;
-    push_square(m.to, out)?;
-    Ok(())
+    push_square(m.to, out)
 }
 
 /// That these words' move went so.
@@ -35,16 +33,7 @@ fn push_going(words: &[u8], m: &Move, out: &mut Vec<u8>) -> Result<(), AllocErro
     say(words, out)?;
     say(b" went ", out)?;
     push_squares(m, out)?;
-    say(b".", out)?;
-    Ok(())
-}
-
-/// That nobody was captured on a square.
-fn push_nobody(s: Square, out: &mut Vec<u8>) -> Result<(), AllocError>
-    ensures { IfOk result (λ _. out.new.items ≡ out.old.items ++ (codes "nobody on " ++ square_text s)) }
-{
-    say(b"nobody on ", out)?;
-    push_square(s, out)
+    say(b".", out)
 }
 
 /// A man of this kind.
@@ -52,30 +41,43 @@ fn push_kind(kind: Kind, out: &mut Vec<u8>) -> Result<(), AllocError>
     ensures { IfOk result (λ _. out.new.items ≡ out.old.items ++ (codes "a " ++ kind_word kind)) }
 {
     say(b"a ", out)?;
-    say(kind_word(kind), out)?;
-    Ok(())
+    say(kind_word(kind), out)
 }
 
-/// Whom a move to this square captured there.
-fn push_victim(s: Square, place: Option<Man>, out: &mut Vec<u8>) -> Result<(), AllocError>
-    ensures { IfOk result (λ _. out.new.items ≡ out.old.items ++ victim_words s place) }
+/// What a move captured that found this on its target.
+fn push_victim(place: Option<Man>, out: &mut Vec<u8>) -> Result<(), AllocError>
+    ensures { IfOk result (λ _. out.new.items ≡ out.old.items ++ victim_words place) }
 {
     match place {
-        None => push_nobody(s, out),
+        None => say(b"nothing", out),
         Some(man) => push_kind(man.kind, out),
     }
 }
 
-/// That what stands on this place of the square to which the move went would have stood there before it.
-fn push_other(m: &Move, place: Option<Man>, out: &mut Vec<u8>) -> Result<(), AllocError>
-    ensures { IfOk result (λ _. out.new.items ≡ out.old.items ++ other_words m.now place) }
+/// The same; en passant, if the move answered a double step.
+fn push_taken(double: Option<Move>, place: Option<Man>, out: &mut Vec<u8>) -> Result<(), AllocError>
+    ensures { IfOk result (λ _. out.new.items ≡ out.old.items ++ taken_words double place) }
+{
+    match double {
+        None => push_victim(place, out),
+        Some(_) => say(b"en passant", out),
+    }
+}
+
+/// What the move would have left if it had captured otherwise: with this on its target, after this double step if one is given.
+fn push_other(
+    m: &Move,
+    double: Option<Move>,
+    place: Option<Man>,
+    out: &mut Vec<u8>,
+) -> Result<(), AllocError>
+    ensures { IfOk result (λ _. out.new.items ≡ out.old.items ++ other_words m.now double place) }
 {
     say(b"had the move ", out)?;
     push_squares(m, out)?;
     say(b" captured ", out)?;
-    push_victim(m.to, place, out)?;
-    say(b", it would have left this:", out)?;
-    Ok(())
+    push_taken(double, place, out)?;
+    say(b", it would have left this:", out)
 }
 
 /// What a part shows that excludes a retraction of the named move.
@@ -84,7 +86,7 @@ fn push_excluded(named: &Option<Move>, part: &Query, out: &mut Vec<u8>) -> Resul
 {
     match named {
         None => say(b"what can't have stood before:", out),
-        Some(m) => push_other(m, part.board.at(m.to), out),
+        Some(m) => push_other(m, part.only, part.board.at(m.to), out),
     }
 }
 
@@ -147,8 +149,7 @@ fn push_place(count: usize, number: usize, out: &mut Vec<u8>) -> Result<(), Allo
     push_number(number, out)?;
     say(b" of ", out)?;
     push_number(count, out)?;
-    say(b": ", out)?;
-    Ok(())
+    say(b": ", out)
 }
 
 /// The row above a part, after an empty one.
@@ -164,8 +165,7 @@ fn push_heading(
 {
     push_place(count, number, out)?;
     push_words(line, named, &cert.claim, &cert.query, out)?;
-    say(b"\n", out)?;
-    Ok(())
+    say(b"\n", out)
 }
 
 /// Whether both are the same query.
@@ -208,8 +208,7 @@ fn push_part(
     let proof = retell(alloc, cert)?;
     push_heading(line, count, number, named, cert, out)?;
     push_drawing(alloc, query, &cert.query, out)?;
-    say(proof.as_slice(), out)?;
-    Ok(())
+    say(proof.as_slice(), out)
 }
 
 /// All parts, one after another.

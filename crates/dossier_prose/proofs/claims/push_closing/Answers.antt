@@ -1,6 +1,6 @@
 use Rattle.std.proofs.Common.{◌++◌}
 use Rattle.std.specs.Prelude.{codes}
-use Rattle.prose_words.proofs.Squares.{thence}
+use Rattle.dossier_prose.proofs.Behind.{behind}
 use Rattle.proof_story.specs.Rows.{rows_of}
 use Rattle.dossier_prose.specs.Claims.{line_words}
 use Rattle.dossier_prose.proofs.claims.push_closing.Goals as goal
@@ -8,5 +8,4 @@ use Rattle.dossier_prose.proofs.claims.push_closing.Goals as goal
 pub returns : goal.returns
 returns c =
     let h0 = c.in_ok-say.ensures in
-    let h1 = thence c.args.out.now.items _ _ (codes "\n") (rows_of ((codes "So " ++ line_words c.args.claim.now c.args.query.now) ++ codes ". QED")) h0 (c.in_ok-push_claim_rows.ensures) in
-    h1
+    behind c.push_claim_rows.result c.args.out.now.items _ _ (codes "\n") (rows_of ((codes "So " ++ line_words c.args.claim.now c.args.query.now) ++ codes ". QED")) h0 (c.push_claim_rows.ensures)

@@ -1,4 +1,5 @@
 use Rattle.std.proofs.Common.{◌≡◌, ◌++◌, ℕ, List, inl, length, refl, sym, ap, ◌∙◌, subst}
+use Rattle.std.proofs.lemmas.Result.{IfOk-weaker}
 use Rattle.assignment.specs.Assignments.{IsInjection, assignment_cost, least_cost}
 use Rattle.length_bound.specs.SideBounds.{move_costs}
 use Rattle.proof_story.specs.Rows.{rows_of}
@@ -22,4 +23,6 @@ returns c =
       injection = subst (λ (t : List (List ℕ)). IsInjection 16 (length t) found.columns.items) costs c.solve-solution.ensures.injection;
       least = subst (λ (t : List (List ℕ)). assignment_cost t found.columns.items ≡ least_cost 16 t) costs (sym c.solve-solution.ensures.cost ∙ c.solve-solution.ensures.least);
     } in
-    (shown_text side q found.columns.items n, inl (n, found.columns.items, c.requires, cheapest, refl), c.in_ok-push_wrapped.ensures ∙ ap (λ (l : List ℕ). c.args.out.now.items ++ rows_of l) line)
+    IfOk-weaker c.push_wrapped.result (λ _. c.push_wrapped.new.out.items ≡ c.args.out.now.items ++ rows_of c.as_slice-3.result.now) _
+    (λ _ written. (shown_text side q found.columns.items n, inl (n, found.columns.items, c.requires, cheapest, refl), written ∙ ap (λ (l : List ℕ). c.args.out.now.items ++ rows_of l) line))
+    c.push_wrapped.ensures

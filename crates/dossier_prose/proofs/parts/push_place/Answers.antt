@@ -1,6 +1,7 @@
 use Rattle.std.proofs.Common.{◌++◌}
 use Rattle.std.specs.Prelude.{codes}
 use Rattle.prose_words.proofs.Squares.{thence}
+use Rattle.dossier_prose.proofs.Behind.{behind}
 use Rattle.std.specs.Fmt.{decimal}
 use Rattle.dossier_prose.proofs.parts.push_place.Goals as goal
 
@@ -10,5 +11,4 @@ returns c =
     let h1 = thence c.args.out.now.items _ _ (codes "\nPart ") (decimal c.args.number) h0 (c.in_ok-push_number.ensures) in
     let h2 = thence c.args.out.now.items _ _ ((codes "\nPart ") ++ (decimal c.args.number)) (codes " of ") h1 (c.in_ok-say-2.ensures) in
     let h3 = thence c.args.out.now.items _ _ (((codes "\nPart ") ++ (decimal c.args.number)) ++ (codes " of ")) (decimal c.args.count) h2 (c.in_ok-push_number-2.ensures) in
-    let h4 = thence c.args.out.now.items _ _ ((((codes "\nPart ") ++ (decimal c.args.number)) ++ (codes " of ")) ++ (decimal c.args.count)) (codes ": ") h3 (c.in_ok-say-3.ensures) in
-    h4
+    behind c.say-3.result c.args.out.now.items _ _ ((((codes "\nPart ") ++ (decimal c.args.number)) ++ (codes " of ")) ++ (decimal c.args.count)) (codes ": ") h3 (c.say-3.ensures)
