@@ -1,5 +1,5 @@
 -- Squares that are named one behind the other, and lines that are looked through.
-use Rattle.std.proofs.Common.{◌≡◌, ℕ, ◌+◌, ◌<◌, Bool, true, false, List, ◌++◌, length, get_or, take, refl, ap, sym, ◌∙◌}
+use Rattle.std.proofs.Common.{◌≡◌, ℕ, ◌+◌, ◌<◌, Bool, false, List, ◌++◌, length, get_or, take, ap, sym, ◌∙◌}
 use Rattle.std.specs.Prelude.{◌||◌}
 use Rattle.std.specs.List.{list_any, range_with_len}
 use Rattle.std.proofs.lemmas.List.Folds.{list_any_more}
@@ -9,11 +9,6 @@ use Rattle.ledger_prose.specs.Sentences.{is_named}
 use Rattle.ledger_prose.specs.Words.{given_words, is_any_from, name_at, square_words}
 use Rattle.ledger_prose.specs.declared.names.Joint.{Joint}
 use Rattle.ledger_prose.specs.declared.names.Style.{Style}
-use Rattle.ledger_lines.proofs.Homes.{any-more}
-
-or-last : (a : Bool) → (a || false) ≡ a
-or-last true = refl
-or-last false = refl
 
 -- the text of one square
 pub name-told : (joint : Joint) (style : Style) (q : Asked) (xs : List Line) (n s : ℕ) (given several more : Bool) (old new : List ℕ) → s ≡ n → given ≡ is_named q xs s → several ≡ list_any (is_named q xs) (range_with_len 0 n) → more ≡ is_any_from (is_named q xs) (n + 1) → new ≡ old ++ given_words joint given several more (square_words style q s) → new ≡ old ++ name_at joint style q xs n
