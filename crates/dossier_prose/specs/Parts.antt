@@ -73,7 +73,7 @@ heading line n k named claim part = codes "\nPart " ++ decimal k ++ codes " of "
 
 -- the diagram of a part with what is given beside it, unless it is that of the dossier
 abbrev pub IsDrawn : Asked → Asked → List ℕ → Type 0
-IsDrawn q part shown = ((part ≡ q) × (shown ≡ [])) ⊎ (shown ≡ drawn_text part)
+IsDrawn q part shown = ((part ≡ q) × (shown ≡ [])) ⊎ ((part ≡ q → ⊥) × (shown ≡ drawn_text part))
 
 -- a part is told: what it shows, its diagram, and the proof of its certificate
 pub record TellsPart (line : LineClaim) (q : Asked) (n k : ℕ) (named : Option Move) (cert : Certificate) (text : List ℕ) : Type 0 where

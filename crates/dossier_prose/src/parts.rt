@@ -208,7 +208,8 @@ fn push_part(
     let proof = retell(alloc, cert)?;
     push_heading(line, count, number, named, cert, out)?;
     push_drawing(alloc, query, &cert.query, out)?;
-    say(proof.as_slice(), out)
+    say(proof.as_slice(), out)?;
+    Ok(())
 }
 
 /// All parts, one after another.
