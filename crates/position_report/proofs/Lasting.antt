@@ -12,7 +12,8 @@ use Rattle.line_claims.specs.declared.claims.LineClaim.TheVariants.{Line}
 use Rattle.unmove_gen.specs.Listed.{unmoves}
 use Rattle.diagram_study.specs.declared.findings.Found.{Found}
 use Rattle.verdict_prose.specs.LastMoves.{EndsWithOneOf, IsEnd, WereLast}
-use Rattle.verdict_prose.specs.Moves.{last_text, left_text, line_text}
+use Rattle.verdict_prose.specs.Choices.{last_text}
+use Rattle.verdict_prose.specs.Moves.{left_text, line_text}
 use Rattle.position_report.specs.LastMoves.{CanBeNamed, HasLone, IsLone, TellsLast, possible_text, proved_steps, steps_in}
 use Rattle.position_report.specs.Told.{HaveEnds, IsLineTold}
 use Rattle.position_report.proofs.Saying.{ends-so}

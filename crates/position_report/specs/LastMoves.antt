@@ -10,7 +10,8 @@ use Rattle.diagram_study.specs.ClaimFindings.{is_proved}
 use Rattle.diagram_study.specs.declared.findings.Found.{Found}
 use Rattle.diagram_study.specs.declared.forced.StepsFound.{StepsFound}
 use Rattle.verdict_prose.specs.LastMoves.{IsEnd, Remain, WasOneOf, WereLast}
-use Rattle.verdict_prose.specs.Moves.{ends_text, last_text, left_text, line_text}
+use Rattle.verdict_prose.specs.Choices.{ends_text, last_text}
+use Rattle.verdict_prose.specs.Moves.{left_text, line_text}
 use Rattle.position_report.specs.Sayings.{has_last}
 
 -- the steps of a claim, if it is one about the last moves
