@@ -10,8 +10,7 @@ each file of which this isn't so, and then ends with status 1. The clauses of al
 
 Public are the clauses of what lib.rt re-exports or declares: functions, methods, traits and what fulfils them. So is the value as
 which a type is seen; its view and its invariant only if its fields are public. Of a program every clause in main.rt counts. A
-variable that has the name of a definition in scope counts as citing it. The functions of LENT are exported for the bodies of other
-crates alone, and their clauses don't count. Reads files only.
+variable that has the name of a definition in scope counts as citing it. Reads files only.
 """
 import argparse
 import pathlib
@@ -19,7 +18,6 @@ import re
 import sys
 
 INNER = "-- Inner: no public clause cites this file."
-LENT = {"cage_rules": {"ahead", "pawn_steps", "piece_steps"}}
 NAME = re.compile(r"(?<![^\s(){}\[\];,])[^\s(){}\[\];,.]+(?:\.[^\s(){}\[\];,.]+)*")
 
 
@@ -131,7 +129,7 @@ def cited_publicly(folder, definitions):
     listed = library.read_text() if library.is_file() else ""
     lines = re.findall(r"pub use [\w:]+::(\w+|\{[^}]*\});", listed)
     lines += re.findall(r"(?m)^pub (?:const )?(?:fn|struct|enum|trait) (\w+)", listed)
-    exported = set(re.findall(r"\w+", " ".join(lines))) - LENT.get(folder.name, set())
+    exported = set(re.findall(r"\w+", " ".join(lines)))
     found = set()
     for path in (folder / "src").rglob("*.rt"):
         text = re.sub(r"(?m)(^|\s)//.*$", "", path.read_text()).split("#[cfg(test)]\nmod tests {")[0]

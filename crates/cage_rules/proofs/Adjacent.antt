@@ -13,7 +13,8 @@ use Rattle.board_base.proofs.Hits.{away-above, away-below}
 use Rattle.board_base.proofs.Ways.{distance-sym}
 use Rattle.cage_rules.specs.Frozen.{is_behind, is_next}
 use Rattle.cage_rules.specs.Sets.{union}
-use Rattle.cage_rules.specs.Steps.{down, is_across, is_ahead, is_along, is_diagonal_step, is_knight_step, is_line_step, is_step, is_strike, left, near, right, up}
+use Rattle.cage_rules.specs.Steps.{is_ahead, is_diagonal_step, is_knight_step, is_line_step, is_step, near}
+use Rattle.cage_rules.specs.SetSteps.{down, is_across, is_along, is_strike, left, right, up}
 use Rattle.cage_rules.proofs.Filling.{is_in-that, length-that, none-in-zero}
 use Rattle.cage_rules.proofs.Near.{Source, near-corner, near-either, near-is, near-more, near-same, on_file, on_rank, placed}
 use Rattle.cage_rules.proofs.SetAlgebra.{is_in-union, length-union}

@@ -7,7 +7,7 @@ use Rattle.query_base.specs.Asked.{Asked}
 use Rattle.play_rules.specs.Reach.{IsWithin}
 use Rattle.general_lemmas.proofs.Rounds.{count, count-le, fewer}
 use Rattle.cage_rules.specs.Frozen.{IsAsArray, IsFrozen}
-use Rattle.cage_rules.specs.Steps.{both}
+use Rattle.cage_rules.specs.SetSteps.{both}
 use Rattle.cage_rules.specs.Tests.{kept, squares_alike, ways_of}
 use Rattle.cage_rules.proofs.Greatest.{Shrunk, alike-answer, fixed-frozen, kept-within, shrunk-more, shrunk-start}
 use Rattle.cage_rules.proofs.Loose.{length-kept}

@@ -9,7 +9,7 @@ use Rattle.board_base.proofs.Equal.{place_is, place_self}
 use Rattle.query_base.specs.Asked.{Asked}
 use Rattle.play_rules.specs.Reach.{IsWithin}
 use Rattle.cage_rules.specs.Frozen.{IsAsArray, IsCaged, IsFrozen, is_held_home}
-use Rattle.cage_rules.specs.Steps.{both}
+use Rattle.cage_rules.specs.SetSteps.{both}
 use Rattle.cage_rules.specs.Tests.{kept, squares_alike, ways_of}
 use Rattle.cage_rules.proofs.Filling.{in-that, is_in-that}
 use Rattle.general_lemmas.proofs.Rounds.{count, fewer}

@@ -13,7 +13,8 @@ use Rattle.query_base.specs.Asked.{Asked}
 use Rattle.cage_rules.specs.Frozen.{IsCaged, is_before_promotion, is_behind, is_entry, is_held_home, may_enter}
 use Rattle.cage_rules.specs.declared.ways.Ways.{Ways}
 use Rattle.cage_rules.specs.Sets.{squares_that, union}
-use Rattle.cage_rules.specs.Steps.{both, is_diagonal_step, is_knight_step, is_line_step, is_near, near, outside}
+use Rattle.cage_rules.specs.Steps.{is_diagonal_step, is_knight_step, is_line_step, is_near, near}
+use Rattle.cage_rules.specs.SetSteps.{both, outside}
 use Rattle.cage_rules.specs.Tests.{as_pawn, came_as_pawn, is_kind, is_loose, kept, loose, on_diagonals, on_lines, stays, ways_of}
 use Rattle.cage_rules.proofs.Adjacent.{next-step}
 use Rattle.cage_rules.proofs.Filling.{in-that, is_in-that, length-that}

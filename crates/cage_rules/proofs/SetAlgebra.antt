@@ -11,7 +11,7 @@ use Rattle.board_base.specs.Squares.{number_of, squares_of}
 use Rattle.board_base.specs.SquareNumbers.{is_in-squares_of, length-squares_of, number_of-squares_of}
 use Rattle.play_rules.specs.Reach.{IsWithin}
 use Rattle.cage_rules.specs.Sets.{all_lists, squares_that, union}
-use Rattle.cage_rules.specs.Steps.{are_apart, both, outside}
+use Rattle.cage_rules.specs.SetSteps.{are_apart, both, outside}
 use Rattle.cage_rules.proofs.Filling.{is_in-that, length-that, none-in-zero}
 use Rattle.cage_rules.proofs.Tested.{all_board, at_board}
 

@@ -9,7 +9,7 @@ use Rattle.std.specs.Int.{bit_at}
 use Rattle.board_base.specs.Board.{file, is_in}
 use Rattle.board_base.specs.Squares.{squares_of}
 use Rattle.board_base.specs.SquareNumbers.{is_in-squares_of, length-squares_of}
-use Rattle.cage_rules.specs.Steps.{down, left, right, up}
+use Rattle.cage_rules.specs.SetSteps.{down, left, right, up}
 use Rattle.cage_rules.proofs.SetAlgebra.{bit-and, that-is}
 
 -- the bits of a number that is shifted to the left, and to the right

@@ -19,7 +19,8 @@ use Rattle.play_rules.specs.Reach.{IsWithin}
 use Rattle.cage_rules.specs.Frozen.{is_next}
 use Rattle.cage_rules.specs.Regions.{IsLeastFrom, beginner, is_closed, is_officer_home, wall, walls}
 use Rattle.cage_rules.specs.Sets.{union}
-use Rattle.cage_rules.specs.Steps.{both, is_diagonal_step, is_line_step, is_near, is_spread, is_step, near, outside, spread}
+use Rattle.cage_rules.specs.Steps.{is_diagonal_step, is_line_step, is_near, is_step, near}
+use Rattle.cage_rules.specs.SetSteps.{both, is_spread, outside, spread}
 use Rattle.cage_rules.proofs.Adjacent.{next-step}
 use Rattle.board_base.proofs.Ways.{diagonal-back, king_distance-sym, line-back}
 use Rattle.cage_rules.proofs.Entries.{knight-back}

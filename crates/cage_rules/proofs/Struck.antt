@@ -8,7 +8,8 @@ use Rattle.board_base.specs.declared.men.Man.{Man}
 use Rattle.play_rules.specs.Laws.{is_end}
 use Rattle.cage_rules.specs.Regions.{beginner, is_exposed, is_shielded, may_strike, region}
 use Rattle.cage_rules.specs.Sets.{squares_that, union}
-use Rattle.cage_rules.specs.Steps.{are_apart, both, is_near, is_strike, near, outside}
+use Rattle.cage_rules.specs.Steps.{is_near, near}
+use Rattle.cage_rules.specs.SetSteps.{are_apart, both, is_strike, outside}
 use Rattle.cage_rules.proofs.Near.{is_in-near, near-tells, near-told}
 use Rattle.cage_rules.proofs.SetAlgebra.{is_in-both, is_in-outside, is_in-union, length-both, that-is}
 use Rattle.general_lemmas.proofs.Truth.{same_truth}

@@ -6,3 +6,4 @@ pub mod Laws
 pub mod Refuted
 pub mod Steps
 pub mod Tests
+pub mod SetSteps

@@ -12,7 +12,8 @@ use Rattle.query_base.specs.Asked.{Asked}
 use Rattle.cage_rules.specs.declared.ways.Ways.{Ways}
 use Rattle.cage_rules.specs.Frozen.{is_behind, is_held_home, is_past_home}
 use Rattle.cage_rules.specs.Sets.{squares_that}
-use Rattle.cage_rules.specs.Steps.{is_diagonal_step, is_knight_step, is_line_step, is_near, outside}
+use Rattle.cage_rules.specs.SetSteps.{outside}
+use Rattle.cage_rules.specs.Steps.{is_diagonal_step, is_knight_step, is_line_step, is_near}
 
 -- men of this kind go along lines, along diagonals
 abbrev pub on_lines : Kind → Bool

@@ -4,7 +4,7 @@ ghost use Rattle.board_base.specs.Legal.{is_officer};
 ghost use Rattle.cage_rules.specs.Regions.{IsLeastClosed, IsLeastFrom, beginner, is_dead, is_exposed, is_officer_home, is_shielded, region, region_from};
 ghost use Rattle.board_base.specs.declared.men.Kind.TheVariants.{Pawn};
 ghost use Rattle.cage_rules.specs.Sets.{squares_that};
-ghost use Rattle.cage_rules.specs.Steps.{spread};
+ghost use Rattle.cage_rules.specs.SetSteps.{spread};
 
 use crate::sets::{both, either, is_apart, is_same, outside};
 use crate::steps::{pawn_strikes, piece_steps};

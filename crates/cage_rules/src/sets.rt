@@ -1,6 +1,6 @@
 ghost use Rattle.std.specs.Prelude.{◌≡◌, ◌↔◌, cond, length, slice_set, true, IsTrue};
 ghost use Rattle.cage_rules.specs.Sets.{union};
-ghost use Rattle.cage_rules.specs.Steps.{are_apart, both, outside};
+ghost use Rattle.cage_rules.specs.SetSteps.{are_apart, both, outside};
 
 use board_base::{Square, SquareSet};
 

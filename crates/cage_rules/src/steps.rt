@@ -1,6 +1,7 @@
 ghost use Rattle.std.specs.Prelude.{◌≡◌, ◌<◌, ◌≤◌, ◌||◌, ◌&&◌, ◌==◌};
 ghost use Rattle.cage_rules.specs.Frozen.{is_behind};
-ghost use Rattle.cage_rules.specs.Steps.{down, is_across, is_ahead, is_along, is_diagonal_step, is_knight_step, is_line_step, is_step, is_strike, left, near, right, up};
+ghost use Rattle.cage_rules.specs.Steps.{is_ahead, is_diagonal_step, is_knight_step, is_line_step, is_step, near};
+ghost use Rattle.cage_rules.specs.SetSteps.{down, is_across, is_along, is_strike, left, right, up};
 
 use crate::sets::either;
 use board_base::{Colour, Kind, SquareSet};

@@ -66,7 +66,7 @@ fixed-only f s size h =
     let low : s < 64 = member-inside f.squares s size parts.0 in
     (low, only-told f.squares s size low parts.0 (λ t inside there. eqb-true t s (either-true (is_in f.squares t) (t == s) (at_board (λ t. not (is_in f.squares t) || (t == s)) t parts.1 inside) there)))
 
-implied : (x y : Bool) → (x ≡ true → y ≡ true) → (not x || y) ≡ true
+pub implied : (x y : Bool) → (x ≡ true → y ≡ true) → (not x || y) ≡ true
 implied true y h = h refl
 implied false y h = refl
 

@@ -96,7 +96,7 @@ fn shared(alloc: Global, query: &Query, node: &Node, tries: &mut u32) -> Result<
 /// A copy of the tree with this root, which proves the query, in which siblings that are closed by the balance of captures have the same
 /// set and prices as often as one line serves several of them: of the lines of some siblings, the first 16 at most, the one that supports
 /// most of their queries is given to these, then the one that supports most of the others, and so on. Where lines were tried 20,000 times,
-/// what is left is as in the tree.
+/// what is left is as in the tree. Which lines are shared is in no clause.
 ///
 /// The copy is the tree but for such lines: each is its child's own, or one of a sibling's that supports the child's query. So it
 /// proves the query as the tree does, below any ancestors.

@@ -1,1 +1,2 @@
 pub mod Squares
+pub mod Behind

@@ -16,7 +16,8 @@ use Rattle.play_rules.specs.Laws.{is_end}
 use Rattle.play_rules.specs.Reach.{IsWithin}
 use Rattle.cage_rules.specs.Frozen.{is_behind}
 use Rattle.cage_rules.specs.Sets.{squares_that, union}
-use Rattle.cage_rules.specs.Steps.{both, is_ahead, is_near, near, outside}
+use Rattle.cage_rules.specs.Steps.{is_ahead, is_near, near}
+use Rattle.cage_rules.specs.SetSteps.{both, outside}
 use Rattle.cage_rules.proofs.Filling.{in-that, is_in-that, length-that}
 use Rattle.cage_rules.proofs.SetAlgebra.{is_in-both, is_in-outside, is_in-union, length-union, that-is}
 use Rattle.cage_rules.proofs.Tested.{member-inside}

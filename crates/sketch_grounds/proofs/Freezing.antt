@@ -17,7 +17,7 @@ use Rattle.board_base.proofs.KindsOfMen.{kind_is, same_kind-self}
 use Rattle.play_rules.specs.Reach.{IsWithin}
 use Rattle.cage_rules.specs.Frozen.{is_held_home}
 use Rattle.cage_rules.specs.Sets.{squares_that, union}
-use Rattle.cage_rules.specs.Steps.{both, outside}
+use Rattle.cage_rules.specs.SetSteps.{both, outside}
 use Rattle.cage_rules.proofs.Filling.{all-in, in-that, is_in-that, length-that}
 use Rattle.cage_rules.proofs.SetAlgebra.{is_in-both, is_in-outside, same-that, that-is, union-that}
 use Rattle.cage_rules.proofs.Tested.{all_board, at_board, member-inside}

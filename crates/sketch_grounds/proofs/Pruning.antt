@@ -6,7 +6,8 @@ use Rattle.std.specs.Prelude.{nat_lt}
 use Rattle.general_lemmas.proofs.Truth.{same_truth}
 use Rattle.board_base.specs.Board.{is_in}
 use Rattle.board_base.specs.declared.men.Kind.{Kind}
-use Rattle.cage_rules.specs.Steps.{both, is_near, is_spread, is_step, near, outside, spread}
+use Rattle.cage_rules.specs.Steps.{is_near, is_step, near}
+use Rattle.cage_rules.specs.SetSteps.{both, is_spread, outside, spread}
 use Rattle.cage_rules.specs.Sets.{squares_that, union}
 use Rattle.cage_rules.proofs.Filling.{is_in-that, length-that, none-in-zero}
 use Rattle.cage_rules.proofs.SetAlgebra.{is_in-both, is_in-outside, is_in-union, length-union, that-is}

@@ -1,7 +1,8 @@
 ghost use Rattle.std.specs.Prelude.{◌≡◌, ◌<◌, ℕ, IsTrue, Some};
 ghost use Rattle.board_base.specs.Board.{is_in};
 ghost use Rattle.board_base.specs.Legal.{is_officer};
-ghost use Rattle.cage_rules.specs.Steps.{is_near, spread};
+ghost use Rattle.cage_rules.specs.Steps.{is_near};
+ghost use Rattle.cage_rules.specs.SetSteps.{spread};
 ghost use Rattle.sketch_grounds.specs.LeastZones.{is_only};
 ghost use Rattle.sketch_grounds.specs.Paces.{is_barred, is_pace, paced};
 ghost use Rattle.past_account.specs.Zones.{reached_from, roams_past};

@@ -1,6 +1,6 @@
 ghost use Rattle.std.specs.Prelude.{◌≡◌};
 ghost use Rattle.board_base.specs.Squares.{squares_of};
-ghost use Rattle.cage_rules.specs.Steps.{both, outside};
+ghost use Rattle.cage_rules.specs.SetSteps.{both, outside};
 
 use board_base::SquareSet;
 
@@ -12,7 +12,7 @@ pub(crate) fn none() -> SquareSet
 }
 
 /// The squares of both sets.
-#[tactic(auto, unfolding(cage_rules::specs::Steps::both))]
+#[tactic(auto, unfolding(cage_rules::specs::SetSteps::both))]
 pub(crate) fn both(a: SquareSet, b: SquareSet) -> SquareSet
     ensures { result ≡ both a b }
 {
@@ -20,7 +20,7 @@ pub(crate) fn both(a: SquareSet, b: SquareSet) -> SquareSet
 }
 
 /// The squares that are not in the set.
-#[tactic(auto, unfolding(cage_rules::specs::Steps::outside))]
+#[tactic(auto, unfolding(cage_rules::specs::SetSteps::outside))]
 pub(crate) fn outside(set: SquareSet) -> SquareSet
     ensures { result ≡ outside set }
 {

@@ -21,6 +21,7 @@ use Rattle.figures.specs.Figures.{Figure, Sketch, figure_at, fixed_squares, is_f
 use Rattle.figures.specs.FileOrder.{is_pawn_on, leaves_room, stands_above, stands_below, stands_beside}
 use Rattle.figures.specs.Touching.{guarded_squares, is_king_on, kings_of, touched_squares, touches, touches_from}
 use Rattle.figures.proofs.Sketches.{any-figure, each-figure, figure-any, fixed-there}
+use Rattle.figures.proofs.Singles.{implied}
 
 pub record IsUnder (f g : Figure) : Type 0 where
   pub colour : f.colour ≡ g.colour
@@ -70,10 +71,6 @@ all-figure (g ∷ T) p (suc i) f all e = all-figure T p i f (and_parts _ _ all).
 
 not-more : (x y : Bool) → (y ≡ true → x ≡ true) → not x ≡ true → not y ≡ true
 not-more x y more out = not_from_false y (false_from_ne_true y (λ h. both_ways x (not-true x out) (more h)))
-
-implied : (x y : Bool) → (x ≡ true → y ≡ true) → (not x || y) ≡ true
-implied true y h = h refl
-implied false y h = refl
 
 given : (x y : Bool) → (not x || y) ≡ true → x ≡ true → y ≡ true
 given true y h e = h

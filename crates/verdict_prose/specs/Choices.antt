@@ -1,5 +1,5 @@
 -- Moves of which one was the last, in a sentence: a move that may have captured several men is named once, as in `Ka7xa8 (a knight or a queen)`.
-use Rattle.std.specs.Prelude.{ℕ, ◌==◌, Bool, false, not, ◌&&◌, cond, codes, List, [], ◌∷◌, ◌++◌, length, Option, Some, None, is_none}
+use Rattle.std.specs.Prelude.{ℕ, ◌==◌, Bool, false, ◌&&◌, cond, codes, List, [], ◌∷◌, ◌++◌, length, Option, Some, None, is_none}
 use Rattle.std.specs.List.{list_all}
 use Rattle.board_base.specs.Board.{Places}
 use Rattle.board_base.specs.Legal.{is_move}
@@ -42,10 +42,10 @@ end_sign on u = cond on [] (closing_sign u)
 abbrev pub listed_words : Places → Bool → Bool → Unmove → List ℕ
 listed_words board again on u = move_words board again u ++ end_sign on u
 
--- What stands before a move: nothing before the first; the word before the last man of a parenthesis, and before a move that all others are
--- again; a comma elsewhere.
+-- What stands before a move: nothing before the first; " or " before the last man of a parenthesis; the word before a move that all others
+-- are again; a comma elsewhere.
 abbrev pub choice_sign : List ℕ → Bool → Bool → Bool → Bool → List ℕ
-choice_sign word first again on last = cond first [] (cond (cond again (not on) last) word (codes ", "))
+choice_sign word first again on last = cond first [] (cond again (cond on (codes ", ") (codes " or ")) (cond last word (codes ", ")))
 
 -- a move between the one before it and those behind it, with what stands before it
 abbrev pub one_words : List ℕ → Option Unmove → Places → Unmove → List Unmove → List ℕ

@@ -105,10 +105,11 @@ fn push_listed(
 fn choice_sign(word: &'static [u8], first: bool, again: bool, on: bool, last: bool) -> &'static [u8]
     ensures { result.now ≡ choice_sign word.now first again on last }
 {
-    let is_word = if again { !on } else { last };
     if first {
         b""
-    } else if is_word {
+    } else if again {
+        if on { b", " } else { b" or " }
+    } else if last {
         word
     } else {
         b", "

@@ -2,7 +2,7 @@ use Rattle.std.proofs.Common.{◌≡◌, List, Bool, ap, ◌∙◌}
 use Rattle.board_base.specs.Board.{is_in}
 use Rattle.board_base.specs.Squares.{squares_of}
 use Rattle.cage_rules.proofs.SetAlgebra.{both-bits, is_in-both}
-use Rattle.cage_rules.specs.Steps.{both}
+use Rattle.cage_rules.specs.SetSteps.{both}
 use Rattle.balance_rule.proofs.earnings.both.Goals as goal
 
 pub returns : goal.returns

@@ -1,6 +1,6 @@
 use Rattle.std.proofs.Common.{◌≡◌, ap, sym, ◌∙◌}
 use Rattle.board_base.specs.Board.{array_of}
-use Rattle.cage_rules.specs.Steps.{both}
+use Rattle.cage_rules.specs.SetSteps.{both}
 use Rattle.cage_rules.specs.Tests.{squares_alike}
 use Rattle.cage_rules.proofs.Greatest.{alike-answer}
 use Rattle.cage_rules.proofs.arrays.as_array.Goals as goal

@@ -3,7 +3,8 @@ use Rattle.board_base.specs.Board.{opponent}
 use Rattle.board_base.specs.Squares.{squares_of}
 use Rattle.board_base.specs.declared.men.Kind.TheVariants.{Pawn}
 use Rattle.cage_rules.specs.Sets.{union}
-use Rattle.cage_rules.specs.Steps.{both, is_strike, near, outside}
+use Rattle.cage_rules.specs.Steps.{near}
+use Rattle.cage_rules.specs.SetSteps.{both, is_strike, outside}
 use Rattle.cage_rules.proofs.Struck.{exposed-made}
 use Rattle.cage_rules.proofs.roaming.exposed.Goals as goal
 

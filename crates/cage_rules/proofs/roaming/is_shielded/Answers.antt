@@ -3,7 +3,8 @@ use Rattle.board_base.specs.Board.{opponent}
 use Rattle.board_base.specs.Squares.{squares_of}
 use Rattle.cage_rules.specs.Regions.{region}
 use Rattle.cage_rules.specs.Sets.{union}
-use Rattle.cage_rules.specs.Steps.{are_apart, is_strike, near, outside}
+use Rattle.cage_rules.specs.Steps.{near}
+use Rattle.cage_rules.specs.SetSteps.{are_apart, is_strike, outside}
 use Rattle.cage_rules.proofs.Struck.{shielded-made}
 use Rattle.cage_rules.proofs.roaming.is_shielded.Goals as goal
 

@@ -1,6 +1,7 @@
 use Rattle.std.proofs.Common.{◌≡◌, ◌∙◌}
 use Rattle.cage_rules.specs.Sets.{union}
-use Rattle.cage_rules.specs.Steps.{both, is_step, near, outside}
+use Rattle.cage_rules.specs.Steps.{is_step, near}
+use Rattle.cage_rules.specs.SetSteps.{both, outside}
 use Rattle.cage_rules.proofs.Spread.{spread-made}
 use Rattle.cage_rules.proofs.roaming.spread.Goals as goal
 

@@ -1,5 +1,5 @@
 use Rattle.std.proofs.Common.{List, Bool, ap, ◌∙◌}
-use Rattle.cage_rules.specs.Steps.{both}
+use Rattle.cage_rules.specs.SetSteps.{both}
 use Rattle.board_base.specs.Squares.{squares_of}
 use Rattle.cage_rules.proofs.SetAlgebra.{both-bits}
 use Rattle.cage_rules.proofs.sets.both.Goals as goal

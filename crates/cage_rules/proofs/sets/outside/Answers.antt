@@ -1,5 +1,5 @@
 use Rattle.std.proofs.Common.{ap, ◌∙◌, arith}
-use Rattle.cage_rules.specs.Steps.{outside}
+use Rattle.cage_rules.specs.SetSteps.{outside}
 use Rattle.cage_rules.proofs.SetAlgebra.{outside-bits}
 use Rattle.cage_rules.proofs.sets.outside.Goals as goal
 

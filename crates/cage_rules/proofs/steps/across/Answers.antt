@@ -1,6 +1,6 @@
 use Rattle.std.proofs.Common.{◌≡◌, ◌∙◌}
 use Rattle.cage_rules.specs.Sets.{union}
-use Rattle.cage_rules.specs.Steps.{left, right}
+use Rattle.cage_rules.specs.SetSteps.{left, right}
 use Rattle.cage_rules.proofs.Adjacent.{across-near}
 use Rattle.cage_rules.proofs.steps.across.Goals as goal
 

@@ -1,6 +1,6 @@
 use Rattle.std.proofs.Common.{◌≡◌, ◌∙◌}
 use Rattle.cage_rules.specs.Sets.{union}
-use Rattle.cage_rules.specs.Steps.{down, up}
+use Rattle.cage_rules.specs.SetSteps.{down, up}
 use Rattle.cage_rules.proofs.Adjacent.{along-near}
 use Rattle.cage_rules.proofs.steps.along.Goals as goal
 

@@ -1,5 +1,6 @@
 use Rattle.std.proofs.Common.{◌≡◌, ◌∙◌}
-use Rattle.cage_rules.specs.Steps.{is_across, is_along, near}
+use Rattle.cage_rules.specs.Steps.{near}
+use Rattle.cage_rules.specs.SetSteps.{is_across, is_along}
 use Rattle.cage_rules.proofs.Adjacent.{diagonal-near}
 use Rattle.cage_rules.proofs.steps.diagonal_steps.Goals as goal
 

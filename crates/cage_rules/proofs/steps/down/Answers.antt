@@ -1,5 +1,5 @@
 use Rattle.std.proofs.Common.{List, Bool, ap, ◌∙◌, arith}
-use Rattle.cage_rules.specs.Steps.{down}
+use Rattle.cage_rules.specs.SetSteps.{down}
 use Rattle.cage_rules.proofs.Shifts.{down-bits}
 use Rattle.cage_rules.proofs.steps.down.Goals as goal
 

@@ -1,5 +1,5 @@
 use Rattle.std.proofs.Common.{List, Bool, ap, ◌∙◌}
-use Rattle.cage_rules.specs.Steps.{left}
+use Rattle.cage_rules.specs.SetSteps.{left}
 use Rattle.cage_rules.proofs.Shifts.{left-bits}
 use Rattle.cage_rules.proofs.steps.left.Goals as goal
 

@@ -1,6 +1,7 @@
 use Rattle.std.proofs.Common.{◌≡◌, ◌∙◌}
 use Rattle.cage_rules.specs.Sets.{union}
-use Rattle.cage_rules.specs.Steps.{is_across, is_along, near}
+use Rattle.cage_rules.specs.Steps.{near}
+use Rattle.cage_rules.specs.SetSteps.{is_across, is_along}
 use Rattle.cage_rules.proofs.Adjacent.{line-near}
 use Rattle.cage_rules.proofs.steps.line_steps.Goals as goal
 

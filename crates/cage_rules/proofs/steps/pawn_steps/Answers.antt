@@ -1,6 +1,7 @@
 use Rattle.std.proofs.Common.{◌≡◌, ◌∙◌}
 use Rattle.cage_rules.specs.Sets.{union}
-use Rattle.cage_rules.specs.Steps.{is_across, is_ahead, near}
+use Rattle.cage_rules.specs.Steps.{is_ahead, near}
+use Rattle.cage_rules.specs.SetSteps.{is_across}
 use Rattle.cage_rules.proofs.Adjacent.{behind-near}
 use Rattle.cage_rules.proofs.steps.pawn_steps.Goals as goal
 

@@ -1,5 +1,6 @@
 use Rattle.std.proofs.Common.{◌≡◌, ◌∙◌}
-use Rattle.cage_rules.specs.Steps.{is_across, is_ahead, near}
+use Rattle.cage_rules.specs.Steps.{is_ahead, near}
+use Rattle.cage_rules.specs.SetSteps.{is_across}
 use Rattle.cage_rules.proofs.Adjacent.{strike-near}
 use Rattle.cage_rules.proofs.steps.pawn_strikes.Goals as goal
 

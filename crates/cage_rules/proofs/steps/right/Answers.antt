@@ -1,5 +1,5 @@
 use Rattle.std.proofs.Common.{List, Bool, ap, ◌∙◌}
-use Rattle.cage_rules.specs.Steps.{right}
+use Rattle.cage_rules.specs.SetSteps.{right}
 use Rattle.cage_rules.proofs.Shifts.{right-bits}
 use Rattle.cage_rules.proofs.steps.right.Goals as goal
 

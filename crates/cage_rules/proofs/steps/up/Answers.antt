@@ -1,5 +1,5 @@
 use Rattle.std.proofs.Common.{List, Bool, ap, ◌∙◌}
-use Rattle.cage_rules.specs.Steps.{up}
+use Rattle.cage_rules.specs.SetSteps.{up}
 use Rattle.cage_rules.proofs.Shifts.{up-bits}
 use Rattle.cage_rules.proofs.steps.up.Goals as goal
 

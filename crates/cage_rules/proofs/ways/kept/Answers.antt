@@ -1,6 +1,6 @@
 use Rattle.std.proofs.Common.{◌≡◌, ◌∙◌}
 use Rattle.cage_rules.specs.Sets.{union}
-use Rattle.cage_rules.specs.Steps.{both, outside}
+use Rattle.cage_rules.specs.SetSteps.{both, outside}
 use Rattle.cage_rules.specs.Tests.{loose}
 use Rattle.cage_rules.proofs.Loose.{kept-made}
 use Rattle.cage_rules.proofs.ways.kept.Goals as goal

@@ -2,7 +2,8 @@ use Rattle.std.proofs.Common.{◌≡◌, ◌∙◌}
 use Rattle.board_base.specs.declared.men.Colour.TheVariants.{White, Black}
 use Rattle.cage_rules.specs.Frozen.{is_behind}
 use Rattle.cage_rules.specs.Sets.{union}
-use Rattle.cage_rules.specs.Steps.{both, is_diagonal_step, is_knight_step, is_line_step, near, outside}
+use Rattle.cage_rules.specs.Steps.{is_diagonal_step, is_knight_step, is_line_step, near}
+use Rattle.cage_rules.specs.SetSteps.{both, outside}
 use Rattle.cage_rules.proofs.Loose.{loose-made}
 use Rattle.cage_rules.proofs.ways.loose.Goals as goal
 

@@ -1,6 +1,6 @@
 use Rattle.std.proofs.Common.{◌++◌}
 use Rattle.std.specs.Prelude.{codes}
-use Rattle.dossier_prose.proofs.Behind.{behind}
+use Rattle.prose_words.proofs.Behind.{behind}
 use Rattle.proof_prose.specs.Heads.{drawn_text}
 use Rattle.proof_story.specs.Rows.{rows_of}
 use Rattle.dossier_prose.specs.Claims.{line_words}

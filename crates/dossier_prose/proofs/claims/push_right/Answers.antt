@@ -1,7 +1,7 @@
 use Rattle.std.proofs.Common.{◌++◌}
 use Rattle.std.specs.Prelude.{codes}
 use Rattle.prose_words.proofs.Squares.{thence}
-use Rattle.dossier_prose.proofs.Behind.{behind}
+use Rattle.prose_words.proofs.Behind.{behind}
 use Rattle.prose_words.specs.Words.{side_word, wing_word}
 use Rattle.board_base.specs.Play.{side}
 use Rattle.dossier_prose.proofs.claims.push_right.Goals as goal

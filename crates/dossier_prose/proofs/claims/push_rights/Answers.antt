@@ -1,7 +1,7 @@
 use Rattle.std.proofs.Common.{◌++◌}
 use Rattle.std.specs.Prelude.{codes}
 use Rattle.prose_words.proofs.Squares.{thence}
-use Rattle.dossier_prose.proofs.Behind.{behind}
+use Rattle.prose_words.proofs.Behind.{behind}
 use Rattle.dossier_prose.specs.Claims.{right_words}
 use Rattle.dossier_prose.proofs.claims.push_rights.Goals as goal
 

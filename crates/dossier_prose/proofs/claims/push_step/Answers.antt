@@ -1,4 +1,4 @@
-use Rattle.dossier_prose.proofs.Behind.{behind}
+use Rattle.prose_words.proofs.Behind.{behind}
 use Rattle.proof_prose.specs.Labels.{label_words}
 use Rattle.dossier_prose.specs.Claims.{separator}
 use Rattle.dossier_prose.proofs.claims.push_step.Goals as goal

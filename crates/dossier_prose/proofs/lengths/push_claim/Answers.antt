@@ -1,7 +1,7 @@
 use Rattle.std.proofs.Common.{◌++◌}
 use Rattle.std.specs.Prelude.{codes}
 use Rattle.prose_words.proofs.Squares.{thence}
-use Rattle.dossier_prose.proofs.Behind.{behind}
+use Rattle.prose_words.proofs.Behind.{behind}
 use Rattle.dossier_prose.specs.Lengths.{counted}
 use Rattle.dossier_prose.proofs.lengths.push_claim.Goals as goal
 

@@ -1,7 +1,7 @@
 use Rattle.std.proofs.Common.{◌++◌}
 use Rattle.std.specs.Prelude.{codes}
 use Rattle.prose_words.proofs.Squares.{thence}
-use Rattle.dossier_prose.proofs.Behind.{behind}
+use Rattle.prose_words.proofs.Behind.{behind}
 use Rattle.std.specs.Fmt.{decimal}
 use Rattle.dossier_prose.specs.Lengths.{plural}
 use Rattle.dossier_prose.proofs.lengths.push_counted.Goals as goal

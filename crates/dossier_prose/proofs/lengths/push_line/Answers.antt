@@ -1,7 +1,7 @@
 use Rattle.std.proofs.Common.{◌++◌}
 use Rattle.std.specs.Prelude.{codes}
 use Rattle.prose_words.proofs.Squares.{thence}
-use Rattle.dossier_prose.proofs.Behind.{behind}
+use Rattle.prose_words.proofs.Behind.{behind}
 use Rattle.std.specs.List.{range_with_len}
 use Rattle.length_bound.specs.SideBounds.{holds_some}
 use Rattle.prose_words.specs.Words.{side_word}

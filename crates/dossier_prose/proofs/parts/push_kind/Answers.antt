@@ -1,6 +1,6 @@
 use Rattle.std.proofs.Common.{◌++◌}
 use Rattle.std.specs.Prelude.{codes}
-use Rattle.dossier_prose.proofs.Behind.{behind}
+use Rattle.prose_words.proofs.Behind.{behind}
 use Rattle.prose_words.specs.Words.{kind_word}
 use Rattle.dossier_prose.proofs.parts.push_kind.Goals as goal
 

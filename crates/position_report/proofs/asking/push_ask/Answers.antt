@@ -3,7 +3,7 @@ use Rattle.std.specs.Prelude.{codes}
 use Rattle.prose_words.proofs.Squares.{thence}
 use Rattle.position_report.specs.Proofs.{call_text, position_lines}
 use Rattle.position_report.proofs.asking.push_ask.Goals as goal
-use Rattle.verdict_prose.proofs.Behind.{behind}
+use Rattle.prose_words.proofs.Behind.{behind}
 
 pub returns : goal.returns
 returns c =

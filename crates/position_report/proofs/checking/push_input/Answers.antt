@@ -4,7 +4,7 @@ use Rattle.prose_words.proofs.Squares.{thence}
 use Rattle.cert_text.specs.ClaimLines.{claim_text}
 use Rattle.position_report.specs.Proofs.{call_text, ended, input_text, position_lines}
 use Rattle.position_report.proofs.checking.push_input.Goals as goal
-use Rattle.verdict_prose.proofs.Behind.{behind}
+use Rattle.prose_words.proofs.Behind.{behind}
 
 pub returns : goal.returns
 unfolding input_text

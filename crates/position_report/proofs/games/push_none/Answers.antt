@@ -2,7 +2,7 @@ use Rattle.std.proofs.Common.{◌++◌}
 use Rattle.std.specs.Prelude.{codes}
 use Rattle.prose_words.proofs.Squares.{thence}
 use Rattle.position_report.proofs.games.push_none.Goals as goal
-use Rattle.verdict_prose.proofs.Behind.{behind}
+use Rattle.prose_words.proofs.Behind.{behind}
 
 pub returns : goal.returns
 returns c =

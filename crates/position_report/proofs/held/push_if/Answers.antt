@@ -4,7 +4,7 @@ use Rattle.board_base.specs.Play.{side}
 use Rattle.prose_words.proofs.Squares.{thence}
 use Rattle.prose_words.specs.Words.{side_word, wing_word}
 use Rattle.position_report.proofs.held.push_if.Goals as goal
-use Rattle.verdict_prose.proofs.Behind.{behind}
+use Rattle.prose_words.proofs.Behind.{behind}
 
 pub returns : goal.returns
 returns c =

@@ -4,7 +4,7 @@ use Rattle.prose_words.proofs.Squares.{thence}
 use Rattle.line_claims.specs.Lines.{line_claim_text}
 use Rattle.position_report.specs.Proofs.{call_text, ended, line_input, position_lines}
 use Rattle.position_report.proofs.line_help.push_input.Goals as goal
-use Rattle.verdict_prose.proofs.Behind.{behind}
+use Rattle.prose_words.proofs.Behind.{behind}
 
 pub returns : goal.returns
 unfolding line_input

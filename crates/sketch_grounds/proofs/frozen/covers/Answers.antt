@@ -1,5 +1,5 @@
 use Rattle.std.proofs.Common.{◌≡◌, arith}
-use Rattle.cage_rules.specs.Steps.{both, outside}
+use Rattle.cage_rules.specs.SetSteps.{both, outside}
 use Rattle.sketch_grounds.proofs.Freezing.{covers-made}
 use Rattle.sketch_grounds.proofs.frozen.covers.Goals as goal
 

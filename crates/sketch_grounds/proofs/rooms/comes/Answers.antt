@@ -1,6 +1,7 @@
 use Rattle.std.proofs.Common.{◌≡◌, List, Bool, ap, ◌∙◌, arith}
 use Rattle.cage_rules.specs.Sets.{squares_that}
-use Rattle.cage_rules.specs.Steps.{both, is_step, outside}
+use Rattle.cage_rules.specs.Steps.{is_step}
+use Rattle.cage_rules.specs.SetSteps.{both, outside}
 use Rattle.sketch_grounds.specs.Paces.{is_barred}
 use Rattle.sketch_grounds.proofs.Pruning.{comes-made}
 use Rattle.sketch_grounds.proofs.rooms.comes.Goals as goal

@@ -2,7 +2,8 @@ use Rattle.std.proofs.Common.{◌≡◌, ◌<◌, ◌&&◌, ℕ, List, Bool, tru
 use Rattle.std.proofs.lemmas.Bool.{and_parts}
 use Rattle.std.proofs.lemmas.List.{get_or-set_other, get_or-set_same, length-set}
 use Rattle.board_base.specs.Board.{is_in}
-use Rattle.cage_rules.specs.Steps.{is_near, spread}
+use Rattle.cage_rules.specs.Steps.{is_near}
+use Rattle.cage_rules.specs.SetSteps.{spread}
 use Rattle.cage_rules.proofs.SetAlgebra.{is_in-both, is_in-outside}
 use Rattle.sketch_grounds.specs.Paces.{is_pace}
 use Rattle.sketch_grounds.specs.Wide.{AreWide}

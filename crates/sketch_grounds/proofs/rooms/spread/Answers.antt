@@ -1,6 +1,7 @@
 use Rattle.std.proofs.Common.{◌≡◌, ◌∙◌}
 use Rattle.cage_rules.specs.Sets.{union}
-use Rattle.cage_rules.specs.Steps.{both, is_step, near, outside}
+use Rattle.cage_rules.specs.Steps.{is_step, near}
+use Rattle.cage_rules.specs.SetSteps.{both, outside}
 use Rattle.sketch_grounds.proofs.Pruning.{spread-made}
 use Rattle.sketch_grounds.proofs.rooms.spread.Goals as goal
 

@@ -1,7 +1,7 @@
 use Rattle.std.proofs.Common.{◌++◌}
 use Rattle.std.specs.Prelude.{codes}
 use Rattle.prose_words.proofs.Squares.{thence}
-use Rattle.sketch_words.proofs.Behind.{behind}
+use Rattle.prose_words.proofs.Behind.{behind}
 use Rattle.board_base.specs.Board.{array_of, at}
 use Rattle.board_base.specs.Texts.{square_text}
 use Rattle.prose_words.specs.Words.{man_words}

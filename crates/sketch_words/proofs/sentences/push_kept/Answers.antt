@@ -1,7 +1,7 @@
 use Rattle.std.proofs.Common.{◌++◌}
 use Rattle.std.specs.Prelude.{codes}
 use Rattle.prose_words.proofs.Squares.{thence}
-use Rattle.sketch_words.proofs.Behind.{behind}
+use Rattle.prose_words.proofs.Behind.{behind}
 use Rattle.sketch_words.specs.Words.{men_words}
 use Rattle.sketch_words.specs.Phrases.{neither_words}
 use Rattle.sketch_words.proofs.sentences.push_kept.Goals as goal

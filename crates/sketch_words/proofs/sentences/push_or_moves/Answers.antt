@@ -1,7 +1,7 @@
 use Rattle.std.proofs.Common.{◌++◌}
 use Rattle.std.specs.Prelude.{codes}
 use Rattle.prose_words.proofs.Squares.{thence}
-use Rattle.sketch_words.proofs.Behind.{behind}
+use Rattle.prose_words.proofs.Behind.{behind}
 use Rattle.sketch_words.proofs.sentences.push_or_moves.Goals as goal
 
 pub returns : goal.returns

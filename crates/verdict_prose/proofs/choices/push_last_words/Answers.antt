@@ -2,7 +2,7 @@ use Rattle.std.proofs.Common.{◌++◌}
 use Rattle.std.specs.Prelude.{None, codes}
 use Rattle.prose_words.proofs.Squares.{thence}
 use Rattle.verdict_prose.specs.Choices.{choice_from, last_words}
-use Rattle.verdict_prose.proofs.Behind.{behind}
+use Rattle.prose_words.proofs.Behind.{behind}
 use Rattle.verdict_prose.proofs.choices.push_last_words.Goals as goal
 
 pub returns : goal.returns

@@ -4,7 +4,7 @@ use Rattle.board_base.specs.Texts.{square_text}
 use Rattle.prose_words.proofs.Squares.{thence}
 use Rattle.proof_story.specs.Movers.{became}
 use Rattle.verdict_prose.specs.Sentences.{move_words}
-use Rattle.verdict_prose.proofs.Behind.{behind}
+use Rattle.prose_words.proofs.Behind.{behind}
 use Rattle.verdict_prose.proofs.claims.push_move.Goals as goal
 
 pub returns : goal.returns

@@ -1,6 +1,6 @@
 use Rattle.std.specs.Prelude.{codes}
 use Rattle.verdict_prose.specs.Sentences.{whether_words}
-use Rattle.verdict_prose.proofs.Behind.{behind}
+use Rattle.prose_words.proofs.Behind.{behind}
 use Rattle.verdict_prose.proofs.claims.push_unsettled.Goals as goal
 
 pub returns : goal.returns

@@ -3,7 +3,7 @@ use Rattle.std.specs.Prelude.{codes}
 use Rattle.std.specs.Fmt.{decimal}
 use Rattle.prose_words.proofs.Squares.{thence}
 use Rattle.verdict_prose.specs.Moves.{remain_word}
-use Rattle.verdict_prose.proofs.Behind.{behind}
+use Rattle.prose_words.proofs.Behind.{behind}
 use Rattle.verdict_prose.proofs.last_moves.push_some_left.Goals as goal
 
 pub returns : goal.returns

@@ -3,7 +3,7 @@ use Rattle.std.specs.Prelude.{ℕ, codes}
 use Rattle.prose_words.specs.Words.{side_word}
 use Rattle.prose_words.proofs.Squares.{thence}
 use Rattle.verdict_prose.specs.Sentences.{end_words, mover_at, ordinal}
-use Rattle.verdict_prose.proofs.Behind.{behind}
+use Rattle.prose_words.proofs.Behind.{behind}
 use Rattle.verdict_prose.proofs.lengths.push_end.Goals as goal
 
 pub returns : goal.returns

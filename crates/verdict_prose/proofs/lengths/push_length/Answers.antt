@@ -2,7 +2,7 @@ use Rattle.std.proofs.Common.{◌++◌}
 use Rattle.std.specs.Prelude.{codes}
 use Rattle.prose_words.proofs.Squares.{thence}
 use Rattle.verdict_prose.specs.Sentences.{end_words, half_moves}
-use Rattle.verdict_prose.proofs.Behind.{behind}
+use Rattle.prose_words.proofs.Behind.{behind}
 use Rattle.verdict_prose.proofs.lengths.push_length.Goals as goal
 
 pub returns : goal.returns
