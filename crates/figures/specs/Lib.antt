@@ -9,6 +9,6 @@ pub use Rattle.past_sketches.specs.Trimmed
 pub use Rattle.past_sketches.specs.Frozen
 pub use Rattle.past_sketches.specs.Regions
 pub use Rattle.past_sketches.specs.Sets
-pub use Rattle.past_sketches.specs.CageRulesSteps
+pub use Rattle.past_sketches.specs.SetSteps
 pub use Rattle.past_sketches.specs.Steps
 pub use Rattle.past_sketches.specs.Known

@@ -10,6 +10,6 @@ pub mod Homes
 pub mod Clashes
 pub mod Known
 pub use Rattle.cage_rules.specs.Sets
-pub use Rattle.cage_rules.specs.Steps as CageRulesSteps
+pub use Rattle.cage_rules.specs.SetSteps
 pub use Rattle.cage_rules.specs.Frozen
 pub use Rattle.cage_rules.specs.Regions

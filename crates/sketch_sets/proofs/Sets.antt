@@ -6,7 +6,7 @@ use Rattle.std.specs.List.{list_all, list_any, range_with_len}
 use Rattle.board_base.specs.Board.{is_in}
 use Rattle.board_base.specs.Squares.{number_of, squares_of}
 use Rattle.figures.specs.Sets.{squares_that, union}
-use Rattle.figures.specs.CageRulesSteps.{both, outside}
+use Rattle.figures.specs.SetSteps.{both, outside}
 use Rattle.figures.proofs.Filling.{Filled, empty-start, filled-in, filled-out, filled-that, is_in-that}
 use Rattle.figures.proofs.SetAlgebra.{is_in-both, is_in-outside, is_in-union, none-bits}
 use Rattle.sketch_sets.specs.Tests.{is_inside, meets}

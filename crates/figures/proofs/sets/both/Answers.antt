@@ -1,5 +1,5 @@
 use Rattle.std.proofs.Common.{List, Bool, ap, ◌∙◌}
-use Rattle.past_sketches.specs.CageRulesSteps.{both}
+use Rattle.past_sketches.specs.SetSteps.{both}
 use Rattle.board_base.specs.Squares.{squares_of}
 use Rattle.past_sketches.proofs.SetAlgebra.{both-bits}
 use Rattle.figures.proofs.sets.both.Goals as goal

@@ -1,5 +1,5 @@
 use Rattle.std.proofs.Common.{ap, ◌∙◌, arith}
-use Rattle.past_sketches.specs.CageRulesSteps.{outside}
+use Rattle.past_sketches.specs.SetSteps.{outside}
 use Rattle.past_sketches.proofs.SetAlgebra.{outside-bits}
 use Rattle.figures.proofs.sets.outside.Goals as goal
 

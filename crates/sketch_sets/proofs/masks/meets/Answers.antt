@@ -1,4 +1,4 @@
-use Rattle.figures.specs.CageRulesSteps.{both}
+use Rattle.figures.specs.SetSteps.{both}
 use Rattle.std.proofs.Common.{◌∙◌, ap}
 use Rattle.board_base.specs.Squares.{number_of}
 use Rattle.sketch_sets.proofs.Sets.{meets-some}

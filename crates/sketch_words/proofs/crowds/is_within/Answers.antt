@@ -1,6 +1,6 @@
 use Rattle.std.proofs.Common.{◌≡◌, ◌∙◌, ap}
 use Rattle.board_base.specs.Squares.{number_of}
-use Rattle.figures.specs.CageRulesSteps.{both, outside}
+use Rattle.figures.specs.SetSteps.{both, outside}
 use Rattle.sketch_sets.proofs.Sets.{within-none}
 use Rattle.sketch_words.proofs.crowds.is_within.Goals as goal
 
