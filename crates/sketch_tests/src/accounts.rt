@@ -1,12 +1,9 @@
 //! The account of a diagram's sketch, and marks that it forces.
 
-use capture_prices::{Gate, Prices};
+use crate::price_lines::{ALFIERE_PRICES, FLAT, FOR_KNIGHT, GATED, prices};
 use fen_text::read_four_fields;
 use figures::{Sketch, sketch_of};
 use sketch_account::{closes, forces};
-
-/// What every price is.
-const FLAT: [u8; 16] = [24; 16];
 
 /// A diagram and prices, the numbers of figures that are marked, the numbers of others whom the prices are to force then, the number of one
 /// whom they are not to force, if one is named, and whether the account with all these marks is to close the sketch.
@@ -14,9 +11,7 @@ const FLAT: [u8; 16] = [24; 16];
 struct Case {
     name: &'static str,
     fen: &'static str,
-    white: [u8; 16],
-    black: [u8; 16],
-    gates: &'static [Gate],
+    prices: &'static str,
     marks: &'static [usize],
     forced: &'static [usize],
     other: Option<usize>,
@@ -41,7 +36,7 @@ fn marked(sketch: &Sketch, i: usize) -> Sketch {
 /// diagram or the prices can't be read.
 fn weighed(case: &Case) -> Option<(bool, bool, bool)> {
     let query = read_four_fields(case.fen.as_bytes())?;
-    let prices = Prices::new(&case.white, &case.black, case.gates)?;
+    let prices = prices(case.prices)?;
     let sketch = sketch_of(&query.board)?;
     let mut with_marks = sketch.copied();
     for i in case.marks {
@@ -72,9 +67,7 @@ fn weighs_sketches(rt: HostRuntime) {
         Case {
             name: "promoted rooks and pawns on their files",
             fen: "8/5p2/5p2/2R5/k5P1/P2PpP2/1PP1P2P/4K2R w K -",
-            white: FLAT,
-            black: FLAT,
-            gates: &[],
+            prices: FLAT,
             marks: &[],
             forced: &[],
             other: None,
@@ -83,9 +76,7 @@ fn weighs_sketches(rt: HostRuntime) {
         Case {
             name: "the same without the right",
             fen: "8/5p2/5p2/2R5/k5P1/P2PpP2/1PP1P2P/4K2R w - -",
-            white: FLAT,
-            black: FLAT,
-            gates: &[],
+            prices: FLAT,
             marks: &[],
             forced: &[],
             other: Some(13),
@@ -94,28 +85,7 @@ fn weighs_sketches(rt: HostRuntime) {
         Case {
             name: "officers and pawns that are forced",
             fen: "8/pbp5/1b6/8/PPPPPPP1/pprprpp1/2N1PR1n/R3K2k w Q -",
-            white: [
-                24, 24, 24, 24, 24, 24, 24, 24, 24, 25, 26, 27, 24, 24, 21, 21,
-            ],
-            black: FLAT,
-            gates: &[
-                Gate {
-                    square: 15,
-                    toll: 3,
-                },
-                Gate {
-                    square: 21,
-                    toll: 3,
-                },
-                Gate {
-                    square: 23,
-                    toll: 3,
-                },
-                Gate {
-                    square: 29,
-                    toll: 3,
-                },
-            ],
+            prices: ALFIERE_PRICES,
             marks: &[],
             forced: &[3, 5, 12, 13, 14, 15, 16, 17, 21],
             other: Some(7),
@@ -124,28 +94,7 @@ fn weighs_sketches(rt: HostRuntime) {
         Case {
             name: "closed with one mark",
             fen: "1B6/pp3pP1/5pP1/3Pp2P/3pK2k/3P3P/1P2RNnp/3QN2b w - -",
-            white: [
-                8, 24, 20, 24, 18, 24, 26, 27, 24, 24, 27, 26, 26, 27, 27, 27,
-            ],
-            black: [1, 0, 21, 8, 24, 17, 24, 18, 24, 17, 24, 19, 24, 19, 24, 20],
-            gates: &[
-                Gate {
-                    square: 15,
-                    toll: 29,
-                },
-                Gate {
-                    square: 23,
-                    toll: 29,
-                },
-                Gate {
-                    square: 31,
-                    toll: 7,
-                },
-                Gate {
-                    square: 39,
-                    toll: 7,
-                },
-            ],
+            prices: GATED,
             marks: &[7],
             forced: &[],
             other: None,
@@ -154,11 +103,7 @@ fn weighs_sketches(rt: HostRuntime) {
         Case {
             name: "the mark that is forced",
             fen: "1B6/pp3pP1/5pP1/3Pp2P/3pK2k/3P3P/1P2RNnp/3QN2b w - -",
-            white: [
-                17, 22, 22, 22, 17, 22, 20, 21, 21, 22, 20, 21, 22, 23, 20, 23,
-            ],
-            black: [0, 0, 22, 22, 24, 24, 24, 24, 24, 24, 35, 24, 35, 34, 35, 34],
-            gates: &[],
+            prices: FOR_KNIGHT,
             marks: &[],
             forced: &[7],
             other: Some(3),
@@ -167,9 +112,7 @@ fn weighs_sketches(rt: HostRuntime) {
         Case {
             name: "a king beside men who never moved",
             fen: "4k3/8/8/8/8/8/4PPPP/5BK1 w - -",
-            white: FLAT,
-            black: FLAT,
-            gates: &[],
+            prices: FLAT,
             marks: &[],
             forced: &[],
             other: Some(0),

@@ -1,7 +1,7 @@
 //! Nodes of sketches: those of certificates for published problems, as far as no step is asked for, and situations that can't be the array.
 
+use crate::price_lines::{ALFIERE_PRICES, FLAT, FOR_KNIGHT, FOR_QUEEN, FOR_ROOK, GATED, prices};
 use board_base::{Colour, Kind, Square};
-use capture_prices::{Gate, Prices};
 use fen_text::read_four_fields;
 use figures::{Figure, KindSet, Sketch, only_on, sketch_of};
 use sketch_account::closes;
@@ -13,75 +13,12 @@ const ALFIERE: &str = "8/pbp5/1b6/8/PPPPPPP1/pprprpp1/2N1PR1n/R3K2k w Q -";
 
 const PRAGER: &str = "1B6/pp3pP1/5pP1/3Pp2P/3pK2k/3P3P/1P2RNrp/3QN2b w - -";
 
-/// Lines of prices of the certificates.
-#[derive(Clone, Copy)]
-enum Line {
-    Flat,
-    /// For L'Alfiere, 1922.
-    Alfiere,
-    /// For Prager Presse, with gates on the h-file.
-    Gated,
-    /// That force the mark of a knight there.
-    ForKnight,
-    /// That force the mark of a rook there.
-    ForRook,
-    /// That force the mark of a queen or a rook there.
-    ForQueen,
-}
-
-/// A gate on this square.
-fn gate(square: u8, toll: u8) -> Gate {
-    Gate { square, toll }
-}
-
-fn prices(line: Line) -> Option<Prices> {
-    let flat = [24; 16];
-    match line {
-        Line::Flat => Prices::new(&flat, &flat, &[]),
-        Line::Alfiere => Prices::new(
-            &[
-                24, 24, 24, 24, 24, 24, 24, 24, 24, 25, 26, 27, 24, 24, 21, 21,
-            ],
-            &flat,
-            &[gate(15, 3), gate(21, 3), gate(23, 3), gate(29, 3)],
-        ),
-        Line::Gated => Prices::new(
-            &[
-                8, 24, 20, 24, 18, 24, 26, 27, 24, 24, 27, 26, 26, 27, 27, 27,
-            ],
-            &[1, 0, 21, 8, 24, 17, 24, 18, 24, 17, 24, 19, 24, 19, 24, 20],
-            &[gate(15, 29), gate(23, 29), gate(31, 7), gate(39, 7)],
-        ),
-        Line::ForKnight => Prices::new(
-            &[
-                17, 22, 22, 22, 17, 22, 20, 21, 21, 22, 20, 21, 22, 23, 20, 23,
-            ],
-            &[0, 0, 22, 22, 24, 24, 24, 24, 24, 24, 35, 24, 35, 34, 35, 34],
-            &[],
-        ),
-        Line::ForRook => Prices::new(
-            &[
-                15, 24, 24, 24, 15, 24, 27, 28, 24, 24, 28, 28, 28, 28, 27, 27,
-            ],
-            &[5, 4, 24, 15, 24, 19, 24, 19, 24, 19, 24, 19, 24, 19, 24, 19],
-            &[gate(15, 14), gate(23, 14), gate(31, 14), gate(39, 14)],
-        ),
-        Line::ForQueen => Prices::new(
-            &[
-                24, 24, 24, 24, 12, 17, 30, 27, 24, 24, 29, 30, 30, 29, 27, 30,
-            ],
-            &[0, 0, 24, 12, 24, 17, 24, 17, 24, 17, 24, 18, 24, 18, 24, 18],
-            &[gate(15, 15), gate(23, 15), gate(31, 15), gate(39, 15)],
-        ),
-    }
-}
-
 /// Why no game comes to a node: it is void, a line of prices closes it, or the least closed sketch above it, whose figures have so many
 /// squares in all, can't be the array.
 #[derive(Clone, Copy)]
 enum End {
     Void,
-    Closed(Line),
+    Closed(&'static str),
     Steps(u32),
 }
 
@@ -89,8 +26,8 @@ enum End {
 #[derive(Clone, Copy)]
 struct Node {
     fen: &'static str,
-    first: Option<(Line, &'static [u8])>,
-    second: Option<(Line, &'static [u8])>,
+    first: Option<(&'static str, &'static [u8])>,
+    second: Option<(&'static str, &'static [u8])>,
     end: End,
 }
 
@@ -124,7 +61,7 @@ fn told(node: &Node) -> Option<bool> {
 }
 
 /// A node with one line of marks or none.
-fn one_line(fen: &'static str, first: Option<(Line, &'static [u8])>, end: End) -> Node {
+fn one_line(fen: &'static str, first: Option<(&'static str, &'static [u8])>, end: End) -> Node {
     Node {
         fen,
         first,
@@ -134,10 +71,15 @@ fn one_line(fen: &'static str, first: Option<(Line, &'static [u8])>, end: End) -
 }
 
 /// A node with a line of marks for a knight and one for another, which is void.
-fn two_lines(fen: &'static str, knight: &'static [u8], line: Line, other: &'static [u8]) -> Node {
+fn two_lines(
+    fen: &'static str,
+    knight: &'static [u8],
+    line: &'static str,
+    other: &'static [u8],
+) -> Node {
     Node {
         fen,
-        first: Some((Line::ForKnight, knight)),
+        first: Some((FOR_KNIGHT, knight)),
         second: Some((line, other)),
         end: End::Void,
     }
@@ -151,104 +93,104 @@ fn nodes_hold(rt: HostRuntime) {
         one_line(
             "8/5p2/5p2/2R5/k5P1/P2PpP2/1PP1P2P/4K2R w K -",
             None,
-            End::Closed(Line::Flat),
+            End::Closed(FLAT),
         ),
         one_line(
             "8/pbp5/1b6/8/PPPPPPP1/pprprpp1/2N1PR1n/R3K2k w Q -",
-            Some((Line::Alfiere, &[4, 6, 13, 14, 15, 16, 17, 18, 22])),
+            Some((ALFIERE_PRICES, &[4, 6, 13, 14, 15, 16, 17, 18, 22])),
             End::Steps(100),
         ),
         one_line(
             "K3k2r/1p2p1p1/p1p1p3/2Q1Np2/3n1P2/4PRP1/PPPPRrP1/n2bqB2 w k -",
-            Some((Line::Flat, &[2, 4, 9, 12, 13, 16, 17, 18, 19, 20, 21])),
+            Some((FLAT, &[2, 4, 9, 12, 13, 16, 17, 18, 19, 20, 21])),
             End::Steps(214),
         ),
         one_line(
             "1B6/pp3pP1/5pP1/3Pp2P/3pK2k/3P3P/1P2RNnp/3QN2b w - -",
-            Some((Line::ForKnight, &[8])),
-            End::Closed(Line::Gated),
+            Some((FOR_KNIGHT, &[8])),
+            End::Closed(GATED),
         ),
         two_lines(
             "1B6/pp3pP1/5pP1/3Pp2P/3pK2k/3P3P/1P2RNrp/3QN2b w - -",
             &[8],
-            Line::ForRook,
+            FOR_ROOK,
             &[10],
         ),
         two_lines(
             "1B6/pp3pP1/5pP1/3Pp2P/3pK2k/3P3P/1P2RNqp/3QN2b w - -",
             &[8],
-            Line::ForQueen,
+            FOR_QUEEN,
             &[10],
         ),
         two_lines(
             "1B6/pp3pP1/5pP1/3Pp2P/3pK2k/3PN2P/1P2RNnp/3Q3b w - -",
             &[7],
-            Line::ForRook,
+            FOR_ROOK,
             &[10],
         ),
         two_lines(
             "1B6/pp3pP1/5pP1/3Pp2P/3pK2k/3PN2P/1P2RNrp/3Q3b w - -",
             &[7],
-            Line::ForRook,
+            FOR_ROOK,
             &[10],
         ),
         two_lines(
             "1B6/pp3pP1/5pP1/3Pp2P/3pK2k/3PN2P/1P2RNqp/3Q3b w - -",
             &[7],
-            Line::ForQueen,
+            FOR_QUEEN,
             &[10],
         ),
         one_line(
             "1B6/pp3pP1/5pP1/3Pp2P/3pKN1k/3P3P/1P2RNnp/3Q3b w - -",
-            Some((Line::ForKnight, &[7])),
-            End::Closed(Line::Gated),
+            Some((FOR_KNIGHT, &[7])),
+            End::Closed(GATED),
         ),
         two_lines(
             "1B6/pp3pP1/5pP1/3Pp2P/3pKN1k/3P3P/1P2RNrp/3Q3b w - -",
             &[7],
-            Line::ForQueen,
+            FOR_QUEEN,
             &[9],
         ),
         two_lines(
             "1B6/pp3pP1/5pP1/3Pp2P/3pKN1k/3P3P/1P2RNqp/3Q3b w - -",
             &[7],
-            Line::ForQueen,
+            FOR_QUEEN,
             &[9],
         ),
         two_lines(
             "1B6/pp3pP1/4ppP1/3P3P/3pKN2/3P2kP/1P2RNnp/3Q3b w - -",
             &[7],
-            Line::ForQueen,
+            FOR_QUEEN,
             &[10],
         ),
         two_lines(
             "1B6/pp3pP1/4ppP1/3P3P/3pKN2/3P2kP/1P2RNrp/3Q3b w - -",
             &[7],
-            Line::ForQueen,
+            FOR_QUEEN,
             &[10],
         ),
         two_lines(
             "1B6/pp3pP1/4ppP1/3P3P/3pKN2/3P2kP/1P2RNqp/3Q3b w - -",
             &[7],
-            Line::ForQueen,
+            FOR_QUEEN,
             &[10],
         ),
         two_lines(
             "1B6/pp3pP1/4ppP1/3PK2P/3pn3/3P2kP/1P2RNNp/3Q3b w - -",
             &[7],
-            Line::ForQueen,
+            FOR_QUEEN,
             &[10],
         ),
         two_lines(
             "1B6/pp3pP1/4ppP1/3PK2P/3pr3/3P2kP/1P2RNNp/3Q3b w - -",
             &[7],
-            Line::ForQueen,
+            FOR_QUEEN,
             &[10],
         ),
         two_lines(
             "1B6/pp3pP1/4ppP1/3PK2P/3pq3/3P2kP/1P2RNNp/3Q3b w - -",
             &[7],
-            Line::ForQueen,
+            FOR_QUEEN,
             &[10],
         ),
         one_line(
@@ -261,7 +203,7 @@ fn nodes_hold(rt: HostRuntime) {
         one_line(
             "rnbqkbnr/pppppppp/8/8/R7/P7/1PPPPPPP/1NBQKBNR w - -",
             None,
-            End::Closed(Line::Flat),
+            End::Closed(FLAT),
         ),
         one_line(
             "rn2k2r/ppp1pppp/8/3p4/8/8/PPP1PPPP/RRR1K3 w q -",
@@ -280,37 +222,37 @@ fn nodes_hold(rt: HostRuntime) {
 fn other_nodes_fail(rt: HostRuntime) {
     let nodes = [
         (one_line(ARRAY, None, End::Void), Some(false)),
-        (one_line(ARRAY, None, End::Closed(Line::Flat)), Some(false)),
+        (one_line(ARRAY, None, End::Closed(FLAT)), Some(false)),
         (one_line(ARRAY, None, End::Steps(164)), Some(false)),
         (
             one_line(
                 "8/5p2/5p2/2R5/k5P1/P2PpP2/1PP1P2P/4K2R w - -",
                 None,
-                End::Closed(Line::Flat),
+                End::Closed(FLAT),
             ),
             Some(false),
         ),
         (
-            one_line(PRAGER, Some((Line::ForKnight, &[8])), End::Void),
+            one_line(PRAGER, Some((FOR_KNIGHT, &[8])), End::Void),
             Some(false),
         ),
         (
-            one_line(ALFIERE, Some((Line::Alfiere, &[0])), End::Steps(100)),
+            one_line(ALFIERE, Some((ALFIERE_PRICES, &[0])), End::Steps(100)),
             None,
         ),
         (
-            one_line(ALFIERE, Some((Line::Alfiere, &[4, 30])), End::Steps(100)),
+            one_line(ALFIERE, Some((ALFIERE_PRICES, &[4, 30])), End::Steps(100)),
             None,
         ),
         (
-            one_line(ALFIERE, Some((Line::Alfiere, &[2])), End::Steps(100)),
+            one_line(ALFIERE, Some((ALFIERE_PRICES, &[2])), End::Steps(100)),
             None,
         ),
         (
-            one_line(ALFIERE, Some((Line::Alfiere, &[8])), End::Steps(100)),
+            one_line(ALFIERE, Some((ALFIERE_PRICES, &[8])), End::Steps(100)),
             None,
         ),
-        (two_lines(PRAGER, &[8], Line::ForKnight, &[8]), None),
+        (two_lines(PRAGER, &[8], FOR_KNIGHT, &[8]), None),
     ];
     for (node, answer) in nodes {
         assert_eq!(rt; told(&node), answer, "{}", node.fen);
