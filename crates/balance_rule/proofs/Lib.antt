@@ -21,3 +21,7 @@ pub mod LostMen
 pub mod TrueHomes
 pub mod Sound
 pub mod Examples
+pub use Rattle.men_ledger.proofs.Balance
+pub use Rattle.men_ledger.proofs.Closing
+pub use Rattle.men_ledger.proofs.Facing
+pub use Rattle.men_ledger.proofs.PawnTolls

@@ -5,3 +5,5 @@ pub mod Tariffs
 pub mod Grounds
 pub mod NextWays
 pub mod FirstMen
+pub use Rattle.men_ledger.specs.Files
+pub use Rattle.static_rules.specs.SetRules

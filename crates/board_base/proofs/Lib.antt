@@ -15,3 +15,4 @@ pub mod Duals
 pub mod Ways
 pub mod Hits
 pub mod Settled
+pub use Rattle.general_lemmas.proofs.Ranges

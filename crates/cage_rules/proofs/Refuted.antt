@@ -12,8 +12,8 @@ use Rattle.board_base.specs.declared.men.Kind.TheVariants.{Pawn, Knight, Bishop,
 use Rattle.board_base.specs.declared.men.Man.{Man}
 use Rattle.board_base.specs.declared.moves.Move.{Move}
 use Rattle.board_base.proofs.Without.{at-without}
-use Rattle.assignment.specs.Assignments.{IsBounded, total}
-use Rattle.pawn_assign.specs.PawnCosts.{pawn_costs}
+use Rattle.men_account.specs.Assignments.{IsBounded, total}
+use Rattle.men_account.specs.PawnCosts.{pawn_costs}
 use Rattle.men_account.specs.Account.{counts_of, excess_of, is_any, allowance_of}
 use Rattle.men_account.specs.Labels.{label_at, labels_after}
 use Rattle.men_account.specs.Captures.{captured_by_pawns, IsTakenIn}

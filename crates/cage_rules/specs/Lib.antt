@@ -7,3 +7,4 @@ pub mod Refuted
 pub mod Steps
 pub mod Tests
 pub mod SetSteps
+pub use Rattle.query_base.specs.Asked

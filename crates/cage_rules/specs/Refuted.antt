@@ -3,8 +3,8 @@ use Rattle.std.specs.Prelude.{ℕ, ◌+◌, ◌<◌, Bool, ◌&&◌, not, List, 
 use Rattle.board_base.specs.Board.{Places, array_of, opponent}
 use Rattle.board_base.specs.declared.men.Colour.{Colour}
 use Rattle.board_base.specs.declared.men.Kind.TheVariants.{Pawn}
-use Rattle.assignment.specs.Assignments.{IsBounded, total}
-use Rattle.pawn_assign.specs.PawnCosts.{pawn_costs}
+use Rattle.men_account.specs.Assignments.{IsBounded, total}
+use Rattle.men_account.specs.PawnCosts.{pawn_costs}
 use Rattle.men_account.specs.Account.{counts_of, excess_of, is_any, men, allowance_of}
 use Rattle.men_account.specs.Homes.{men_of}
 use Rattle.query_base.specs.Asked.{Asked}

@@ -9,7 +9,7 @@ ghost use Rattle.cage_rules.specs.Tests.{as_pawn, kept, loose, on_diagonals, on_
 use crate::sets::{both, either, outside, with_if};
 use crate::steps::{diagonal_steps, knight_steps, line_steps, pawn_steps};
 use board_base::{Castle, CastleSet, Colour, Kind, Man, Square, SquareSet, last_rank};
-use castle_history::home;
+use play_rules::home;
 use query_base::Query;
 
 /// The squares of a query's men, by the ways in which men come to them. A man may be in several of the sets.

@@ -3,7 +3,7 @@ use Rattle.std.proofs.Common.{◌≡◌, ℕ, ◌<◌, Bool, true, false, cond, 
 use Rattle.std.proofs.lemmas.Bool.{and_left, and_right, cases_lt, both_ways, ne_eqb}
 use Rattle.std.specs.Prelude.{Option, Some, None, is_none, IsNone, ◌↔◌}
 use Rattle.std.specs.List.{find, list_all, range_with_len}
-use Rattle.general_lemmas.proofs.Ranges.{all_in_range}
+use Rattle.board_base.proofs.Ranges.{all_in_range}
 use Rattle.board_base.specs.Attacks.{distance, files_apart}
 use Rattle.board_base.specs.Board.{rank, same_kind}
 use Rattle.board_base.specs.Play.{all_castles, castling_from, king_home, king_target}

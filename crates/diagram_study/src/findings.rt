@@ -16,7 +16,7 @@ use crate::retractions::{Counted, MoveFound, find_last, retractions};
 use crate::rights::RightFound;
 use board_base::UnmoveList;
 use claim_findings::{Decided, Finding, Games, Searchers, Subject, decide, seek};
-use ledger_lines::Line;
+use ledger_told::Line;
 use ledger_told::told_lines;
 use length_bound::{longest, shown_lengths_hold};
 use query_base::{Claim, Query};

@@ -8,3 +8,5 @@ pub use Rattle.past_sketches.proofs.SetAlgebra
 pub use Rattle.past_sketches.proofs.Tested
 pub use Rattle.past_sketches.proofs.Walls
 pub use Rattle.past_sketches.proofs.Queries
+pub use Rattle.past_sketches.proofs.Rays
+pub use Rattle.past_sketches.proofs.Shifts

@@ -3,7 +3,7 @@ use Rattle.std.specs.Prelude.{◌<◌, ◌≤◌, ◌+◌, Bool, IsTrue, List}
 use Rattle.board_base.specs.Board.{array_of}
 use Rattle.board_base.specs.declared.men.Colour.TheVariants.{White, Black}
 use Rattle.query_base.specs.Asked.{Asked}
-use Rattle.static_rules.specs.SetRules.{IsSettled}
+use Rattle.balance_rule.specs.SetRules.{IsSettled}
 use Rattle.capture_prices.specs.Prices.{PriceList, are_prices}
 use Rattle.balance_rule.specs.Balance.{men_on, most_cost}
 use Rattle.ledger_facts.specs.Accounts.{earned_over, list_for, paid_over, side_cost_if}

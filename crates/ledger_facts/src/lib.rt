@@ -8,6 +8,7 @@ mod laws;
 mod lines;
 mod suppositions;
 
+pub use balance_rule::class_of;
 pub use laws::refuted_suppositions_are_false;
 pub use lines::{
     captures_add_up, fates_are_known, homes_and_counts_are_known, pieces_have_homes,

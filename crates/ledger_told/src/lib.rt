@@ -17,6 +17,7 @@ mod wholes;
 
 pub use held::{lines_if_held, with_held};
 pub use laws::told_lines_hold;
+pub use ledger_lines::Line;
 pub use telling::told_lines;
 pub use texts::{push_line, write_lines};
 pub use topics::{Breed, Topic, Whole};

@@ -8,7 +8,7 @@ ghost use Rattle.board_base.specs.declared.men.Kind.TheVariants.{King, Pawn};
 ghost use Rattle.board_base.specs.declared.moves.Move.{Move};
 ghost use Rattle.men_account.specs.Homes.{is_officer_of};
 ghost use Rattle.men_account.specs.Labels.{label_at, labels_after};
-ghost use Rattle.query_base.specs.Asked.{Asked};
+ghost use Rattle.cage_rules.specs.Asked.{Asked};
 ghost use Rattle.cage_rules.specs.Laws.{Caged, IsGone, Walled};
 ghost use Rattle.cage_rules.specs.Regions.{region};
 ghost use Rattle.men_fates.specs.Deeds.{Strike, strikes, way_of};

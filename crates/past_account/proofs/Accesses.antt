@@ -34,7 +34,7 @@ use Rattle.men_fates.proofs.Goings.{mover-home, pawn-before, pawn-ends}
 use Rattle.men_fates.proofs.MoreDeeds.{mover-goes}
 use Rattle.men_fates.proofs.Roads.{mover-tread}
 use Rattle.men_fates.proofs.Treads.{Tread, capture, double, one-trodden, single}
-use Rattle.men_ledger.proofs.Facing.{straight-both}
+use Rattle.balance_rule.proofs.Facing.{straight-both}
 use Rattle.past_sketches.specs.Figures.{Figure, may_be}
 use Rattle.past_sketches.specs.Fits.{is_plain}
 use Rattle.past_sketches.proofs.Quiet.{files-differ, promoted-colour}

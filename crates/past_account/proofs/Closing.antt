@@ -25,8 +25,8 @@ use Rattle.men_account.proofs.PawnLaws.{man-of}
 use Rattle.cage_rules.specs.Laws.{Walled}
 use Rattle.cage_rules.proofs.Filling.{is_in-that}
 use Rattle.cage_rules.proofs.Tested.{at_board}
-use Rattle.men_ledger.proofs.Balance.{earns-later}
-use Rattle.men_ledger.proofs.Closing.{costs-fit}
+use Rattle.balance_rule.proofs.Balance.{earns-later}
+use Rattle.balance_rule.proofs.Closing.{costs-fit}
 use Rattle.capture_prices.specs.Prices.{PriceList, are_prices, gate, take}
 use Rattle.balance_rule.proofs.GateSums.{gates-sum}
 use Rattle.balance_rule.proofs.Listed.{least-below}

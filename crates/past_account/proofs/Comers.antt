@@ -21,8 +21,8 @@ use Rattle.men_fates.specs.Ways.{is_straight, is_way, way_end}
 use Rattle.men_fates.proofs.Brought.{as-man, brought, brought-officer, his-colour}
 use Rattle.men_fates.proofs.Goings.{no-way}
 use Rattle.men_fates.proofs.Roads.{way-past}
-use Rattle.men_ledger.specs.Files.{is_there}
-use Rattle.men_ledger.proofs.PawnTolls.{toll-paid}
+use Rattle.balance_rule.specs.Files.{is_there}
+use Rattle.balance_rule.proofs.PawnTolls.{toll-paid}
 use Rattle.capture_prices.specs.Prices.{PriceList, gate, take}
 use Rattle.balance_rule.specs.Costs.{never, way_cost}
 use Rattle.balance_rule.proofs.Listed.{least-listed}

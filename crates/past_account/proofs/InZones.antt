@@ -33,7 +33,7 @@ use Rattle.men_fates.proofs.MoreDeeds.{mover-goes}
 use Rattle.men_fates.proofs.Roads.{mover-tread, target-free}
 use Rattle.men_fates.proofs.Strikes.{side-of}
 use Rattle.men_fates.proofs.Treads.{Tread, trodden-end, trodden-way}
-use Rattle.men_ledger.proofs.Facing.{straight-both}
+use Rattle.balance_rule.proofs.Facing.{straight-both}
 use Rattle.balance_rule.proofs.Listed.{step-inside}
 use Rattle.past_sketches.specs.Figures.{Figure, Sketch, figure_at}
 use Rattle.past_sketches.specs.Fits.{Fits}

@@ -21,3 +21,4 @@ pub use Rattle.past_sketches.proofs.Sketches
 pub use Rattle.cage_rules.proofs.Filling
 pub use Rattle.cage_rules.proofs.Tested
 pub use Rattle.past_sketches.proofs.Queries
+pub use Rattle.past_sketches.proofs.Listed

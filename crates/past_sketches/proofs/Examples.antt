@@ -14,7 +14,7 @@ use Rattle.board_base.specs.declared.men.Kind.{Kind}
 use Rattle.board_base.specs.declared.men.Kind.TheVariants.{Pawn, Knight, Bishop, Rook, Queen, King}
 use Rattle.board_base.specs.declared.moves.Move.{Move}
 use Rattle.play_rules.proofs.Games.{no_moves}
-use Rattle.query_base.specs.Asked.{Asked}
+use Rattle.cage_rules.specs.Asked.{Asked}
 use Rattle.cage_rules.specs.Regions.{walls}
 use Rattle.cage_rules.specs.Sets.{squares_that}
 use Rattle.past_sketches.specs.Figures.{Figure, IsRearranged, IsWider, Sketch, figure_at, fixed_squares, may_be, only_on, sketch_of}

@@ -29,3 +29,5 @@ pub use Rattle.cage_rules.proofs.Filling
 pub use Rattle.cage_rules.proofs.SetAlgebra
 pub use Rattle.cage_rules.proofs.Tested
 pub use Rattle.cage_rules.proofs.Walls
+pub use Rattle.cage_rules.proofs.Rays
+pub use Rattle.cage_rules.proofs.Shifts

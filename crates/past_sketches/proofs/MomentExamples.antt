@@ -18,7 +18,7 @@ use Rattle.board_base.specs.declared.moves.Move.{Move}
 use Rattle.play_rules.proofs.Games.{no_moves}
 use Rattle.play_rules.proofs.Kings.{length-after}
 use Rattle.play_rules.proofs.Kings.{within as within-board}
-use Rattle.query_base.specs.Asked.{Asked}
+use Rattle.cage_rules.specs.Asked.{Asked}
 use Rattle.men_account.specs.Labels.{first_labels, label_at, labels_after}
 use Rattle.cage_rules.specs.Laws.{Walled}
 use Rattle.cage_rules.specs.Regions.{walls}

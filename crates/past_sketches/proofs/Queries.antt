@@ -12,7 +12,7 @@ use Rattle.board_base.specs.declared.men.Man.{Man}
 use Rattle.board_base.specs.declared.moves.Move.{Move}
 use Rattle.board_base.proofs.KindsOfMen.{same_colour-self}
 use Rattle.play_rules.proofs.Kings.{length-after}
-use Rattle.query_base.specs.Asked.{Asked}
+use Rattle.cage_rules.specs.Asked.{Asked}
 use Rattle.men_account.specs.Labels.{Labels, label_at, labels_after}
 use Rattle.men_account.proofs.Captured.{man-there}
 use Rattle.men_account.proofs.Labelled.{labels-apart, labels-each_man}

@@ -5,7 +5,7 @@ ghost use Rattle.board_base.specs.Rights.{Rights};
 ghost use Rattle.board_base.specs.declared.men.Colour.{Colour as AColour};
 ghost use Rattle.board_base.specs.declared.men.Kind.{Kind as AKind};
 ghost use Rattle.board_base.specs.declared.moves.Move.{Move};
-ghost use Rattle.query_base.specs.Asked.{Asked};
+ghost use Rattle.cage_rules.specs.Asked.{Asked};
 ghost use Rattle.cage_rules.specs.Reach.{LeadsTo};
 ghost use Rattle.past_sketches.specs.Figures.{Figure as AFigure, IsAbove, IsRearranged, Sketch, figure_at, may_be, sketch_of};
 ghost use Rattle.past_sketches.specs.Fits.{Fits, MayBeMarked};

@@ -15,3 +15,4 @@ pub mod NoPawns
 pub mod Left
 pub mod KingSets
 pub mod Passed
+pub use Rattle.ep_history.proofs.Captured

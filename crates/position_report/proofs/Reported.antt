@@ -8,7 +8,7 @@ use Rattle.board_base.specs.declared.unmoves.Unmove.{Unmove}
 use Rattle.query_base.specs.Asked.{Asked}
 use Rattle.query_base.specs.Reach.{Holds, Reaches}
 use Rattle.query_base.specs.declared.claims.Claim.TheVariants.{Illegal}
-use Rattle.ledger_lines.specs.declared.lines.Line.{Line}
+use Rattle.ledger_told.specs.Line.{Line}
 use Rattle.ledger_told.specs.Told.{IsLineTrue, TellsLines}
 use Rattle.ledger_prose.specs.News.{news_of}
 use Rattle.ledger_prose.specs.Saying.{SentenceSays}

@@ -7,7 +7,7 @@ use Rattle.board_base.specs.declared.moves.Move.{Move}
 use Rattle.query_base.specs.Asked.{Asked}
 use Rattle.query_base.specs.Reach.{Reaches}
 use Rattle.prose_words.specs.Words.{side_word, wing_word}
-use Rattle.ledger_lines.specs.declared.lines.Line.{Line}
+use Rattle.ledger_told.specs.Line.{Line}
 use Rattle.ledger_prose.specs.News.{news_of}
 use Rattle.ledger_prose.specs.Saying.{SentenceSays}
 use Rattle.ledger_prose.specs.Sentences.{sentences_of}

@@ -5,7 +5,7 @@ ghost use Rattle.position_report.specs.Held.{behind_if, held_prose, if_lines, if
 
 use board_base::Castle;
 use diagram_study::HeldFound;
-use ledger_lines::Line;
+use ledger_told::Line;
 use ledger_prose::{news_of_all, tell_ledger_prose};
 use ledger_told::with_held;
 use prose_words::{say, side_word, wing_word};

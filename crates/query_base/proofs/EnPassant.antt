@@ -15,8 +15,8 @@ use Rattle.board_base.specs.declared.moves.Move.{Move}
 use Rattle.board_base.specs.declared.castles.Castle.{Castle}
 use Rattle.board_base.proofs.Equal.{last_is, move_self}
 use Rattle.board_base.proofs.Passing.{may_pass}
-use Rattle.ep_history.specs.Fits.{ep_fits}
-use Rattle.ep_history.proofs.Captured.{Fitting, fitting, fits}
+use Rattle.play_rules.specs.Fits.{ep_fits}
+use Rattle.play_rules.proofs.Captured.{Fitting, fitting, fits}
 use Rattle.play_rules.proofs.Legality.{legality}
 use Rattle.play_rules.proofs.Kings.{empty-not}
 use Rattle.play_rules.proofs.Left.{left-in-game}

@@ -2,7 +2,7 @@
 use Rattle.std.specs.Prelude.{◌≡◌, cond, IfSome, Some}
 use Rattle.board_base.specs.Play.{double_of}
 use Rattle.board_base.specs.Rights.{with_castling}
-use Rattle.ep_history.specs.Fits.{ep_fits}
+use Rattle.play_rules.specs.Fits.{ep_fits}
 use Rattle.query_base.specs.Asked.{Asked}
 use Rattle.query_base.specs.Ends.{IsWithin}
 use Rattle.query_base.specs.declared.claims.Claim.{Claim}

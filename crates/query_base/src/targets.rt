@@ -7,7 +7,7 @@ use crate::claims::Claim;
 use crate::ends::is_within;
 use crate::queries::Query;
 use board_base::{Move, is_move};
-use ep_history::{double_of, ep_fits};
+use play_rules::{double_of, ep_fits};
 
 /// The query that a game reaches if and only if it contradicts the claim about `query`: the query itself if it is claimed to be
 /// illegal; with the claimed last move barred; with the castling that is claimed to be lost added to those held; with the double step

@@ -21,7 +21,7 @@ use Rattle.figures.specs.Touching.{side_checks}
 use Rattle.figures.specs.Trimmed.{trimmed, trimmed_figure, trims}
 use Rattle.sketch_sets.specs.Leasts.{AreLike, IsClosedAbove}
 use Rattle.sketch_sets.specs.TrimmedOut.{trimmed_out}
-use Rattle.sketch_steps.specs.Places.{has_low_place, is_lower, placed_in, recounted}
+use Rattle.sketch_walk.specs.Places.{has_low_place, is_lower, placed_in, recounted}
 use Rattle.sketch_proof.specs.Listed.{Earlier, Listed, earlier, figures_before, is_open, is_short, is_sound, may_be_above, may_take, sketch_before, step_for, steps_by, victims_as, ways_to}
 use Rattle.sketch_proof.specs.Victim.{Victim}
 use Rattle.sketch_proof.specs.Victim.TheVariants.{Nobody, TakenPawn, TakenBishop, TakenOther, PassedPawn}

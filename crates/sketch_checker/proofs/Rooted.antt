@@ -14,7 +14,7 @@ use Rattle.cage_rules.proofs.Tested.{any-told, at_board}
 use Rattle.figures.specs.Clashes.{do_two, is_clash, is_nowhere}
 use Rattle.figures.specs.Figures.{Figure, Sketch, figure_of, is_fixed_on, only_on, sketch_of}
 use Rattle.figures.proofs.Singles.{in-only, only-in}
-use Rattle.sketch_steps.specs.Places.{has_low_place}
+use Rattle.sketch_walk.specs.Places.{has_low_place}
 use Rattle.sketch_checker.specs.Beginning.{CanBegin}
 use Rattle.sketch_checker.specs.Roots.{IsRoot}
 use Rattle.sketch_checker.proofs.Sides.{begun, few-tells, one, side, side-cons}

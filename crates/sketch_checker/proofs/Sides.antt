@@ -10,7 +10,7 @@ use Rattle.board_base.specs.declared.men.Colour.TheVariants.{White, Black}
 use Rattle.sketch_proof.proofs.Rowed.{begun-few}
 use Rattle.figures.specs.Clashes.{is_crowded}
 use Rattle.figures.specs.Figures.{Figure, Sketch, each_changed}
-use Rattle.sketch_steps.specs.Places.{has_low_place}
+use Rattle.sketch_walk.specs.Places.{has_low_place}
 
 -- the figures of this colour
 abbrev pub side : Colour → Sketch → ℕ

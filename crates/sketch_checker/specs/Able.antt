@@ -5,7 +5,7 @@ use Rattle.std.specs.List.{list_all, list_any}
 use Rattle.board_base.specs.declared.men.Colour.TheVariants.{White, Black}
 use Rattle.figures.specs.Clashes.{is_crowded, is_nowhere}
 use Rattle.figures.specs.Figures.{Sketch}
-use Rattle.sketch_steps.specs.Places.{has_low_place}
+use Rattle.sketch_walk.specs.Places.{has_low_place}
 
 -- all places can be doubled, and no side has more figures than men in the array
 pub record HasRoom (o : List Bool) (S : Sketch) : Type 0 where

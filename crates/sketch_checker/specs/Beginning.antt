@@ -4,7 +4,7 @@ use Rattle.std.specs.List.{list_all}
 use Rattle.board_base.specs.declared.men.Colour.TheVariants.{White, Black}
 use Rattle.figures.specs.Clashes.{is_clash, is_crowded}
 use Rattle.figures.specs.Figures.{Sketch}
-use Rattle.sketch_steps.specs.Places.{has_low_place}
+use Rattle.sketch_walk.specs.Places.{has_low_place}
 
 -- all places can be doubled, no side has more figures than men in the array, and nobody clashes
 pub record CanBegin (o : List Bool) (S : Sketch) : Type 0 where

@@ -27,4 +27,5 @@ pub use laws::{
 pub use roots::is_root;
 pub use settings::SketchSetting;
 pub use sketch_body::SketchLine;
+pub use sketch_walk::StepsBack;
 pub use walks::SketchWalk;

@@ -27,7 +27,7 @@ use Rattle.sketch_list.specs.declared.steps.Victim.{Victim}
 use Rattle.sketch_list.specs.declared.steps.Victim.TheVariants.{Nobody, TakenPawn, TakenBishop, TakenOther, PassedPawn}
 use Rattle.sketch_list.proofs.Narrowed.{HaveKinds, pawn-may}
 use Rattle.sketch_list.proofs.Placing.{count-fewer, next-place, place-over, place-under}
-use Rattle.past_sketches.proofs.Listed.{squares-within}
+use Rattle.past_account.proofs.Listed.{squares-within}
 
 unfoldable pub victim_for : Bool → Option Kind → Victim
 victim_for true o = PassedPawn

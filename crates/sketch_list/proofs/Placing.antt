@@ -7,7 +7,7 @@ use Rattle.past_account.specs.Figures.{Figure, Sketch, figure_at}
 use Rattle.past_account.specs.Steps.{is_next_place}
 use Rattle.sketch_steps.proofs.Rearranging.{count-above, count-more}
 use Rattle.sketch_list.specs.Listed.{count_from, is_from, is_on_file, is_under, next_above}
-use Rattle.past_sketches.proofs.Changed.{next-rest}
+use Rattle.past_account.proofs.Changed.{next-rest}
 
 -- the lowest place above those that pass
 pub next-over : (p : Figure → Bool) (T : Sketch) (i : ℕ) (h : Figure) → figure_at T i ≡ Some h → p h ≡ true → h.place < next_above p T

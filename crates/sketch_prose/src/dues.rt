@@ -8,7 +8,7 @@ use board_base::Kind;
 use figures::Sketch;
 use sketch_proof::known_at;
 use sketch_text::Officer;
-use sketch_walk::StepsBack;
+use sketch_checker::StepsBack;
 
 /// The cases of the man with this number that are left, from this one on.
 #[derive(Drop)]

@@ -33,7 +33,7 @@ use sketch_body::SketchLine;
 use sketch_grounds::greatest_frozen;
 use sketch_proof::{before_steps, first_unknown};
 use sketch_text::{End, Officer};
-use sketch_walk::StepsBack;
+use sketch_checker::StepsBack;
 use sketch_words::{
     Spot, is_top, list_of, push_denials, push_foreign, push_settled, push_stepped, push_unknown,
     why_list, without,

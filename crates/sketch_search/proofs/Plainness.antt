@@ -5,13 +5,13 @@ use Rattle.std.proofs.lemmas.Bool.{both_ways}
 use Rattle.board_base.specs.Rights.{Rights}
 use Rattle.figures.specs.Homes.{may_be_array}
 use Rattle.past_sketches.specs.Figures.{Sketch}
-use Rattle.sketch_node.specs.Nodes.{IsLeastAbove, IsVoid}
-use Rattle.sketch_node.proofs.Least.{least-one}
-use Rattle.sketch_checker.specs.Beginning.{CanBegin}
-use Rattle.sketch_checker.specs.Listed.{Earlier, earlier}
+use Rattle.sketch_trees.specs.Nodes.{IsLeastAbove, IsVoid}
+use Rattle.sketch_trees.proofs.Least.{least-one}
+use Rattle.sketch_found.specs.Beginning.{CanBegin}
+use Rattle.sketch_found.specs.Listed.{Earlier, earlier}
 use Rattle.sketch_found.specs.Plain.{IsPlain, IsPlainNode, IsStepless, no_files}
 use Rattle.sketch_found.specs.declared.found.FoundSketch.{FoundSketch}
-use Rattle.sketch_checker.proofs.Going.{sound-somewhere}
+use Rattle.sketch_found.proofs.Going.{sound-somewhere}
 
 abbrev has_first : List Earlier → Bool
 has_first [] = false

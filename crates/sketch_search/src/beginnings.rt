@@ -2,8 +2,8 @@ ghost use Rattle.std.specs.Prelude.{◌≡◌, [], IfOk, IfSome, IsTrue, List, M
 ghost use Rattle.board_base.specs.declared.moves.Move.{Move};
 ghost use Rattle.cage_rules.specs.Reach.{LeadsTo};
 ghost use Rattle.past_sketches.specs.Figures.{sketch_of};
-ghost use Rattle.sketch_checker.specs.Beginning.{CanBegin};
-ghost use Rattle.sketch_checker.specs.Listed.{earlier};
+ghost use Rattle.sketch_found.specs.Beginning.{CanBegin};
+ghost use Rattle.sketch_found.specs.Listed.{earlier};
 ghost use Rattle.sketch_found.specs.Found.{IsProofOf, IsWithin};
 ghost use Rattle.sketch_found.specs.Plain.{IsPlain, IsPlainNode, no_files};
 
@@ -11,8 +11,7 @@ use board_base::{Memory, Odds};
 use figures::Sketch;
 use query_base::Query;
 use sketch_found::{FoundSketch, plain_root};
-use sketch_node::{before_steps, is_void};
-use sketch_walk::StepsBack;
+use sketch_trees::{StepsBack, before_steps, is_void};
 use std::alloc::Global;
 
 /// What is known of a query's sketch before a search.

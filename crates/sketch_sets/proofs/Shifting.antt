@@ -20,8 +20,8 @@ use Rattle.sketch_sets.specs.Shifts.{comes, comes_by, file_comes, has_step, land
 use Rattle.sketch_sets.specs.Tests.{some_that}
 use Rattle.sketch_sets.proofs.Rays.{changed-low, next-square}
 use Rattle.sketch_sets.proofs.Sets.{any-same}
-use Rattle.cage_rules.proofs.Rays.{file-of, rank-of}
-use Rattle.cage_rules.proofs.Shifts.{guarded, shifted-left, shifted-right}
+use Rattle.figures.proofs.Rays.{file-of, rank-of}
+use Rattle.figures.proofs.Shifts.{guarded, shifted-left, shifted-right}
 
 shifted-none : (n k s : ℕ) → s < k → s < 64 → bit_at (n * 2 ^ k % 2 ^ 64) s ≡ 0
 shifted-none n k s low high =

@@ -20,5 +20,7 @@ pub use fingerprints::{Fingerprint, fingerprint_beside};
 pub use limits::{LARGE, Limits, QUICK, SMALL};
 pub use marking::{Marking, with_marks, with_marks_of};
 pub use search::{Close, Reason, Search};
+pub use sketch_node::{before_steps, is_void};
 pub use sketch_prices::{Basis, Survey};
+pub use sketch_walk::StepsBack;
 pub use trees::MOST_BELOW;

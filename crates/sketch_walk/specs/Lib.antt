@@ -4,3 +4,4 @@ pub mod Goings
 pub mod Cursors
 pub mod Nests
 pub mod Walks
+pub use Rattle.sketch_steps.specs.Places

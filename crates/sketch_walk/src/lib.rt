@@ -15,4 +15,5 @@ mod ways;
 
 pub use listed::{Earlier, Listed};
 pub use sketch_list::Victim;
+pub use sketch_steps::has_low_places;
 pub use steps_back::{StepsBack, can_step_back};

@@ -1,7 +1,7 @@
 use Rattle.std.proofs.Common.{List, ℕ, ◌++◌, ap, ◌∙◌}
 use Rattle.query_base.specs.Asked.{Asked}
 use Rattle.std.proofs.lemmas.Result.{IfOk-equal}
-use Rattle.ledger_lines.specs.declared.lines.Line.{Line}
+use Rattle.ledger_told.specs.Line.{Line}
 use Rattle.ledger_prose.specs.Sentences.{sentences_of}
 use Rattle.ledger_prose.specs.Words.{prose_text}
 use Rattle.position_report.specs.Held.{behind_if, if_lines}

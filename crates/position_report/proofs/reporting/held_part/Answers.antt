@@ -1,5 +1,5 @@
 use Rattle.std.proofs.Common.{List, ℕ, ◌++◌, ap, ◌∙◌}
-use Rattle.ledger_lines.specs.declared.lines.Line.{Line}
+use Rattle.ledger_told.specs.Line.{Line}
 use Rattle.diagram_study.specs.declared.held.HeldFound.{HeldFound}
 use Rattle.position_report.specs.Held.{held_prose}
 use Rattle.position_report.proofs.reporting.held_part.Goals as goal

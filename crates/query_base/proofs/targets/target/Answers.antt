@@ -3,7 +3,7 @@ use Rattle.std.proofs.lemmas.Bool.{cond-true, cond-false}
 use Rattle.board_base.specs.Play.{double_of}
 use Rattle.board_base.specs.Rights.{Rights}
 use Rattle.board_base.specs.declared.moves.Move.{Move}
-use Rattle.ep_history.specs.Fits.{ep_fits}
+use Rattle.play_rules.specs.Fits.{ep_fits}
 use Rattle.query_base.specs.Asked.{Asked}
 use Rattle.query_base.specs.Targets.{target}
 use Rattle.query_base.proofs.EnPassant.{by-target}

@@ -2,7 +2,7 @@ use Rattle.std.proofs.Common.{subst}
 use Rattle.std.specs.Prelude.{IsTrue, false}
 use Rattle.std.proofs.lemmas.Bool.{both_ways}
 use Rattle.query_base.specs.Asked.{Asked}
-use Rattle.sketch_checker.specs.Beginning.{CanBegin}
+use Rattle.sketch_found.specs.Beginning.{CanBegin}
 use Rattle.sketch_found.specs.Plain.{IsPlain}
 use Rattle.sketch_search.proofs.Plainness.{array-unplain, plain-stepless}
 use Rattle.sketch_search.proofs.beginnings.first_look.Goals as goal

@@ -1,7 +1,7 @@
 use Rattle.std.proofs.Common.{refl, subst}
 use Rattle.std.specs.Prelude.{IsTrue, MatchOption, Option}
 use Rattle.past_sketches.specs.Figures.{Sketch, sketch_of}
-use Rattle.sketch_checker.specs.Beginning.{CanBegin}
+use Rattle.sketch_found.specs.Beginning.{CanBegin}
 use Rattle.sketch_found.specs.declared.found.FoundSketch.{FoundSketch}
 use Rattle.sketch_found.specs.Plain.{IsPlain, IsPlainNode}
 use Rattle.sketch_search.proofs.Plainness.{never-plain}

@@ -1,0 +1,1 @@
+pub use Rattle.sketch_node.specs.Nodes
