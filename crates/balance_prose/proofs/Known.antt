@@ -4,14 +4,13 @@ use Rattle.std.specs.Prelude.{IsSome, IsTrue, None, Option, Some, SomeIff}
 use Rattle.std.specs.Option.{option_map}
 use Rattle.arrayvec.specs.ArrayVec.{ArrayVec}
 use Rattle.std.specs.List.{All, list_all, range_with_len}
-use Rattle.std.proofs.lemmas.List.Elements.{Contains-get_or}
+use Rattle.std.proofs.lemmas.List.Elements.{Contains-get_or, All-cons, All-nil}
 use Rattle.board_base.specs.Board.{Places, at, is_of, men_squares}
 use Rattle.board_base.specs.declared.men.Colour.{Colour}
 use Rattle.general_lemmas.proofs.Lists.{filter-contains}
 use Rattle.general_lemmas.proofs.Ranges.{range-contains}
 use Rattle.std.proofs.lemmas.Bool.{and_from, and_parts, ltb-true}
 use Rattle.std.proofs.lemmas.List.{length-map}
-use Rattle.std.proofs.lemmas.List.Elements.{All-cons, All-nil}
 use Rattle.capture_prices.specs.Prices.{PriceList, are_ascending, are_prices, is_low, priced}
 use Rattle.capture_prices.specs.declared.prices.Gate.{Gate}
 use Rattle.balance_prose.specs.Counted.{once}

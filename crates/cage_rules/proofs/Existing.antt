@@ -1,6 +1,6 @@
 -- Within each set there is a greatest frozen set, and it can be told whether a set is as in the array.
 use Rattle.std.proofs.Common.{◌≡◌, ℕ, zero, suc, ◌≤◌, ◌⊎◌, inl, inr, true, false, List, length, refl, sym, ap, ◌∙◌, arith}
-use Rattle.std.proofs.lemmas.Bool.{both_ways}
+use Rattle.std.proofs.lemmas.Bool.{both_ways, and_parts}
 use Rattle.std.specs.Prelude.{Bool}
 use Rattle.board_base.specs.Board.{Places, array_of, is_in}
 use Rattle.query_base.specs.Asked.{Asked}
@@ -13,7 +13,6 @@ use Rattle.cage_rules.proofs.Greatest.{Shrunk, alike-answer, fixed-frozen, kept-
 use Rattle.cage_rules.proofs.Loose.{length-kept}
 use Rattle.cage_rules.proofs.SetAlgebra.{is_in-both, length-both}
 use Rattle.cage_rules.proofs.Tested.{member-inside}
-use Rattle.std.proofs.lemmas.Bool.{and_parts}
 
 -- the greatest frozen set within this one
 pub record GreatestWithin (q : Asked) (start set : List Bool) : Type 0 where

@@ -13,7 +13,7 @@ pub mod SetAlgebra
 pub mod Shifts
 pub mod Near
 pub mod Adjacent
-mod Loose
+pub mod Loose
 mod Sorting
 pub mod Greatest
 pub mod Existing

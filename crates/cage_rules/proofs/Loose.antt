@@ -195,7 +195,7 @@ part-made found step set =
     that-is (λ s. is_in found s && is_near step (outside set) s) (both found (near step (outside set))) (length-both found (near step (outside set))) (λ s inside.
     is_in-both found (near step (outside set)) s inside ∙ ap (λ (x : Bool). is_in found s && x) (is_in-near step (outside set) s inside))
 
-joined : (a b : List Bool) (p r : ℕ → Bool) → a ≡ squares_that p → b ≡ squares_that r → union a b ≡ squares_that (λ s. p s || r s)
+pub joined : (a b : List Bool) (p r : ℕ → Bool) → a ≡ squares_that p → b ≡ squares_that r → union a b ≡ squares_that (λ s. p s || r s)
 joined a b p r ea eb = ap (λ (l : List Bool). union l b) ea ∙ ap (union (squares_that p)) eb ∙ union-that p r
 
 pub loose-made : (w : Ways) (set : List Bool) → union (union (union (both w.lines (near is_line_step (outside set))) (both w.diagonals (near is_diagonal_step (outside set)))) (both w.knights (near is_knight_step (outside set)))) (union (both w.white_pawns (near (is_behind White) (outside set))) (both w.black_pawns (near (is_behind Black) (outside set)))) ≡ loose w set

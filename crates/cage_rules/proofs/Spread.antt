@@ -37,11 +37,11 @@ pub record IsStepped (k : Kind) (frozen within : List Bool) : Type 0 where
   pub size : length within ≡ 64
   pub stays : (s t : ℕ) → s < 64 → t < 64 → is_in within t ≡ true → is_step k s t ≡ true → is_in frozen s ≡ false → is_in within s ≡ true
 
-wall-free : (b : Bool) → is_empty (wall b) ≡ true → b ≡ false
+pub wall-free : (b : Bool) → is_empty (wall b) ≡ true → b ≡ false
 wall-free true h = absurd (both_ways false refl h)
 wall-free false h = refl
 
-open-out : (frozen : List Bool) (s : ℕ) → s < 64 → is_empty (at (walls frozen) s) ≡ true → is_in frozen s ≡ false
+pub open-out : (frozen : List Bool) (s : ℕ) → s < 64 → is_empty (at (walls frozen) s) ≡ true → is_in frozen s ≡ false
 open-out frozen s inside none = wall-free (is_in frozen s) (sym (ap is_empty (at-walls frozen s inside)) ∙ none)
 
 -- a way of single steps, each to a square that is open

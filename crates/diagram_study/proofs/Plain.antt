@@ -1,6 +1,6 @@
 -- The claims of rights have texts.
 use Rattle.std.proofs.Common.{◌≡◌, true, List, [], ◌∷◌, map, refl}
-use Rattle.std.specs.Prelude.{IsTrue, IsSome, None, Some, not}
+use Rattle.std.specs.Prelude.{IsTrue, IsSome, None, Some, not, Option, is_none}
 use Rattle.std.specs.List.{All}
 use Rattle.std.proofs.lemmas.List.Elements.{All-cons, All-filter, All-head, All-nil, All-same, All-tail, All-weaker}
 use Rattle.query_base.specs.Asked.{Asked}
@@ -12,7 +12,6 @@ use Rattle.codex_verdict.specs.declared.kinds.Right.TheVariants.{Castling, EnPas
 use Rattle.codex_verdict.proofs.AllRights.{rights-plain}
 use Rattle.diagram_study.specs.Rights.{AreDue, is_demanded}
 use Rattle.diagram_study.specs.declared.rights.RightFound.{RightFound}
-use Rattle.std.specs.Prelude.{Option, is_none}
 use Rattle.board_base.specs.declared.men.Kind.{Kind}
 
 none_without : (o : Option Kind) → (IsSome o → ⊥) → is_none o ≡ true

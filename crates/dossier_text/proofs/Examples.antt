@@ -9,8 +9,7 @@ use Rattle.board_base.specs.declared.men.Colour.TheVariants.{White}
 use Rattle.board_base.specs.Rights.{no_rights}
 use Rattle.query_base.specs.Asked.{Asked}
 use Rattle.fen_text.specs.ClockLines.{clock_line}
-use Rattle.fen_text.specs.Fen.{asked, fen, fen_of_four, from_en_passant, from_rights, from_turn, placement, ranks, rights}
-use Rattle.fen_text.specs.Fen.{number as digits}
+use Rattle.fen_text.specs.Fen.{asked, fen, fen_of_four, from_en_passant, from_rights, from_turn, placement, ranks, rights, number as digits}
 use Rattle.fen_text.specs.Numbers.{number}
 use Rattle.fen_text.specs.OddsLines.{odds_line, odds_of}
 use Rattle.fen_text.specs.Parts.{parted}

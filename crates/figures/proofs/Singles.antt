@@ -56,7 +56,7 @@ filled-if p set' i true inside here before = filled-in p false set' i true insid
 filled-if p set' i false inside here before = filled-out p false set' i here before
 
 -- a figure is fixed on a square where his set is of that square alone
-either-true : (x y : Bool) → (not x || y) ≡ true → x ≡ true → y ≡ true
+pub either-true : (x y : Bool) → (not x || y) ≡ true → x ≡ true → y ≡ true
 either-true true y h e = h
 either-true false y h e = absurd (both_ways false refl e)
 

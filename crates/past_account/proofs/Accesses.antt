@@ -41,7 +41,7 @@ use Rattle.past_sketches.proofs.Quiet.{files-differ, promoted-colour}
 use Rattle.past_account.specs.Frozen.{enters_as, figure_enters}
 
 -- one of the figure's kinds
-some-kind : (P : Kind → Bool) (kinds : List Kind) (k : Kind) → list_any (λ j. same_kind j k) kinds ≡ true → P k ≡ true → list_any P kinds ≡ true
+pub some-kind : (P : Kind → Bool) (kinds : List Kind) (k : Kind) → list_any (λ j. same_kind j k) kinds ≡ true → P k ≡ true → list_any P kinds ≡ true
 some-kind P [] k h here = h
 some-kind P (j ∷ kinds) k h here = elim (or_cases (same_kind j k) (list_any (λ i. same_kind i k) kinds) h) [
   | inl same ↦ or_left (P j) (list_any P kinds) (ap P (kind_is j k same) ∙ here)

@@ -1,7 +1,6 @@
 -- Small sketches that an account closes, or in which it forces a mark.
 use Rattle.std.specs.Prelude.{replicate}
 use Rattle.std.proofs.Common.{◌≡◌, ℕ, ◌==◌, Bool, true, false, ◌||◌, not, List, [], ◌∷◌, refl, arith}
-use Rattle.std.specs.Prelude.{replicate}
 use Rattle.std.proofs.lemmas.Bool.{both_ways}
 use Rattle.general_lemmas.proofs.Lists.{contains-none}
 use Rattle.board_base.specs.Board.{array_of, initial_array, is_in, men_squares, no_odds}

@@ -9,7 +9,7 @@ use Rattle.cage_rules.proofs.SetAlgebra.{lists-tell, lists-told}
 use Rattle.cage_rules.proofs.Tested.{all_board, at_board}
 use Rattle.past_account.specs.Zones.{is_closed_by, reached_from}
 
-closed-told : (goes : ℕ → ℕ → Bool) (within : List Bool) (t u : ℕ) → is_closed_by goes within ≡ true → t < 64 → u < 64 → is_in within t ≡ true → goes t u ≡ true → is_in within u ≡ true
+pub closed-told : (goes : ℕ → ℕ → Bool) (within : List Bool) (t u : ℕ) → is_closed_by goes within ≡ true → t < 64 → u < 64 → is_in within t ≡ true → goes t u ≡ true → is_in within u ≡ true
 unfolding is_closed_by
 closed-told goes within t u h ti ui member step =
     let row = at_board (λ t. list_all (λ u. not (is_in within t && goes t u && not (is_in within u))) (range_with_len 0 64)) t h ti in
@@ -51,7 +51,7 @@ reached-goes goes h t u ui member step =
     let here = reached-told goes h t member in
     reached-tells goes h u ui (λ within size home closed. closed-told goes within t u closed here.0 ui (here.1 within size home closed) step)
 
-closed-tells : (goes : ℕ → ℕ → Bool) (within : List Bool) → ((t u : ℕ) → t < 64 → u < 64 → is_in within t ≡ true → goes t u ≡ true → is_in within u ≡ true) → is_closed_by goes within ≡ true
+pub closed-tells : (goes : ℕ → ℕ → Bool) (within : List Bool) → ((t u : ℕ) → t < 64 → u < 64 → is_in within t ≡ true → goes t u ≡ true → is_in within u ≡ true) → is_closed_by goes within ≡ true
 unfolding is_closed_by
 closed-tells goes within h =
     all_board (λ t. list_all (λ u. not (is_in within t && goes t u && not (is_in within u))) (range_with_len 0 64)) (λ t ti.

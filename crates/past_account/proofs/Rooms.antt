@@ -53,7 +53,7 @@ any-range p a (suc n) h = elim (or_cases (p a) (list_any p (range_with_len (a + 
   | inr later ↦ let x = any-range p (a + 1) n later in let low = x.1 in let high = x.2 in (x.0, omega arith, omega arith, x.3)
 ]
 
-any-zone : (p : List Bool → Bool) (zones : List (List Bool)) → list_any p zones ≡ true → (zone : List Bool) × Contains zones zone × (p zone ≡ true)
+pub any-zone : (p : List Bool → Bool) (zones : List (List Bool)) → list_any p zones ≡ true → (zone : List Bool) × Contains zones zone × (p zone ≡ true)
 any-zone p [] h = absurd (both_ways false refl h)
 any-zone p (zone ∷ zones) h = elim (or_cases (p zone) (list_any p zones) h) [
   | inl here ↦ (zone, contains-first zone zones, here)

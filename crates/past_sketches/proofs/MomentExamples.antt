@@ -16,8 +16,7 @@ use Rattle.board_base.specs.declared.men.Kind.TheVariants.{Pawn, Rook, Queen, Ki
 use Rattle.board_base.specs.declared.men.Man.{Man}
 use Rattle.board_base.specs.declared.moves.Move.{Move}
 use Rattle.play_rules.proofs.Games.{no_moves}
-use Rattle.play_rules.proofs.Kings.{length-after}
-use Rattle.play_rules.proofs.Kings.{within as within-board}
+use Rattle.play_rules.proofs.Kings.{length-after, within as within-board}
 use Rattle.cage_rules.specs.Asked.{Asked}
 use Rattle.men_account.specs.Labels.{first_labels, label_at, labels_after}
 use Rattle.cage_rules.specs.Laws.{Walled}

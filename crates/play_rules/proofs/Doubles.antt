@@ -19,13 +19,12 @@ use Rattle.board_base.specs.declared.men.Kind.TheVariants.{Pawn, King}
 use Rattle.board_base.specs.declared.moves.Move.{Move}
 use Rattle.board_base.specs.declared.castles.Castle.{Castle}
 use Rattle.play_rules.specs.States.{crossed_by, double_crossing, step_over}
-use Rattle.play_rules.proofs.Legality.{Manner, moves, steps, doubles, takes, passes, castles, Legality}
+use Rattle.play_rules.proofs.Legality.{Manner, moves, steps, doubles, takes, passes, castles, Legality, legality}
 use Rattle.board_base.specs.Game.{IsGame, board_after, turn_after, last_move}
 use Rattle.board_base.proofs.KindsOfMen.{another_kind, no_officer}
 use Rattle.board_base.proofs.CastleSquares.{castle-one-rank}
 use Rattle.play_rules.proofs.Games.{in_every_game, board_after-more}
 use Rattle.play_rules.proofs.Kings.{castle-ends, length-after, length-carry}
-use Rattle.play_rules.proofs.Legality.{legality}
 use Rattle.play_rules.proofs.EnPassant.{FitsDouble, FitsLast, en_passant-same}
 
 -- one rank ahead is not two ranks apart

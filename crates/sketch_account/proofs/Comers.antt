@@ -22,8 +22,9 @@ use Rattle.sketch_grounds.specs.Limits.{Limit, allows, brings_in, comes_as, may_
 use Rattle.sketch_grounds.specs.Zones.{Room}
 use Rattle.sketch_account.specs.Coming.{comes_by, comes_to, has_room, is_free, is_goal, is_promoted}
 use Rattle.sketch_account.specs.Over.{IsLeastOver}
-use Rattle.sketch_grounds.proofs.Freezing.{kind-there, some-kind}
+use Rattle.sketch_grounds.proofs.Freezing.{kind-there}
 use Rattle.sketch_account.proofs.Over.{over-base, over-never}
+use Rattle.sketch_grounds.proofs.Accesses.{some-kind}
 
 shut : (a b : Bool) (x y : ℕ) → a ≡ true → cond (a || b) x y ≡ x
 shut a b x y e = ap (λ (a : Bool). cond (a || b) x y) e

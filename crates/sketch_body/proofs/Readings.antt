@@ -8,12 +8,11 @@ use Rattle.std.proofs.lemmas.Option.{cond_some, option_and_then_some, same_Some}
 use Rattle.capture_prices.specs.Prices.{PriceList}
 use Rattle.general_lemmas.proofs.Lists.{same_rest}
 use Rattle.sketch_text.specs.Heads.{Head, are_files, is_head}
-use Rattle.sketch_text.specs.Marks.{Marks}
+use Rattle.sketch_text.specs.Marks.{Marks, are_figures, is_some_figure}
 use Rattle.sketch_text.specs.Trees.{Line, Node, Nodes, count, height, lines_each, lines_of, more, node, none, of_marks, of_node}
 use Rattle.sketch_text.specs.Nodes.{node_of}
 use Rattle.sketch_text.specs.declared.nodes.SketchNode.{SketchNode}
 use Rattle.sketch_text.proofs.MarkTexts.{mark_read}
-use Rattle.sketch_text.specs.Marks.{are_figures, is_some_figure}
 use Rattle.sketch_body.specs.Bodies.{AreOfTree, AreTextsOf, Body, Item, SayEach, head_of, is_first, is_never_below, is_now, items_of, most_units, of_line, of_prices, units_of, units_of_line}
 use Rattle.sketch_body.specs.Due.{Due, Leads, Reading, gone_on, is_done, next, is_over, start, step}
 use Rattle.sketch_body.specs.Ends.{EndsAs, IsEnding, ReadsTo}

@@ -13,11 +13,11 @@ use Rattle.sketch_grounds.specs.Begun.{begins_on, is_begun}
 use Rattle.past_account.specs.Frozen.{IsBegun}
 use Rattle.sketch_grounds.proofs.Freezing.{fixed-once}
 
-begins-told : (o : List Bool) (s : ℕ) (f : Figure) (place : Option Man) → at (array_of o) s ≡ place → begins_on place f ≡ true → IsBegun o s f
+pub begins-told : (o : List Bool) (s : ℕ) (f : Figure) (place : Option Man) → at (array_of o) s ≡ place → begins_on place f ≡ true → IsBegun o s f
 begins-told o s f None e h = absurd (both_ways false refl h)
 begins-told o s f (Some m) e h = let parts = and_parts (same_colour m.colour f.colour) (may_be f m.kind) h in (m, e, colour_is m.colour f.colour parts.0, parts.1)
 
-begins-tells : (o : List Bool) (s : ℕ) (f : Figure) → IsBegun o s f → begins_on (at (array_of o) s) f ≡ true
+pub begins-tells : (o : List Bool) (s : ℕ) (f : Figure) → IsBegun o s f → begins_on (at (array_of o) s) f ≡ true
 begins-tells o s f b = ap (λ (p : Option Man). begins_on p f) b.1 ∙ and_from _ _ (ap (same_colour b.0.colour) (sym b.2) ∙ same_colour-self b.0.colour) b.3
 
 -- where he is fixed on s, what is tested is told of s

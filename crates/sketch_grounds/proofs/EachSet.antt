@@ -20,6 +20,7 @@ use Rattle.past_account.specs.Zones.{IsZone, goes_on, is_closed_by}
 use Rattle.sketch_grounds.specs.FrozenSets.{greatest_frozen, is_frozen_in, is_shut_in}
 use Rattle.sketch_grounds.specs.LeastZones.{has_all, is_only, is_pair, is_zone, least_zone}
 use Rattle.sketch_grounds.proofs.Backing.{goes-inside}
+use Rattle.past_account.proofs.Reached.{closed-tells, closed-told}
 
 -- where not each list fails the test, some list passes it
 some-list : (n : ℕ) (p : List Bool → Bool) → all_lists n p ≡ false → (set : List Bool) × (length set ≡ n) × (p set ≡ false)
@@ -97,24 +98,6 @@ greatest-is held S set_ size frozen greatest =
     let x = some-set (λ other. is_in other s && is_frozen_in held S other) here.1 in
     let parts = and_parts (is_in x.0 s) (is_frozen_in held S x.0) x.2 in
     greatest x.0 (frozen-told held S x.0 x.1 parts.1) s parts.0)
-
--- the least zone
-closed-told : (goes : ℕ → ℕ → Bool) (within : List Bool) (t u : ℕ) → is_closed_by goes within ≡ true → t < 64 → u < 64 → is_in within t ≡ true → goes t u ≡ true → is_in within u ≡ true
-unfolding is_closed_by
-closed-told goes within t u h ti ui member step =
-    let row = at_board (λ t. list_all (λ u. not (is_in within t && goes t u && not (is_in within u))) (range_with_len 0 64)) t h ti in
-    let here : (is_in within t && goes t u && not (is_in within u)) ≡ false = not-true _ (at_board (λ u. not (is_in within t && goes t u && not (is_in within u))) u row ui) in
-    true_from_ne_false _ (λ out. both_ways _ here (and_from _ _ (and_from _ _ member step) (not_from_false _ out)))
-
-closed-tells : (goes : ℕ → ℕ → Bool) (within : List Bool) → ((t u : ℕ) → t < 64 → u < 64 → is_in within t ≡ true → goes t u ≡ true → is_in within u ≡ true) → is_closed_by goes within ≡ true
-unfolding is_closed_by
-closed-tells goes within h =
-    all_board (λ t. list_all (λ u. not (is_in within t && goes t u && not (is_in within u))) (range_with_len 0 64)) (λ t ti.
-    all_board (λ u. not (is_in within t && goes t u && not (is_in within u))) (λ u ui.
-    not_from_false _ (false_from_ne_true _ (λ leaves.
-    let parts = and_parts (is_in within t && goes t u) (not (is_in within u)) leaves in
-    let two = and_parts (is_in within t) (goes t u) parts.0 in
-    both_ways _ (not-true _ parts.1) (h t u ti ui two.0 two.1)))))
 
 has-told : (zone squares : List Bool) → length squares ≡ 64 → has_all zone squares ≡ true → IsWithin squares zone
 has-told zone squares size h s member = elim (or_cases (not (is_in squares s)) (is_in zone s) (at_board (λ s. not (is_in squares s) || is_in zone s) s h (member-inside squares s size member))) [

@@ -13,27 +13,21 @@ use Rattle.board_base.specs.Rights.{Rights}
 use Rattle.board_base.specs.Squares.{squares_of}
 use Rattle.board_base.specs.declared.men.Kind.{Kind}
 use Rattle.board_base.specs.declared.men.Kind.TheVariants.{Pawn, Knight, Bishop, Rook, Queen, King}
-use Rattle.board_base.proofs.KindsOfMen.{kind_is, same_kind-self}
+use Rattle.board_base.proofs.KindsOfMen.{same_kind-self}
 use Rattle.play_rules.specs.Reach.{IsWithin}
 use Rattle.cage_rules.specs.Frozen.{is_held_home}
 use Rattle.cage_rules.specs.Sets.{squares_that, union}
 use Rattle.cage_rules.specs.SetSteps.{both, outside}
 use Rattle.cage_rules.proofs.Filling.{all-in, in-that, is_in-that, length-that}
-use Rattle.cage_rules.proofs.SetAlgebra.{is_in-both, is_in-outside, same-that, that-is, union-that}
+use Rattle.cage_rules.proofs.SetAlgebra.{is_in-both, is_in-outside, same-that, that-is}
 use Rattle.cage_rules.proofs.Tested.{all_board, at_board, member-inside}
 use Rattle.figures.specs.Figures.{Figure, Sketch, figure_at, is_fixed_on, may_be}
 use Rattle.past_account.specs.Frozen.{IsBarred, IsFrozenIn, enters_as, figure_enters}
 use Rattle.sketch_grounds.specs.Pins.{ArePins, HasPin, IsPin, PinOf, covers, kept, stays}
 use Rattle.sketch_grounds.specs.declared.frozen.Pin.{Pin}
 use Rattle.sketch_grounds.proofs.Entering.{none-that}
-
--- kinds of a figure
-pub some-kind : (P : Kind → Bool) (kinds : List Kind) (k : Kind) → list_any (λ j. same_kind j k) kinds ≡ true → P k ≡ true → list_any P kinds ≡ true
-some-kind P [] k h here = h
-some-kind P (j ∷ kinds) k h here = elim (or_cases (same_kind j k) (list_any (λ i. same_kind i k) kinds) h) [
-  | inl same ↦ or_left (P j) (list_any P kinds) (ap P (kind_is j k same) ∙ here)
-  | inr later ↦ or_right (P j) (list_any P kinds) (some-kind P kinds k later here)
-]
+use Rattle.cage_rules.proofs.Loose.{joined}
+use Rattle.past_account.proofs.Accesses.{some-kind}
 
 pub kind-there : (P : Kind → Bool) (kinds : List Kind) → list_any P kinds ≡ true → (k : Kind) × (list_any (λ j. same_kind j k) kinds ≡ true) × (P k ≡ true)
 kind-there P [] h = absurd (both_ways false refl h)
@@ -77,9 +71,6 @@ entries-none f k s none = none-that (λ t. may_be f k && enters_as f.marked f.co
 
 pub entries-some : (f : Figure) (k : Kind) (s : ℕ) → may_be f k ≡ true → squares_that (enters_as f.marked f.colour k s) ≡ squares_that (λ t. may_be f k && enters_as f.marked f.colour k s t)
 entries-some f k s may = same-that (enters_as f.marked f.colour k s) (λ t. may_be f k && enters_as f.marked f.colour k s t) (λ t inside. ap (λ (b : Bool). b && enters_as f.marked f.colour k s t) (sym may))
-
-joined : (a b : List Bool) (p r : ℕ → Bool) → a ≡ squares_that p → b ≡ squares_that r → union a b ≡ squares_that (λ s. p s || r s)
-joined a b p r ea eb = ap (λ (l : List Bool). union l b) ea ∙ ap (union (squares_that p)) eb ∙ union-that p r
 
 pub entries-six : (f : Figure) (s : ℕ) (a b c d e g : List Bool) → let q : Kind → ℕ → Bool = λ k t. may_be f k && enters_as f.marked f.colour k s t in a ≡ squares_that (q Pawn) → b ≡ squares_that (q Knight) → c ≡ squares_that (q Bishop) → d ≡ squares_that (q Rook) → e ≡ squares_that (q Queen) → g ≡ squares_that (q King) → union a (union (union b c) (union d (union e g))) ≡ squares_that (figure_enters f s)
 entries-six f s a b c d e g ea eb ec ed ee eg =

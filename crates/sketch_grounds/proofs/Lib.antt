@@ -2,7 +2,7 @@ mod Entering
 mod Pacing
 mod Pruning
 pub mod Freezing
-mod Beginning
+pub mod Beginning
 mod Backing
 mod EachSet
 mod Pairs
@@ -11,3 +11,4 @@ pub mod Joining
 pub use Rattle.past_account.proofs.NoZones
 pub use Rattle.past_account.proofs.Refutes
 pub use Rattle.cage_rules.proofs.SetAlgebra
+pub use Rattle.past_account.proofs.Accesses

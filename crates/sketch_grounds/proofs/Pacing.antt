@@ -3,8 +3,7 @@ use Rattle.std.proofs.Common.{◌≡◌, ℕ, zero, suc, ◌+◌, ◌-◌, ◌<�
 use Rattle.std.proofs.lemmas.Bool.{and_parts, and_from, or_cases, or_left, or_right, cases_Bool, cases_eq, eqb-true, eq-eqb, not-true, not_from_false, both_ways, false_from_ne_true}
 use Rattle.std.proofs.lemmas.List.{length-set}
 use Rattle.std.specs.Prelude.{Some}
-use Rattle.std.specs.List.{Contains, list_any, range_with_len}
-use Rattle.general_lemmas.proofs.Lists.{contains-first, contains-later}
+use Rattle.std.specs.List.{list_any, range_with_len}
 use Rattle.general_lemmas.proofs.Ranges.{all_in_range, any-found}
 use Rattle.general_lemmas.proofs.Rounds.{count, count-le, fewer}
 use Rattle.general_lemmas.proofs.Truth.{same_truth}
@@ -20,7 +19,7 @@ use Rattle.board_base.specs.declared.men.Man.{Man}
 use Rattle.board_base.proofs.Ways.{king_distance-sym}
 use Rattle.play_rules.specs.Reach.{IsWithin}
 use Rattle.cage_rules.specs.Frozen.{is_next}
-use Rattle.cage_rules.specs.Regions.{may_roam, wall, walls}
+use Rattle.cage_rules.specs.Regions.{may_roam, walls}
 use Rattle.cage_rules.specs.Steps.{is_diagonal_step, is_line_step, is_near, is_step}
 use Rattle.cage_rules.proofs.Entries.{knight-back}
 use Rattle.cage_rules.proofs.Filling.{in-that, is_in-that, length-that}
@@ -28,21 +27,12 @@ use Rattle.cage_rules.proofs.Near.{Source, near-tells, near-told}
 use Rattle.cage_rules.proofs.Rays.{diagonal-end, diagonal-step, line-end, line-step, no-steps}
 use Rattle.cage_rules.proofs.SetAlgebra.{same-set}
 use Rattle.cage_rules.proofs.Tested.{all_board, at_board, member-inside}
-use Rattle.cage_rules.proofs.Walls.{at-walls}
 use Rattle.sketch_grounds.specs.LeastZones.{is_only}
 use Rattle.sketch_grounds.specs.Paces.{is_barred, is_pace, is_paced, paced}
 use Rattle.past_account.specs.Zones.{is_trodden, reached_from, roams_past, treads_all}
 use Rattle.sketch_grounds.proofs.Entering.{only-member, member-there}
 use Rattle.past_account.proofs.Reached.{reached-goes, reached-home, reached-least}
-use Rattle.cage_rules.proofs.Spread.{step-goes}
-
--- some zone of the list passes
-pub some-zone : (p : List Bool → Bool) (zones : List (List Bool)) → list_any p zones ≡ true → (zone : List Bool) × Contains zones zone × (p zone ≡ true)
-some-zone p [] h = absurd (both_ways false refl h)
-some-zone p (zone ∷ zones) h = elim (or_cases (p zone) (list_any p zones) h) [
-  | inl here ↦ (zone, contains-first zone zones, here)
-  | inr later ↦ let x = some-zone p zones later in (x.0, contains-later zone zones x.0 x.1, x.2)
-]
+use Rattle.cage_rules.proofs.Spread.{open-out, step-goes}
 
 -- where each zone that passes one test passes another
 pub any-so : (p q : List Bool → Bool) (zones : List (List Bool)) → ((zone : List Bool) → p zone ≡ true → q zone ≡ true) → list_any p zones ≡ true → list_any q zones ≡ true
@@ -109,13 +99,6 @@ trodden-way k t u (suc i) other end low = elim (cases_eq (suc i) (king_distance 
 pub record IsStepped (k : Kind) (wall_ : List Bool) (zones : List (List Bool)) (within : List Bool) : Type 0 where
   pub size : length within ≡ 64
   pub stays : (s t : ℕ) → s < 64 → t < 64 → is_in within t ≡ true → is_step k s t ≡ true → is_barred zones t s ≡ false → is_in wall_ s ≡ false → is_in within s ≡ true
-
-wall-free : (b : Bool) → is_empty (wall b) ≡ true → b ≡ false
-wall-free true h = absurd (both_ways false refl h)
-wall-free false h = refl
-
-open-out : (frozen : List Bool) (s : ℕ) → s < 64 → is_empty (at (walls frozen) s) ≡ true → is_in frozen s ≡ false
-open-out frozen s inside none = wall-free (is_in frozen s) (sym (ap is_empty (at-walls frozen s inside)) ∙ none)
 
 module _ (k : Kind) (frozen : List Bool) (zones : List (List Bool)) (within : List Bool) (stepped : IsStepped k frozen zones within) (t u : ℕ) (leaves : list_any (treads_all k t u) zones ≡ false) where
   -- no step on the way of a move that leaves each zone a square is barred

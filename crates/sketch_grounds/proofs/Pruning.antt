@@ -1,23 +1,24 @@
 -- Squares of zones to which single steps lead are looked at one by one.
-use Rattle.std.proofs.Common.{◌≡◌, ◌≢◌, ℕ, ◌+◌, ◌<◌, ◌≤◌, ◌⊎◌, inl, inr, Bool, true, false, ◌&&◌, ◌||◌, not, List, length, set, ap, sym, ◌∙◌, arith}
+use Rattle.std.proofs.Common.{◌≡◌, ◌≢◌, ℕ, ◌+◌, ◌<◌, ◌≤◌, ◌⊎◌, inl, inr, Bool, true, false, ◌&&◌, not, List, length, set, ap, sym, ◌∙◌, arith}
 use Rattle.std.proofs.lemmas.Bool.{and_parts, and_from, or_cases, or_left, or_right, cases_Bool, cases_eq, cases_lt, lt-ltb, ltb-true, not-true, not_from_false, both_ways, false_from_ne_true}
 use Rattle.std.proofs.lemmas.List.{get_or_past, get_or-set_same, get_or-set_other, length-set}
 use Rattle.std.specs.Prelude.{nat_lt}
 use Rattle.general_lemmas.proofs.Truth.{same_truth}
 use Rattle.board_base.specs.Board.{is_in}
 use Rattle.board_base.specs.declared.men.Kind.{Kind}
-use Rattle.cage_rules.specs.Steps.{is_near, is_step, near}
+use Rattle.cage_rules.specs.Steps.{is_near, is_step}
 use Rattle.cage_rules.specs.SetSteps.{both, is_spread, outside, spread}
-use Rattle.cage_rules.specs.Sets.{squares_that, union}
+use Rattle.cage_rules.specs.Sets.{squares_that}
 use Rattle.cage_rules.proofs.Filling.{is_in-that, length-that, none-in-zero}
-use Rattle.cage_rules.proofs.SetAlgebra.{is_in-both, is_in-outside, is_in-union, length-union, that-is}
+use Rattle.cage_rules.proofs.SetAlgebra.{is_in-both, is_in-outside, that-is}
 use Rattle.sketch_grounds.specs.LeastZones.{is_only}
 use Rattle.sketch_grounds.specs.Paces.{is_barred, is_pace, is_paced, paced}
 use Rattle.sketch_grounds.specs.Wide.{AreWide}
-use Rattle.cage_rules.proofs.Near.{is_in-near, near-tells, near-told}
+use Rattle.cage_rules.proofs.Near.{near-tells, near-told}
 use Rattle.board_base.specs.Squares.{squares_of}
 use Rattle.sketch_grounds.proofs.Entering.{member-there, only-member}
-use Rattle.sketch_grounds.proofs.Pacing.{only-tells, only-told, some-zone}
+use Rattle.sketch_grounds.proofs.Pacing.{only-tells, only-told}
+use Rattle.past_account.proofs.Rooms.{any-zone}
 
 -- the doubtful squares below i are decided, and the others are as at first
 pub record Pruned (k : Kind) (wall : List Bool) (zones : List (List Bool)) (within doubtful more : List Bool) (i : ℕ) : Type 0 where
@@ -63,7 +64,7 @@ pruned-next k wall zones within doubtful more next i j inside ahead member none 
 free-elsewhere : (zones : List (List Bool)) (squares : List Bool) (s t : ℕ) → AreWide zones squares → is_in squares s ≡ false → is_barred zones t s ≡ false
 unfolding is_barred
 free-elsewhere zones squares s t wide out = false_from_ne_true _ (λ barred.
-    let x = some-zone (λ zone. is_only zone t s) zones barred in
+    let x = any-zone (λ zone. is_only zone t s) zones barred in
     wide.wide x.0 x.1 t (λ u inside member. elim (only-told x.0 t s u x.2 inside member) [
       | inl at_t ↦ at_t
       | inr at_s ↦ absurd (both_ways _ out (wide.covered x.0 x.1 s (ap (is_in x.0) (sym at_s) ∙ member)))
@@ -176,14 +177,6 @@ partners-none zone rest more u x y t xi yi e first e' second =
       ]
       | inr x_u ↦ a.1 x_u
     ]))
-
--- how the squares of single steps are made of whole sets
-pub spread-made : (k : Kind) (frozen within : List Bool) → union within (both (near (is_step k) within) (outside frozen)) ≡ spread k frozen within
-unfolding spread
-spread-made k frozen within =
-    that-is (is_spread k frozen within) (union within (both (near (is_step k) within) (outside frozen))) (length-union within (both (near (is_step k) within) (outside frozen))) (λ s inside.
-    is_in-union within (both (near (is_step k) within) (outside frozen)) s inside
-    ∙ ap (λ (x : Bool). is_in within s || x) (is_in-both (near (is_step k) within) (outside frozen) s inside ∙ ap (λ (x : Bool). x && is_in (outside frozen) s) (is_in-near (is_step k) within s inside) ∙ ap (λ (x : Bool). is_near (is_step k) within s && x) (is_in-outside frozen s inside)))
 
 -- whether there is a source from which a step leaves each zone a square
 pub comes-made : (k : Kind) (zones : List (List Bool)) (within barred from : List Bool) (u n : ℕ) → from ≡ both (both within (squares_that (is_step k u))) (outside barred) → ((t : ℕ) → t < 64 → is_in barred t ≡ is_barred zones t u) → ((s : ℕ) → s < n → is_in from s ≡ false) → (n < 64 → is_in from n ≡ true) → nat_lt n 64 ≡ is_near (is_pace k zones) within u

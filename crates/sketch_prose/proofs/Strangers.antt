@@ -1,12 +1,10 @@
 -- Figures who aren't the array's men.
 use Rattle.std.proofs.Common.{◌≡◌, ℕ, zero, suc, ◌<◌, ◌≤◌, ◌+◌, Bool, true, false, ◌&&◌, not, List, [], ◌∷◌, arith, below_more, get_or, length, refl, ap, sym, ◌∙◌, subst}
-use Rattle.std.proofs.lemmas.Bool.{and_from, and_parts, both_ways}
-use Rattle.std.specs.Prelude.{Option, Some, None}
-use Rattle.board_base.proofs.KindsOfMen.{colour_is, same_colour-self}
-use Rattle.board_base.specs.Board.{Places, array_of, at, is_in, same_colour}
-use Rattle.board_base.specs.declared.men.Man.{Man}
+use Rattle.std.proofs.lemmas.Bool.{both_ways}
+use Rattle.std.specs.Prelude.{Some}
+use Rattle.board_base.specs.Board.{Places, array_of, at, is_in}
 use Rattle.figures.proofs.Numbered.{at-some}
-use Rattle.figures.specs.Figures.{Figure, Sketch, figure_at, is_fixed_on, may_be}
+use Rattle.figures.specs.Figures.{Figure, Sketch, figure_at, is_fixed_on}
 use Rattle.sketch_grounds.proofs.Freezing.{fixed-once}
 use Rattle.sketch_grounds.specs.Begun.{begins_on}
 use Rattle.sketch_grounds.specs.Frozen.{AreBegun, IsBegun}
@@ -15,14 +13,7 @@ use Rattle.sketch_proof.specs.Proofs.{Setting}
 use Rattle.sketch_prose.specs.Fixed.{IsBegunOn, IsForeignOn}
 use Rattle.sketch_prose.specs.Foreigners.{AreBegunBefore, IsForeignIn}
 use Rattle.sketch_prose.specs.Sentences.{IsForeign}
-
--- what is tested is that the figure's man began there
-begins-tells : (o : List Bool) (s : ℕ) (f : Figure) → IsBegun o s f → begins_on (at (array_of o) s) f ≡ true
-begins-tells o s f b = ap (λ (p : Option Man). begins_on p f) b.1 ∙ and_from _ _ (ap (same_colour b.0.colour) (sym b.2) ∙ same_colour-self b.0.colour) b.3
-
-begins-told : (o : List Bool) (s : ℕ) (f : Figure) (place : Option Man) → at (array_of o) s ≡ place → begins_on place f ≡ true → IsBegun o s f
-begins-told o s f None e h = absurd (both_ways false refl h)
-begins-told o s f (Some m) e h = let parts = and_parts (same_colour m.colour f.colour) (may_be f m.kind) h in (m, e, colour_is m.colour f.colour parts.0, parts.1)
+use Rattle.sketch_grounds.proofs.Beginning.{begins-tells, begins-told}
 
 -- ONE FIGURE
 

@@ -1,6 +1,6 @@
 -- From which squares men attack, and pawns move, to those of a set.
 use Rattle.std.proofs.Common.{◌≡◌, ℕ, ◌+◌, ◌-◌, ◌*◌, ◌<◌, ◌≤◌, ◌==◌, inl, inr, max, Bool, true, false, ◌&&◌, ◌||◌, not, List, length, refl, ap, sym, ◌∙◌, arith}
-use Rattle.std.proofs.lemmas.Bool.{agree_below, agree_below_at, and_from, and_parts, both_ways, cases_Bool, cases_lt, eq-eqb, eqb-false, eqb-true, le-leb, leb-true, ne_eqb, not-true, not_from_false, not_from_true, or_left, or_right}
+use Rattle.std.proofs.lemmas.Bool.{agree_below, agree_below_at, and_from, and_parts, cases_Bool, cases_lt, eq-eqb, eqb-false, eqb-true, le-leb, leb-true, ne_eqb, not-true, not_from_false, not_from_true, or_left, or_right}
 use Rattle.std.specs.Prelude.{nat_le}
 use Rattle.std.specs.List.{list_all, range_with_len}
 use Rattle.general_lemmas.proofs.Truth.{same_truth}
@@ -27,6 +27,7 @@ use Rattle.sketch_sets.specs.Tests.{some_that}
 use Rattle.sketch_sets.proofs.Rays.{far-apart, next-square}
 use Rattle.sketch_sets.proofs.Sets.{all-same}
 use Rattle.sketch_sets.proofs.Shifting.{comes-lands, some-and, some-four, some-of, some-or, some-same, under}
+use Rattle.figures.proofs.Singles.{either-true}
 
 -- two steps, the second in one of two directions
 abbrev pub lands_turned : Direction → Direction → Direction → ℕ → ℕ → Bool
@@ -295,17 +296,13 @@ pawn-cases true true false l r q m f f' one two over = over refl ∙ and-all f �
 abbrev moves : List Bool → Colour → ℕ → ℕ → Bool
 moves fixed c e s = (is_past_home c s && lands (ahead c) e s) || ((rank e == pawn_rank c) && (stays_on (ahead c) e && (not (is_in fixed (along (ahead c) e 1)) && (is_past_home c s && lands (ahead c) (along (ahead c) e 1) s))))
 
-given : (x y : Bool) → (not x || y) ≡ true → x ≡ true → y ≡ true
-given true y h e = h
-given false y h e = absurd (both_ways false refl e)
-
 pawn-moves : (fixed : List Bool) (c : Colour) (e s : ℕ) → e < 64 → s < 64 → (is_past_home c s && pawn_past fixed c e s) ≡ moves fixed c e s
 unfolding pawn_past
 pawn-moves fixed c e s low inside =
     let t : ℕ = along (ahead c) e 1 in
     pawn-cases (is_past_home c s) (straight c e s) (one_ahead c e s) (lands (ahead c) e s) (rank e == pawn_rank c) (stays_on (ahead c) e) (lands (ahead c) t s) (not (is_in fixed t)) (not (is_in fixed (on_the_way e s 1)))
     (one-lands c e s low inside) (two-lands c e s low inside)
-    (λ two. ap (λ (n : ℕ). not (is_in fixed n)) (eqb-true (on_the_way e s 1) t (given (goes_two c e s) (on_the_way e s 1 == t) (two-over c e s low inside) two)))
+    (λ two. ap (λ (n : ℕ). not (is_in fixed n)) (eqb-true (on_the_way e s 1) t (either-true (goes_two c e s) (on_the_way e s 1 == t) (two-over c e s low inside) two)))
 
 turned-last : (q x f r : Bool) → ((q && (x && f)) && r) ≡ (r && (q && (f && x)))
 turned-last true true true true = refl

@@ -10,8 +10,7 @@ use Rattle.query_base.specs.Asked.{Asked}
 use Rattle.unmove_gen.specs.Listed.{unmoves}
 use Rattle.unmove_gen.specs.Predecessor.{predecessor}
 use Rattle.tree_browser.specs.Trees.{Each, Expands, IsNote, IsTree, line}
-use Rattle.tree_browser.specs.Pages.{AreTrees, expands}
-use Rattle.tree_browser.specs.Pages.{Adds, Writes, WritesAll}
+use Rattle.tree_browser.specs.Pages.{AreTrees, expands, Adds, Writes, WritesAll}
 use Rattle.tree_browser.specs.declared.notes.Note.{Note}
 use Rattle.tree_browser.specs.declared.notes.Note.TheVariants.{Closed, Back, Array, End, Expand}
 use Rattle.tree_browser.specs.declared.trees.Page.{Page}

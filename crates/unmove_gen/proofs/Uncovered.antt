@@ -21,10 +21,9 @@ use Rattle.board_base.specs.declared.castles.Castle.TheVariants.{WhiteShort, Whi
 use Rattle.board_base.specs.declared.unmoves.Unmove.{Unmove}
 use Rattle.board_base.proofs.CastleSquares.{crossed-within, king_home-within, king_target-within, rook_home-not-home, rook_home-not-target}
 use Rattle.board_base.proofs.KindsOfMen.{full-of, kind_is, opponent-twice}
-use Rattle.general_lemmas.proofs.Ranges.{all_in_range}
+use Rattle.general_lemmas.proofs.Ranges.{all_in_range, any-found, any-one}
 use Rattle.check_origins.specs.Near.{AreArrivals, checks_nearby, is_near, is_near_checker}
 use Rattle.check_origins.proofs.Found.{checks}
-use Rattle.general_lemmas.proofs.Ranges.{any-found, any-one}
 use Rattle.board_base.proofs.Hits.{hit-attacks}
 use Rattle.board_base.proofs.Ways.{near-open}
 use Rattle.play_rules.proofs.Kings.{castle-ends, length-carry, two-castles}

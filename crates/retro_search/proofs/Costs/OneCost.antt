@@ -48,7 +48,7 @@ sums_one R P one (u ∷ us) m n (a, r, inr (passes, more_sums)) (b, s, inl (fail
 sums_one R P one (u ∷ us) m n (a, r, inr (passes, (c, sums, e))) (b, s, inr (passes2, (d, sums2, f))) =
     omega (arith, one u a b r s, sums_one R P one us c d sums sums2)
 
-shut-end : (q : Asked) (ancestors : List Asked) → IsShut q ancestors ⊎ Reaches [] q → (IsShut q ancestors → ⊥) → (Reaches [] q → ⊥) → ⊥
+pub shut-end : (q : Asked) (ancestors : List Asked) → IsShut q ancestors ⊎ Reaches [] q → (IsShut q ancestors → ⊥) → (Reaches [] q → ⊥) → ⊥
 shut-end q ancestors (inl shut) unshut elsewhere = unshut shut
 shut-end q ancestors (inr here) unshut elsewhere = elsewhere here
 

@@ -1,5 +1,5 @@
 -- Sizes of whole searches, as a search counts them: each query has one, and its cost is no more.
-use Rattle.std.proofs.Common.{◌≡◌, ℕ, zero, suc, ◌+◌, ◌≤◌, ◌⊎◌, inl, inr, List, [], ◌∷◌, refl, sym, ◌∙◌, subst, arith}
+use Rattle.std.proofs.Common.{◌≡◌, ℕ, zero, suc, ◌+◌, ◌≤◌, inl, inr, List, [], ◌∷◌, refl, sym, ◌∙◌, subst, arith}
 use Rattle.board_base.specs.declared.unmoves.Unmove.{Unmove}
 use Rattle.query_base.specs.Asked.{Asked}
 use Rattle.query_base.specs.Reach.{Reaches}
@@ -11,6 +11,7 @@ use Rattle.retro_search.specs.Costs.{IsCost, SumsUpTo}
 use Rattle.retro_search.specs.SearchSizes.{IsSearchSize, SumsAll}
 use Rattle.retro_search.specs.Searched.{IsSizeBelow}
 use Rattle.retro_search.proofs.Settled.{shut_settled}
+use Rattle.retro_search.proofs.Costs.OneCost.{shut-end}
 
 pub size_positive : (depth : ℕ) (q : Asked) (ancestors : List Asked) (n : ℕ) → IsSearchSize q depth ancestors n → 1 ≤ n
 size_positive zero q ancestors n e = omega arith
@@ -50,15 +51,11 @@ all_one : (R : Unmove → ℕ → Type 0) → ((u : Unmove) (a b : ℕ) → R u 
 all_one R one [] m n e f = e ∙ sym f
 all_one R one (u ∷ us) m n (a, b, r, sums, e) (c, d, s, others, f) = omega (arith, one u a c r s, all_one R one us b d sums others)
 
-ends : (q : Asked) (ancestors : List Asked) → IsShut q ancestors ⊎ Reaches [] q → (IsShut q ancestors → ⊥) → (Reaches [] q → ⊥) → ⊥
-ends q ancestors (inl shut) unshut elsewhere = unshut shut
-ends q ancestors (inr here) unshut elsewhere = elsewhere here
-
 pub size_one : (depth : ℕ) (q : Asked) (ancestors : List Asked) (m n : ℕ) → IsSearchSize q depth ancestors m → IsSearchSize q depth ancestors n → m ≡ n
 size_one zero q ancestors m n e f = e ∙ sym f
 size_one (suc depth) q ancestors m n (inl (end, e)) (inl (end2, f)) = e ∙ sym f
-size_one (suc depth) q ancestors m n (inl (end, e)) (inr (unshut, elsewhere, below)) = absurd (ends q ancestors end unshut elsewhere)
-size_one (suc depth) q ancestors m n (inr (unshut, elsewhere, below)) (inl (end, f)) = absurd (ends q ancestors end unshut elsewhere)
+size_one (suc depth) q ancestors m n (inl (end, e)) (inr (unshut, elsewhere, below)) = absurd (shut-end q ancestors end unshut elsewhere)
+size_one (suc depth) q ancestors m n (inr (unshut, elsewhere, below)) (inl (end, f)) = absurd (shut-end q ancestors end unshut elsewhere)
 size_one (suc depth) q ancestors m n (inr (unshut, elsewhere, (a, sums, e))) (inr (unshut2, elsewhere2, (b, sums2, f))) =
     let same = all_one (λ u. IsSearchSize (predecessor q u) depth (q ∷ ancestors)) (λ u x y r s. size_one depth (predecessor q u) (q ∷ ancestors) x y r s) (unmoves q) a b sums sums2 in
     omega arith
@@ -72,7 +69,7 @@ sums_fit R S P fit (u ∷ us) m n (a, r, inr (passes, (b, sums, e))) (c, d, s, o
 pub cost_fits : (depth : ℕ) (q : Asked) (ancestors : List Asked) (m n : ℕ) → IsCost q depth ancestors m → IsSearchSize q depth ancestors n → m ≤ n
 cost_fits zero q ancestors m n e f = omega arith
 cost_fits (suc depth) q ancestors m n (inl (end, e)) size = omega (arith, size_positive (suc depth) q ancestors n size)
-cost_fits (suc depth) q ancestors m n (inr (unshut, elsewhere, below)) (inl (end, f)) = absurd (ends q ancestors end unshut elsewhere)
+cost_fits (suc depth) q ancestors m n (inr (unshut, elsewhere, below)) (inl (end, f)) = absurd (shut-end q ancestors end unshut elsewhere)
 cost_fits (suc depth) q ancestors m n (inr (unshut, elsewhere, (a, sums, e))) (inr (unshut2, elsewhere2, (b, sums2, f))) =
     let fits = sums_fit (λ u. IsCost (predecessor q u) depth (q ∷ ancestors)) (λ u. IsSearchSize (predecessor q u) depth (q ∷ ancestors)) (λ u. IsRefutable (predecessor q u) depth (q ∷ ancestors)) (λ u x y r s. cost_fits depth (predecessor q u) (q ∷ ancestors) x y r s) (unmoves q) a b sums sums2 in
     omega arith

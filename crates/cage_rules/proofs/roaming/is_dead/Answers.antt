@@ -1,10 +1,9 @@
 use Rattle.std.proofs.Common.{◌≡◌, ◌-◌, ◌&&◌, not, ℕ, Bool, List, refl, ap, sym, ◌∙◌, arith}
 use Rattle.std.specs.List.{list_all, range_with_len}
-use Rattle.board_base.specs.Board.{at, is_in, is_like}
+use Rattle.board_base.specs.Board.{at, is_in, is_like, Places}
 use Rattle.general_lemmas.proofs.Ranges.{all_step, all_stop}
 use Rattle.cage_rules.specs.Regions.{beginner, is_dead, region}
 use Rattle.std.specs.Prelude.{Option, Some}
-use Rattle.board_base.specs.Board.{Places}
 use Rattle.board_base.specs.declared.men.Man.{Man}
 use Rattle.cage_rules.proofs.roaming.is_dead.Goals as goal
 

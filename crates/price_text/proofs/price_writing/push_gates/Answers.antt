@@ -1,9 +1,8 @@
 use Rattle.std.proofs.Common.{get_or, refl}
 use Rattle.std.specs.Fmt.{decimal}
 use Rattle.capture_prices.specs.declared.prices.Gate.{Gate}
-use Rattle.price_text.proofs.PricesWritten.{no_gate}
+use Rattle.price_text.proofs.PricesWritten.{no_gate, gate_within, gates_next, pushed}
 use Rattle.price_text.proofs.PriceTexts.{low_short}
-use Rattle.price_text.proofs.PricesWritten.{gate_within, gates_next, pushed}
 use Rattle.price_text.proofs.price_writing.push_gates.Goals as goal
 
 pub push_price-requires-clause-low : goal.push_price-requires-clause-low

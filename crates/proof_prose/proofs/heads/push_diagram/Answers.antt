@@ -2,8 +2,7 @@ use Rattle.std.proofs.Common.{◌++◌, ◌∷◌, [], refl}
 use Rattle.std.proofs.lemmas.Result.{IfOk-equal}
 use Rattle.std.specs.Prelude.{codes}
 use Rattle.prose_words.proofs.Squares.{thence}
-use Rattle.proof_prose.specs.Heads.{upper_text, lower_text}
-use Rattle.proof_prose.specs.Heads.{diagram_text}
+use Rattle.proof_prose.specs.Heads.{upper_text, lower_text, diagram_text}
 use Rattle.proof_prose.proofs.heads.push_diagram.Goals as goal
 
 pub returns : goal.returns

@@ -1,10 +1,9 @@
-use Rattle.std.proofs.Common.{subst, take, List}
+use Rattle.std.proofs.Common.{subst, take, List, ℕ}
 use Rattle.std.specs.List.{All}
 use Rattle.std.proofs.lemmas.List.{take_all}
 use Rattle.std.proofs.lemmas.List.Elements.{All-more}
 use Rattle.std.specs.Prelude.{◌≡◌, false}
 use Rattle.proof_story.specs.Rendering.{castles_from}
-use Rattle.std.proofs.Common.{ℕ}
 use Rattle.proof_story.proofs.checking.none_castles.Goals as goal
 
 pub loop-from-preserved : goal.loop-from-preserved

@@ -1,8 +1,7 @@
 use Rattle.std.proofs.Common.{◌≡◌, ◌<◌, true, set, ◌∙◌, arith}
 use Rattle.board_base.specs.Board.{opponent}
 use Rattle.board_base.specs.Squares.{squares_of}
-use Rattle.cage_rules.specs.Steps.{is_ahead}
-use Rattle.cage_rules.specs.Steps.{near}
+use Rattle.cage_rules.specs.Steps.{is_ahead, near}
 use Rattle.sketch_grounds.proofs.Entering.{straight-made}
 use Rattle.sketch_grounds.proofs.entries.straight_behind.Goals as goal
 

@@ -2,8 +2,9 @@ use Rattle.std.proofs.Common.{◌≡◌, ◌∙◌}
 use Rattle.cage_rules.specs.Sets.{union}
 use Rattle.cage_rules.specs.Steps.{is_step, near}
 use Rattle.cage_rules.specs.SetSteps.{both, outside}
-use Rattle.sketch_grounds.proofs.Pruning.{spread-made}
+
 use Rattle.sketch_grounds.proofs.rooms.spread.Goals as goal
+use Rattle.cage_rules.proofs.Spread.{spread-made}
 
 pub returns : goal.returns
 returns c =

@@ -1,7 +1,6 @@
 use Rattle.std.specs.Prelude.{codes}
 use Rattle.prose_words.proofs.Behind.{behind}
-use Rattle.sketch_words.specs.Phrases.{or_words}
-use Rattle.sketch_words.specs.Phrases.{files_words}
+use Rattle.sketch_words.specs.Phrases.{or_words, files_words}
 use Rattle.sketch_words.proofs.sentences.push_deed.Goals as goal
 
 pub returns : goal.returns

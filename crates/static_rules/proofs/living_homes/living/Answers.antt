@@ -1,10 +1,9 @@
 use Rattle.std.proofs.Common.{ℕ, ◌≡◌, ◌+◌, cond, set, ap, sym, ◌∙◌, subst, arith}
 use Rattle.std.specs.Prelude.{None}
 use Rattle.board_base.specs.Board.{Places, at}
-use Rattle.static_rules.specs.Left.{may_live}
+use Rattle.static_rules.specs.Left.{may_live, left_with}
 use Rattle.cage_rules.proofs.Beginners.{empty-board}
 use Rattle.cage_rules.proofs.Filling.{Filled, filled-end, filled-in}
-use Rattle.static_rules.specs.Left.{left_with}
 use Rattle.static_rules.proofs.living_homes.living.Goals as goal
 
 pub loop-i-init : goal.loop-i-init

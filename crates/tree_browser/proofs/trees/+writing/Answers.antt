@@ -3,8 +3,7 @@ use Rattle.std.proofs.lemmas.List.{length-reverse}
 use Rattle.general_lemmas.proofs.Lasts.{pushed}
 use Rattle.query_base.specs.Asked.{Asked}
 use Rattle.tree_browser.specs.Trees.{IsNote, IsTree, line}
-use Rattle.tree_browser.specs.Pages.{expands}
-use Rattle.tree_browser.specs.Pages.{Writes}
+use Rattle.tree_browser.specs.Pages.{expands, Writes}
 use Rattle.tree_browser.proofs.Written.{deeper, inner, inner-spent, leaf, listed-in, so_more, so_spent}
 use Rattle.tree_browser.proofs.trees.+writing.Goals as goal
 
