@@ -1,5 +1,5 @@
--- The men of a side began on different homes; those gone on the others. So each row of the table of costs has a home of its own, and
--- the least cost is no more than what the men's fates cost.
+-- The men of a side began on different homes; those gone on the others. So each row of a table of costs, whatever its costs are, has a
+-- home of its own, and the least cost is no more than what the men's fates cost.
 use Rattle.std.proofs.Common.{◌≡◌, ℕ, zero, suc, ◌+◌, ◌-◌, ◌<◌, ◌≤◌, ◌⊎◌, inl, inr, Bool, true, false, not, List, [], ◌∷◌, ◌++◌, length, map, get_or, replicate, slice_index, refl, ap, sym, ◌∙◌, subst, arith}
 use Rattle.std.proofs.lemmas.Bool.{both_ways, cases_Bool, cond-true, cond-false, not-true}
 use Rattle.std.proofs.lemmas.List.{length-append, length-map, length-replicate, map-append}
@@ -51,10 +51,20 @@ found-in p (x ∷ xs) = elim (cases_Bool (p x)) [
 abbrev pub place_of : Labels → ℕ → Option ℕ
 place_of labels h = find (λ s. is_label (label_at labels s) h) (range_with_len 0 64)
 
--- what became of him costs this
+-- what became of the man of h costs this: that he stands on s, or that he is gone
+abbrev pub cost_of : (ℕ → ℕ → ℕ) → (ℕ → ℕ) → ℕ → Option ℕ → ℕ
+cost_of stand away h None = away h
+cost_of stand away h (Some s) = stand h s
+
+-- what it costs that the man of h stands on s, and that he is gone
+abbrev pub stand_cost : PriceList → List Bool → Colour → Places → Places → ℕ → ℕ → ℕ
+stand_cost p set c first board h s = stands p set c (at first h) h (at board s) s
+
+abbrev pub gone_cost : PriceList → List Bool → Colour → Places → ℕ → ℕ
+gone_cost p set c first h = gone p set c (at first h) h
+
 abbrev pub fate_at : PriceList → List Bool → Colour → Places → Places → ℕ → Option ℕ → ℕ
-fate_at p set c first board h None = gone p set c (at first h) h
-fate_at p set c first board h (Some s) = stands p set c (at first h) h (at board s) s
+fate_at p set c first board = cost_of (stand_cost p set c first board) (gone_cost p set c first)
 
 abbrev pub fate_cost : PriceList → List Bool → Colour → Places → Places → Labels → ℕ → ℕ
 fate_cost p set c first board labels h = fate_at p set c first board h (place_of labels h)
@@ -155,9 +165,9 @@ home-listed o c h home = square-listed c (array_of o) h (array-inside o (is_of c
 pub listed-home : (o : List Bool) (c : Colour) (h : ℕ) → Has (men_squares c (array_of o)) h → is_of c (at (array_of o) h) ≡ true
 listed-home o c h there = (on-square c (array_of o) h there).0
 
-module _ (o : List Bool) (g : List Move) (p : PriceList) (set : List Bool) (c : Colour) where
-  abbrev cost : ℕ → ℕ
-  cost = fate_cost p set c (array_of o) (board_after o g) (labels_after o g)
+module _ (o : List Bool) (g : List Move) (c : Colour) (stand : ℕ → ℕ → ℕ) (away : ℕ → ℕ) where
+  abbrev pub cost : ℕ → ℕ
+  cost h = cost_of stand away h (place_of (labels_after o g) h)
 
   abbrev his_home : ℕ → ℕ
   his_home s = home_at (label_at (labels_after o g) s)
@@ -209,19 +219,19 @@ module _ (o : List Bool) (g : List Move) (p : PriceList) (set : List Bool) (c : 
         let is = has-filter is_lost (men_squares c (array_of o)) h there in
         elim (fate o g h game) [
           | standing s place label ↦ absurd (both_ways (is_lost h) (ap is_none place) is.0)
-          | missing none away ↦ (listed-home o c h is.1, none, away)
+          | missing none gone ↦ (listed-home o c h is.1, none, gone)
         ]
 
     assigned-home : (h : ℕ) → Has assigned h → is_of c (at (array_of o) h) ≡ true
-    assigned-home h there = elim (has-either stood lost h there) [ inl here ↦ (stood-from h here).2 | inr away ↦ (lost-from h away).0 ]
+    assigned-home h there = elim (has-either stood lost h there) [ inl here ↦ (stood-from h here).2 | inr gone ↦ (lost-from h gone).0 ]
 
     stood-differ : Differ stood
     stood-differ = differ-map his_home (men_squares c (board_after o g)) (λ s t a b same. labels-apart o g game s t (his_home t) ((stood-on s a).label ∙ ap Some same) (stood-on t b).label) (squares-differ c (board_after o g))
 
     assigned-differ : Differ assigned
-    assigned-differ = differ-append stood lost stood-differ (differ-filter is_lost (men_squares c (array_of o)) (squares-differ c (array_of o))) (λ h here away.
+    assigned-differ = differ-append stood lost stood-differ (differ-filter is_lost (men_squares c (array_of o)) (squares-differ c (array_of o))) (λ h here gone.
         let x = stood-from h here in
-        (lost-from h away).2 x.0 x.1)
+        (lost-from h gone).2 x.0 x.1)
 
     -- as many are gone as there are men less on the board
     stood-kept : (h : ℕ) → Has stood h → Has kept h
@@ -239,7 +249,7 @@ module _ (o : List Bool) (g : List Move) (p : PriceList) (set : List Bool) (c : 
               let square : Has (men_squares c (board_after o g)) s = square-listed c (board_after o g) s (labelled-inside o g s h game label) here in
               let home : his_home s ≡ h = ap home_at label in
               subst (Has stood) home (contains-has stood (his_home s) (contains-map his_home (men_squares c (board_after o g)) s (has-contains (men_squares c (board_after o g)) s square)))
-          | missing none away ↦ absurd (both_ways (is_lost h) (not-true (is_lost h) is.0) (ap is_none none))
+          | missing none gone ↦ absurd (both_ways (is_lost h) (not-true (is_lost h) is.0) (ap is_none none))
         ]
 
     lost-count : length lost ≡ men_on c (array_of o) - men_on c (board_after o g)
@@ -250,51 +260,53 @@ module _ (o : List Bool) (g : List Move) (p : PriceList) (set : List Bool) (c : 
         let many : length kept ≤ length stood = fewer kept stood (differ-filter (λ k. not (is_lost k)) (men_squares c (array_of o)) (squares-differ c (array_of o))) kept-stood in
         omega arith
 
+    -- what each man costs on each home, and each home's man who is gone
     abbrev row : ℕ → List ℕ
-    row = stand_row p set c (array_of o) (board_after o g)
+    row s = map (λ j. stand (home_of c j) s) (range_with_len 0 16)
 
     abbrev last_row : List ℕ
-    last_row = gone_row p set c (array_of o)
+    last_row = map (λ j. away (home_of c j)) (range_with_len 0 16)
 
-    table-is : cost_table p set c (array_of o) (board_after o g) ≡ map row (men_squares c (board_after o g)) ++ replicate (length lost) last_row
-    unfolding cost_table
-    table-is = ap (λ (n : ℕ). map row (men_squares c (board_after o g)) ++ replicate n last_row) (sym lost-count)
+    abbrev rows : List (List ℕ)
+    rows = map row (men_squares c (board_after o g))
 
-    injection : IsInjection 16 (length (map row (men_squares c (board_after o g)) ++ replicate (length lost) last_row)) (map (column c) assigned)
+    injection : IsInjection 16 (length (rows ++ replicate (length lost) last_row)) (map (column c) assigned)
     injection =
         let differ : Differ (map (column c) assigned) = differ-map (column c) assigned (λ h k a b same. sym (column-is o c h (assigned-home h a)).1 ∙ ap (home_of c) same ∙ (column-is o c k (assigned-home k b)).1) assigned-differ in
-        let rows : length (map row (men_squares c (board_after o g)) ++ replicate (length lost) last_row) ≡ length (men_squares c (board_after o g)) + length lost = omega (arith, length-append (map row (men_squares c (board_after o g))) (replicate (length lost) last_row), length-map (men_squares c (board_after o g)) row, length-replicate (length lost) last_row) in
+        let many : length (rows ++ replicate (length lost) last_row) ≡ length (men_squares c (board_after o g)) + length lost = omega (arith, length-append rows (replicate (length lost) last_row), length-map (men_squares c (board_after o g)) row, length-replicate (length lost) last_row) in
         let size : length (map (column c) assigned) ≡ length (men_squares c (board_after o g)) + length lost = omega (arith, length-map assigned (column c), length-append stood lost, length-map (men_squares c (board_after o g)) his_home) in
         record {
-          size = size ∙ sym rows;
+          size = size ∙ sym many;
           within = within-side c assigned (λ h there. (column-is o c h (assigned-home h there)).0);
           apart = λ i k low high same. differ-apart (map (column c) assigned) differ i k 0 low high same;
         }
 
-    stood-cost : assignment_cost (map row (men_squares c (board_after o g))) (map (column c) stood) ≡ sum_by cost stood
-    unfolding stand_row
+    stood-cost : assignment_cost rows (map (column c) stood) ≡ sum_by cost stood
     stood-cost = rows-sum c row his_home cost (men_squares c (board_after o g)) (λ s there.
         let x = stood-on s there in
-        row-at o c (λ h. stands p set c (at (array_of o) h) h (at (board_after o g) s) s) (his_home s) x.began
-        ∙ sym (ap (fate_at p set c (array_of o) (board_after o g) (his_home s)) (placed o g (his_home s) s game x.label)))
+        row-at o c (λ h. stand h s) (his_home s) x.began ∙ sym (ap (cost_of stand away (his_home s)) (placed o g (his_home s) s game x.label)))
 
     lost-cost : assignment_cost (replicate (length lost) last_row) (map (column c) lost) ≡ sum_by cost lost
-    unfolding gone_row
     lost-cost = alike-sum c last_row cost lost (λ h there.
         let x = lost-from h there in
-        row-at o c (λ k. gone p set c (at (array_of o) k) k) h x.0 ∙ sym (ap (fate_at p set c (array_of o) (board_after o g) h) x.1))
+        row-at o c away h x.0 ∙ sym (ap (cost_of stand away h) x.1))
 
-    all-cost : assignment_cost (map row (men_squares c (board_after o g)) ++ replicate (length lost) last_row) (map (column c) assigned) ≡ sum_by cost assigned
+    all-cost : assignment_cost (rows ++ replicate (length lost) last_row) (map (column c) assigned) ≡ sum_by cost assigned
     all-cost =
-        let size : length (map row (men_squares c (board_after o g))) ≡ length (map (column c) stood) = omega (arith, length-map (men_squares c (board_after o g)) row, length-map stood (column c), length-map (men_squares c (board_after o g)) his_home) in
-        ap (assignment_cost (map row (men_squares c (board_after o g)) ++ replicate (length lost) last_row)) (map-append (column c) stood lost)
-        ∙ cost-append (map row (men_squares c (board_after o g))) (replicate (length lost) last_row) (map (column c) stood) (map (column c) lost) size
+        let size : length rows ≡ length (map (column c) stood) = omega (arith, length-map (men_squares c (board_after o g)) row, length-map stood (column c), length-map (men_squares c (board_after o g)) his_home) in
+        ap (assignment_cost (rows ++ replicate (length lost) last_row)) (map-append (column c) stood lost)
+        ∙ cost-append rows (replicate (length lost) last_row) (map (column c) stood) (map (column c) lost) size
         ∙ omega (arith, stood-cost, lost-cost, sum_by-append cost stood lost)
 
     -- the least cost is no more than what became of the men of the side
-    pub least-most : side_cost o (board_after o g) p set c ≤ sum_by cost (men_squares c (array_of o))
-    least-most =
-        let least = least_cost-le 16 (map row (men_squares c (board_after o g)) ++ replicate (length lost) last_row) (map (column c) assigned) injection in
-        let table = ap (least_cost 16) table-is in
+    pub table-most : least_cost 16 (rows ++ replicate (men_on c (array_of o) - men_on c (board_after o g)) last_row) ≤ sum_by cost (men_squares c (array_of o))
+    table-most =
+        let least = least_cost-le 16 (rows ++ replicate (length lost) last_row) (map (column c) assigned) injection in
+        let same = ap (λ (n : ℕ). least_cost 16 (rows ++ replicate n last_row)) lost-count in
         let among = sum-among cost assigned (men_squares c (array_of o)) assigned-differ (λ h there. home-listed o c h (assigned-home h there)) in
-        omega (arith, least, table, all-cost, among)
+        omega (arith, least, same, all-cost, among)
+
+-- the least that a side costs is no more than what became of its men
+pub least-most : (o : List Bool) (g : List Move) (p : PriceList) (set : List Bool) (c : Colour) → IsGame o g → side_cost o (board_after o g) p set c ≤ sum_by (fate_cost p set c (array_of o) (board_after o g) (labels_after o g)) (men_squares c (array_of o))
+unfolding cost_table stand_row gone_row
+least-most o g p set c game = table-most o g c (stand_cost p set c (array_of o) (board_after o g)) (gone_cost p set c (array_of o)) game

@@ -1,5 +1,4 @@
 pub mod Apart
-pub mod Tables
 pub mod Going
 pub mod Fell
 pub mod Losing

@@ -24,7 +24,7 @@ use Rattle.balance_rule.specs.Balance.{most_cost}
 use Rattle.balance_rule.proofs.GateSums.{gates-sum}
 use Rattle.balance_rule.proofs.LostMen.{gained}
 use Rattle.balance_rule.proofs.StandingMen.{spent}
-use Rattle.balance_rule.proofs.TrueHomes.{fate, home-listed, listed-home, missing, squares-differ, standing}
+use Rattle.balance_rule.proofs.TrueHomes.{cost, cost_of, fate, home-listed, listed-home, missing, squares-differ, standing, table-most}
 use Rattle.ledger_facts.specs.Supposed.{IsSupposed, captures}
 use Rattle.ledger_facts.specs.Accounts.{cost_table_if, earned_over, gone_if, gone_row_if, list_for, paid_over, raised, side_cost_if, stand_row_if, stands_if}
 use Rattle.ledger_facts.specs.Refuted.{IsRefuted}
@@ -34,7 +34,6 @@ use Rattle.ledger_facts.specs.declared.suppositions.Supposition.TheVariants.{Beg
 use Rattle.ledger_facts.proofs.Apart.{costs-apart}
 use Rattle.ledger_facts.proofs.Cells.{gone-fits, stand-fits}
 use Rattle.ledger_facts.proofs.Raised.{turnover-raised}
-use Rattle.ledger_facts.proofs.Tables.{cost, cost_of, table-most}
 
 module _ (o : List Bool) (g : List Move) (set : List Bool) (walled : Walled o g set) (x : Supposition) (true_here : IsSupposed x o g) where
   -- what the man of a home costs on a square, and if he is gone
