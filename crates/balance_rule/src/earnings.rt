@@ -70,8 +70,8 @@ fn earned_within(exposed: SquareSet, takes: &[u8; 16], within: SquareSet) -> u16
     most_on(takes, both(within, exposed))
 }
 
-/// The same for each of eight sets.
-pub(crate) fn earned_in_each(
+/// What a man who is taken within each of eight sets earns at most, if he is exposed on another and these are the enemy's prices.
+pub fn earned_in_each(
     exposed: SquareSet,
     takes: &[u8; 16],
     sets: &[SquareSet; 8],

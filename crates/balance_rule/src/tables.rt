@@ -94,8 +94,8 @@ fn stand_rows(ground: &Ground, board: &Board, begun: u8) -> Option<ArrayVec<[u16
     Some(rows)
 }
 
-/// Adds a row until there are so many.
-fn fill_up(rows: &mut ArrayVec<[u16; 16], 16>, row: [u16; 16], begun: u8)
+/// Adds a row until there are so many, at most 16.
+pub fn fill_up(rows: &mut ArrayVec<[u16; 16], 16>, row: [u16; 16], begun: u8)
     requires begun { begun ≤ 16 }
     requires room { length rows.old.items ≤ begun }
     requires table { IsTable rows.old.items 16 never }

@@ -1,4 +1,4 @@
-ghost use Rattle.std.specs.Prelude.{◌≡◌, ◌-◌, ◌<◌, ◌≤◌, ◌++◌, Bool, List, IfSome, SomeIff, cond, length, map, replicate};
+ghost use Rattle.std.specs.Prelude.{◌≡◌, ◌<◌, ◌≤◌, Bool, List, IfSome, SomeIff, cond, length, map};
 ghost use Rattle.std.specs.Option.{option_map};
 ghost use Rattle.std.specs.List.{All};
 ghost use Rattle.board_base.specs.Board.{array_of, at, men_squares};
@@ -15,7 +15,9 @@ use crate::losses::lost;
 use crate::standing::{same_square, stands_if, unless};
 use arrayvec::ArrayVec;
 use assignment::solve_large;
-use balance_rule::{Ground, begun_with, gone_row, ground_of, number_of_home, seen_by};
+use balance_rule::{
+    Ground, begun_with, fill_up, gone_row, ground_of, number_of_home, seen_by,
+};
 use board_base::{Board, Colour, Square, SquareSet, is_of};
 use capture_prices::Prices;
 use ledger_facts::Supposition;
@@ -120,20 +122,6 @@ fn stand_rows(
         }
     }
     Some(rows)
-}
-
-/// Adds a row until there are so many.
-fn fill_up(rows: &mut ArrayVec<[u16; 16], 16>, row: [u16; 16], begun: u8)
-    requires begun { begun ≤ 16 }
-    requires room { length rows.old.items ≤ begun }
-    requires table { IsTable rows.old.items 16 never }
-    requires small { All (λ cost. cost ≤ never) row }
-    ensures table { IsTable rows.new.items 16 never }
-    ensures items { rows.new.items ≡ rows.old.items ++ replicate (begun - length rows.old.items) row }
-{
-    for _ in rows.len()..begun as usize {
-        rows.push(row);
-    }
 }
 
 /// A row for each man of the side, and one for each who is missing of so many; None if and only if it has more.

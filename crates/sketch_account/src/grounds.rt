@@ -8,8 +8,7 @@ ghost use Rattle.balance_rule.specs.LeastWays.{seen_by};
 ghost use Rattle.sketch_grounds.specs.Zones.{Room, reached_from, roams_past, room_past};
 ghost use Rattle.sketch_account.specs.Grounds.{IsGround};
 
-use crate::earnings::earned_in_each;
-use balance_rule::seen_by;
+use balance_rule::{earned_in_each, seen_by};
 use board_base::{Board, CastleSet, Colour, Kind, Man, Odds, Square, SquareSet};
 use capture_prices::Prices;
 use figures::either;

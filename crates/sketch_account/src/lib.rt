@@ -5,7 +5,6 @@
 #![tactic(auto)]
 
 mod accounts;
-mod earnings;
 mod goals;
 mod grounds;
 mod laws;

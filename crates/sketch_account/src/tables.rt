@@ -1,4 +1,4 @@
-ghost use Rattle.std.specs.Prelude.{◌≡◌, ◌-◌, ◌<◌, ◌≤◌, ◌++◌, Bool, IfSome, IsTrue, List, MatchOption, length, map, not, replicate};
+ghost use Rattle.std.specs.Prelude.{◌≡◌, ◌<◌, ◌≤◌, Bool, IfSome, IsTrue, List, MatchOption, length, map, not};
 ghost use Rattle.std.specs.List.{All, filter};
 ghost use Rattle.board_base.specs.Board.{array_of};
 ghost use Rattle.assignment.specs.Assignments.{least_cost};
@@ -17,7 +17,7 @@ use crate::losses::lost_row;
 use crate::rows::{Manner, comer_of, figure_row};
 use arrayvec::ArrayVec;
 use assignment::solve_large;
-use balance_rule::begun_with;
+use balance_rule::{begun_with, fill_up};
 use board_base::Odds;
 use figures::{Figure, Sketch};
 
@@ -78,20 +78,6 @@ fn figure_rows(
         }
     }
     Some(rows)
-}
-
-/// Adds a row until there are so many.
-fn fill_up(rows: &mut ArrayVec<[u16; 16], 16>, row: [u16; 16], begun: u8)
-    requires begun { begun ≤ 16 }
-    requires room { length rows.old.items ≤ begun }
-    requires table { IsTable rows.old.items 16 never }
-    requires small { All (λ cost. cost ≤ never) row }
-    ensures table { IsTable rows.new.items 16 never }
-    ensures items { rows.new.items ≡ rows.old.items ++ replicate (begun - length rows.old.items) row }
-{
-    for _ in rows.len()..begun as usize {
-        rows.push(row);
-    }
 }
 
 /// The least cost of giving the rows columns of their own.
