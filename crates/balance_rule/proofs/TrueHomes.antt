@@ -3,6 +3,7 @@
 use Rattle.std.proofs.Common.{◌≡◌, ℕ, zero, suc, ◌+◌, ◌-◌, ◌<◌, ◌≤◌, ◌⊎◌, inl, inr, Bool, true, false, not, List, [], ◌∷◌, ◌++◌, length, map, get_or, replicate, slice_index, refl, ap, sym, ◌∙◌, subst, arith}
 use Rattle.std.proofs.lemmas.Bool.{both_ways, cases_Bool, cond-true, cond-false, not-true}
 use Rattle.std.proofs.lemmas.List.{length-append, length-map, length-replicate, map-append}
+use Rattle.std.proofs.lemmas.List.Elements.{Contains-get_or}
 use Rattle.std.proofs.lemmas.List.Filters.{length-filter_both}
 use Rattle.std.proofs.lemmas.List.FromFn.{get_or-map-range_with_len}
 use Rattle.std.proofs.lemmas.List.Sums.{sum_by-append, sum_by-cons}
@@ -149,6 +150,10 @@ unfolding men_squares
 on-square c board s there =
     let kept = has-filter (λ t. is_of c (at board t)) (range_with_len 0 64) s there in
     (kept.0, (range-has 0 64 s kept.1).1)
+
+-- each man stands on the board
+pub men-inside : (c : Colour) (board : Places) (i : ℕ) → i < length (men_squares c board) → slice_index (men_squares c board) i < 64
+men-inside c board i low = (on-square c board (slice_index (men_squares c board) i) (contains-has (men_squares c board) (slice_index (men_squares c board) i) (Contains-get_or (men_squares c board) i 0 low))).1
 
 pub square-listed : (c : Colour) (board : Places) (s : ℕ) → s < 64 → is_of c (at board s) ≡ true → Has (men_squares c board) s
 unfolding men_squares

@@ -1,11 +1,10 @@
 -- The cells of what a side's men cost.
-use Rattle.std.proofs.Common.{◌≡◌, ℕ, ◌-◌, ◌<◌, ◌≤◌, inl, inr, Bool, List, [], ◌∷◌, length, map, slice_index, slice_index_or, refl, ap, sym, ◌∙◌, arith, length-append}
+use Rattle.std.proofs.Common.{◌≡◌, ℕ, ◌-◌, ◌<◌, ◌≤◌, inl, inr, Bool, List, [], length, map, slice_index, slice_index_or, refl, ap, sym, ◌∙◌, arith, length-append}
 use Rattle.std.specs.Prelude.{replicate}
 use Rattle.std.proofs.lemmas.Bool.{cases_lt}
 use Rattle.std.proofs.lemmas.List.{get_or-append_right, get_or_append_left, get_or-map, length-map, get_or-replicate, length-replicate}
 use Rattle.std.proofs.lemmas.List.FromFn.{get_or-map-range_with_len}
-use Rattle.std.proofs.lemmas.List.Elements.{Contains-get_or}
-use Rattle.general_lemmas.proofs.Differing.{contains-has, differ-apart}
+use Rattle.general_lemmas.proofs.Differing.{differ-apart}
 use Rattle.board_base.specs.Board.{Places, at, home_of, men_squares}
 use Rattle.board_base.specs.declared.men.Colour.{Colour}
 use Rattle.board_base.specs.declared.men.Colour.TheVariants.{White, Black}
@@ -13,20 +12,12 @@ use Rattle.assignment.specs.Tables.{cost_at}
 use Rattle.capture_prices.specs.Prices.{PriceList}
 use Rattle.balance_rule.specs.Balance.{men_on}
 use Rattle.balance_rule.specs.Costs.{gone, stands}
-use Rattle.balance_rule.proofs.TrueHomes.{on-square, squares-differ}
+use Rattle.balance_rule.proofs.TrueHomes.{squares-differ}
 use Rattle.ledger_facts.specs.Accounts.{cost_table_if, gone_if, gone_row_if, stand_row_if, stands_if}
 use Rattle.ledger_facts.specs.declared.suppositions.Supposition.{Supposition}
 use Rattle.ledger_rule.specs.Kept.{nothing}
 
--- a list is what it is
-pub map-same : (xs : List ℕ) → map (λ (s : ℕ). s) xs ≡ xs
-map-same [] = refl
-map-same (x ∷ xs) = ap (λ (l : List ℕ). x ∷ l) (map-same xs)
-
--- each man stands on the board, and no two on one square
-pub men-inside : (c : Colour) (board : Places) (i : ℕ) → i < length (men_squares c board) → slice_index (men_squares c board) i < 64
-men-inside c board i low = (on-square c board (slice_index (men_squares c board) i) (contains-has (men_squares c board) (slice_index (men_squares c board) i) (Contains-get_or (men_squares c board) i 0 low))).1
-
+-- no two men stand on one square
 pub men-apart : (c : Colour) (board : Places) (i k : ℕ) → i < men_on c board → k < men_on c board → slice_index (men_squares c board) i ≡ slice_index (men_squares c board) k → i ≡ k
 men-apart c board i k low high same = differ-apart (men_squares c board) (squares-differ c board) i k 0 low high same
 

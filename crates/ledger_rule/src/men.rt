@@ -1,26 +1,7 @@
-ghost use Rattle.std.specs.Prelude.{◌≡◌, ◌≢◌, ◌<◌, ◌≤◌, ℕ, MatchOption, SomeIff, length, slice_index};
-ghost use Rattle.std.specs.Option.{option_map};
-ghost use Rattle.board_base.specs.Board.{home_of, men_squares};
-ghost use Rattle.balance_rule.specs.Balance.{men_on};
+ghost use Rattle.std.specs.Prelude.{◌≡◌, ◌≢◌, ◌<◌, ℕ, MatchOption, length, slice_index};
+ghost use Rattle.board_base.specs.Board.{home_of};
 
-use arrayvec::ArrayVec;
-use board_base::{Board, Colour, Square, is_of};
-
-/// The squares of the side's men, in ascending order; None if and only if there are more than sixteen.
-pub(crate) fn men_of(board: &Board, side: Colour) -> Option<ArrayVec<u8, 16>>
-    ensures { SomeIff (option_map (λ men. men.items) result) (men_on side board.now ≤ 16) (men_squares side board.now) }
-{
-    let mut men: ArrayVec<u8, 16> = ArrayVec::new();
-    for i in 0..64 {
-        if is_of(side, board.at(Square::known(i))) {
-            if men.len() == 16 {
-                return None;
-            }
-            men.push(i);
-        }
-    }
-    Some(men)
-}
+use board_base::{Colour, Square};
 
 /// Which of the men stands on this square; None if and only if none does.
 pub(crate) fn place_among(men: &[u8], t: Square) -> Option<usize>

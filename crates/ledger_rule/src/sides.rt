@@ -5,10 +5,9 @@ ghost use Rattle.balance_rule.specs.Costs.{never};
 ghost use Rattle.board_base.specs.Board.{array_of};
 ghost use Rattle.ledger_rule.specs.Kept.{IsSide, IsTableOf};
 
-use crate::men::men_of;
 use crate::tables::{cost_table, least_cost};
 use arrayvec::ArrayVec;
-use balance_rule::{Ground, begun_with, ground_of};
+use balance_rule::{Ground, begun_with, ground_of, squares_of_men};
 use board_base::{Colour, SquareSet};
 use capture_prices::Prices;
 use ledger_facts::{Squares, Supposition};
@@ -60,7 +59,7 @@ pub(crate) fn side_of(query: &Query, set: SquareSet, prices: &Prices, side: Colo
     let ground = ground_of(query, set, prices, side);
     let begun = begun_with(side, query.odds);
     let rows = cost_table(&ground, &NOTHING, &query.board, begun)?;
-    let men = men_of(&query.board, side)?;
+    let men = squares_of_men(&query.board, side)?;
     let cost = least_cost(rows.as_slice());
     Some(Side {
         ground,

@@ -1,11 +1,9 @@
 -- What men cost with homes that are given.
-use Rattle.std.proofs.Common.{◌≡◌, ℕ, suc, ◌+◌, ◌-◌, ◌<◌, ◌≤◌, Bool, List, [], ◌∷◌, length, map, drop, slice_index, slice_index_or, refl, ap, subst, ◌∙◌, arith, length-append}
+use Rattle.std.proofs.Common.{◌≡◌, ℕ, suc, ◌+◌, ◌-◌, ◌<◌, ◌≤◌, Bool, List, [], ◌∷◌, length, map, drop, slice_index, slice_index_or, ap, subst, ◌∙◌, arith, length-append}
 use Rattle.std.specs.Prelude.{replicate}
 use Rattle.std.proofs.lemmas.List.{get_or-append_right, get_or_append_left, get_or-map, length-map, get_or-replicate, length-replicate}
 use Rattle.std.proofs.lemmas.List.FromFn.{get_or-map-range_with_len}
-use Rattle.std.proofs.lemmas.List.Elements.{Contains-get_or}
 use Rattle.std.proofs.Math.Seq.{drop-cons, drop-length}
-use Rattle.general_lemmas.proofs.Differing.{contains-has}
 use Rattle.assignment.specs.Assignments.{IsInjection, assignment_cost, least_cost}
 use Rattle.assignment.proofs.Injections.{least_cost-le}
 use Rattle.assignment.specs.Tables.{cost_at}
@@ -14,12 +12,6 @@ use Rattle.board_base.specs.declared.men.Colour.{Colour}
 use Rattle.capture_prices.specs.Prices.{PriceList}
 use Rattle.balance_rule.specs.Balance.{cost_table, gone_row, men_on, stand_row}
 use Rattle.balance_rule.specs.Costs.{stands}
-use Rattle.balance_rule.proofs.TrueHomes.{on-square}
-
--- a list is what it is
-pub map-same : (xs : List ℕ) → map (λ (s : ℕ). s) xs ≡ xs
-map-same [] = refl
-map-same (x ∷ xs) = ap (λ (l : List ℕ). x ∷ l) (map-same xs)
 
 -- the table has a row for each man who began
 pub length-cost_table : (p : PriceList) (set : List Bool) (c : Colour) (first board : Places) → men_on c board ≤ men_on c first → length (cost_table p set c first board) ≡ men_on c first
@@ -64,10 +56,6 @@ assignment_cost-drop table columns i low same =
     ap (λ (t : List (List ℕ)). assignment_cost t (drop i columns)) rows
     ∙ ap (λ (c : List ℕ). assignment_cost (slice_index_or table i [] ∷ drop (suc i) table) c) homes
     ∙ ap (λ (n : ℕ). cost_at table i (slice_index columns i) + assignment_cost (drop n table) (drop n columns)) next
-
--- each man stands on the board
-pub men-inside : (c : Colour) (board : Places) (i : ℕ) → i < length (men_squares c board) → slice_index (men_squares c board) i < 64
-men-inside c board i low = (on-square c board (slice_index (men_squares c board) i) (contains-has (men_squares c board) (slice_index (men_squares c board) i) (Contains-get_or (men_squares c board) i 0 low))).1
 
 -- what homes cost is at least the least cost
 pub homes-above : (table : List (List ℕ)) (columns : List ℕ) (i n : ℕ) → IsInjection 16 (length columns) columns → length columns ≡ length table → i ≡ length columns

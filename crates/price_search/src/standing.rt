@@ -1,33 +1,15 @@
-ghost use Rattle.std.specs.Prelude.{◌≡◌, ◌≤◌, IfSome, SomeIff};
-ghost use Rattle.std.specs.Option.{option_map};
-ghost use Rattle.board_base.specs.Board.{men_squares};
-ghost use Rattle.balance_rule.specs.Balance.{men_on};
+ghost use Rattle.std.specs.Prelude.{IfSome};
 ghost use Rattle.price_search.specs.Standing.{AreStanding};
 
 use arrayvec::ArrayVec;
-use board_base::{Board, Colour, Square, is_of};
+use balance_rule::squares_of_men;
+use board_base::{Board, Colour};
 
 /// The squares of the men of each side, in ascending order.
 #[derive(Drop)]
 pub(crate) struct StandingMen {
     pub(crate) white: ArrayVec<u8, 16>,
     pub(crate) black: ArrayVec<u8, 16>,
-}
-
-/// The squares of the side's men, in ascending order; None if and only if there are more than sixteen.
-fn squares_of_men(board: &Board, side: Colour) -> Option<ArrayVec<u8, 16>>
-    ensures { SomeIff (option_map (λ men. men.items) result) (men_on side board.now ≤ 16) (men_squares side board.now) }
-{
-    let mut men: ArrayVec<u8, 16> = ArrayVec::new();
-    for i in 0..64 {
-        if is_of(side, board.at(Square::known(i))) {
-            if men.len() == 16 {
-                return None;
-            }
-            men.push(i);
-        }
-    }
-    Some(men)
 }
 
 /// The squares of the men of each side; None if a side has more than sixteen.

@@ -18,15 +18,15 @@ fn has_like(first: &Board, figure: &Figure, h: Square) -> bool
     figure.kinds.any(|kind| is_the(colour, kind, place))
 }
 
-/// The homes of the figure on a board.
-fn homes(first: &Board, figure: Figure) -> SquareSet
+/// The squares of the figure's set on which the board has a man of his colour and of one of his kinds.
+pub fn homes_on(first: &Board, figure: Figure) -> SquareSet
     ensures { result ≡ homes_on first.now figure }
 {
     those_that(figure.squares, |h| has_like(first, &figure, h))
 }
 
 /// How many squares the set has.
-pub(crate) fn count(set: SquareSet) -> usize
+pub fn count(set: SquareSet) -> usize
     ensures { result ≡ home_count set }
 {
     let mut n = 0usize;
@@ -80,5 +80,5 @@ pub fn may_be_array(odds: Odds, sketch: &Sketch) -> bool
     ensures { result ≡ may_be_array odds sketch.now }
 {
     let first = array_of(odds);
-    all_suffice(&with_sets(sketch, |figure| homes(&first, figure)))
+    all_suffice(&with_sets(sketch, |figure| homes_on(&first, figure)))
 }

@@ -8,7 +8,7 @@ use board_base::{Square, SquareSet};
 use figures::{both, outside, with_if};
 
 /// Whether each square of the first set is in the second.
-pub(crate) fn is_within(a: SquareSet, b: SquareSet) -> bool
+pub fn is_within(a: SquareSet, b: SquareSet) -> bool
     ensures { result ≡ is_inside a b }
 {
     both(a, outside(b)).bits() == 0

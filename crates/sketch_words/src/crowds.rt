@@ -1,61 +1,23 @@
 //! Why not all men can have come from home, in words.
 
 ghost use Rattle.std.specs.Prelude.{◌≡◌, ◌++◌, IfOk, [], cond, count_by, Some};
-ghost use Rattle.sketch_sets.specs.Homes.{has_like, home_count, homes_on};
-ghost use Rattle.sketch_sets.specs.Tests.{is_inside};
 ghost use Rattle.sketch_words.specs.Crowds.{came_words, first_crowded, first_homeless, first_lacking, first_roaming, lodgers_words, lone_words, named, places_words, why_at, why_words};
 ghost use Rattle.sketch_words.specs.Lodging.{lacks_on, lives_on, lodges_on};
 ghost use Rattle.sketch_words.specs.declared.crowds.Lack.TheVariants.{Home, Room};
 
 use crate::names::{push_called, push_figure, push_pair};
 use crate::sets::list_of;
-use board_base::{Board, Odds, Square, SquareSet, array_of, is_the};
-use figures::{Figure, Sketch, both, outside};
+use board_base::{Board, Odds, SquareSet, array_of};
+use figures::{Figure, Sketch};
 use prose_words::say;
-use sketch_sets::those_that;
+use sketch_sets::{count, homes_on, is_within};
 use std::alloc::{AllocError, Global};
-
-/// Whether the board has a man of the figure's colour and of one of his kinds on `h`.
-fn has_like(first: &Board, figure: &Figure, h: Square) -> bool
-    ensures { result ≡ has_like first.now figure.now h }
-{
-    let colour = figure.colour;
-    let place = first.at(h);
-    figure.kinds.any(|kind| is_the(colour, kind, place))
-}
-
-/// The squares of the figure's set on which the board has such a man.
-fn homes_on(first: &Board, figure: &Figure) -> SquareSet
-    ensures { result ≡ homes_on first.now figure.now }
-{
-    those_that(figure.squares, |h| has_like(first, figure, h))
-}
-
-/// Whether each square of the first set is in the second.
-fn is_within(a: SquareSet, b: SquareSet) -> bool
-    ensures { result ≡ is_inside a b }
-{
-    both(a, outside(b)).bits() == 0
-}
-
-/// How many squares the set has.
-fn count(set: SquareSet) -> usize
-    ensures { result ≡ home_count set }
-{
-    let mut n = 0usize;
-    for i in 0..64 {
-        if set.has(Square::known(i)) {
-            n += 1;
-        }
-    }
-    n
-}
 
 /// Whether all homes of the figure are among these.
 fn lives_on(first: &Board, homes: SquareSet, figure: &Figure) -> bool
     ensures { result ≡ lives_on first.now homes figure.now }
 {
-    is_within(homes_on(first, figure), homes)
+    is_within(homes_on(first, *figure), homes)
 }
 
 /// The same of a figure, if there is one.
@@ -92,7 +54,7 @@ pub enum Lack {
 fn is_homeless(below: usize, first: &Board, figure: &Figure) -> bool
     ensures { result ≡ lacks_on (Home below) first.now [] figure.now }
 {
-    let homes = homes_on(first, figure);
+    let homes = homes_on(first, *figure);
     let beds = count(homes);
     let seats = count(figure.squares);
     let homeless = beds == 0;
@@ -104,7 +66,7 @@ fn is_homeless(below: usize, first: &Board, figure: &Figure) -> bool
 fn is_crowded(first: &Board, sketch: &Sketch, figure: &Figure) -> bool
     ensures { result ≡ lacks_on Room first.now sketch.now figure.now }
 {
-    let homes = homes_on(first, figure);
+    let homes = homes_on(first, *figure);
     let beds = count(homes);
     let wanted = lodgers(first, homes, sketch);
     beds < wanted
@@ -201,7 +163,7 @@ fn lodgers_list(
     ensures { IfOk result (λ v. v.items ≡ lodgers_words odds diagram.now sketch.now wide.now figure.now) }
 {
     let first = array_of(odds);
-    let homes = homes_on(&first, figure);
+    let homes = homes_on(&first, *figure);
     let mut list = Vec::new(alloc);
     for i in 0..wide.len() {
         let wanted = lodges_on(&first, homes, wide.get(i));
@@ -300,7 +262,7 @@ fn push_crowd(
     ensures { IfOk result (λ _. out.new.items ≡ out.old.items ++ why_at odds diagram.now sketch.now wide.now i (Some figure.now)) }
 {
     let first = array_of(odds);
-    let homes = homes_on(&first, figure);
+    let homes = homes_on(&first, *figure);
     let names = lodgers_list(alloc, odds, diagram, sketch, wide, figure)?;
     let home_list = list_of(alloc, homes)?;
     let squares = list_of(alloc, figure.squares)?;

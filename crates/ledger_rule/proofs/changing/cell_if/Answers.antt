@@ -5,7 +5,8 @@ use Rattle.board_base.specs.declared.men.Colour.{Colour}
 use Rattle.board_base.specs.declared.men.Man.{Man}
 use Rattle.balance_rule.specs.LeastWays.{seen_by}
 use Rattle.ledger_facts.specs.Accounts.{gone_if, stands_if}
-use Rattle.ledger_rule.proofs.TableCells.{cell-gone, cell-standing, men-inside}
+use Rattle.balance_rule.proofs.TrueHomes.{men-inside}
+use Rattle.ledger_rule.proofs.TableCells.{cell-gone, cell-standing}
 use Rattle.balance_rule.specs.Costs.{gone}
 use Rattle.ledger_rule.proofs.Touching.{begun, plain-gone}
 use Rattle.ledger_rule.proofs.changing.cell_if.Goals as goal

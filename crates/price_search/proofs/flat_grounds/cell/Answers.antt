@@ -4,7 +4,8 @@ use Rattle.board_base.specs.Board.{array_of, at, home_of, men_squares}
 use Rattle.board_base.specs.declared.men.Man.{Man}
 use Rattle.balance_rule.specs.Costs.{stands}
 use Rattle.price_search.specs.FlatPrices.{flat_prices}
-use Rattle.price_search.proofs.HomesCosts.{cost-gone, cost-standing, men-inside}
+use Rattle.balance_rule.proofs.TrueHomes.{men-inside}
+use Rattle.price_search.proofs.HomesCosts.{cost-gone, cost-standing}
 use Rattle.price_search.proofs.flat_grounds.cell.Goals as goal
 
 pub known-s-requires : goal.known-s-requires

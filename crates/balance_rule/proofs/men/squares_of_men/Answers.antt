@@ -1,12 +1,10 @@
-use Rattle.std.proofs.Common.{◌≡◌, ◌<◌, ◌++◌, ◌∷◌, [], ℕ, length, ap, sym, arith, rules, ◌∙◌}
+use Rattle.std.proofs.Common.{◌≡◌, ◌<◌, ◌++◌, ◌∷◌, [], ℕ, length, ap, sym, arith, map-id, rules, ◌∙◌}
 use Rattle.std.specs.Prelude.{Option}
-use Rattle.std.specs.List.{filter, range_with_len}
 use Rattle.board_base.specs.Board.{at, is_of, men_squares}
 use Rattle.board_base.specs.declared.men.Man.{Man}
 use Rattle.general_lemmas.proofs.Rows.{AreMade-all, AreMade-none, AreMade-skips, AreMade-takes, AreMade-too-many}
-use Rattle.ledger_rule.proofs.TableCells.{map-same}
-use Rattle.ledger_rule.proofs.men.men_of.Goals as goal
-use Rattle.ledger_rule.proofs.men.men_of.Goals.{then-is_of+else-len-eq16, else-is_of}
+use Rattle.balance_rule.proofs.men.squares_of_men.Goals as goal
+use Rattle.balance_rule.proofs.men.squares_of_men.Goals.{then-is_of+else-len-eq16, else-is_of}
 
 pub loop-i-init : goal.loop-i-init
 loop-i-init c = AreMade-none _ _ _ _ _ c.new-men.ensures
@@ -37,4 +35,4 @@ pub returns : goal.returns
 unfolding men_squares
 returns c =
     let all = AreMade-all _ _ _ _ _ _ c.loop-i.invariant (omega arith) in
-    (all.0, all.1 ∙ map-same (filter (λ s. is_of c.args.side (at c.args.board.now s)) (range_with_len 0 64)))
+    (all.0, all.1 ∙ map-id _)

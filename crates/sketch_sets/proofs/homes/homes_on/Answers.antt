@@ -3,7 +3,7 @@ use Rattle.board_base.specs.Board.{is_in}
 use Rattle.figures.specs.Sets.{squares_that}
 use Rattle.sketch_sets.specs.Homes.{has_like, homes_on}
 use Rattle.sketch_sets.specs.Remade.{set_of}
-use Rattle.sketch_sets.proofs.homes.homes.Goals as goal
+use Rattle.sketch_sets.proofs.homes.homes_on.Goals as goal
 
 pub returns : goal.returns
 unfolding homes_on
