@@ -71,11 +71,7 @@ fn earned_within(exposed: SquareSet, takes: &[u8; 16], within: SquareSet) -> u16
 }
 
 /// What a man who is taken within each of eight sets earns at most, if he is exposed on another and these are the enemy's prices.
-pub fn earned_in_each(
-    exposed: SquareSet,
-    takes: &[u8; 16],
-    sets: &[SquareSet; 8],
-) -> [u16; 8]
+pub fn earned_in_each(exposed: SquareSet, takes: &[u8; 16], sets: &[SquareSet; 8]) -> [u16; 8]
     ensures { (p : PriceList) (frozen : List Bool) (c : AColour) → exposed ≡ squares_that (may_fall frozen c) → takes.now ≡ takes_of p (opponent c) → (f : ℕ) → f < 8 → slice_index result f ≡ most_earned p frozen c (is_in (slice_index_or sets.now f [])) }
 {
     let mut earned = [0; 8];

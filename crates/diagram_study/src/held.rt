@@ -8,8 +8,7 @@ use board_base::Castle;
 use claim_findings::Finding;
 use codex_verdict::Right;
 use fen_text::castle_letter;
-use ledger_told::Line;
-use ledger_told::{lines_if_held, push_line};
+use ledger_told::{Line, lines_if_held, push_line};
 use query_base::Query;
 use std::alloc::{AllocError, Global};
 

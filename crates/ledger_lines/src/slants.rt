@@ -7,8 +7,8 @@ ghost use Rattle.capture_prices.specs.Prices.{class_of};
 ghost use Rattle.ledger_lines.specs.Slants.{has_slant, has_slant_on, is_slant, is_slant_from, is_slant_from_on, is_slant_on, slant_words, tells_class, tells_way, way_words};
 
 use crate::among::number_in;
-use ledger_facts::class_of;
 use board_base::{Square, SquareSet, files_between, ranks_between};
+use ledger_facts::class_of;
 use prose_words::{push_square, say};
 use std::alloc::AllocError;
 

@@ -15,9 +15,7 @@ use crate::losses::lost;
 use crate::standing::{same_square, stands_if, unless};
 use arrayvec::ArrayVec;
 use assignment::solve_large;
-use balance_rule::{
-    Ground, begun_with, fill_up, gone_row, ground_of, number_of_home, seen_by,
-};
+use balance_rule::{Ground, begun_with, fill_up, gone_row, ground_of, number_of_home, seen_by};
 use board_base::{Board, Colour, Square, SquareSet, is_of};
 use capture_prices::Prices;
 use ledger_facts::Supposition;

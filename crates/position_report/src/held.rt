@@ -5,9 +5,8 @@ ghost use Rattle.position_report.specs.Held.{behind_if, held_prose, if_lines, if
 
 use board_base::Castle;
 use diagram_study::HeldFound;
-use ledger_told::Line;
 use ledger_prose::{news_of_all, tell_ledger_prose};
-use ledger_told::with_held;
+use ledger_told::{Line, with_held};
 use prose_words::{say, side_word, wing_word};
 use query_base::Query;
 use std::alloc::{AllocError, Global};

@@ -6,9 +6,9 @@ ghost use Rattle.sketch_prose.specs.Dues.{IsNext, due_by};
 
 use board_base::Kind;
 use figures::Sketch;
+use sketch_checker::StepsBack;
 use sketch_proof::known_at;
 use sketch_text::Officer;
-use sketch_checker::StepsBack;
 
 /// The cases of the man with this number that are left, from this one on.
 #[derive(Drop)]

@@ -30,10 +30,10 @@ use board_base::Square;
 use figures::{Sketch, fixed_squares};
 use prose_words::say;
 use sketch_body::SketchLine;
+use sketch_checker::StepsBack;
 use sketch_grounds::greatest_frozen;
 use sketch_proof::{before_steps, first_unknown};
 use sketch_text::{End, Officer};
-use sketch_checker::StepsBack;
 use sketch_words::{
     Spot, is_top, list_of, push_denials, push_foreign, push_settled, push_stepped, push_unknown,
     why_list, without,
