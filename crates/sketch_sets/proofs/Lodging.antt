@@ -10,7 +10,8 @@ use Rattle.figures.proofs.Filling.{is_in-that}
 use Rattle.figures.specs.Clashes.{is_crowded}
 use Rattle.figures.specs.Figures.{Figure, Sketch}
 use Rattle.figures.specs.Homes.{has_homes, is_home, lives_within, may_be_array}
-use Rattle.sketch_sets.specs.Homes.{has_like, home_count, homes_on, lives_in, suffices}
+use Rattle.sketch_sets.specs.Homes.{has_like, home_count, homes_on}
+use Rattle.sketch_sets.specs.Lodging.{lives_in, suffices}
 use Rattle.sketch_sets.specs.Remade.{with_set}
 use Rattle.sketch_sets.proofs.Sets.{all-same, inside-told}
 

@@ -9,7 +9,8 @@ use Rattle.figures.specs.Sets.{squares_that, union}
 use Rattle.figures.specs.SetSteps.{both, outside}
 use Rattle.figures.proofs.Filling.{Filled, empty-start, filled-in, filled-out, filled-that, is_in-that}
 use Rattle.figures.proofs.SetAlgebra.{is_in-both, is_in-outside, is_in-union, none-bits}
-use Rattle.sketch_sets.specs.Tests.{is_inside, meets}
+use Rattle.sketch_sets.specs.Homes.{is_inside}
+use Rattle.sketch_sets.specs.Tests.{meets}
 
 -- tests that agree on the board
 pub all-same : (p r : ℕ → Bool) (k n : ℕ) → ((q : ℕ) → q < k + n → p q ≡ r q) → list_all p (range_with_len k n) ≡ list_all r (range_with_len k n)

@@ -1,6 +1,7 @@
 pub mod Leasts
 pub mod TrimmedOut
 pub mod Files
+pub mod Homes
 pub mod Tests
 pub mod Remade
 pub mod Origins
@@ -9,5 +10,5 @@ pub mod Shifts
 pub mod Quiet
 pub mod Wide
 pub mod Clashes
-pub mod Homes
+pub mod Lodging
 pub mod Crowds

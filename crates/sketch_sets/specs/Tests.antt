@@ -8,10 +8,6 @@ use Rattle.figures.specs.Sets.{squares_that}
 use Rattle.figures.specs.Figures.{Figure, Sketch, is_fixed_on}
 use Rattle.sketch_sets.specs.Files.{has_all_room}
 
--- each square of the first set is in the second
-unfoldable pub is_inside : List Bool → List Bool → Bool
-is_inside a b = list_all (λ q. not (is_in a q) || is_in b q) (range_with_len 0 64)
-
 -- some square is in both
 unfoldable pub meets : List Bool → List Bool → Bool
 meets a b = list_any (λ q. is_in a q && is_in b q) (range_with_len 0 64)

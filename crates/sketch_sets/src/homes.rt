@@ -2,7 +2,8 @@ ghost use Rattle.std.specs.Prelude.{◌≡◌, ◌≤◌, nat_lt, count_by, not}
 ghost use Rattle.std.specs.List.{list_all};
 ghost use Rattle.board_base.specs.Board.{same_colour};
 ghost use Rattle.figures.specs.Homes.{may_be_array};
-ghost use Rattle.sketch_sets.specs.Homes.{has_like, home_count, homes_on, lives_in, suffices};
+ghost use Rattle.sketch_sets.specs.Homes.{has_like, home_count, homes_on};
+ghost use Rattle.sketch_sets.specs.Lodging.{lives_in, suffices};
 
 use crate::masks::{is_within, those_that};
 use crate::remade::with_sets;

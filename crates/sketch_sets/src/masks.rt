@@ -2,7 +2,8 @@ ghost use Rattle.std.specs.Prelude.{◌≡◌, ◌<◌, ◌==◌, ◌&&◌, ℕ,
 ghost use Rattle.std.specs.List.{list_any, range_with_len};
 ghost use Rattle.board_base.specs.Board.{file, is_in, rank};
 ghost use Rattle.figures.specs.Sets.{squares_that};
-ghost use Rattle.sketch_sets.specs.Tests.{is_inside, meets};
+ghost use Rattle.sketch_sets.specs.Homes.{is_inside};
+ghost use Rattle.sketch_sets.specs.Tests.{meets};
 
 use board_base::{Square, SquareSet};
 use figures::{both, outside, with_if};

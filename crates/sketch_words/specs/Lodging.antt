@@ -3,8 +3,7 @@
 use Rattle.std.specs.Prelude.{Bool, List, count_by, false, nat_lt, Option, Some, None, ◌==◌, ◌&&◌}
 use Rattle.board_base.specs.Board.{Places}
 use Rattle.figures.specs.Figures.{Figure, Sketch}
-use Rattle.sketch_sets.specs.Homes.{home_count, homes_on}
-use Rattle.sketch_sets.specs.Tests.{is_inside}
+use Rattle.sketch_sets.specs.Homes.{home_count, homes_on, is_inside}
 use Rattle.sketch_words.specs.declared.crowds.Lack.{Lack}
 use Rattle.sketch_words.specs.declared.crowds.Lack.TheVariants.{Home, Room}
 

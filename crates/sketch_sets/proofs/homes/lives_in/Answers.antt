@@ -1,6 +1,6 @@
 use Rattle.std.proofs.Common.{List, Bool, ap, ◌∙◌}
-use Rattle.sketch_sets.specs.Tests.{is_inside}
-use Rattle.sketch_sets.specs.Homes.{lives_in}
+use Rattle.sketch_sets.specs.Homes.{is_inside}
+use Rattle.sketch_sets.specs.Lodging.{lives_in}
 use Rattle.sketch_sets.specs.Remade.{set_of}
 use Rattle.sketch_sets.proofs.homes.lives_in.Goals as goal
 

@@ -1,7 +1,8 @@
 use Rattle.std.proofs.Common.{ℕ, not, ap, ◌∙◌}
 use Rattle.std.specs.Prelude.{nat_lt}
 use Rattle.figures.specs.Figures.{Figure}
-use Rattle.sketch_sets.specs.Homes.{home_count, suffices}
+use Rattle.sketch_sets.specs.Homes.{home_count}
+use Rattle.sketch_sets.specs.Lodging.{suffices}
 use Rattle.sketch_sets.proofs.homes.suffices.Goals as goal
 
 pub returns : goal.returns

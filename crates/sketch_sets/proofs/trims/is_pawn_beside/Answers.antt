@@ -5,7 +5,7 @@ use Rattle.board_base.specs.declared.men.Kind.TheVariants.{Pawn}
 use Rattle.figures.specs.Sets.{squares_that}
 use Rattle.figures.specs.Figures.{Figure}
 use Rattle.sketch_sets.specs.Files.{is_beside}
-use Rattle.sketch_sets.specs.Tests.{is_inside}
+use Rattle.sketch_sets.specs.Homes.{is_inside}
 use Rattle.sketch_sets.proofs.Sets.{inside-told}
 use Rattle.sketch_sets.proofs.trims.is_pawn_beside.Goals as goal
 
