@@ -2,7 +2,6 @@ use Rattle.std.proofs.Common.{◌≡◌, ◌∙◌}
 use Rattle.cage_rules.specs.Sets.{union}
 use Rattle.cage_rules.specs.Steps.{is_step, near}
 use Rattle.cage_rules.specs.SetSteps.{both, outside}
-
 use Rattle.sketch_grounds.proofs.rooms.spread.Goals as goal
 use Rattle.cage_rules.proofs.Spread.{spread-made}
 
